@@ -1,0 +1,86 @@
+-- Settings that are not refused make a setting.
+use Rattle.std.proofs.Common.{◌≡◌, ℕ, ◌*◌, ◌/◌, ◌^◌, ◌<◌, ◌≤◌, Bool, true, false, List, [], length, Option, Some, refl, arith, cond, inl, inr, ◌∙◌, ap, ◌++◌, append_assoc, append-nil}
+use Rattle.std.specs.Prelude.{◌==◌, ◌||◌, nat_lt, IsNone}
+use Rattle.std.proofs.lemmas.Bool.{ltb-false, cases_lt}
+use Rattle.std.proofs.Math.Nat.{div-lt_iff_lt-mul}
+use Rattle.std.proofs.lemmas.Bool.Decides.{eqb_tells}
+use Rattle.argon2.specs.declared.config.Config.{Config}
+use Rattle.argon2.specs.declared.error.Error.{Error}
+use Rattle.argon2.specs.declared.parts.context.Context.{Context}
+use Rattle.argon2.specs.Context.{setting_of_context}
+use Rattle.argon2.specs.Setting.{IsSetting}
+use Rattle.argon2.proofs.HashLengths.{length-blake2b}
+use Rattle.argon2.specs.Prehash.{le32, hashed_inputs, prehash_of, setting_of}
+use Rattle.argon2.specs.Variant.{variant_number}
+use Rattle.argon2.specs.Version.{version_number}
+use Rattle.argon2.specs.Settings.{refusal_of, max_lanes}
+
+none_next : (b : Bool) (r : Error) (rest : Option Error) → IsNone (cond b (Some r) rest) → (b ≡ false) × IsNone rest
+none_next true r rest h = absurd (let e : true ≡ false = h in cc)
+none_next false r rest h = (refl, h)
+
+neither : (a b : Bool) → (a || b) ≡ false → (a ≡ false) × (b ≡ false)
+neither true b h = absurd (cc)
+neither false b h = (refl, h)
+
+some : (n : ℕ) → (n == 0) ≡ false → 0 < n
+some n h = elim (eqb_tells n 0) [ inl w ↦ absurd (cc (w.0)) | inr w ↦ omega (arith, w.1) ]
+
+pub record AreAccepted (config : Config) : Type 0 where
+  pub some_lane : 0 < config.lanes
+  pub few_lanes : config.lanes ≤ 16777215
+  pub much : 8 * config.lanes ≤ config.mem_cost
+  pub some_pass : 0 < config.time_cost
+
+pub accepted : (config : Config) (p s h : ℕ) → IsNone (refusal_of config p s h) → AreAccepted config
+unfolding refusal_of
+accepted config p s h none =
+    let a = none_next (config.lanes == 0) _ _ none in
+    let b = none_next (nat_lt max_lanes config.lanes) _ _ a.1 in
+    let c = none_next (nat_lt config.mem_cost 8 || nat_lt config.mem_cost (8 * config.lanes)) _ _ b.1 in
+    let d = none_next (config.time_cost == 0) _ _ c.1 in
+    record {
+      some_lane = some config.lanes a.0;
+      few_lanes = ltb-false max_lanes config.lanes b.0;
+      much = ltb-false config.mem_cost (8 * config.lanes) (neither _ _ c.0).1;
+      some_pass = some config.time_cost d.0;
+    }
+
+pub long_segment : (mem lanes : ℕ) → 0 < lanes → 8 * lanes ≤ mem → 2 ≤ mem / (4 * lanes)
+long_segment mem lanes some h = elim (cases_lt (mem / (4 * lanes)) 2) [
+  | inl w ↦ absurd (let b = (div-lt_iff_lt-mul (let k : 0 < 4 * lanes = omega arith in k)).0 w in omega (arith, b, h))
+  | inr w ↦ w
+]
+
+pub lanes_fit : (lanes mem segment length : ℕ) → length ≡ 4 * segment → segment ≡ mem / (4 * lanes) → 4 * lanes * (mem / (4 * lanes)) < 2 ^ 32 → lanes * length < 2 ^ 32
+lanes_fit lanes mem segment length l s h = let a = ap (λ x. lanes * x) l in let b = ap (λ x. 4 * lanes * x) s in omega (arith, a, b, h)
+
+pub joined : (a b c d e f g h i j k l m n : List ℕ) →
+    a ++ (b ++ (c ++ (d ++ (e ++ (f ++ (g ++ (h ++ (i ++ (j ++ (k ++ (l ++ (m ++ (n ++ [])))))))))))))
+    ≡ a ++ b ++ c ++ d ++ e ++ f ++ (g ++ h) ++ (i ++ j) ++ (k ++ l) ++ (m ++ n)
+joined a b c d e f g h i j k l m n = simp (append_assoc, append-nil)
+
+pub inputs_joined : (pwd salt : List ℕ) (config : Config) (len : ℕ) (a b c d e f g i k m : List ℕ) →
+    a ≡ le32 config.lanes → b ≡ le32 len → c ≡ le32 config.mem_cost → d ≡ le32 config.time_cost →
+    e ≡ le32 (version_number config.version) → f ≡ le32 (variant_number config.variant) →
+    g ≡ le32 (length pwd) → i ≡ le32 (length salt) → k ≡ le32 (length config.secret.now) → m ≡ le32 (length config.ad.now) →
+    a ++ (b ++ (c ++ (d ++ (e ++ (f ++ (g ++ (pwd ++ (i ++ (salt ++ (k ++ (config.secret.now ++ (m ++ (config.ad.now ++ [])))))))))))))
+    ≡ hashed_inputs pwd salt config len
+inputs_joined pwd salt config len a b c d e f g i k m pa pb pc pd pe pf pg pi pk pm =
+    joined a b c d e f g pwd i salt k config.secret.now m config.ad.now
+    ∙ rw (pa, pb, pc, pd, pe, pf, pg, pi, pk, pm) refl
+
+-- the setting of an accepted call; that its numbers fit is known of the code's types
+pub context_setting : (x : Context) → x.config.time_cost < 2 ^ 32 → x.memory_blocks < 2 ^ 32 → IsSetting (setting_of_context x)
+unfolding setting_of prehash_of
+context_setting x few fits =
+    let a = accepted x.config (length x.pwd.now) (length x.salt.now) x.config.hash_length x.accepted in
+    record {
+      prehash_length = length-blake2b 64 (hashed_inputs x.pwd.now x.salt.now x.config x.config.hash_length) (omega arith);
+      some_lane = a.some_lane;
+      few_lanes = a.few_lanes;
+      long_segments = long_segment x.config.mem_cost x.config.lanes a.some_lane a.much;
+      some_pass = a.some_pass;
+      few_passes = few;
+      fits = rw (← x.segment) (omega (arith, x.memory, fits));
+    }

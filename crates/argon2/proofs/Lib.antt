@@ -1,0 +1,16 @@
+pub mod References
+pub mod Recurrences
+pub mod AnyOrder
+pub mod Independent
+pub mod Written
+pub mod Jobs
+pub mod Filled
+pub mod Allowed
+pub mod Independence
+pub mod Slices
+pub mod Passes
+pub mod Accepted
+pub mod First
+pub mod HashLengths
+pub mod Entries
+pub mod Verdicts

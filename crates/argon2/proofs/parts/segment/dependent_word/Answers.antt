@@ -1,0 +1,16 @@
+use Rattle.std.proofs.Common.{◌≡◌, ℕ, List, ◌∙◌, ap}
+use Rattle.std.specs.Prelude.{slice_index}
+use Rattle.argon2.specs.Filling.{place_of, seen}
+use Rattle.argon2.specs.Reference.{previous}
+use Rattle.argon2.proofs.Filled.{drawn_from_previous}
+use Rattle.argon2.proofs.parts.segment.dependent_word.Goals as goal
+
+pub returns : goal.returns
+returns c =
+    let q = c.requires in
+    let v = c.args.snapshot.now in
+    let blocks = c.args.segment.now.blocks in
+    let before : c.previous_column.result ≡ (previous v.job.setting (place_of v.job c.args.lane c.args.index)).column = rw q.same_job at (c.previous_column.ensures.value c.args.lane) in
+    let word : c.index.result.now ≡ slice_index (seen v blocks c.args.lane (previous v.job.setting (place_of v.job c.args.lane c.args.index)).column) 0 =
+    c.index.ensures ∙ ap (λ (block : List ℕ). slice_index block 0) (c.named.ensures ∙ c.source-before.ensures.value blocks ∙ ap (λ (column : ℕ). seen v blocks c.args.lane column) before) in
+    rw q.same_job (drawn_from_previous v c.source-before.ensures.snapshot c.args.lane c.args.index (rw q.same_job at q.lane_fits) (rw q.same_job at q.index_fits) (rw q.same_job at q.later) blocks (rw q.same_job at q.filled) c.index.result.now (rw q.same_job at q.dependent) word)

@@ -1,0 +1,68 @@
+-- The blocks of Argon2 as a recurrence over passes, lanes and columns (RFC 9106, 3.2 and 3.4). There is
+-- neither a memory here nor an order of work.
+use Rattle.std.specs.Prelude.{ℕ, zero, suc, ◌+◌, ◌-◌, ◌*◌, ◌/◌, ◌%◌, Bool, true, false, ◌==◌, ◌&&◌, nat_lt, if◌then◌else◌, List, ◌∷◌, ◌++◌, replicate, slice_index}
+use Rattle.std.specs.Int.{w32, to_le_bytes}
+use Rattle.argon2_blocks.specs.Block.{xor, zero_block, block_of_bytes}
+use Rattle.argon2_blocks.specs.Compression.{compress}
+use Rattle.argon2_blocks.specs.StretchedHash.{stretched_hash}
+use Rattle.argon2.specs.declared.version.Version.{Version}
+use Rattle.argon2.specs.declared.version.Version.TheVariants.{Version10, Version13}
+use Rattle.argon2.specs.Variant.{variant_number}
+use Rattle.argon2.specs.Setting.{Setting, Place, lane_length, memory_blocks, slice_of, index_of}
+use Rattle.argon2.specs.Reference.{is_independent, previous, pick}
+
+-- a block at each place
+abbrev pub Blocks : Type 0
+Blocks = Place → List ℕ
+
+-- whether the version combines a new block with the one of the last pass
+abbrev pub combines : Version → Bool
+combines Version10 = false
+combines Version13 = true
+
+-- the first two blocks of each lane (3.2, steps 3 and 4)
+unfoldable pub first_block : Setting → Place → List ℕ
+first_block s at =
+    block_of_bytes (stretched_hash 1024 (s.prehash ++ to_le_bytes w32 at.column ++ to_le_bytes w32 at.lane))
+
+-- the word that a place draws from no block (3.4.1.2)
+unfoldable pub address_word : Setting → Place → ℕ
+address_word s at =
+    let index = index_of s at.column in
+    let input = at.pass ∷ at.lane ∷ slice_of s at.column ∷ memory_blocks s ∷ s.passes
+    ∷ variant_number s.variant ∷ (index / 128 + 1) ∷ replicate 121 0 in
+    slice_index (compress zero_block (compress zero_block input)) (index % 128)
+
+-- the word that the block at a place draws its reference by (3.4.1)
+abbrev pub drawn_word : Setting → Blocks → Place → ℕ
+drawn_word s block at =
+    if is_independent s.variant at.pass (slice_of s at.column) then address_word s at
+    else slice_index (block (previous s at)) 0
+
+-- the block that two blocks make over an old one: their compression, or that combined with the old
+abbrev pub made_block : List ℕ → List ℕ → List ℕ → Bool → List ℕ
+made_block prev reference old with_xor =
+    let new = compress prev reference in if with_xor then xor new old else new
+
+-- the recurrence: what stands at a place, where `block` says what stands at the earlier ones (3.2,
+-- steps 5 and 6)
+abbrev pub next_block : Setting → Blocks → Place → List ℕ
+next_block s block at = made_block (block (previous s at)) (block (pick s (drawn_word s block at) at))
+    (block (record at { pass = at.pass - 1 })) (combines s.version && nat_lt 0 at.pass)
+
+abbrev pub recurrence : Setting → Blocks → Place → List ℕ
+recurrence s block at =
+    if (at.pass == 0) && nat_lt at.column 2 then first_block s at else next_block s block at
+
+-- the recurrence applied n times
+unfoldable pub unrolled : Setting → ℕ → Blocks
+unrolled s zero at = zero_block
+unrolled s (suc n) at = recurrence s (unrolled s n) at
+
+-- how many places of a lane come before a place
+abbrev pub rank : Setting → Place → ℕ
+rank s at = at.pass * lane_length s + at.column
+
+-- B: the block at a place. It is the one function that meets the recurrence.
+unfoldable pub block_at : Setting → Blocks
+block_at s at = unrolled s (suc (rank s at)) at

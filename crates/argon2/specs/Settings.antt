@@ -1,0 +1,36 @@
+-- The settings table: the refusal of the first row that applies.
+use Rattle.std.specs.Prelude.{ℕ, ◌*◌, Bool, ◌==◌, ◌||◌, nat_lt, if◌then◌else◌, Option, Some, None, List, [], ◌∷◌, length}
+use Rattle.argon2.specs.declared.config.Config.{Config}
+use Rattle.argon2.specs.declared.error.Error.{Error}
+use Rattle.argon2.specs.declared.error.Error.TheVariants.{LanesTooFew, LanesTooMany, MemoryTooLittle, TimeTooSmall, PwdTooLong, SaltTooShort, SaltTooLong, SecretTooLong, AdTooLong, OutputTooShort, OutputTooLong}
+
+-- the greatest length of an input or a hash, and the greatest number of lanes
+abbrev pub max_length : ℕ
+max_length = 4294967295
+
+abbrev pub max_lanes : ℕ
+max_lanes = 16777215
+
+-- the rows in their order, each with its condition and its refusal, for a password, a salt and a
+-- hash of these lengths
+abbrev pub table : Config → ℕ → ℕ → ℕ → List (Bool × Error)
+table config pwd_len salt_len hash_len =
+    (config.lanes == 0, LanesTooFew)
+    ∷ (nat_lt max_lanes config.lanes, LanesTooMany)
+    ∷ (nat_lt config.mem_cost 8 || nat_lt config.mem_cost (8 * config.lanes), MemoryTooLittle)
+    ∷ (config.time_cost == 0, TimeTooSmall)
+    ∷ (nat_lt max_length pwd_len, PwdTooLong)
+    ∷ (nat_lt salt_len 8, SaltTooShort)
+    ∷ (nat_lt max_length salt_len, SaltTooLong)
+    ∷ (nat_lt max_length (length config.secret.now), SecretTooLong)
+    ∷ (nat_lt max_length (length config.ad.now), AdTooLong)
+    ∷ (nat_lt hash_len 4, OutputTooShort)
+    ∷ (nat_lt max_length hash_len, OutputTooLong) ∷ []
+
+-- the refusal of the first row whose condition holds
+abbrev pub first_that_applies : List (Bool × Error) → Option Error
+first_that_applies [] = None
+first_that_applies ((applies, refusal) ∷ rows) = if applies then Some refusal else first_that_applies rows
+
+unfoldable pub refusal_of : Config → ℕ → ℕ → ℕ → Option Error
+refusal_of config pwd_len salt_len hash_len = first_that_applies (table config pwd_len salt_len hash_len)

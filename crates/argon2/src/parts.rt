@@ -1,0 +1,8 @@
+//! The parts that a hash is made of, each with a contract of its own.
+
+pub mod context;
+pub mod fill;
+pub mod memory;
+pub mod segment;
+
+pub use argon2_blocks::{blake2b, block, common};

@@ -1,0 +1,29 @@
+//! What holds of the definitions: each law is the contract of a call without arguments, which does
+//! nothing.
+
+ghost use Rattle.argon2.specs.AnyOrder.{EveryOrderAgrees, NoEntryReadsOthers, PicksHoldTheirBlocks};
+ghost use Rattle.argon2.specs.Laws.{IsOnlySolution, LengthIsTheHash, MeetsRecurrence, OwnTagVerifies, TagForgetsMode};
+
+/// The blocks that the contracts speak of meet the recurrence at every place (RFC 9106, 3.2), and
+/// nothing else does.
+pub fn recurrence_law()
+    ensures meets { MeetsRecurrence }
+    ensures only { IsOnlySolution }
+{}
+
+/// Whatever the order of the single block writes within each slice, over one shared memory: it ends
+/// with the blocks of the recurrence, no write reads a place that another lane writes in that slice,
+/// and the block that is read by a reference is the recurrence's (RFC 9106, 3.4).
+pub fn any_order()
+    ensures agrees { EveryOrderAgrees }
+    ensures apart { NoEntryReadsOthers }
+    ensures picks { PicksHoldTheirBlocks }
+{}
+
+/// The laws of tags and verdicts: the tag does not depend on the thread mode; a verdict goes by the
+/// hash's own length; and the tag of any length verifies with the same inputs.
+pub fn laws()
+    ensures mode { TagForgetsMode }
+    ensures length { LengthIsTheHash }
+    ensures own_tag { OwnTagVerifies }
+{}

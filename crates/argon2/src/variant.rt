@@ -1,0 +1,109 @@
+//! The variants of Argon2, their names and their numbers.
+
+ghost use Rattle.std.specs.Prelude.{◌≡◌, MatchResult, OkIff, Some};
+ghost use Rattle.argon2.specs.Variant.{IsName, IsNoName, IsNoVariantNumber, lowercase_name, uppercase_name, variant_number};
+
+use crate::error::Error;
+use crate::result::Result;
+use std::fmt;
+
+/// The variant of Argon2 (RFC 9106, 1 and 3.2): where a block's reference is drawn from.
+#[derive(Clone, Copy, Debug, Eq, PartialEq, PartialOrd, Ord)]
+pub enum Variant {
+    /// References are drawn from the blocks. Fast to fill, for where no side channel can be watched.
+    Argon2d = 0,
+
+    /// References are drawn from no block.
+    Argon2i = 1,
+
+    /// References are drawn from no block in the first half of the first pass, and else from the
+    /// blocks. The one to choose for passwords.
+    Argon2id = 2,
+}
+
+impl Variant {
+    /// The name in lower case, as an encoded text is written with it.
+    pub fn as_lowercase_str(&self) -> &'static str
+        ensures { result.now ≡ lowercase_name self.now }
+    {
+        match *self {
+            Variant::Argon2d => "argon2d",
+            Variant::Argon2i => "argon2i",
+            Variant::Argon2id => "argon2id",
+        }
+    }
+
+    /// The name with a capital.
+    pub fn as_uppercase_str(&self) -> &'static str
+        ensures { result.now ≡ uppercase_name self.now }
+    {
+        match *self {
+            Variant::Argon2d => "Argon2d",
+            Variant::Argon2i => "Argon2i",
+            Variant::Argon2id => "Argon2id",
+        }
+    }
+
+    /// The number that is hashed for the variant: 0, 1 or 2 (RFC 9106, 3.2).
+    pub fn as_u32(&self) -> u32
+        ensures { result ≡ variant_number self.now }
+    {
+        match *self {
+            Variant::Argon2d => 0,
+            Variant::Argon2i => 1,
+            Variant::Argon2id => 2,
+        }
+    }
+
+    /// The same number, in 64 bits.
+    pub fn as_u64(&self) -> u64
+        ensures { result ≡ variant_number self.now }
+    {
+        u64::from(self.as_u32())
+    }
+
+    /// The variant of one of its two names, in lower case or with a capital. Any other text is
+    /// `DecodingFail`.
+    pub fn from_str(name: &str) -> Result<Variant>
+        ensures { MatchResult result (IsName name.now) (λ e. (e ≡ Error.DecodingFail) × IsNoName name.now) }
+    {
+        match name {
+            "argon2d" | "Argon2d" => Ok(Variant::Argon2d),
+            "argon2i" | "Argon2i" => Ok(Variant::Argon2i),
+            "argon2id" | "Argon2id" => Ok(Variant::Argon2id),
+            _ => Err(Error::DecodingFail),
+        }
+    }
+
+    /// The variant of a number. A number above 2 is `IncorrectType`.
+    pub fn from_u32(number: u32) -> Result<Variant>
+        ensures { MatchResult result (λ variant. variant_number variant ≡ number)
+            (λ e. (e ≡ Error.IncorrectType) × IsNoVariantNumber number) }
+    {
+        match number {
+            0 => Ok(Variant::Argon2d),
+            1 => Ok(Variant::Argon2i),
+            2 => Ok(Variant::Argon2id),
+            _ => Err(Error::IncorrectType),
+        }
+    }
+}
+
+impl Default for Variant {
+    ghost use Rattle.argon2.specs.declared.variant.Variant.TheVariants.{Argon2i};
+
+    ghost is_default = { λ variant. variant ≡ Argon2i };
+
+    fn default() -> Variant {
+        Variant::Argon2i
+    }
+}
+
+/// The name in lower case.
+impl fmt::Display for Variant {
+    ghost output = { λ variant. Some (lowercase_name variant) };
+
+    fn fmt<W: fmt::Write>(&self, f: &mut fmt::Formatter<W>) -> fmt::Result {
+        f.write_str(self.as_lowercase_str())
+    }
+}

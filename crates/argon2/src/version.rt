@@ -1,0 +1,75 @@
+//! The versions of Argon2 and their numbers.
+
+ghost use Rattle.std.specs.Prelude.{◌≡◌, MatchResult, Some};
+ghost use Rattle.std.specs.Fmt.{decimal};
+ghost use Rattle.argon2.specs.Version.{IsNoVersionNumber, IsNoVersionText, version_number, version_text};
+
+use crate::error::Error;
+use crate::result::Result;
+use std::fmt;
+
+/// The version of Argon2.
+#[derive(Clone, Copy, Debug, Eq, PartialEq, PartialOrd, Ord)]
+pub enum Version {
+    /// Version 0x10: a later pass writes over the blocks of the pass before.
+    Version10 = 0x10,
+
+    /// Version 0x13, that of RFC 9106: a later pass combines its blocks with those of the pass
+    /// before. The one to choose.
+    Version13 = 0x13,
+}
+
+impl Version {
+    /// The number: 16 or 19.
+    pub fn as_u32(&self) -> u32
+        ensures { result ≡ version_number self.now }
+    {
+        match *self {
+            Version::Version10 => 0x10,
+            Version::Version13 => 0x13,
+        }
+    }
+
+    /// The version of the text `16` or `19`. Any other text is `DecodingFail`.
+    pub fn from_str(number: &str) -> Result<Version>
+        ensures { MatchResult result (λ version. number.now ≡ version_text version)
+            (λ e. (e ≡ Error.DecodingFail) × IsNoVersionText number.now) }
+    {
+        match number {
+            "16" => Ok(Version::Version10),
+            "19" => Ok(Version::Version13),
+            _ => Err(Error::DecodingFail),
+        }
+    }
+
+    /// The version of the number 16 or 19. Any other number is `IncorrectVersion`.
+    pub fn from_u32(number: u32) -> Result<Version>
+        ensures { MatchResult result (λ version. version_number version ≡ number)
+            (λ e. (e ≡ Error.IncorrectVersion) × IsNoVersionNumber number) }
+    {
+        match number {
+            0x10 => Ok(Version::Version10),
+            0x13 => Ok(Version::Version13),
+            _ => Err(Error::IncorrectVersion),
+        }
+    }
+}
+
+impl Default for Version {
+    ghost use Rattle.argon2.specs.declared.version.Version.TheVariants.{Version13};
+
+    ghost is_default = { λ version. version ≡ Version13 };
+
+    fn default() -> Version {
+        Version::Version13
+    }
+}
+
+/// The decimal number.
+impl fmt::Display for Version {
+    ghost output = { λ version. Some (decimal (version_number version)) };
+
+    fn fmt<W: fmt::Write>(&self, f: &mut fmt::Formatter<W>) -> fmt::Result {
+        write!(f, "{}", self.as_u32())
+    }
+}

@@ -1,0 +1,7 @@
+use Rattle.std.proofs.Common.{length, take}
+use Rattle.std.specs.List.{flat_map}
+use Rattle.argon2_blocks.specs.Absorbed.{Holds}
+use Rattle.argon2_blocks.proofs.blake2b.blake2b.Given as goal
+
+abbrev pub invariant-loop-piece : goal.invariant-loop-piece
+invariant-loop-piece l = Holds (length l.out) (flat_map (λ piece. piece.now) (take l.piece-index l.input)) l.hasher

@@ -1,0 +1,5 @@
+use Rattle.argon2_blocks.proofs.Turns.{by16}
+use Rattle.argon2_blocks.proofs.block.lanes.rotate_by_16.Goals as goal
+
+pub returns : goal.returns
+returns c = by16 c.args.x c.known.ensures.long c.known.ensures.fits

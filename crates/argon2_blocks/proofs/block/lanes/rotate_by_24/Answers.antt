@@ -1,0 +1,5 @@
+use Rattle.argon2_blocks.proofs.Turns.{by24}
+use Rattle.argon2_blocks.proofs.block.lanes.rotate_by_24.Goals as goal
+
+pub returns : goal.returns
+returns c = by24 c.args.x c.known.ensures.long c.known.ensures.fits

@@ -1,0 +1,5 @@
+use Rattle.argon2_blocks.proofs.Turns.{by32}
+use Rattle.argon2_blocks.proofs.block.lanes.rotate_by_32.Goals as goal
+
+pub returns : goal.returns
+returns c = by32 c.args.x c.known.ensures.long c.known.ensures.fits

@@ -1,0 +1,5 @@
+use Rattle.argon2_blocks.proofs.Turns.{by63}
+use Rattle.argon2_blocks.proofs.block.lanes.rotate_by_63.Goals as goal
+
+pub returns : goal.returns
+returns c = by63 8 c.args.x c.known.ensures.long

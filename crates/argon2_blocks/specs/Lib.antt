@@ -1,0 +1,9 @@
+pub mod Word
+pub mod Blake2b
+pub mod StretchedHash
+pub mod Block
+pub mod Compression
+pub mod Absorbed
+pub mod Lends
+pub mod Lane
+pub mod Shuffles

@@ -1,0 +1,156 @@
+//! The compression over vectors beside a plain one, and what blocks look like from outside.
+
+mod plain;
+
+ghost use Rattle.std.specs.Prelude.{◌<◌};
+
+use super::{Block, fill_block, permute_lanes};
+use crate::blake2b::blake2b;
+use plain::{fill_plainly, permute};
+use std::process::Abort;
+use std::simd::prelude::*;
+use std::test::Fail;
+
+// Sixteen hashes of 64 bytes, of the counters from 16 * number on.
+fn drawn_block(number: u32) -> Block {
+    let mut bytes = [0; 1024];
+    for i in 0..16 {
+        let counter = (16 * number as u64 + i as u64).to_le_bytes();
+        blake2b(&mut bytes[64 * i..64 * i + 64], &[&counter]);
+    }
+    let mut block = Block::zero();
+    block.set_u8(&bytes);
+    block
+}
+
+// Word i is factor * (i + 1), modulo 2^64.
+fn multiples_of(factor: u64) -> Block {
+    let mut block = Block::zero();
+    for i in 0..128 {
+        block[i] = factor.wrapping_mul(i as u64 + 1);
+    }
+    block
+}
+
+fn short_hash_of(block: &Block) -> u128 {
+    let mut hash = [0; 16];
+    blake2b(&mut hash, &[&block.as_u8()]);
+    u128::from_be_bytes(hash)
+}
+
+fn check_fill(rt: &impl Abort, prev: &Block, reference: &Block, old: &Block) {
+    for with_xor in [false, true] {
+        let mut expected = Block::zero();
+        old.copy_to(&mut expected);
+        fill_plainly(prev, reference, &mut expected, with_xor);
+        let mut next = Block::zero();
+        old.copy_to(&mut next);
+        fill_block(prev, reference, &mut next, with_xor);
+        assert!(rt; next == expected, "with_xor {with_xor}");
+    }
+}
+
+#[test]
+fn fills_special_blocks_as_the_plain_compression_does(rt: HostRuntime) {
+    let (zero, ones, old) = (
+        Block::zero(),
+        Block::from_words([u64::MAX; 128]),
+        drawn_block(1),
+    );
+    check_fill(&rt, &zero, &zero, &old);
+    check_fill(&rt, &ones, &zero, &old);
+    check_fill(&rt, &zero, &ones, &old);
+    check_fill(&rt, &ones, &ones, &old);
+    for i in 0..128 {
+        let mut single = Block::zero();
+        single[i] = 1;
+        check_fill(&rt, &single, &zero, &old);
+        check_fill(&rt, &zero, &single, &old);
+    }
+}
+
+#[test]
+fn fills_drawn_blocks_as_the_plain_compression_does(rt: HostRuntime) {
+    let mut old = drawn_block(2000);
+    for n in 0..1000 {
+        let (prev, reference) = (drawn_block(2 * n), drawn_block(2 * n + 1));
+        check_fill(&rt, &prev, &reference, &old);
+        old = prev;
+    }
+}
+
+// Expected values come from the compression written in Python.
+#[test]
+fn fills_a_block(rt: HostRuntime) {
+    let prev = multiples_of(0x9E3779B97F4A7C15);
+    let reference = multiples_of(0xC2B2AE3D27D4EB4F);
+    let mut next = Block::zero();
+    fill_block(&prev, &reference, &mut next, false);
+    assert_eq!(rt; next[0], 0xabb760f2bf2972cf);
+    assert_eq!(rt; next[127], 0x6263a9a9e03ee271);
+    assert_eq!(rt; short_hash_of(&next), 0xe22a4501ebcdd60f3496a0bb53e544d1);
+
+    let mut counted = Block::zero();
+    for i in 0..128 {
+        counted[i] = i as u64;
+    }
+    fill_block(&prev, &reference, &mut counted, true);
+    assert_eq!(rt; short_hash_of(&counted), 0x3512f156e8b07cb40bfbd4d3a51b74de);
+}
+
+// The words in one lane of the vectors.
+fn words_in_lane(vectors: &[u64x8; 16], lane: usize) -> [u64; 16]
+    requires { lane < 8 }
+{
+    let mut words = [0; 16];
+    for k in 0..16 {
+        words[k] = vectors[k].to_array()[lane];
+    }
+    words
+}
+
+#[test]
+fn permutes_each_lane_as_the_plain_permutation_does(rt: HostRuntime) {
+    for number in 0..8 {
+        let block = drawn_block(number);
+        let mut vectors = [u64x8::splat(0); 16];
+        for k in 0..16 {
+            let mut words = [0; 8];
+            for i in 0..8 {
+                words[i] = block[8 * k + i];
+            }
+            vectors[k] = u64x8::from_array(words);
+        }
+        let old = vectors;
+        permute_lanes(&mut vectors);
+        for lane in 0..8 {
+            let mut expected = words_in_lane(&old, lane);
+            permute(&mut expected);
+            assert_eq!(rt; words_in_lane(&vectors, lane), expected, "lane {lane}");
+        }
+    }
+}
+
+#[test]
+fn reads_and_writes_the_lowest_byte_first(rt: HostRuntime) {
+    let mut block = Block::zero();
+    block[1] = 0x0807060504030201;
+    let bytes = block.as_u8();
+    assert_eq!(rt; &bytes[7..17], [0, 1, 2, 3, 4, 5, 6, 7, 8, 0].as_slice());
+    let mut read = multiples_of(3);
+    read.set_u8(&bytes);
+    assert!(rt; read == block);
+}
+
+#[test]
+fn compares_copies_and_prints(rt: HostRuntime) -> Result<(), Fail> {
+    let mut one = multiples_of(3);
+    let two = one.clone()?;
+    assert!(rt; one == two);
+    one[127] = 0;
+    assert!(rt; one != two);
+    let text = format!(in rt.alloc(); "{:?}", Block::from_words([7; 128]))?;
+    assert_eq!(rt; text.len(), 3 * 128);
+    assert!(rt; text.as_str().starts_with("[7, 7, 7, "));
+    Ok(())
+}
