@@ -14,3 +14,13 @@ pub mod First
 pub mod HashLengths
 pub mod Entries
 pub mod Verdicts
+pub mod TextCuts
+pub mod TextNumbers
+pub mod TextPieces
+pub mod TextHeads
+pub mod TextItems
+pub mod TextLengths
+pub mod TextSteps
+pub mod TextSpellings
+pub mod TextWritten
+pub mod TextMarks

@@ -22,3 +22,8 @@ pub mod Answers
 pub mod Verdict
 pub mod AnyOrder
 pub mod Laws
+pub mod Text
+pub mod Grammar
+pub mod Cutting
+pub mod TextViews
+pub mod TextLaws

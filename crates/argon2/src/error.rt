@@ -2,8 +2,9 @@
 
 ghost use Rattle.std.specs.Prelude.{◌≡◌, Some};
 ghost use Rattle.argon2.specs.Error.{message_of};
-ghost use Rattle.argon2.specs.declared.error.Error.TheVariants.{OutOfMemory};
+ghost use Rattle.argon2.specs.declared.error.Error.TheVariants.{DecodingFail, OutOfMemory};
 
+use base64::DecodeError;
 use std::alloc::{AllocError, AllocFailed};
 use std::fmt;
 
@@ -126,5 +127,13 @@ impl<T: Drop> From<AllocFailed<T>> for Error {
 
     fn from(_error: AllocFailed<T>) -> Error {
         Error::OutOfMemory
+    }
+}
+
+impl From<DecodeError> for Error {
+    ghost from_gives = { λ _ error. error ≡ DecodingFail };
+
+    fn from(_error: DecodeError) -> Error {
+        Error::DecodingFail
     }
 }

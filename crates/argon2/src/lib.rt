@@ -14,6 +14,7 @@ mod version;
 pub use argon2::{hash_raw, hash_raw_sequential, verify_raw, verify_raw_sequential};
 pub use config::Config;
 pub use error::Error;
+pub use parts::encoding::encoded_len;
 pub use result::Result;
 pub use thread_mode::ThreadMode;
 pub use variant::Variant;

@@ -1,6 +1,8 @@
 //! The parts that a hash is made of, each with a contract of its own.
 
 pub mod context;
+pub mod decoded;
+pub mod encoding;
 pub mod fill;
 pub mod memory;
 pub mod segment;

@@ -1,7 +1,8 @@
 //! The variants of Argon2, their names and their numbers.
 
-ghost use Rattle.std.specs.Prelude.{◌≡◌, MatchResult, OkIff, Some};
+ghost use Rattle.std.specs.Prelude.{◌≡◌, MatchResult, Some};
 ghost use Rattle.argon2.specs.Variant.{IsName, IsNoName, IsNoVariantNumber, lowercase_name, uppercase_name, variant_number};
+ghost use Rattle.argon2.specs.declared.variant.Variant.{Variant};
 
 use crate::error::Error;
 use crate::result::Result;
@@ -65,7 +66,8 @@ impl Variant {
     /// The variant of one of its two names, in lower case or with a capital. Any other text is
     /// `DecodingFail`.
     pub fn from_str(name: &str) -> Result<Variant>
-        ensures { MatchResult result (IsName name.now) (λ e. (e ≡ Error.DecodingFail) × IsNoName name.now) }
+        ensures read { MatchResult result (IsName name.now) (λ e. (e ≡ Error.DecodingFail) × IsNoName name.now) }
+        ensures undoes { (variant : Variant) → IsName name.now variant → result ≡ Ok variant }
     {
         match name {
             "argon2d" | "Argon2d" => Ok(Variant::Argon2d),
@@ -77,8 +79,9 @@ impl Variant {
 
     /// The variant of a number. A number above 2 is `IncorrectType`.
     pub fn from_u32(number: u32) -> Result<Variant>
-        ensures { MatchResult result (λ variant. variant_number variant ≡ number)
+        ensures read { MatchResult result (λ variant. variant_number variant ≡ number)
             (λ e. (e ≡ Error.IncorrectType) × IsNoVariantNumber number) }
+        ensures undoes { (variant : Variant) → variant_number variant ≡ number → result ≡ Ok variant }
     {
         match number {
             0 => Ok(Variant::Argon2d),

@@ -3,6 +3,7 @@
 ghost use Rattle.std.specs.Prelude.{◌≡◌, MatchResult, Some};
 ghost use Rattle.std.specs.Fmt.{decimal};
 ghost use Rattle.argon2.specs.Version.{IsNoVersionNumber, IsNoVersionText, version_number, version_text};
+ghost use Rattle.argon2.specs.declared.version.Version.{Version};
 
 use crate::error::Error;
 use crate::result::Result;
@@ -32,8 +33,9 @@ impl Version {
 
     /// The version of the text `16` or `19`. Any other text is `DecodingFail`.
     pub fn from_str(number: &str) -> Result<Version>
-        ensures { MatchResult result (λ version. number.now ≡ version_text version)
+        ensures read { MatchResult result (λ version. number.now ≡ version_text version)
             (λ e. (e ≡ Error.DecodingFail) × IsNoVersionText number.now) }
+        ensures undoes { (version : Version) → number.now ≡ version_text version → result ≡ Ok version }
     {
         match number {
             "16" => Ok(Version::Version10),
@@ -44,8 +46,9 @@ impl Version {
 
     /// The version of the number 16 or 19. Any other number is `IncorrectVersion`.
     pub fn from_u32(number: u32) -> Result<Version>
-        ensures { MatchResult result (λ version. version_number version ≡ number)
+        ensures read { MatchResult result (λ version. version_number version ≡ number)
             (λ e. (e ≡ Error.IncorrectVersion) × IsNoVersionNumber number) }
+        ensures undoes { (version : Version) → version_number version ≡ number → result ≡ Ok version }
     {
         match number {
             0x10 => Ok(Version::Version10),

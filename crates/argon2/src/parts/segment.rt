@@ -154,3 +154,6 @@ pub fn fill_segment(snapshot: &Snapshot<'_>, lane: u32, segment: &mut Segment)
         fill_dependent(snapshot, lane, segment);
     }
 }
+
+#[cfg(test)]
+mod tests;

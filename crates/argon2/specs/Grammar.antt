@@ -1,0 +1,112 @@
+-- Which texts spell a value: a relation on whole texts.
+use Rattle.std.specs.Prelude.{◌≡◌, ◌≢◌, ◌⊎◌, ℕ, ◌<◌, ◌^◌, List, [], ◌++◌, codes, Option, Some, None}
+use Rattle.std.specs.List.{AllByRecursion}
+use Rattle.std.specs.Str.Parse.{IsNumeral, digits_value}
+use Rattle.base64.specs.GeneralPurpose.{IsBytes}
+use Rattle.argon2.specs.declared.version.Version.{Version}
+use Rattle.argon2.specs.declared.version.Version.TheVariants.{Version10}
+use Rattle.argon2.specs.declared.error.Error.{Error}
+use Rattle.argon2.specs.declared.error.Error.TheVariants.{DecodingFail, OutOfMemory}
+use Rattle.argon2.specs.Variant.{IsName}
+use Rattle.argon2.specs.Version.{version_text}
+use Rattle.argon2.specs.Text.{Spelled, base64}
+
+-- `$` and `,`
+abbrev pub dollar : ℕ
+dollar = 36
+
+abbrev pub comma : ℕ
+comma = 44
+
+-- the pieces of a text, each as it stands there; the version may be missing
+pub record Pieces : Type 0 where
+  pub name : List ℕ
+  pub version : Option (List ℕ)
+  pub memory : List ℕ
+  pub time : List ℕ
+  pub lanes : List ℕ
+  pub salt : List ℕ
+  pub hash : List ℕ
+
+abbrev pub version_part : Option (List ℕ) → List ℕ
+version_part None = []
+version_part (Some number) = codes "$v=" ++ number
+
+-- how the pieces stand in the text, with nothing before, between or after
+unfoldable pub joined : Pieces → List ℕ
+joined pieces =
+    codes "$" ++ pieces.name ++ version_part pieces.version
+    ++ codes "$m=" ++ pieces.memory ++ codes ",t=" ++ pieces.time ++ codes ",p=" ++ pieces.lanes
+    ++ codes "$" ++ pieces.salt ++ codes "$" ++ pieces.hash
+
+-- no byte of the text is c
+abbrev pub Lacks : ℕ → List ℕ → Type 0
+Lacks c text = AllByRecursion (λ b. b ≢ c) text
+
+-- 16 or 19; where no version stands, the older one is meant
+abbrev pub IsVersion : Option (List ℕ) → Version → Type 0
+IsVersion None version = version ≡ Version10
+IsVersion (Some number) version = number ≡ version_text version
+
+abbrev pub IsNoVersion : Option (List ℕ) → Type 0
+IsNoVersion piece = (version : Version) → IsVersion piece version → ⊥
+
+-- a plus or nothing, and one or more decimal digits whose value fits 32 bits
+pub record IsNumber (text : List ℕ) (n : ℕ) : Type 0 where
+  pub sign : List ℕ
+  pub digits : List ℕ
+  pub whole : text ≡ sign ++ digits
+  pub plus : (sign ≡ []) ⊎ (sign ≡ codes "+")
+  pub decimal : IsNumeral 10 digits
+  pub value : digits_value 10 digits ≡ n
+  pub fits : n < 2 ^ 32
+
+abbrev pub IsNoNumber : List ℕ → Type 0
+IsNoNumber text = (n : ℕ) → IsNumber text n → ⊥
+
+-- the unpadded base64 of the bytes
+pub record IsItem (text bytes : List ℕ) : Type 0 where
+  pub encoded : text ≡ base64 bytes
+  pub bytes_fit : IsBytes bytes
+
+abbrev pub IsNoItem : List ℕ → Type 0
+IsNoItem text = (bytes : List ℕ) → IsItem text bytes → ⊥
+
+-- the text is these pieces, and a `$` stands neither in the salt nor in the hash
+pub record IsCut (text : List ℕ) (pieces : Pieces) : Type 0 where
+  pub whole : text ≡ joined pieces
+  pub salt : Lacks dollar pieces.salt
+  pub hash : Lacks dollar pieces.hash
+
+-- the pieces before the salt spell what d has before its salt
+pub record IsHead (pieces : Pieces) (d : Spelled) : Type 0 where
+  pub name : IsName pieces.name d.variant
+  pub version : IsVersion pieces.version d.version
+  pub memory : IsNumber pieces.memory d.mem_cost
+  pub time : IsNumber pieces.time d.time_cost
+  pub lanes : IsNumber pieces.lanes d.parallelism
+
+-- the text spells the value
+pub record Spells (text : List ℕ) (d : Spelled) : Type 0 where
+  pub pieces : Pieces
+  pub cut : IsCut text pieces
+  pub head : IsHead pieces d
+  pub salt : IsItem pieces.salt d.salt
+  pub hash : IsItem pieces.hash d.hash
+
+-- the text spells nothing
+abbrev pub SpellsNothing : List ℕ → Type 0
+SpellsNothing text = (d : Spelled) → Spells text d → ⊥
+
+-- whatever stands for the salt and the hash, the text is cut and what stands before them is spelled
+abbrev pub HasHead : List ℕ → Type 0
+HasHead text = (pieces : Pieces) × (d : Spelled) × IsCut text pieces × IsHead pieces d
+
+-- what a refusal says: the text spells nothing, or memory was refused for the salt or the hash,
+-- which is asked for only behind a spelled head
+abbrev pub Refuses : List ℕ → Error → Type 0
+Refuses text e = ((e ≡ DecodingFail) × SpellsNothing text) ⊎ ((e ≡ OutOfMemory) × HasHead text)
+
+-- the same of one item: it is the base64 of no bytes, or memory was refused
+abbrev pub RefusesItem : List ℕ → Error → Type 0
+RefusesItem text e = ((e ≡ DecodingFail) × IsNoItem text) ⊎ (e ≡ OutOfMemory)
