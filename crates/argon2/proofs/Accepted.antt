@@ -1,10 +1,14 @@
 -- Settings that are not refused make a setting.
 use Rattle.std.proofs.Common.{◌≡◌, ℕ, ◌*◌, ◌/◌, ◌^◌, ◌<◌, ◌≤◌, Bool, true, false, List, [], length, Option, Some, refl, arith, cond, inl, inr, ◌∙◌, ap, ◌++◌, append_assoc, append-nil}
 use Rattle.std.specs.Prelude.{◌==◌, ◌||◌, nat_lt, IsNone}
-use Rattle.std.proofs.lemmas.Bool.{ltb-false, cases_lt}
-use Rattle.std.proofs.Math.Nat.{div-lt_iff_lt-mul}
+use Rattle.std.proofs.lemmas.Bool.{ltb-false, cases_lt, le-leb, lt-leb}
+use Rattle.std.specs.Prelude.{min}
+use Rattle.std.proofs.Math.Nat.{div-lt_iff_lt-mul, le-min, min-le_left}
 use Rattle.std.proofs.lemmas.Bool.Decides.{eqb_tells}
 use Rattle.argon2.specs.declared.config.Config.{Config}
+use Rattle.argon2.specs.declared.thread_mode.ThreadMode.{ThreadMode}
+use Rattle.argon2.specs.declared.thread_mode.ThreadMode.TheVariants.{Sequential, Parallel, AtMost}
+use Rattle.argon2.specs.Config.{fills_alone, worker_count, workers_of}
 use Rattle.argon2.specs.declared.error.Error.{Error}
 use Rattle.argon2.specs.declared.parts.context.Context.{Context}
 use Rattle.argon2.specs.Context.{setting_of_context}
@@ -84,3 +88,19 @@ context_setting x few fits =
       few_passes = few;
       fits = rw (← x.segment) (omega (arith, x.memory, fits));
     }
+
+-- how many workers an accepted configuration asks for
+workers_fit_in : (mode : ThreadMode) (lanes : ℕ) → 0 < lanes → lanes ≤ 16777215 →
+    (0 < cond (fills_alone mode lanes) 1 (worker_count mode lanes)) × (cond (fills_alone mode lanes) 1 (worker_count mode lanes) < 2 ^ 24)
+workers_fit_in Sequential lanes h k = (omega arith, omega arith)
+workers_fit_in Parallel lanes h k = elim (eqb_tells lanes 1) [ inl w ↦ rw w.0 (omega arith, omega arith) | inr w ↦ rw w.0 (omega arith, omega arith) ]
+workers_fit_in (AtMost most) lanes h k = elim (cases_lt 1 most) [
+  | inl w ↦ rw (lt-leb most 1 w) (elim (eqb_tells lanes 1) [
+    | inl v ↦ rw v.0 (omega arith, omega arith)
+    | inr v ↦ rw v.0 (let low : 1 ≤ min lanes most = le-min h (omega arith) in low, let high = min-le_left lanes most in omega (arith, high, k))
+  ])
+  | inr w ↦ rw (le-leb most 1 w) (omega arith, omega arith)
+]
+
+pub workers_fit : (config : Config) → 0 < config.lanes → config.lanes ≤ 16777215 → (0 < workers_of config) × (workers_of config < 2 ^ 24)
+workers_fit config h k = workers_fit_in config.thread_mode config.lanes h k

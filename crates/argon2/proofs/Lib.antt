@@ -24,3 +24,5 @@ pub mod TextSteps
 pub mod TextSpellings
 pub mod TextWritten
 pub mod TextMarks
+pub mod Replays
+pub mod Boards

@@ -27,3 +27,7 @@ pub mod Grammar
 pub mod Cutting
 pub mod TextViews
 pub mod TextLaws
+pub mod Replay
+pub mod Board
+pub mod Slots
+pub mod Permit

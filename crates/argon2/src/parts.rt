@@ -1,5 +1,6 @@
 //! The parts that a hash is made of, each with a contract of its own.
 
+pub mod board;
 pub mod context;
 pub mod decoded;
 pub mod encoding;

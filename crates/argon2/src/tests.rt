@@ -8,11 +8,14 @@ use std::sync::Wait;
 use std::test::Fail;
 use std::thread::Threads;
 
-const MODES: [ThreadMode; 4] = [
+const MODES: [ThreadMode; 7] = [
     ThreadMode::Sequential,
     ThreadMode::Parallel,
+    ThreadMode::AtMost(0),
     ThreadMode::AtMost(1),
     ThreadMode::AtMost(2),
+    ThreadMode::AtMost(3),
+    ThreadMode::AtMost(u32::MAX),
 ];
 
 /// One settings' worth of the original's tests: `password`, `somesalt`, 2 passes, 256 KiB.

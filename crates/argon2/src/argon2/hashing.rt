@@ -1,7 +1,7 @@
 //! Hashing a password: its tag, and its text.
 
 ghost use Rattle.std.specs.Prelude.{◌≡◌, IfErr, IfOk, false, length, vec_len};
-ghost use Rattle.argon2.specs.Answers.{Answers};
+ghost use Rattle.argon2.specs.Answers.{Answers, IsShortage};
 ghost use Rattle.argon2.specs.Config.{may_lack_workers};
 ghost use Rattle.argon2.specs.Settings.{refusal_of};
 ghost use Rattle.argon2.specs.Tag.{tag_of};
@@ -9,7 +9,7 @@ ghost use Rattle.argon2.specs.Tag.{tag_of};
 use crate::config::Config;
 use crate::error::Error;
 use crate::parts::context::{Context, Job};
-use crate::parts::fill::{fill_in_turn, finalize, new_memory, write_first_blocks};
+use crate::parts::fill::{fill_as_asked, fill_in_turn, finalize, new_memory, write_first_blocks};
 use crate::result::Result;
 use std::alloc::Global;
 use std::marker::Sync;
@@ -30,24 +30,29 @@ pub(crate) fn tag_sequential(alloc: Global, context: &Context<'_>) -> Result<Vec
     finalize(alloc, context, &memory)
 }
 
-/// The tag of an accepted call, in the thread mode of its configuration.
+/// The tag of an accepted call, computed in the thread mode of its configuration.
 pub(crate) fn tag<R: Threads + Wait + Sync>(
-    _rt: &R,
+    rt: &R,
     alloc: Global,
     context: &Context<'_>,
 ) -> Result<Vec<u8>>
     ensures tag { let c = context.now in
         IfOk result (λ tag. tag.items ≡ tag_of c.pwd.now c.salt.now c.config c.config.hash_length) }
     ensures length { IfOk result (λ tag. vec_len tag ≡ context.now.config.hash_length) }
-    ensures refused { IfErr result (λ e. e ≡ Error.OutOfMemory) }
+    ensures refused { IfErr result (IsShortage (may_lack_workers context.now.config)) }
 {
-    tag_sequential(alloc, context)
+    let job = Job::new(context);
+    let mut memory = new_memory(alloc, context)?;
+    write_first_blocks(&job, &mut memory);
+    fill_as_asked(rt, alloc, &job, context, &mut memory)?;
+    finalize(alloc, context, &memory)
 }
 
 /// The tag of a password: `config.hash_length` bytes (RFC 9106, 3.2).
 ///
 /// The first refusal of the settings is the only answer where there is one, before any memory is
-/// asked for. Else the answer is the tag or, where memory was refused, `OutOfMemory`.
+/// asked for. Else the answer is the tag or, where memory was refused, `OutOfMemory` or, where the
+/// start of a worker was, `WorkerRefused`.
 pub fn hash_raw<R: Threads + Wait + Sync>(
     rt: &R,
     alloc: Global,

@@ -35,7 +35,7 @@ fn are_equal(one: &[u8], other: &[u8]) -> bool
 /// The settings are judged with the length of the hash; `config.hash_length` is not looked at. The
 /// first refusal is the only answer where there is one, before any memory is asked for: a hash of
 /// more than 2^32 - 1 bytes is `OutputTooLong`. Else the answer is whether the hash is the tag or,
-/// where memory was refused, `OutOfMemory`.
+/// where memory or the start of a worker was refused, `OutOfMemory` or `WorkerRefused`.
 pub fn verify_raw<R: Threads + Wait + Sync>(
     rt: &R,
     alloc: Global,

@@ -1,6 +1,7 @@
 //! The settings table, the inputs of an accepted call, and its job.
 
-ghost use Rattle.std.specs.Prelude.{◌≡◌, ◌*◌, ◌/◌, length, IfErr, IfOk, IsNone, IsOkAnd, MatchOption};
+ghost use Rattle.std.specs.Prelude.{◌≡◌, ◌*◌, ◌/◌, ◌^◌, ◌<◌, length, IfErr, IfOk, IsNone, IsOkAnd, MatchOption};
+ghost use Rattle.argon2.specs.Config.{workers_of};
 ghost use Rattle.argon2.specs.Settings.{refusal_of};
 
 mod job;
@@ -102,6 +103,15 @@ impl<'a> Context<'a> {
             }
             Some(refusal) => Err(refusal),
         }
+    }
+
+    /// How many workers fill a slice.
+    pub(crate) fn workers(&self) -> u32
+        ensures value { result ≡ workers_of self.now.config }
+        ensures some { 0 < result }
+        ensures few { result < 2 ^ 24 }
+    {
+        self.config.workers()
     }
 
     #[tactic(auto, unfolding(crate::specs::Settings::refusal_of))]

@@ -14,7 +14,9 @@ ghost use Rattle.argon2.specs.Setting.{memory_blocks};
 ghost use Rattle.argon2.specs.Slices.{segments_of};
 ghost use Rattle.argon2.specs.Tag.{tag_from, tag_of};
 
+mod parallel;
 mod theorems;
+mod workers;
 
 use crate::error::Error;
 use crate::parts::context::{Context, Job};
@@ -24,8 +26,12 @@ use crate::result::Result;
 use argon2_blocks::blake2b::hprime;
 use argon2_blocks::block::Block;
 use argon2_blocks::common::SYNC_POINTS;
+pub(crate) use parallel::fill_as_asked;
+pub use parallel::{fill_memory_blocks, fill_parallel, fill_parallel_with};
 use std::alloc::Global;
 pub use theorems::{any_order, laws, recurrence_law};
+#[cfg(test)]
+pub(crate) use workers::board_of;
 
 /// A memory of zeros with the context's lanes and lane length.
 #[tactic(auto, unfolding(crate::specs::Prehash::setting_of, crate::specs::Settings::refusal_of))]
@@ -126,7 +132,7 @@ fn fill_slices(job: &Job, slices: &mut Slices)
 }
 
 /// Fills the job's slice: it moves out beside the others, and back.
-fn fill_slice(job: &Job, slices: &mut Slices)
+pub(crate) fn fill_slice(job: &Job, slices: &mut Slices)
     requires slices { AreSlices job.now.setting.lanes job.now.setting.segment_length (segments_of slices.old) }
     requires ready { IsFilledBelow job.now.setting job.now.pass job.now.slice (segments_of slices.old) }
     ensures slices { AreSlices job.now.setting.lanes job.now.setting.segment_length (segments_of slices.new) }
