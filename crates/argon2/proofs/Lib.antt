@@ -24,3 +24,4 @@ pub mod TextSteps
 pub mod TextSpellings
 pub mod TextWritten
 pub mod TextMarks
+pub mod StoredTexts
