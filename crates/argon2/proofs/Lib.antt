@@ -26,3 +26,4 @@ pub mod TextWritten
 pub mod TextMarks
 pub mod Replays
 pub mod Boards
+pub mod StoredTexts

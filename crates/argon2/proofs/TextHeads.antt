@@ -5,15 +5,14 @@ use Rattle.argon2.specs.declared.variant.Variant.{Variant}
 use Rattle.argon2.specs.declared.variant.Variant.TheVariants.{Argon2d, Argon2i, Argon2id}
 use Rattle.argon2.specs.declared.version.Version.{Version}
 use Rattle.argon2.specs.declared.version.Version.TheVariants.{Version10, Version13}
-use Rattle.argon2.specs.declared.error.Error.{Error}
 use Rattle.argon2.specs.declared.parts.encoding.reading.Head.{Head}
 use Rattle.argon2.specs.Variant.{lowercase_name, uppercase_name, IsName}
 use Rattle.argon2.specs.Version.{version_text}
 use Rattle.argon2.specs.Grammar.{Pieces}
 use Rattle.argon2.specs.Text.{Spelled}
-use Rattle.argon2.specs.Grammar.{Lacks, IsVersion, IsCut, IsHead, HasHead, IsItem, Spells, Refuses, RefusesItem}
+use Rattle.argon2.specs.Grammar.{Lacks, IsVersion, IsCut, IsHead, HasHead, IsItem, IsSomeItem, Spells, SpellsNothing}
 use Rattle.argon2.specs.Cutting.{pieces_of}
-use Rattle.argon2.specs.TextViews.{IsHeadOf, settings_of}
+use Rattle.argon2.specs.TextViews.{IsHeadOf, IsSpellingOf, settings_of}
 use Rattle.argon2.proofs.TextCuts.{any_lacks}
 use Rattle.argon2.proofs.TextNumbers.{number_lacks}
 use Rattle.argon2.proofs.TextPieces.{IsClean, pieces-again}
@@ -73,29 +72,40 @@ head_at text p some (q, d, cut, head) =
     let same : q ≡ p = cc in
     (d, subst (λ (x : Pieces). IsHead x d) same head)
 
--- ---- refusals
+-- ---- spellings
 
--- the pieces of the head are those of any spelling
-spelled_pieces : (text : List ℕ) (h : Head) (d : Spelled) (head : IsHeadOf text h) → (s : Spells text d) → s.pieces ≡ head.pieces
-spelled_pieces text h d head s = pieces_unique text s.pieces head.pieces d (settings_of h) s.cut s.head head.cut head.head
+-- any spelling of the text has the salt and the hash of its head
+pub items_at : (text : List ℕ) (h : Head) (d : Spelled) → IsHeadOf text h → Spells text d → IsItem h.salt.now d.salt × IsItem h.hash.now d.hash
+items_at text h d head s =
+    let same : s.pieces ≡ head.pieces = pieces_unique text s.pieces head.pieces d (settings_of h) s.cut s.head head.cut head.head in
+    let salt : s.pieces.salt ≡ h.salt.now = ap (λ (p : Pieces). p.salt) same ∙ head.salt in
+    let hash : s.pieces.hash ≡ h.hash.now = ap (λ (p : Pieces). p.hash) same ∙ head.hash in
+    (subst (λ (t : List ℕ). IsItem t d.salt) salt s.salt, subst (λ (t : List ℕ). IsItem t d.hash) hash s.hash)
 
-has_head : (text : List ℕ) (h : Head) → IsHeadOf text h → HasHead text
-has_head text h head = (head.pieces, settings_of h, head.cut, head.head)
+-- where no salt or no hash stands behind the head, the text spells nothing
+pub headless : (text : List ℕ) → (HasHead text → ⊥) → SpellsNothing text
+headless text none d s = none (s.pieces, d, s.cut, s.head)
 
-pub salt_refused : (text : List ℕ) (h : Head) (e : Error) → IsHeadOf text h → RefusesItem h.salt.now e → Refuses text e
-salt_refused text h e head (inl (fail, none)) = inl (
-  fail,
-  λ d s.
-      let here : s.pieces.salt ≡ h.salt.now = ap (λ (p : Pieces). p.salt) (spelled_pieces text h d head s) ∙ head.salt in
-      none d.salt (subst (λ (t : List ℕ). IsItem t d.salt) here s.salt),
+pub saltless : (text : List ℕ) (h : Head) → IsHeadOf text h → (IsSomeItem h.salt.now → ⊥) → SpellsNothing text
+saltless text h head none d s = none (d.salt, (items_at text h d head s).0)
+
+pub hashless : (text : List ℕ) (h : Head) → IsHeadOf text h → (IsSomeItem h.hash.now → ⊥) → SpellsNothing text
+hashless text h head none d s = none (d.hash, (items_at text h d head s).1)
+
+-- with both it spells a value
+pub spelling_at : (text : List ℕ) (h : Head) → IsHeadOf text h → IsSomeItem h.salt.now → IsSomeItem h.hash.now → IsSpellingOf text h
+spelling_at text h head (salt, salt_item) (hash, hash_item) = (
+  salt,
+  hash,
+  record {
+    spells = record {
+      pieces = head.pieces;
+      cut = head.cut;
+      head = record { name = head.head.name; version = head.head.version; memory = head.head.memory; time = head.head.time; lanes = head.head.lanes };
+      salt = subst (λ (t : List ℕ). IsItem t salt) (sym head.salt) salt_item;
+      hash = subst (λ (t : List ℕ). IsItem t hash) (sym head.hash) hash_item;
+    };
+    salt_item = salt_item;
+    hash_item = hash_item;
+  },
 )
-salt_refused text h e head (inr memory) = inr (memory, has_head text h head)
-
-pub hash_refused : (text : List ℕ) (h : Head) (e : Error) → IsHeadOf text h → RefusesItem h.hash.now e → Refuses text e
-hash_refused text h e head (inl (fail, none)) = inl (
-  fail,
-  λ d s.
-      let here : s.pieces.hash ≡ h.hash.now = ap (λ (p : Pieces). p.hash) (spelled_pieces text h d head s) ∙ head.hash in
-      none d.hash (subst (λ (t : List ℕ). IsItem t d.hash) here s.hash),
-)
-hash_refused text h e head (inr memory) = inr (memory, has_head text h head)

@@ -1,18 +1,19 @@
 -- base64 of bytes: no `$`, one text for each, and its length.
-use Rattle.std.proofs.Common.{◌≡◌, ◌≢◌, ℕ, zero, suc, ◌≤◌, List, [], ◌∷◌, length, get_or, take, Option, Some, None, Result, Ok, Err, refl, sym, ap, ◌∙◌, arith}
-use Rattle.std.proofs.lemmas.List.{append-nil}
+use Rattle.std.proofs.Common.{◌≡◌, ◌≢◌, Bool, true, false, ℕ, zero, suc, ◌+◌, ◌*◌, ◌%◌, ◌≤◌, List, [], ◌∷◌, ◌++◌, length, get_or, take, drop, Option, Some, None, Result, Ok, Err, refl, sym, ap, subst, ◌∙◌, arith}
+use Rattle.std.proofs.lemmas.List.{append-nil, get_or-drop, length-append, length-take-le, take-append-drop}
 use Rattle.base64.specs.Rfc4648.{encode_symbols, unpadded_len}
 use Rattle.base64.specs.Engines.{standard_no_pad}
 use Rattle.base64.specs.GeneralPurpose.{IsBytes, engine_symbols, decode_of, decode_slice_of, decoded_bytes_of}
-use Rattle.base64.proofs.EngineFacts.{decode_of-encode_of, decode_of_strict, decode_of_bytes}
+use Rattle.base64.proofs.EngineFacts.{decode_of-encode_of, decode_of_strict, decode_of_bytes, encode_of-append, front_bytes}
 use Rattle.base64.specs.Decode.{IsWrittenOver, decode_outcome, decoded_estimate, or_error}
 use Rattle.base64.specs.declared.decode.DecodeError.{DecodeError}
 use Rattle.base64.specs.declared.decode.DecodeSliceError.{DecodeSliceError}
 use Rattle.base64.specs.declared.engine.general_purpose.GeneralPurpose.{GeneralPurpose}
 use Rattle.base64.proofs.Decoding.{conservative_ok, slice_result_room}
-use Rattle.std.specs.Result.{OnOk}
+use Rattle.std.specs.Prelude.{◌↔◌, IsTrue}
+use Rattle.std.specs.Result.{OnOk, is_ok}
 use Rattle.argon2.specs.Text.{base64}
-use Rattle.argon2.specs.Grammar.{Lacks, IsItem}
+use Rattle.argon2.specs.Grammar.{Lacks, IsItem, IsSomeItem}
 use Rattle.argon2.proofs.TextCuts.{any_lacks}
 
 abbrev alphabet : List ℕ
@@ -90,3 +91,88 @@ slice_refused text bytes out_len r e room value err item =
     let is = slice_result_room s.decode_table text s.padding.value s.config.decode_allow_trailing_bits s.config.decode_padding_mode out_len room in
     let ok = or_no_error _ (length (decoded_bytes_of s text)) none in
     ok_or_err r (length (decoded_bytes_of s text)) e (value ∙ is ∙ ok) err
+
+-- ---- items in stretches
+
+split_same : (a b c d : List ℕ) → length a ≡ length c → a ++ b ≡ c ++ d → (a ≡ c) × (b ≡ d)
+split_same [] b [] d len same = (refl, same)
+split_same [] b (z ∷ c) d len same = absurd (omega (arith, len))
+split_same (x ∷ a) b [] d len same = absurd (omega (arith, len))
+split_same (x ∷ a) b (z ∷ c) d len same =
+    let first : x ≡ z = cc same in
+    let behind : a ++ b ≡ c ++ d = cc same in
+    let rest = split_same a b c d (omega (arith, len)) behind in
+    (rw (first, rest.0) refl, rest.1)
+
+both_bytes : (a b : List ℕ) → IsBytes a → IsBytes b → IsBytes (a ++ b)
+both_bytes [] b p q i = q i
+both_bytes (x ∷ a) b p q zero = p 0
+both_bytes (x ∷ a) b p q (suc i) = both_bytes a b (λ k. p (suc k)) q i
+
+take_bytes : (n : ℕ) (bytes : List ℕ) → IsBytes bytes → IsBytes (take n bytes)
+take_bytes n bytes h = front_bytes (take n bytes) (drop n bytes) (rw (take-append-drop n bytes) h)
+
+drop_bytes : (n : ℕ) (bytes : List ℕ) → IsBytes bytes → IsBytes (drop n bytes)
+drop_bytes n bytes h i = rw (get_or-drop n bytes i 0) (h (n + i))
+
+base64-append : (a b : List ℕ) → length a % 3 ≡ 0 → base64 (a ++ b) ≡ base64 a ++ base64 b
+base64-append a b h = encode_of-append standard_no_pad a b h
+
+-- a front of n groups of four letters is the base64 of three bytes for each, and what stands behind
+-- it that of the other bytes
+item_front : (front behind bytes : List ℕ) (n : ℕ) → length front ≡ 4 * n → IsItem (front ++ behind) bytes → IsItem front (take (3 * n) bytes) × IsItem behind (drop (3 * n) bytes)
+item_front front behind bytes n len item =
+    let head : List ℕ = take (3 * n) bytes in
+    let tail : List ℕ = drop (3 * n) bytes in
+    let whole = length-base64 bytes in
+    let letters : length (front ++ behind) ≡ length (base64 bytes) = ap length item.encoded in
+    let fits : 3 * n ≤ length bytes = omega (arith, whole, letters, length-append front behind) in
+    let taken : length head ≡ 3 * n = length-take-le (3 * n) bytes fits in
+    let cut : front ++ behind ≡ base64 head ++ base64 tail =
+    item.encoded ∙ ap base64 (sym (take-append-drop (3 * n) bytes)) ∙ base64-append head tail (omega (arith, taken)) in
+    let same = split_same front behind (base64 head) (base64 tail) (omega (arith, length-base64 head, taken)) cut in (
+      record { encoded = same.0; bytes_fit = take_bytes (3 * n) bytes item.bytes_fit },
+      record { encoded = same.1; bytes_fit = drop_bytes (3 * n) bytes item.bytes_fit },
+    )
+
+pub item_halves : (front behind : List ℕ) (n : ℕ) → length front ≡ 4 * n → IsSomeItem (front ++ behind) → IsSomeItem front × IsSomeItem behind
+item_halves front behind n len (bytes, item) =
+    let both = item_front front behind bytes n len item in
+    ((take (3 * n) bytes, both.0), (drop (3 * n) bytes, both.1))
+
+pub item_whole : (front behind : List ℕ) (n : ℕ) → length front ≡ 4 * n → IsSomeItem front → IsSomeItem behind → IsSomeItem (front ++ behind)
+item_whole front behind n len (a, x) (b, y) =
+    let letters : length front ≡ length (base64 a) = ap length x.encoded in
+    let thirds : length a % 3 ≡ 0 = omega (arith, letters, length-base64 a, len) in
+    (a ++ b, record { encoded = rw (x.encoded, y.encoded) (sym (base64-append a b thirds)); bytes_fit = both_bytes a b x.bytes_fit y.bytes_fit })
+
+-- a text is an item exactly where both parts are, cut behind a whole number of groups
+pub item_parts : (text front behind : List ℕ) (n : ℕ) → front ≡ take (4 * n) text → behind ≡ drop (4 * n) text → length front ≡ 4 * n → IsSomeItem text ↔ (IsSomeItem front × IsSomeItem behind)
+item_parts text front behind n is_front is_behind len =
+    let joined : front ++ behind ≡ text = rw (is_front, is_behind) (take-append-drop (4 * n) text) in (
+      λ item. item_halves front behind n len (subst IsSomeItem (sym joined) item),
+      λ (a, b). subst IsSomeItem joined (item_whole front behind n len a b),
+    )
+
+-- decoding into a slice with room tells the items
+pub slice_tells : (text old new : List ℕ) (r : Result ℕ DecodeSliceError) → IsBytes text → decoded_estimate (length text) ≤ length old
+    → r ≡ decode_slice_of standard_no_pad text (length old) → OnOk r (IsWrittenOver (decoded_bytes_of standard_no_pad text) old new)
+    → OnOk r (IsBytes (decoded_bytes_of standard_no_pad text)) → IsTrue (is_ok r) ↔ IsSomeItem text
+slice_tells text old new (Ok n) fits room value written bytes =
+    ((λ t. (take n new, slice_found text old new (Ok n) n fits room value written bytes refl)), λ item. refl)
+slice_tells text old new (Err e) fits room value written bytes =
+    ((λ t. cc), λ (bytes, item). absurd (slice_refused text bytes (length old) (Err e) e room value refl item))
+
+-- the front stretch tells of the whole, or of what is left
+pub stretch_fails : (text rest front behind : List ℕ) (told : Bool) → IsSomeItem text ↔ IsSomeItem rest → IsSomeItem rest ↔ (IsSomeItem front × IsSomeItem behind)
+    → told ≡ false → IsTrue told ↔ IsSomeItem front → IsTrue false ↔ IsSomeItem text
+stretch_fails text rest front behind told left parts fails tells =
+    ((λ t. cc), λ item. sym fails ∙ tells.1 (parts.0 (left.0 item)).0)
+
+pub stretch_passes : (text rest front behind : List ℕ) (told : Bool) → IsSomeItem text ↔ IsSomeItem rest → IsSomeItem rest ↔ (IsSomeItem front × IsSomeItem behind)
+    → told ≡ true → IsTrue told ↔ IsSomeItem front → IsSomeItem text ↔ IsSomeItem behind
+stretch_passes text rest front behind told left parts passes tells =
+    ((λ item. (parts.0 (left.0 item)).1), λ item. left.1 (parts.1 (tells.0 passes, item)))
+
+pub no_item : (text : List ℕ) (told : Bool) → IsTrue told ↔ IsSomeItem text → told ≡ false → IsSomeItem text → ⊥
+no_item text told tells fails item = let t = sym fails ∙ tells.1 item in cc

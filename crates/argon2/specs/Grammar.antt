@@ -69,8 +69,8 @@ pub record IsItem (text bytes : List ℕ) : Type 0 where
   pub encoded : text ≡ base64 bytes
   pub bytes_fit : IsBytes bytes
 
-abbrev pub IsNoItem : List ℕ → Type 0
-IsNoItem text = (bytes : List ℕ) → IsItem text bytes → ⊥
+abbrev pub IsSomeItem : List ℕ → Type 0
+IsSomeItem text = (bytes : List ℕ) × IsItem text bytes
 
 -- the text is these pieces, and a `$` stands neither in the salt nor in the hash
 pub record IsCut (text : List ℕ) (pieces : Pieces) : Type 0 where
@@ -94,19 +94,17 @@ pub record Spells (text : List ℕ) (d : Spelled) : Type 0 where
   pub salt : IsItem pieces.salt d.salt
   pub hash : IsItem pieces.hash d.hash
 
--- the text spells nothing
+-- the text spells nothing, or some value
 abbrev pub SpellsNothing : List ℕ → Type 0
 SpellsNothing text = (d : Spelled) → Spells text d → ⊥
+
+abbrev pub SpellsSome : List ℕ → Type 0
+SpellsSome text = (d : Spelled) × Spells text d
 
 -- whatever stands for the salt and the hash, the text is cut and what stands before them is spelled
 abbrev pub HasHead : List ℕ → Type 0
 HasHead text = (pieces : Pieces) × (d : Spelled) × IsCut text pieces × IsHead pieces d
 
--- what a refusal says: the text spells nothing, or memory was refused for the salt or the hash,
--- which is asked for only behind a spelled head
+-- what a refusal says: the text spells nothing, or it spells a value and memory was refused
 abbrev pub Refuses : List ℕ → Error → Type 0
-Refuses text e = ((e ≡ DecodingFail) × SpellsNothing text) ⊎ ((e ≡ OutOfMemory) × HasHead text)
-
--- the same of one item: it is the base64 of no bytes, or memory was refused
-abbrev pub RefusesItem : List ℕ → Error → Type 0
-RefusesItem text e = ((e ≡ DecodingFail) × IsNoItem text) ⊎ (e ≡ OutOfMemory)
+Refuses text e = ((e ≡ DecodingFail) × SpellsNothing text) ⊎ ((e ≡ OutOfMemory) × SpellsSome text)

@@ -20,6 +20,8 @@ pub mod MemoryValue
 pub mod Slices
 pub mod Answers
 pub mod Verdict
+pub mod Stored
+pub mod Rehash
 pub mod AnyOrder
 pub mod Laws
 pub mod Text

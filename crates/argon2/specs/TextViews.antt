@@ -4,7 +4,7 @@ use Rattle.std.specs.Borrow.{Bor}
 use Rattle.argon2.specs.declared.parts.encoding.reading.Pieces.{Pieces as PiecesInText}
 use Rattle.argon2.specs.declared.parts.encoding.reading.Head.{Head}
 use Rattle.argon2.specs.declared.parts.decoded.Decoded.{Decoded}
-use Rattle.argon2.specs.Grammar.{Pieces, IsCut, IsHead}
+use Rattle.argon2.specs.Grammar.{Pieces, IsCut, IsHead, IsItem, Spells}
 use Rattle.argon2.specs.Text.{Spelled}
 
 -- a decoded value without where it lies in memory
@@ -41,17 +41,21 @@ pieces_view p = record {
   hash = p.hash.now;
 }
 
--- what the head of a text spells, with no salt and no hash yet
-abbrev pub settings_of : Head → Spelled
-settings_of h = record {
+-- what the head of a text spells with this salt and this hash
+abbrev pub spelled_with : Head → List ℕ → List ℕ → Spelled
+spelled_with h salt hash = record {
   variant = h.variant;
   version = h.version;
   mem_cost = h.mem_cost;
   time_cost = h.time_cost;
   parallelism = h.parallelism;
-  salt = [];
-  hash = [];
+  salt = salt;
+  hash = hash;
 }
+
+-- and with none yet
+abbrev pub settings_of : Head → Spelled
+settings_of h = spelled_with h [] []
 
 -- h is the head of the text, with the salt and the hash as they stand there
 pub record IsHeadOf (text : List ℕ) (h : Head) : Type 0 where
@@ -60,3 +64,12 @@ pub record IsHeadOf (text : List ℕ) (h : Head) : Type 0 where
   pub head : IsHead pieces (settings_of h)
   pub salt : pieces.salt ≡ h.salt.now
   pub hash : pieces.hash ≡ h.hash.now
+
+-- h is the head of a text that spells a value with this salt and this hash
+pub record IsSpelledBy (text : List ℕ) (h : Head) (salt hash : List ℕ) : Type 0 where
+  pub spells : Spells text (spelled_with h salt hash)
+  pub salt_item : IsItem h.salt.now salt
+  pub hash_item : IsItem h.hash.now hash
+
+abbrev pub IsSpellingOf : List ℕ → Head → Type 0
+IsSpellingOf text h = (salt : List ℕ) × (hash : List ℕ) × IsSpelledBy text h salt hash

@@ -5,11 +5,13 @@ ghost use Rattle.argon2.specs.Error.{message_of};
 ghost use Rattle.argon2.specs.declared.error.Error.TheVariants.{DecodingFail, OutOfMemory};
 
 use base64::DecodeError;
+use serde::{Deserialize, Serialize};
 use std::alloc::{AllocError, AllocFailed};
 use std::fmt;
 
 /// Why a call was refused.
-#[derive(Clone, Debug, Drop, PartialEq)]
+#[derive(Clone, Debug, Drop, PartialEq, Serialize, Deserialize)]
+#[serde(rename_all = "snake_case")]
 pub enum Error {
     /// The hash is to be shorter than 4 bytes.
     OutputTooShort,
@@ -113,6 +115,8 @@ impl fmt::Display for Error {
         f.write_str(self.message())
     }
 }
+
+impl std::error::Error for Error {}
 
 impl From<AllocError> for Error {
     ghost from_gives = { λ _ error. error ≡ OutOfMemory };

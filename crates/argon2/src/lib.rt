@@ -11,7 +11,11 @@ mod thread_mode;
 mod variant;
 mod version;
 
-pub use argon2::{hash_raw, hash_raw_sequential, verify_raw, verify_raw_sequential};
+pub use argon2::{
+    hash_encoded, hash_encoded_sequential, hash_raw, hash_raw_sequential, needs_rehash,
+    verify_encoded, verify_encoded_ext, verify_encoded_sequential, verify_raw,
+    verify_raw_sequential,
+};
 pub use config::Config;
 pub use error::Error;
 pub use parts::encoding::encoded_len;

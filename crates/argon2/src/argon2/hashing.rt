@@ -1,14 +1,17 @@
 //! Hashing a password: its tag, and its text.
 
 ghost use Rattle.std.specs.Prelude.{◌≡◌, IfErr, IfOk, false, length, vec_len};
+ghost use Rattle.std.specs.String.{string_bytes};
 ghost use Rattle.argon2.specs.Answers.{Answers, IsShortage};
 ghost use Rattle.argon2.specs.Config.{may_lack_workers};
 ghost use Rattle.argon2.specs.Settings.{refusal_of};
 ghost use Rattle.argon2.specs.Tag.{tag_of};
+ghost use Rattle.argon2.specs.Text.{spelled_of, text_of};
 
 use crate::config::Config;
 use crate::error::Error;
 use crate::parts::context::{Context, Job};
+use crate::parts::encoding::encode_string;
 use crate::parts::fill::{fill_as_asked, fill_in_turn, finalize, new_memory, write_first_blocks};
 use crate::result::Result;
 use std::alloc::Global;
@@ -78,4 +81,37 @@ pub fn hash_raw_sequential(
         (λ tag. tag.items ≡ tag_of pwd.now salt.now config.now config.now.hash_length) result }
 {
     tag_sequential(alloc, &Context::new(*config, pwd, salt)?)
+}
+
+/// The text of a password's hash, as `encode_string` writes it. It answers as `hash_raw`, with the
+/// text in place of the tag.
+pub fn hash_encoded<R: Threads + Wait + Sync>(
+    rt: &R,
+    alloc: Global,
+    pwd: &[u8],
+    salt: &[u8],
+    config: &Config,
+) -> Result<String>
+    ensures { Answers (refusal_of config.now (length pwd.now) (length salt.now) config.now.hash_length) (may_lack_workers config.now)
+        (λ text. string_bytes text ≡ text_of (spelled_of config.now salt.now (tag_of pwd.now salt.now config.now config.now.hash_length))) result }
+{
+    let context = Context::new(*config, pwd, salt)?;
+    let hash = tag(rt, alloc, &context)?;
+    encode_string(alloc, &context, &hash)
+}
+
+/// The text of a password's hash, as `hash_encoded` gives it, computed in the caller's thread
+/// whatever the thread mode is.
+pub fn hash_encoded_sequential(
+    alloc: Global,
+    pwd: &[u8],
+    salt: &[u8],
+    config: &Config,
+) -> Result<String>
+    ensures { Answers (refusal_of config.now (length pwd.now) (length salt.now) config.now.hash_length) false
+        (λ text. string_bytes text ≡ text_of (spelled_of config.now salt.now (tag_of pwd.now salt.now config.now config.now.hash_length))) result }
+{
+    let context = Context::new(*config, pwd, salt)?;
+    let hash = tag_sequential(alloc, &context)?;
+    encode_string(alloc, &context, &hash)
 }

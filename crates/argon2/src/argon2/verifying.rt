@@ -4,6 +4,8 @@ ghost use Rattle.std.specs.Prelude.{◌≡◌, ◌↔◌, IsTrue, false, length}
 ghost use Rattle.argon2.specs.Config.{may_lack_workers};
 ghost use Rattle.argon2.specs.Verdict.{IsVerdict, difference_of};
 
+mod texts;
+
 use crate::argon2::hashing::{tag, tag_sequential};
 use crate::config::Config;
 use crate::parts::context::Context;
@@ -12,6 +14,7 @@ use std::alloc::Global;
 use std::marker::Sync;
 use std::sync::Wait;
 use std::thread::Threads;
+pub use texts::{verify_encoded, verify_encoded_ext, verify_encoded_sequential};
 
 /// The bits in which two hashes of one length differ at any place.
 fn difference(one: &[u8], other: &[u8]) -> u8

@@ -3,10 +3,11 @@
 
 ghost use Rattle.std.specs.Prelude.{◌≡◌, IfErr, IfOk};
 ghost use Rattle.std.specs.String.{string_bytes};
-ghost use Rattle.argon2.specs.Grammar.{IsItem, Refuses, RefusesItem, Spells};
+ghost use Rattle.argon2.specs.Grammar.{IsItem, IsSomeItem, Refuses, Spells};
 ghost use Rattle.argon2.specs.Text.{spelled_of, text_of};
-ghost use Rattle.argon2.specs.TextViews.{spelled_by};
+ghost use Rattle.argon2.specs.TextViews.{spelled_by, spelled_with};
 
+mod items;
 mod lengths;
 mod reading;
 #[cfg(test)]
@@ -17,10 +18,11 @@ use crate::error::Error;
 use crate::parts::context::Context;
 use crate::parts::decoded::Decoded;
 use crate::result::Result;
-use base64::decoded_len_estimate;
 use base64::engine::general_purpose::STANDARD_NO_PAD;
+use items::bytes_of;
+pub(crate) use items::item_len;
 pub use lengths::{base64_len, encoded_len, num_len};
-use reading::head_of;
+pub(crate) use reading::{Head, spelling_of};
 use std::alloc::Global;
 
 /// The text of a hash: the variant in lower case, the version, the costs and lanes as plain decimals,
@@ -50,14 +52,26 @@ pub fn encode_string(alloc: Global, context: &Context<'_>, hash: &[u8]) -> Resul
 
 /// What `encoded` spells.
 ///
-/// A text that spells nothing is `DecodingFail`. Memory is asked for only behind a text whose `$`
-/// stand where they should and whose variant, version, costs and lanes are spelled; where it is
-/// refused: `OutOfMemory`.
+/// A text that spells nothing is `DecodingFail`, also where memory is refused: so is each text whose
+/// `$` do not stand where they should or whose variant, version, costs or lanes are not spelled.
+/// Memory is asked for only behind a text that spells a value; where it is refused: `OutOfMemory`.
 pub fn decode_string(alloc: Global, encoded: &str) -> Result<Decoded>
     ensures spelled { IfOk result (λ decoded. Spells encoded.now (spelled_by decoded)) }
     ensures refused { IfErr result (Refuses encoded.now) }
 {
-    let head = head_of(encoded).ok_or(Error::DecodingFail)?;
+    let head = spelling_of(encoded).ok_or(Error::DecodingFail)?;
+    decode(alloc, &head)
+}
+
+/// What the text of a head spells, where its salt and its hash are items. Where memory is refused:
+/// `OutOfMemory`.
+pub(crate) fn decode(alloc: Global, head: &Head<'_>) -> Result<Decoded>
+    requires salt { IsSomeItem head.now.salt.now }
+    requires hash { IsSomeItem head.now.hash.now }
+    ensures settings { IfOk result (λ d. spelled_by d ≡ spelled_with head.now d.salt.items d.hash.items) }
+    ensures items { IfOk result (λ d. IsItem head.now.salt.now d.salt.items × IsItem head.now.hash.now d.hash.items) }
+    ensures refused { IfErr result (λ e. e ≡ Error.OutOfMemory) }
+{
     let salt = bytes_of(alloc, head.salt)?;
     let hash = bytes_of(alloc, head.hash)?;
     Ok(Decoded {
@@ -69,19 +83,4 @@ pub fn decode_string(alloc: Global, encoded: &str) -> Result<Decoded>
         salt,
         hash,
     })
-}
-
-/// The bytes whose unpadded base64 `text` is.
-fn bytes_of(alloc: Global, text: &str) -> Result<Vec<u8>>
-    ensures item { IfOk result (λ bytes. IsItem text.now bytes.items) }
-    ensures refused { IfErr result (RefusesItem text.now) }
-{
-    // Room for what any text of this length decodes to, so that a refusal is the text's own.
-    let text = text.as_bytes();
-    let mut bytes = vec![in alloc; 0u8; decoded_len_estimate(text.len())]?;
-    let Ok(len) = STANDARD_NO_PAD.decode_slice(text, bytes.as_mut_slice()) else {
-        return Err(Error::DecodingFail);
-    };
-    bytes.truncate(len);
-    Ok(bytes)
 }

@@ -3,16 +3,17 @@
 ghost use Rattle.std.specs.Prelude.{◌≡◌, ◌<◌, ◌==◌, MatchOption, option_map};
 ghost use Rattle.std.specs.List.{list_any};
 ghost use Rattle.argon2.specs.Cutting.{cut, piece, pieces_of, strip, version_piece};
-ghost use Rattle.argon2.specs.Grammar.{HasHead, IsNoNumber, IsNoVersion, IsNumber, IsVersion};
-ghost use Rattle.argon2.specs.TextViews.{IsHeadOf, pieces_view, two_texts, version_and_rest, version_text_of};
+ghost use Rattle.argon2.specs.Grammar.{HasHead, IsNoNumber, IsNoVersion, IsNumber, IsVersion, SpellsNothing};
+ghost use Rattle.argon2.specs.TextViews.{IsHeadOf, IsSpellingOf, pieces_view, two_texts, version_and_rest, version_text_of};
 ghost use Rattle.argon2.specs.Variant.{IsName, IsNoName};
 
+use super::items::is_item;
 use crate::variant::Variant;
 use crate::version::Version;
 
 /// The pieces of a text, as they stand in it.
 #[derive(Clone, Copy)]
-pub(super) struct Pieces<'a> {
+struct Pieces<'a> {
     name: &'a str,
     version: Option<&'a str>,
     memory: &'a str,
@@ -24,18 +25,30 @@ pub(super) struct Pieces<'a> {
 
 /// What a text spells before its salt and its hash, and these two as they stand in it.
 #[derive(Clone, Copy)]
-pub(super) struct Head<'a> {
-    pub(super) variant: Variant,
-    pub(super) version: Version,
-    pub(super) mem_cost: u32,
-    pub(super) time_cost: u32,
-    pub(super) parallelism: u32,
-    pub(super) salt: &'a str,
-    pub(super) hash: &'a str,
+pub(crate) struct Head<'a> {
+    pub(crate) variant: Variant,
+    pub(crate) version: Version,
+    pub(crate) mem_cost: u32,
+    pub(crate) time_cost: u32,
+    pub(crate) parallelism: u32,
+    pub(crate) salt: &'a str,
+    pub(crate) hash: &'a str,
+}
+
+/// The head of a text that spells a value. It takes no memory.
+pub(crate) fn spelling_of(text: &str) -> Option<Head<'_>>
+    ensures { MatchOption result (SpellsNothing text.now) (IsSpellingOf text.now) }
+{
+    let head = head_of(text)?;
+    if is_item(head.salt) && is_item(head.hash) {
+        Some(head)
+    } else {
+        None
+    }
 }
 
 /// The head of a text, where its pieces stand as they should and those before the salt are spelled.
-pub(super) fn head_of(text: &str) -> Option<Head<'_>>
+fn head_of(text: &str) -> Option<Head<'_>>
     ensures { MatchOption result (HasHead text.now → ⊥) (IsHeadOf text.now) }
 {
     let pieces = pieces_of(text)?;

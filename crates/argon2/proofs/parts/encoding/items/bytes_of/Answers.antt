@@ -1,19 +1,16 @@
 -- The vector has room for what any text of this length decodes to, so a refusal is the text's.
-use Rattle.std.proofs.Common.{◌≡◌, ◌≤◌, length, drop, inl, sym, refl, arith}
+use Rattle.std.proofs.Common.{◌≡◌, ◌≤◌, length, drop, sym, arith}
 use Rattle.std.proofs.lemmas.List.{take_at}
 use Rattle.base64.specs.Decode.{decoded_estimate}
 use Rattle.argon2.proofs.TextItems.{slice_found, slice_refused}
-use Rattle.argon2.proofs.parts.encoding.bytes_of.Goals as goal
+use Rattle.argon2.proofs.parts.encoding.items.bytes_of.Goals as goal
 
 pub returns-in_default-clause-refused : goal.returns-in_default-clause-refused
 returns-in_default-clause-refused c =
     let room : decoded_estimate (length c.as_bytes-text.result.now) ≤ length c.as_mut_slice.result.now = omega (arith, c.in_ok-bytes.ensures.len) in
-    rw (sym c.as_bytes-text.ensures.value) (inl (
-      refl,
-      λ bytes item.
-          slice_refused c.as_bytes-text.result.now bytes (length c.as_mut_slice.result.now) c.decode_slice.result c.in_default.field-0 room
-          c.decode_slice.ensures.value c.in_default.is item,
-    ))
+    let item = c.requires in
+    absurd (slice_refused c.as_bytes-text.result.now item.0 (length c.as_mut_slice.result.now) c.decode_slice.result c.in_default.field-0 room
+    c.decode_slice.ensures.value c.in_default.is (rw c.as_bytes-text.ensures.value item.1))
 
 pub returns-clause-item : goal.returns-clause-item
 returns-clause-item c =

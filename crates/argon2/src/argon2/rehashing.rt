@@ -1,0 +1,41 @@
+//! Whether a stored text was made with other settings.
+
+ghost use Rattle.std.specs.Prelude.{◌≡◌, ◌↔◌, IsTrue, MatchResult};
+ghost use Rattle.argon2.specs.Grammar.{Spells, SpellsNothing};
+ghost use Rattle.argon2.specs.Rehash.{Agrees, Differs};
+ghost use Rattle.argon2.specs.Text.{Spelled};
+ghost use Rattle.argon2.specs.TextViews.{spelled_by};
+
+use crate::config::Config;
+use crate::error::Error;
+use crate::parts::decoded::Decoded;
+use crate::parts::encoding::decode_string;
+use crate::result::Result;
+use std::alloc::Global;
+
+/// Whether a stored text was made with another variant, version, memory cost, time cost, number of
+/// lanes or length of the hash than the configuration has.
+///
+/// Two texts that spell one value are answered alike. Neither the settings table nor the salt, the
+/// secret, the associated data or the thread mode is looked at. A text that spells nothing is
+/// `DecodingFail`; where memory is refused: `OutOfMemory`.
+pub fn needs_rehash(alloc: Global, encoded: &str, config: &Config) -> Result<bool>
+    ensures unspelled { SpellsNothing encoded.now → result ≡ Err Error.DecodingFail }
+    ensures spelled { (d : Spelled) → Spells encoded.now d
+        → MatchResult result (λ differs. IsTrue differs ↔ Differs d config.now) (λ e. e ≡ Error.OutOfMemory) }
+{
+    let stored = decode_string(alloc, encoded)?;
+    Ok(!agrees(&stored, config))
+}
+
+/// Whether all that a rehash looks at is as in the configuration.
+fn agrees(stored: &Decoded, config: &Config) -> bool
+    ensures { IsTrue result ↔ Agrees (spelled_by stored.now) config.now }
+{
+    stored.variant == config.variant
+        && stored.version == config.version
+        && stored.mem_cost == config.mem_cost
+        && stored.time_cost == config.time_cost
+        && stored.parallelism == config.lanes
+        && stored.hash.len() == config.hash_length as usize
+}
