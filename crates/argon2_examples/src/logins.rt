@@ -1,0 +1,77 @@
+//! Passwords of users, kept as encoded texts.
+
+ghost use Rattle.std.specs.Prelude.{◌≡◌};
+ghost use Rattle.argon2.specs.Grammar.{SpellsNothing};
+
+use argon2::{
+    Config, Error, Result, hash_encoded, hash_encoded_sequential, needs_rehash, verify_encoded,
+    verify_encoded_ext, verify_encoded_sequential,
+};
+use std::alloc::Global;
+use std::marker::Sync;
+use std::sync::Wait;
+use std::thread::Threads;
+
+/// The text to keep of a new user's password. The salt is new for each user, and random.
+pub fn register<R: Threads + Wait + Sync>(
+    rt: &R,
+    alloc: Global,
+    password: &[u8],
+    salt: &[u8],
+    config: &Config,
+) -> Result<String> {
+    hash_encoded(rt, alloc, password, salt, config)
+}
+
+/// The same text, computed in the caller's thread.
+pub fn register_alone(
+    alloc: Global,
+    password: &[u8],
+    salt: &[u8],
+    config: &Config,
+) -> Result<String> {
+    hash_encoded_sequential(alloc, password, salt, config)
+}
+
+/// Whether the password is the one whose text was kept.
+pub fn log_in<R: Threads + Wait + Sync>(
+    rt: &R,
+    alloc: Global,
+    kept: &str,
+    password: &[u8],
+) -> Result<bool>
+    ensures { SpellsNothing kept.now → result ≡ Err Error.DecodingFail }
+{
+    verify_encoded(rt, alloc, kept, password)
+}
+
+/// The same where the texts were made with a secret of the service and with associated data.
+pub fn log_in_with_pepper<R: Threads + Wait + Sync>(
+    rt: &R,
+    alloc: Global,
+    kept: &str,
+    password: &[u8],
+    pepper: &[u8],
+    ad: &[u8],
+) -> Result<bool> {
+    verify_encoded_ext(rt, alloc, kept, password, pepper, ad)
+}
+
+/// The same, computed in the caller's thread.
+pub fn log_in_alone(
+    alloc: Global,
+    kept: &str,
+    password: &[u8],
+    pepper: &[u8],
+    ad: &[u8],
+) -> Result<bool> {
+    verify_encoded_sequential(alloc, kept, password, pepper, ad)
+}
+
+/// Whether the kept text was made with other settings than those of today, so that the password is
+/// to be hashed anew at the next login.
+pub fn is_outdated(alloc: Global, kept: &str, today: &Config) -> Result<bool>
+    ensures { SpellsNothing kept.now → result ≡ Err Error.DecodingFail }
+{
+    needs_rehash(alloc, kept, today)
+}

@@ -1,0 +1,65 @@
+-- What a command answers.
+use Rattle.std.specs.Prelude.{◌≡◌, ◌⊎◌, ℕ, true, false, List, ◌++◌, codes, length, string_bytes, Option, IfSome, MatchOption, ⊤}
+use Rattle.hex.specs.Hex.{encode_lower}
+use Rattle.argon2.specs.Answers.{IsShortage}
+use Rattle.argon2.specs.Config.{may_lack_workers}
+use Rattle.argon2.specs.Settings.{refusal_of}
+use Rattle.argon2.specs.Tag.{tag_of}
+use Rattle.argon2.specs.Text.{spelled_of, text_of}
+use Rattle.argon2.specs.declared.config.Config.{Config}
+use Rattle.argon2.specs.declared.error.Error.{Error}
+use Rattle.argon2.specs.declared.error.Error.TheVariants.{OutOfMemory}
+use Rattle.argon2_program.specs.declared.answer.Answer.{Answer}
+use Rattle.argon2_program.specs.declared.answer.Answer.TheVariants.{Hashed, Verdict}
+use Rattle.argon2_program.specs.declared.command.Command.{Command}
+use Rattle.argon2_program.specs.declared.command.Command.TheVariants.{Hash, Verify, Rehash}
+
+-- 1 for `false`, else 0
+abbrev pub answer_status : Answer → ℕ
+answer_status (Hashed lines) = 0
+answer_status (Verdict true) = 0
+answer_status (Verdict false) = 1
+
+-- what is written
+abbrev pub lines_of : Answer → List ℕ
+lines_of (Hashed lines) = string_bytes lines
+lines_of (Verdict true) = codes "true\n"
+lines_of (Verdict false) = codes "false\n"
+
+-- a tag in lower-case hexadecimal and its encoded text, a line each
+abbrev pub lines_of_tag : Config → List ℕ → List ℕ → List ℕ
+lines_of_tag config salt tag = encode_lower tag ++ codes "\n" ++ text_of (spelled_of config salt tag) ++ codes "\n"
+
+-- the lines of the tag of a password
+abbrev pub hash_lines : Config → List ℕ → List ℕ → List ℕ
+hash_lines config salt password = lines_of_tag config salt (tag_of password salt config config.hash_length)
+
+-- the answer fits the command: of `hash` the lines for the password, where the input's bytes are known;
+-- of the others a verdict
+abbrev pub IsAnswer : Command → Option (List ℕ) → Answer → Type 0
+IsAnswer (Hash config salt) input (Hashed lines) = IfSome input (λ password. string_bytes lines ≡ hash_lines config salt.now password)
+IsAnswer (Hash config salt) input (Verdict verdict) = ⊥
+IsAnswer (Verify encoded) input (Hashed lines) = ⊥
+IsAnswer (Verify encoded) input (Verdict verdict) = ⊤
+IsAnswer (Rehash config encoded) input (Hashed lines) = ⊥
+IsAnswer (Rehash config encoded) input (Verdict verdict) = ⊤
+
+-- the refusal of a hash: the first of the settings table, or a shortage where there is none
+abbrev pub IsRefusal : Config → List ℕ → List ℕ → Error → Type 0
+IsRefusal config salt password refusal =
+    MatchOption (refusal_of config (length password) (length salt) config.hash_length)
+    (IsShortage (may_lack_workers config) refusal)
+    (λ first. refusal ≡ first)
+
+-- the refusal may be that of the command: of `hash` that of the password, where the input's bytes are
+-- known, or that of the memory to read it
+abbrev pub MayRefuse : Command → Option (List ℕ) → Error → Type 0
+MayRefuse (Hash config salt) input refusal = (refusal ≡ OutOfMemory) ⊎ IfSome input (λ password. IsRefusal config salt.now password refusal)
+MayRefuse (Verify encoded) input refusal = ⊤
+MayRefuse (Rehash config encoded) input refusal = ⊤
+
+-- the command needs no input
+abbrev pub NeedsNoInput : Command → Type 0
+NeedsNoInput (Hash config salt) = ⊥
+NeedsNoInput (Verify encoded) = ⊥
+NeedsNoInput (Rehash config encoded) = ⊤
