@@ -1,64 +1,23 @@
 -- Whatever the order of the single writes, the matrix ends with the blocks of the recurrence.
-use Rattle.std.proofs.Common.{◌≡◌, ℕ, zero, suc, ◌+◌, ◌-◌, ◌*◌, ◌/◌, ◌%◌, ◌<◌, ◌≤◌, ◌⊎◌, Bool, true, false, List, [], ◌∷◌, ◌++◌, length, append-nil, refl, arith, cond, inl, inr, sym, ◌∙◌, ap}
-use Rattle.std.specs.Prelude.{◌==◌, ◌&&◌, ◌||◌, nat_lt}
+use Rattle.std.proofs.Common.{◌≡◌, ℕ, zero, suc, ◌+◌, ◌-◌, ◌*◌, ◌/◌, ◌%◌, ◌<◌, ◌≤◌, ◌⊎◌, Bool, true, false, List, [], ◌∷◌, ◌++◌, refl, arith, cond, inl, inr, sym, ◌∙◌, ap}
+use Rattle.std.specs.Prelude.{◌==◌, ◌&&◌, nat_lt}
 use Rattle.std.specs.List.{AllByRecursion, count_by, fold}
 use Rattle.std.proofs.lemmas.Bool.Decides.{eqb_tells}
-use Rattle.std.proofs.lemmas.Bool.{ltb-true, lt-ltb, le-ltb, eqb-true, eq-eqb}
+use Rattle.std.proofs.lemmas.Bool.{ltb-true, lt-ltb, le-ltb, eq-eqb}
+use Rattle.std.proofs.lemmas.List.{append-nil}
 use Rattle.std.proofs.lemmas.List.Sums.{sum_by-cons}
 use Rattle.std.proofs.Math.Nat.{mul-le-mul_right, add-mul-div_right, div-eq_of_lt}
 use Rattle.argon2_blocks.specs.Block.{xor}
 use Rattle.argon2_blocks.specs.Compression.{compress}
-use Rattle.argon2.specs.Setting.{Setting, IsSetting, Place, IsPlace, lane_length, slice_of, index_of}
-use Rattle.argon2.specs.Reference.{columns, left_by_last_pass, without_last, allowed, drawn_place, previous, pick, drawn_lane}
+use Rattle.argon2.specs.Setting.{Setting, IsSetting, Place, IsPlace, lane_length, slice_of}
+use Rattle.argon2.specs.Reference.{previous, pick}
 use Rattle.argon2.specs.Recurrence.{Blocks, drawn_word, next_block, recurrence, block_at, first_block, combines}
 use Rattle.argon2.specs.Matrix.{Matrix, IsBegun, written}
 use Rattle.argon2.specs.Schedule.{Progress, IsSchedule, blocks_in_slice, block_from, next_column, step, after_slice, after_slices}
-use Rattle.argon2.specs.AnyOrder.{EveryOrderAgrees, IsRun}
-use Rattle.argon2.proofs.References.{all-append, all-take, all-get_or, all-columns_from, some_allowed, own_lane_first, drawn_lane_fits, drawn_place_fits}
+use Rattle.argon2.specs.AnyOrder.{EveryOrderAgrees}
+use Rattle.argon2.proofs.References.{pick-readable, drawn_lane_fits}
+use Rattle.argon2.proofs.Jobs.{later_index}
 use Rattle.argon2.proofs.Recurrences.{same_choice, both-true, block_at-recurrence}
-
--- ---- which blocks a pick may read
-
--- of the last pass behind the slice, of this pass before it, or of the own lane before the block
-abbrev pub IsReadable : Setting → Place → ℕ → ℕ × ℕ → Type 0
-IsReadable s at lane e =
-    ((suc e.0 ≡ at.pass) × ((slice_of s at.column + 1) * s.segment_length ≤ e.1) × (e.1 < lane_length s))
-    ⊎ (((e.0 ≡ at.pass) × (e.1 < slice_of s at.column * s.segment_length))
-    ⊎ ((e.0 ≡ at.pass) × (lane ≡ at.lane) × (e.1 < at.column)))
-
-module _ (s : Setting) (at : Place) (lane : ℕ) where
-  left-readable : (pass : ℕ) → pass ≡ at.pass → AllByRecursion (IsReadable s at lane) (left_by_last_pass s pass (slice_of s at.column))
-  left-readable zero e = tt
-  left-readable (suc last) e =
-      all-columns_from (IsReadable s at lane) last ((slice_of s at.column + 1) * s.segment_length) _ (λ k low high. inl (e, low, omega arith))
-
-  before-readable : AllByRecursion (IsReadable s at lane) (columns at.pass 0 (slice_of s at.column * s.segment_length))
-  before-readable = all-columns_from (IsReadable s at lane) at.pass 0 _ (λ k low high. inr (inl (refl, omega arith)))
-
-  own-readable : (own : Bool) → (own ≡ true → lane ≡ at.lane) →
-      AllByRecursion (IsReadable s at lane) (cond own (columns at.pass (slice_of s at.column * s.segment_length) at.column) [])
-  own-readable false h = tt
-  own-readable true h = all-columns_from (IsReadable s at lane) at.pass (slice_of s at.column * s.segment_length) _ (λ k low high. inr (inr (refl, h refl, omega arith)))
-
-  cut-readable : (cut : Bool) (xs : List (ℕ × ℕ)) → AllByRecursion (IsReadable s at lane) xs → AllByRecursion (IsReadable s at lane) (cond cut (without_last xs) xs)
-  cut-readable true xs h = all-take (IsReadable s at lane) (length xs - 1) xs h
-  cut-readable false xs h = h
-
-  pub allowed-readable : AllByRecursion (IsReadable s at lane) (allowed s at lane)
-  unfolding allowed
-  allowed-readable =
-      cut-readable (lane == at.lane || index_of s at.column == 0) _
-      (all-append (IsReadable s at lane) _ _
-      (all-append (IsReadable s at lane) _ _ (left-readable at.pass refl) before-readable)
-      (own-readable (lane == at.lane) (λ h. eqb-true lane at.lane h)))
-
-pub pick-readable : (s : Setting) (word : ℕ) (at : Place) → IsSetting s → IsPlace s at → (0 < at.pass ⊎ 1 < at.column) →
-    IsReadable s at (pick s word at).lane ((pick s word at).pass, (pick s word at).column)
-unfolding pick
-pick-readable s word at good here later =
-    let some = some_allowed s at good here (drawn_lane s word at) later (own_lane_first s word at) in
-    all-get_or (IsReadable s at (drawn_lane s word at)) (allowed s at (drawn_lane s word at)) (drawn_place (length (allowed s at (drawn_lane s word at))) word) (0, 0)
-    (allowed-readable s at (drawn_lane s word at)) (drawn_place_fits _ word some)
 
 pub pick-lane_fits : (s : Setting) (word : ℕ) (at : Place) → IsSetting s → IsPlace s at → (pick s word at).lane < s.lanes
 unfolding pick
@@ -95,10 +54,8 @@ front_inside : (b : Bool) (len d : ℕ) → 2 ≤ len → d < cond b (len - 2) l
 front_inside true len d h k = omega arith
 front_inside false len d h k = omega arith
 
-pub later_front : (len pass slice d : ℕ) → 2 ≤ len → 0 < pass ⊎ 1 < slice * len + cond ((pass == 0) && (slice == 0)) 2 0 + d
-later_front len zero zero d h = inr (omega arith)
-later_front len zero (suc slice) d h = inr (omega arith)
-later_front len (suc pass) slice d h = inl (omega arith)
+later_front : (len pass slice d : ℕ) → 2 ≤ len → 0 < pass ⊎ 1 < slice * len + cond ((pass == 0) && (slice == 0)) 2 0 + d
+later_front len pass slice d h = elim (later_index pass slice len (cond ((pass == 0) && (slice == 0)) 2 0 + d) (omega arith) h) [ inl w ↦ inl w | inr w ↦ inr (omega (arith, w)) ]
 
 not_first' : (pass column : ℕ) → (0 < pass ⊎ 1 < column) → ((pass == 0) && nat_lt column 2) ≡ false
 not_first' zero column (inl h) = absurd (omega arith)

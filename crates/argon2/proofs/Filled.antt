@@ -11,19 +11,14 @@ use Rattle.argon2_blocks.specs.Block.{xor}
 use Rattle.argon2_blocks.specs.Compression.{compress}
 use Rattle.argon2.specs.Setting.{Setting, IsSetting, Place, IsPlace, Job, IsJob, lane_length, slice_of}
 use Rattle.argon2.specs.Reference.{is_independent, previous, pick}
-use Rattle.argon2.specs.Recurrence.{block_at, drawn_word, address_word, combines}
+use Rattle.argon2.specs.Recurrence.{block_at, drawn_word, address_word, combines, made_block}
 use Rattle.std.specs.Prelude.{slice_index}
 use Rattle.argon2.specs.Segment.{SegmentValue, segment_at, segment_block, IsReady}
-use Rattle.argon2.specs.Recurrence.{made_block}
 use Rattle.argon2.specs.Filling.{place_of, first_index, SnapshotValue, IsSnapshot, no_segment, place_among, other_blocks, seen, IsFilledTo, reference_of}
-use Rattle.argon2.proofs.Jobs.{start_fits}
+use Rattle.argon2.proofs.Jobs.{start_fits, later_index}
 use Rattle.argon2.proofs.Recurrences.{same_choice, both-true, block_at-recurrence}
-use Rattle.argon2.proofs.AnyOrder.{IsReadable, pick-readable, pick-lane_fits, recurrence_later, slice_of_sum, no_skip}
-
-later_index : (pass slice len index : ℕ) → cond ((pass == 0) && (slice == 0)) 2 0 ≤ index → 2 ≤ len → 0 < pass ⊎ 1 < slice * len + index
-later_index zero zero len index h k = inr (omega arith)
-later_index zero (suc slice) len index h k = inr (omega arith)
-later_index (suc pass) slice len index h k = inl (omega arith)
+use Rattle.argon2.proofs.AnyOrder.{pick-lane_fits, recurrence_later, slice_of_sum, no_skip}
+use Rattle.argon2.proofs.References.{IsReadable, pick-readable}
 
 -- a quotient from a bound on the product
 div_below : (c len q : ℕ) → 0 < len → c < q * len → c / len < q

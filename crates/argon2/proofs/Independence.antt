@@ -5,14 +5,14 @@ use Rattle.std.proofs.lemmas.List.{length-take, length-drop, get_or-take, get_or
 use Rattle.std.proofs.lemmas.List.FromFn.{get_or-map-range_with_len, length-map-range_with_len}
 use Rattle.argon2.specs.Setting.{Job, IsJob}
 use Rattle.argon2.specs.Reference.{is_independent}
-use Rattle.argon2.specs.Recurrence.{address_word}
+use Rattle.argon2.specs.Recurrence.{address_word, addresses}
 use Rattle.argon2.specs.Positions.{positions_in, reference_positions_of}
 use Rattle.argon2.proofs.Independent.{reference_positions_of-setting}
-use Rattle.argon2.specs.Filling.{place_of, first_index, addresses, picked, independent_reference, reference_of}
+use Rattle.argon2.specs.Filling.{place_of, first_index, picked, independent_reference, reference_of}
 use Rattle.argon2.proofs.Allowed.{same_slice, same_index}
 
 pub address_word-is : (j : Job) → IsJob j → (lane index : ℕ) → index < j.setting.segment_length →
-    address_word j.setting (place_of j lane index) ≡ slice_index (addresses j lane (index / 128)) (index % 128)
+    address_word j.setting (place_of j lane index) ≡ slice_index (addresses j.setting j.pass lane j.slice (index / 128)) (index % 128)
 unfolding address_word
 address_word-is j good lane index fits = rw (same_slice j good lane index 0 fits, same_index j good lane index 0 fits) refl
 

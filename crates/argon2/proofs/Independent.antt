@@ -1,10 +1,10 @@
 -- The references of an independent segment rest on neither prehash nor version, and what a write reads of other lanes no write of the slice changes.
-use Rattle.std.proofs.Common.{◌≡◌, ℕ, ◌+◌, ◌*◌, ◌<◌, ◌≤◌, ◌⊎◌, List, refl, inl, inr}
+use Rattle.std.proofs.Common.{◌≡◌, ℕ, ◌+◌, ◌*◌, ◌<◌, ◌≤◌, ◌⊎◌, refl, inl, inr}
 use Rattle.argon2.specs.Setting.{Setting, IsSetting, Place, IsPlace, slice_of}
 use Rattle.argon2.specs.Reference.{allowed, pick}
 use Rattle.argon2.specs.Recurrence.{address_word}
 use Rattle.argon2.specs.Positions.{positions_in, reference_positions_of}
-use Rattle.argon2.proofs.AnyOrder.{pick-readable}
+use Rattle.argon2.proofs.References.{pick-readable}
 
 pub reference_positions_of-setting : (s : Setting) (pass slice lane : ℕ) →
     reference_positions_of s.variant s.lanes s.segment_length s.passes pass slice lane ≡ positions_in s pass slice lane

@@ -9,7 +9,7 @@ use Rattle.argon2.specs.Segment.{SegmentValue, IsReady, segment_at, segment_bloc
 use Rattle.argon2.specs.MemoryValue.{MemoryValue, HasShape, block_of, last_blocks_of, segment_in, IsFilledBelow, blocks_written}
 use Rattle.argon2.specs.Matrix.{HoldsLastPass}
 use Rattle.argon2.proofs.Slices.{slice_fits}
-use Rattle.argon2.proofs.AnyOrder.{IsNext, other_eqb, slice_of_sum}
+use Rattle.argon2.proofs.AnyOrder.{IsNext, is_next, other_eqb}
 use Rattle.std.proofs.lemmas.List.FromFn.{get_or-map-range_with_len, length-map-range_with_len, fill_by_all}
 use Rattle.std.proofs.Math.Nat.{div-add-mod, mod-lt, mul-le-mul_right}
 use Rattle.argon2.specs.Recurrence.{block_at}
@@ -26,15 +26,10 @@ next-below s pass slice pass' slice' m (inr w) filled = record {
   above = λ k lane low high fits. let e : suc pass ≡ pass' = omega (arith, w.2) in rw (← e) (filled.below k lane (omega (arith, w.0)) fits);
 }
 
-next : (n : ℕ) → IsNext (n / 4) (n % 4) ((n + 1) / 4) ((n + 1) % 4)
-next n = elim (eqb_tells (n % 4) 3) [
-  | inl w ↦ inr (w.1, omega (arith, w.1), omega (arith, w.1))
-  | inr w ↦ inl (omega (arith, w.1), omega (arith, w.1))
-]
-
 pub next_slice : (s : Setting) (n : ℕ) (m : List (List SegmentValue)) → IsFilledBelow s (n / 4) (n % 4 + 1) m →
     IsFilledBelow s ((n + 1) / 4) ((n + 1) % 4) m
-next_slice s n m filled = next-below s (n / 4) (n % 4) ((n + 1) / 4) ((n + 1) % 4) m (next n) filled
+next_slice s n m filled =
+    let e : suc n ≡ n + 1 = omega arith in next-below s (n / 4) (n % 4) ((n + 1) / 4) ((n + 1) % 4) m (rw e at (is_next n)) filled
 
 dist : (p a b c : ℕ) → c ≡ a + b → p * c ≡ p * a + p * b
 dist p a b c e = rw e (omega arith)

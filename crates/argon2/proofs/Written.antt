@@ -3,8 +3,8 @@ use Rattle.std.proofs.Common.{◌≡◌, ℕ, zero, suc, ◌<◌, Bool, List, []
 use Rattle.std.proofs.lemmas.List.{get_or-take}
 use Rattle.argon2.specs.declared.parts.memory.segment.Source.{Source}
 use Rattle.argon2.specs.declared.parts.memory.segment.Source.TheVariants.{Own, Other}
-use Rattle.argon2.specs.Source.{source_block, IsBefore}
 use Rattle.argon2.specs.Recurrence.{made_block}
+use Rattle.argon2.specs.Source.{source_block, IsBefore}
 
 same_source : (blocks : List (List ℕ)) (index : ℕ) (source : Source) → IsBefore index source →
     source_block (take index blocks) source ≡ source_block blocks source

@@ -1,11 +1,8 @@
 -- A segment while it is filled, from the other slices and from its own blocks so far.
-use Rattle.std.specs.Prelude.{◌≡◌, ◌≢◌, ℕ, suc, ◌+◌, ◌-◌, ◌*◌, ◌/◌, ◌%◌, ◌<◌, ◌≤◌, Bool, ◌==◌, ◌&&◌, nat_lt, if◌then◌else◌, List, [], ◌∷◌, length, replicate, slice_index_or}
-use Rattle.argon2.specs.Setting.{Place, Job, IsJob, lane_length, memory_blocks}
+use Rattle.std.specs.Prelude.{◌≡◌, ◌≢◌, ℕ, suc, ◌+◌, ◌-◌, ◌*◌, ◌/◌, ◌%◌, ◌<◌, ◌≤◌, Bool, ◌==◌, nat_lt, if◌then◌else◌, List, [], length, slice_index_or}
+use Rattle.argon2.specs.Setting.{Place, Job, IsJob, first_written, lane_length}
 use Rattle.argon2.specs.Reference.{pick}
 use Rattle.argon2.specs.Recurrence.{block_at, drawn_word, address_word}
-use Rattle.argon2.specs.Variant.{variant_number}
-use Rattle.argon2_blocks.specs.Block.{zero_block}
-use Rattle.argon2_blocks.specs.Compression.{compress}
 use Rattle.argon2.specs.Segment.{SegmentValue, segment_at, segment_block}
 
 -- the place of an index of the job's segment of a lane
@@ -13,9 +10,9 @@ abbrev pub place_of : Job → ℕ → ℕ → Place
 place_of j lane index =
     record { pass = j.pass; lane = lane; column = j.slice * j.setting.segment_length + index }
 
--- the index of the first block that a fill writes: the first two of each lane stand before
+-- the index of the first block that a fill writes
 abbrev pub first_index : Job → ℕ
-first_index j = if (j.pass == 0) && (j.slice == 0) then 2 else 0
+first_index j = first_written j.pass j.slice
 
 -- what a contract sees of a snapshot: the job, and the other slices in rising order
 pub record SnapshotValue : Type 0 where
@@ -84,14 +81,6 @@ abbrev pub allowed_column : Job → ℕ → ℕ
 allowed_column j place =
     if nat_lt place (left_columns j) then j.slice * j.setting.segment_length + j.setting.segment_length + place
     else place - left_columns j
-
--- the words that the blocks of 128 indexes draw: those from 128 * number on
-abbrev pub address_input : Job → ℕ → ℕ → List ℕ
-address_input j lane number = j.pass ∷ lane ∷ j.slice ∷ memory_blocks j.setting ∷ j.setting.passes
-    ∷ variant_number j.setting.variant ∷ (number + 1) ∷ replicate 121 0
-
-abbrev pub addresses : Job → ℕ → ℕ → List ℕ
-addresses j lane number = compress zero_block (compress zero_block (address_input j lane number))
 
 -- the lane and column that the block at an index of an independent segment refers to
 abbrev pub independent_reference : Job → ℕ → ℕ → ℕ × ℕ

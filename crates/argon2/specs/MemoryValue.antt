@@ -32,10 +32,11 @@ abbrev pub block_of : MemoryValue → ℕ → ℕ → List ℕ
 block_of m lane column =
     slice_index_or (segment_in m.slices (column / m.segment_length) lane).blocks (column % m.segment_length) []
 
--- how many blocks were written, modulo 2 ^ 64
+-- the sum of the tallies of a slice
 abbrev pub slice_writes : List SegmentValue → ℕ
 slice_writes segments = sum_by (λ (segment : SegmentValue). segment.tally) segments
 
+-- how many blocks were written, modulo 2 ^ 64
 abbrev pub writes_in : List (List SegmentValue) → ℕ
 writes_in slices = sum_by slice_writes slices % 2 ^ 64
 

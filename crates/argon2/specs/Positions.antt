@@ -1,17 +1,17 @@
 -- The references of a data-independent segment. They rest on the variant, the shape of the memory
 -- and the number of passes alone: no password, salt or block decides them (RFC 9106, 3.4.1.2).
-use Rattle.std.specs.Prelude.{ℕ, ◌+◌, ◌-◌, ◌*◌, ◌==◌, ◌&&◌, if◌then◌else◌, List, [], map}
+use Rattle.std.specs.Prelude.{ℕ, ◌+◌, ◌-◌, ◌*◌, List, [], map}
 use Rattle.std.specs.List.{range_with_len}
 use Rattle.argon2.specs.declared.variant.Variant.{Variant}
 use Rattle.argon2.specs.declared.version.Version.TheVariants.{Version13}
-use Rattle.argon2.specs.Setting.{Setting, Place}
+use Rattle.argon2.specs.Setting.{Setting, Place, first_written}
 use Rattle.argon2.specs.Reference.{pick}
 use Rattle.argon2.specs.Recurrence.{address_word}
 
 -- the lane and column of each reference of a segment, by index, from 2 in the first slice
 abbrev pub positions_in : Setting → ℕ → ℕ → ℕ → List (ℕ × ℕ)
 positions_in s pass slice lane =
-    let first = if (pass == 0) && (slice == 0) then 2 else 0 in
+    let first = first_written pass slice in
     map (λ index.
     let at : Place = record { pass = pass; lane = lane; column = slice * s.segment_length + index } in
     let chosen = pick s (address_word s at) at in

@@ -25,13 +25,17 @@ unfoldable pub first_block : Setting → Place → List ℕ
 first_block s at =
     block_of_bytes (stretched_hash 1024 (s.prehash ++ to_le_bytes w32 at.column ++ to_le_bytes w32 at.lane))
 
+-- the words that 128 indexes of a segment draw from no block: those from 128 * number on (3.4.1.2)
+abbrev pub addresses : Setting → ℕ → ℕ → ℕ → ℕ → List ℕ
+addresses s pass lane slice number =
+    let input = pass ∷ lane ∷ slice ∷ memory_blocks s ∷ s.passes ∷ variant_number s.variant ∷ (number + 1) ∷ replicate 121 0 in
+    compress zero_block (compress zero_block input)
+
 -- the word that a place draws from no block (3.4.1.2)
 unfoldable pub address_word : Setting → Place → ℕ
 address_word s at =
     let index = index_of s at.column in
-    let input = at.pass ∷ at.lane ∷ slice_of s at.column ∷ memory_blocks s ∷ s.passes
-    ∷ variant_number s.variant ∷ (index / 128 + 1) ∷ replicate 121 0 in
-    slice_index (compress zero_block (compress zero_block input)) (index % 128)
+    slice_index (addresses s at.pass at.lane (slice_of s at.column) (index / 128)) (index % 128)
 
 -- the word that the block at a place draws its reference by (3.4.1)
 abbrev pub drawn_word : Setting → Blocks → Place → ℕ
@@ -39,7 +43,8 @@ drawn_word s block at =
     if is_independent s.variant at.pass (slice_of s at.column) then address_word s at
     else slice_index (block (previous s at)) 0
 
--- the block that two blocks make over an old one: their compression, or that combined with the old
+-- the block that two blocks make over the one that stood there before: their compression or, with_xor,
+-- that combined with the old one (3.2, step 6)
 abbrev pub made_block : List ℕ → List ℕ → List ℕ → Bool → List ℕ
 made_block prev reference old with_xor =
     let new = compress prev reference in if with_xor then xor new old else new
@@ -47,7 +52,8 @@ made_block prev reference old with_xor =
 -- the recurrence: what stands at a place, where `block` says what stands at the earlier ones (3.2,
 -- steps 5 and 6)
 abbrev pub next_block : Setting → Blocks → Place → List ℕ
-next_block s block at = made_block (block (previous s at)) (block (pick s (drawn_word s block at) at))
+next_block s block at =
+    made_block (block (previous s at)) (block (pick s (drawn_word s block at) at))
     (block (record at { pass = at.pass - 1 })) (combines s.version && nat_lt 0 at.pass)
 
 abbrev pub recurrence : Setting → Blocks → Place → List ℕ

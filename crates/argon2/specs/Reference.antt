@@ -12,7 +12,8 @@ is_independent Argon2d pass slice = false
 is_independent Argon2i pass slice = true
 is_independent Argon2id pass slice = (pass == 0) && nat_lt slice 2
 
--- the block before the one at a place, which is that lane's last of the pass before, for column 0
+-- the block before the one at a place, which is that lane's last of the pass before, for column 0;
+-- a lane's first two blocks are made of none (3.2)
 abbrev pub previous : Setting → Place → Place
 previous s at =
     if at.column == 0 then record at { pass = at.pass - 1; column = lane_length s - 1 }

@@ -2,7 +2,7 @@
 use Rattle.std.specs.Prelude.{◌≡◌, ℕ, zero, suc, ◌+◌, ◌-◌, ◌*◌, ◌/◌, ◌%◌, ◌<◌, ◌≤◌, ◌==◌, ◌&&◌, nat_lt, if◌then◌else◌, List, [], ◌∷◌, slice_index}
 use Rattle.std.specs.List.{fold, count_by, AllByRecursion}
 use Rattle.argon2.specs.Matrix.{Matrix, written}
-use Rattle.argon2.specs.Setting.{Setting, Place, slice_of}
+use Rattle.argon2.specs.Setting.{Setting, Place, first_written, slice_of}
 use Rattle.argon2.specs.Reference.{is_independent, previous, pick}
 use Rattle.argon2.specs.Recurrence.{address_word, combines, made_block}
 
@@ -48,7 +48,7 @@ pub record Progress : Type 0 where
 -- the column of the lane's next block
 abbrev pub next_column : Setting → ℕ → ℕ → ℕ → ℕ
 next_column s pass slice done =
-    slice * s.segment_length + (if (pass == 0) && (slice == 0) then 2 else 0) + done
+    slice * s.segment_length + first_written pass slice + done
 
 -- a column that each lane writes in the slice
 abbrev pub IsWrittenIn : Setting → ℕ → ℕ → ℕ → Type 0

@@ -1,5 +1,5 @@
 -- What all values of a memory depend on: a setting, and a job, which is one slice of it.
-use Rattle.std.specs.Prelude.{◌≡◌, ℕ, ◌*◌, ◌/◌, ◌%◌, ◌^◌, ◌<◌, ◌≤◌, List, length}
+use Rattle.std.specs.Prelude.{◌≡◌, ℕ, ◌*◌, ◌/◌, ◌%◌, ◌^◌, ◌<◌, ◌≤◌, ◌==◌, ◌&&◌, if◌then◌else◌, List, length}
 use Rattle.argon2.specs.declared.variant.Variant.{Variant}
 use Rattle.argon2.specs.declared.version.Version.{Version}
 
@@ -46,6 +46,11 @@ slice_of s column = column / s.segment_length
 
 abbrev pub index_of : Setting → ℕ → ℕ
 index_of s column = column % s.segment_length
+
+-- the index from which a pass writes the segments of a slice: the first two blocks of each lane
+-- stand before it begins
+abbrev pub first_written : ℕ → ℕ → ℕ
+first_written pass slice = if (pass == 0) && (slice == 0) then 2 else 0
 
 -- a pass and a slice of a setting
 pub record Job : Type 0 where

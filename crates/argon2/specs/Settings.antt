@@ -4,10 +4,11 @@ use Rattle.argon2.specs.declared.config.Config.{Config}
 use Rattle.argon2.specs.declared.error.Error.{Error}
 use Rattle.argon2.specs.declared.error.Error.TheVariants.{LanesTooFew, LanesTooMany, MemoryTooLittle, TimeTooSmall, PwdTooLong, SaltTooShort, SaltTooLong, SecretTooLong, AdTooLong, OutputTooShort, OutputTooLong}
 
--- the greatest length of an input or a hash, and the greatest number of lanes
+-- the greatest length of an input or a hash, in bytes
 abbrev pub max_length : ℕ
 max_length = 4294967295
 
+-- the greatest number of lanes
 abbrev pub max_lanes : ℕ
 max_lanes = 16777215
 

@@ -49,11 +49,7 @@ impl Variant {
     pub fn as_u32(&self) -> u32
         ensures { result ≡ variant_number self.now }
     {
-        match *self {
-            Variant::Argon2d => 0,
-            Variant::Argon2i => 1,
-            Variant::Argon2id => 2,
-        }
+        *self as u32
     }
 
     /// The same number, in 64 bits.

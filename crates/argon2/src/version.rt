@@ -25,10 +25,7 @@ impl Version {
     pub fn as_u32(&self) -> u32
         ensures { result ≡ version_number self.now }
     {
-        match *self {
-            Version::Version10 => 0x10,
-            Version::Version13 => 0x13,
-        }
+        *self as u32
     }
 
     /// The version of the text `16` or `19`. Any other text is `DecodingFail`.

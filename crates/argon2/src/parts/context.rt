@@ -25,7 +25,9 @@ pub fn first_refusal(config: &Config, pwd_len: u64, salt_len: u64, hash_len: u64
         Some(Error::LanesTooFew)
     } else if config.lanes > MAX_LANES {
         Some(Error::LanesTooMany)
-    } else if config.mem_cost < MIN_MEMORY || u64::from(config.mem_cost) < 8 * lanes {
+    } else if config.mem_cost < MIN_MEMORY
+        || u64::from(config.mem_cost) < u64::from(MIN_MEMORY) * u64::from(config.lanes)
+    {
         Some(Error::MemoryTooLittle)
     } else if config.time_cost < MIN_TIME {
         Some(Error::TimeTooSmall)

@@ -126,7 +126,7 @@ fn fill_slices(job: &Job, slices: &mut Slices)
     ensures writes { writes_in (segments_of slices.new)
         ≡ (writes_in (segments_of slices.old) + blocks_written job.now.setting (4 * job.now.setting.passes)) % 2 ^ 64 }
 {
-    for n in 0..4 * u64::from(job.passes()) {
+    for n in 0..u64::from(SYNC_POINTS) * u64::from(job.passes()) {
         fill_slice(&job.at((n / 4) as u32, (n % 4) as u32), slices);
     }
 }

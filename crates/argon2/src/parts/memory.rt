@@ -235,6 +235,11 @@ impl Index<u64> for Memory {
 
 /// The numbers of lanes and of columns.
 impl fmt::Debug for Memory {
+    ghost use Rattle.std.specs.Prelude.{◌++◌, ◌*◌, Some, codes};
+    ghost use Rattle.std.specs.Fmt.{decimal};
+
+    ghost debug_output = { λ m. Some (codes "Memory { rows: " ++ decimal m.lanes ++ codes ", cols: " ++ decimal (4 * m.segment_length) ++ codes " }") };
+
     fn fmt<W: fmt::Write>(&self, f: &mut fmt::Formatter<W>) -> fmt::Result {
         let (rows, columns) = (self.lanes(), self.lane_length());
         write!(f, "Memory {{ rows: {rows}, cols: {columns} }}")

@@ -13,7 +13,7 @@ mod snapshot;
 
 use crate::parts::context::Job;
 use crate::parts::memory::Segment;
-use argon2_blocks::common::SYNC_POINTS;
+use argon2_blocks::common::{ADDRESSES_IN_BLOCK, QWORDS_IN_BLOCK, SYNC_POINTS};
 use positions::pick;
 pub use positions::reference_positions;
 pub use snapshot::Snapshot;
@@ -128,10 +128,10 @@ fn fill_independent(snapshot: &Snapshot<'_>, lane: u32, segment: &mut Segment)
 {
     let job = snapshot.job();
     let _tally = segment.tally();
-    let mut references = [(0, 0); 128];
+    let mut references = [(0, 0); QWORDS_IN_BLOCK];
     let mut index = job.first_index();
     while index < job.segment_length() {
-        let count = u32::min(128, job.segment_length() - index);
+        let count = u32::min(ADDRESSES_IN_BLOCK, job.segment_length() - index);
         let some = &mut references[..count as usize];
         reference_positions(job, lane, index, some);
         write_blocks(snapshot, lane, index, some, segment);

@@ -15,12 +15,13 @@ use crate::variant::Variant;
 use crate::version::Version;
 use argon2_blocks::blake2b::{blake2b, hprime};
 use argon2_blocks::block::Block;
+use argon2_blocks::common::{BLOCK_SIZE, PREHASH_DIGEST_LENGTH, PREHASH_SEED_LENGTH, SYNC_POINTS};
 use std::marker::Model;
 
 /// All that the values of a slice depend on.
 #[derive(Clone, Copy, Debug, PartialEq)]
 pub struct Job {
-    prehash: [u8; 64],
+    prehash: [u8; PREHASH_DIGEST_LENGTH],
     variant: Variant,
     version: Version,
     lanes: u32,
@@ -73,7 +74,7 @@ impl Model for Job {
 
 /// The hash of all inputs.
 #[tactic(auto, unfolding(crate::specs::Prehash::prehash_of, crate::specs::Settings::refusal_of))]
-fn prehash(context: &Context<'_>) -> [u8; 64]
+fn prehash(context: &Context<'_>) -> [u8; PREHASH_DIGEST_LENGTH]
     ensures { let c = context.now in
         result ≡ prehash_of c.pwd.now c.salt.now c.config c.config.hash_length }
 {
@@ -88,7 +89,7 @@ fn prehash(context: &Context<'_>) -> [u8; 64]
     let salt_length = (context.salt.len() as u32).to_le_bytes();
     let secret_length = (config.secret.len() as u32).to_le_bytes();
     let ad_length = (config.ad.len() as u32).to_le_bytes();
-    let mut out = [0; 64];
+    let mut out = [0; PREHASH_DIGEST_LENGTH];
     blake2b(
         &mut out,
         &[
@@ -112,11 +113,11 @@ fn prehash(context: &Context<'_>) -> [u8; 64]
 }
 
 /// Writes what one of a lane's first two blocks is hashed of.
-fn first_input(prehash: &[u8; 64], lane: u32, column: u32, out: &mut [u8])
+fn first_input(prehash: &[u8; PREHASH_DIGEST_LENGTH], lane: u32, column: u32, out: &mut [u8])
     requires { length out.old ≡ 72 }
     ensures { out.new ≡ prehash.now ++ to_le_bytes w32 column ++ to_le_bytes w32 lane }
 {
-    let (head, rest) = out.split_at_mut(64);
+    let (head, rest) = out.split_at_mut(PREHASH_DIGEST_LENGTH);
     let (middle, tail) = rest.split_at_mut(4);
     head.copy_from_slice(prehash);
     middle.copy_from_slice(&column.to_le_bytes());
@@ -162,9 +163,9 @@ impl Job {
     pub fn first_block(&self, lane: u32, column: u32, out: &mut Block)
         ensures { out.new ≡ first_block self.now.setting (record { pass = 0; lane = lane; column = column }) }
     {
-        let mut input = [0; 72];
+        let mut input = [0; PREHASH_SEED_LENGTH];
         first_input(&self.prehash, lane, column, &mut input);
-        let mut bytes = [0; 1024];
+        let mut bytes = [0; BLOCK_SIZE];
         hprime(&mut bytes, &input);
         out.set_u8(&bytes);
     }
@@ -200,7 +201,7 @@ impl Job {
     pub fn memory_blocks(&self) -> u32
         ensures { result ≡ memory_blocks self.now.setting }
     {
-        4 * self.lanes * self.segment_length
+        SYNC_POINTS * self.lanes * self.segment_length
     }
 
     /// The number of the variant.

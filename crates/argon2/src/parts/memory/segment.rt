@@ -25,6 +25,7 @@ impl Model for Segment {
 }
 
 /// A block to make another of: the one at an index of the same segment, or any other.
+#[derive(Clone, Copy)]
 pub enum Source<'a> {
     /// The block at this index of the segment that is written.
     Own(usize),

@@ -1,13 +1,18 @@
 //! The references of a block: the lane and column that a drawn word picks.
 
 ghost use Rattle.std.specs.Prelude.{◌≡◌, ℕ, ◌+◌, ◌-◌, ◌*◌, ◌/◌, ◌%◌, ◌^◌, ◌<◌, ◌≤◌, length, take, drop, true, false};
-ghost use Rattle.argon2.specs.Filling.{addresses, allowed_column, allowed_count, first_index, left_columns, picked, place_of};
+ghost use Rattle.argon2.specs.Filling.{allowed_column, allowed_count, first_index, left_columns, picked, place_of};
 ghost use Rattle.argon2.specs.Positions.{reference_positions_of};
+ghost use Rattle.argon2.specs.Recurrence.{addresses};
 ghost use Rattle.argon2.specs.Reference.{drawn_lane, drawn_place, is_independent};
 ghost use Rattle.argon2.specs.Setting.{IsJob, lane_length};
 
 use crate::parts::context::Job;
 use argon2_blocks::block::{Block, fill_block};
+use argon2_blocks::common::{ADDRESSES_IN_BLOCK, QWORDS_IN_BLOCK, SYNC_POINTS};
+
+/// A word has two halves of 32 bits.
+const HALF: u64 = 1 << 32;
 
 /// The place that a word draws among some blocks.
 fn drawn_place(count: u32, word: u64) -> u32
@@ -15,9 +20,9 @@ fn drawn_place(count: u32, word: u64) -> u32
     ensures value { result ≡ drawn_place count word }
     ensures fits { result < count }
 {
-    let low = word % 4294967296;
-    let square = low * low / 4294967296;
-    let back = u64::from(count) * square / 4294967296;
+    let low = word % HALF;
+    let square = low * low / HALF;
+    let back = u64::from(count) * square / HALF;
     count - 1 - back as u32
 }
 
@@ -31,7 +36,7 @@ fn left_columns(job: &Job) -> u32
     if job.pass() == 0 {
         0
     } else {
-        4 * job.segment_length() - end
+        SYNC_POINTS * job.segment_length() - end
     }
 }
 
@@ -72,7 +77,7 @@ fn drawn_lane(job: &Job, lane: u32, word: u64) -> u32
         → result ≡ drawn_lane job.now.setting word (place_of job.now lane index) }
     ensures job { IsJob job.now }
 {
-    let drawn = word / 4294967296 % u64::from(job.lanes());
+    let drawn = word / HALF % u64::from(job.lanes());
     if job.pass() == 0 && job.slice() == 0 {
         lane
     } else {
@@ -94,10 +99,10 @@ pub fn pick(job: &Job, lane: u32, index: u32, word: u64) -> (u32, u32)
 
 /// Writes the words that the blocks at 128 indexes draw.
 fn address_block(job: &Job, lane: u32, number: u32, out: &mut Block)
-    ensures { out.new ≡ addresses job.now lane number }
+    ensures { out.new ≡ addresses job.now.setting job.now.pass lane job.now.slice number }
 {
     let zero = Block::zero();
-    let mut input = [0; 128];
+    let mut input = [0; QWORDS_IN_BLOCK];
     input[0] = u64::from(job.pass());
     input[1] = u64::from(lane);
     input[2] = u64::from(job.slice());
@@ -112,11 +117,11 @@ fn address_block(job: &Job, lane: u32, number: u32, out: &mut Block)
 
 /// Turns to the words of an index, from those of the one before it where there is one.
 fn turn_to(job: &Job, lane: u32, index: u32, is_first: bool, words: &mut Block)
-    requires { is_first ≡ false → words.old ≡ addresses job.now lane ((index - 1) / 128) }
-    ensures { words.new ≡ addresses job.now lane (index / 128) }
+    requires { is_first ≡ false → words.old ≡ addresses job.now.setting job.now.pass lane job.now.slice ((index - 1) / 128) }
+    ensures { words.new ≡ addresses job.now.setting job.now.pass lane job.now.slice (index / 128) }
 {
-    if is_first || index % 128 == 0 {
-        address_block(job, lane, index / 128, words);
+    if is_first || index % ADDRESSES_IN_BLOCK == 0 {
+        address_block(job, lane, index / ADDRESSES_IN_BLOCK, words);
     }
 }
 
@@ -136,7 +141,12 @@ pub fn reference_positions(job: &Job, lane: u32, first: u32, out: &mut [(u32, u3
     for k in 0..out.len() {
         let index = first + k as u32;
         turn_to(job, lane, index, k == 0, &mut words);
-        out[k] = pick(job, lane, index, words[(index % 128) as usize]);
+        out[k] = pick(
+            job,
+            lane,
+            index,
+            words[(index % ADDRESSES_IN_BLOCK) as usize],
+        );
     }
 }
 

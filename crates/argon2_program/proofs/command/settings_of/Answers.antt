@@ -35,7 +35,7 @@ returns-in_err-number_of-4-clause-none c =
 pub returns-in_err-ok-clause-none : goal.returns-in_err-ok-clause-none
 returns-in_err-ok-clause-none c =
     rw c.from_residual-in_err-ok.ensures (λ config h.
-    (refusal_of _ _ c.from_str.result c.ok.result c.in_err-ok.was c.ok.ensures.variant c.from_str.ensures).1.1
+    (refusal_of _ _ c.from_str.result c.ok.result c.in_err-ok.was c.ok.ensures.variant c.from_str.ensures.read).1.1
     config.variant
     (subst (λ text. IsName text config.variant)
     (word-texts_of c.args.words.now 1 c.index-words-1.result _ (omega (arith, c.requires)) c.index-words-1.is c.as_str-5.ensures.value)
@@ -45,7 +45,7 @@ returns-in_err-ok-clause-none c =
 pub returns-in_err-ok-2-clause-none : goal.returns-in_err-ok-2-clause-none
 returns-in_err-ok-2-clause-none c =
     rw c.from_residual-in_err-ok-2.ensures (λ config h.
-    (refusal_of _ _ c.from_str-2.result c.ok-2.result c.in_err-ok-2.was c.ok-2.ensures.variant c.from_str-2.ensures).1.1
+    (refusal_of _ _ c.from_str-2.result c.ok-2.result c.in_err-ok-2.was c.ok-2.ensures.variant c.from_str-2.ensures.read).1.1
     config.version
     (sym (word-texts_of c.args.words.now 2 c.index-words-2.result _ (omega (arith, c.requires)) c.index-words-2.is c.as_str-6.ensures.value)
     ∙ h.version))

@@ -1,4 +1,4 @@
-use Rattle.std.proofs.Common.{◌≡◌, ◌<◌, length}
+use Rattle.std.proofs.Common.{length}
 use Rattle.argon2.proofs.Accepted.{accepted, workers_fit}
 use Rattle.argon2.proofs.parts.context.Context.workers.Goals as goal
 

@@ -1,4 +1,4 @@
-use Rattle.std.proofs.Common.{◌≡◌, ℕ, ◌+◌, ◌*◌, ◌/◌, ◌%◌, ◌-◌, ◌<◌, ◌≤◌, Bool, arith, inl, inr}
+use Rattle.std.proofs.Common.{◌≡◌, ℕ, ◌+◌, ◌*◌, ◌/◌, ◌%◌, ◌-◌, Bool, arith, inl, inr}
 use Rattle.argon2.specs.MemoryValue.{HasShape}
 use Rattle.std.proofs.lemmas.Bool.{cases_lt}
 use Rattle.argon2.specs.Permit.{PermitsAll}

@@ -1,5 +1,5 @@
-use Rattle.std.proofs.Common.{◌≡◌, ◌*◌, ◌/◌, ◌%◌}
-use Rattle.argon2.specs.MemoryValue.{AreSlices, IsFilledBelow, no_memory}
+use Rattle.std.proofs.Common.{◌*◌, ◌/◌, ◌%◌}
+use Rattle.argon2.specs.MemoryValue.{AreSlices, IsFilledBelow}
 use Rattle.argon2.specs.Permit.{PermitsAll}
 use Rattle.argon2.specs.Slices.{segments_of}
 use Rattle.argon2.proofs.parts.fill.parallel.fill_by_workers.Given as goal

@@ -1,6 +1,7 @@
 use Rattle.std.proofs.Common.{◌≡◌, ℕ, ◌+◌, ◌-◌, ◌/◌, ◌%◌, ◌<◌, List, length, take, drop, arith, sym, ◌∙◌, ap, below_more, get_or-set_same, get_or-set_other}
 use Rattle.std.specs.Prelude.{slice_index}
-use Rattle.argon2.specs.Filling.{addresses, first_index, independent_reference, picked}
+use Rattle.argon2.specs.Recurrence.{addresses}
+use Rattle.argon2.specs.Filling.{first_index, independent_reference, picked}
 use Rattle.argon2.proofs.Independent.{reference_positions_of-setting}
 use Rattle.argon2.proofs.Independence.{address_word-is, positions-all}
 use Rattle.argon2.proofs.parts.segment.positions.reference_positions.Goals as goal
@@ -14,7 +15,7 @@ loop-k-preserved c =
     c.pick.ensures ∙ ap (λ (word : ℕ). picked j c.args.lane index word)
     (c.index.ensures ∙ ap (λ (words : List ℕ). slice_index words (index % 128)) c.turn_to.ensures ∙ sym (address_word-is j c.segment_length-length.ensures.job c.args.lane index fits)) in
     record {
-      words = λ h. c.turn_to.ensures ∙ ap (λ (n : ℕ). addresses j c.args.lane (n / 128)) (omega arith);
+      words = λ h. c.turn_to.ensures ∙ ap (λ (n : ℕ). addresses j.setting j.pass c.args.lane j.slice (n / 128)) (omega arith);
       done = below_more _ _
           (λ i h. get_or-set_other c.loop-k.out c.loop-k.k i _ _ (λ e. absurd (omega arith)) ∙ c.loop-k.invariant.done i h)
           (get_or-set_same c.loop-k.out c.loop-k.k _ _ (omega arith) ∙ drawn);
