@@ -1,14 +1,18 @@
 -- What a command answers.
-use Rattle.std.specs.Prelude.{◌≡◌, ◌⊎◌, ℕ, true, false, List, ◌++◌, codes, length, string_bytes, Option, IfSome, MatchOption, ⊤}
+use Rattle.std.specs.Prelude.{◌≡◌, ◌↔◌, ◌⊎◌, ℕ, true, false, List, [], ◌++◌, codes, length, nat_lt, string_bytes, Bool, IsTrue, Option, IfSome, MatchOption, MatchResult, Result, Ok, Err, ⊤}
 use Rattle.hex.specs.Hex.{encode_lower}
 use Rattle.argon2.specs.Answers.{IsShortage}
 use Rattle.argon2.specs.Config.{may_lack_workers}
+use Rattle.argon2.specs.Grammar.{Spells, SpellsNothing}
+use Rattle.argon2.specs.Rehash.{Differs}
 use Rattle.argon2.specs.Settings.{refusal_of}
+use Rattle.argon2.specs.Stored.{IsStoredConfig}
 use Rattle.argon2.specs.Tag.{tag_of}
-use Rattle.argon2.specs.Text.{spelled_of, text_of}
+use Rattle.argon2.specs.Text.{Spelled, spelled_of, text_of}
+use Rattle.argon2.specs.Verdict.{IsVerdict}
 use Rattle.argon2.specs.declared.config.Config.{Config}
 use Rattle.argon2.specs.declared.error.Error.{Error}
-use Rattle.argon2.specs.declared.error.Error.TheVariants.{OutOfMemory}
+use Rattle.argon2.specs.declared.error.Error.TheVariants.{DecodingFail, OutOfMemory}
 use Rattle.argon2_program.specs.declared.answer.Answer.{Answer}
 use Rattle.argon2_program.specs.declared.answer.Answer.TheVariants.{Hashed, Verdict}
 use Rattle.argon2_program.specs.declared.command.Command.{Command}
@@ -34,15 +38,27 @@ lines_of_tag config salt tag = encode_lower tag ++ codes "\n" ++ text_of (spelle
 abbrev pub hash_lines : Config → List ℕ → List ℕ → List ℕ
 hash_lines config salt password = lines_of_tag config salt (tag_of password salt config config.hash_length)
 
+-- what verifying a password against a text answers
+pub record VerifyAnswers (encoded password : List ℕ) (result : Result Bool Error) : Type 0 where
+  pub unspelled : SpellsNothing encoded → result ≡ Err DecodingFail
+  pub spelled : (d : Spelled) (config : Config) → Spells encoded d → IsStoredConfig d [] [] config →
+      IsVerdict password d.salt d.hash config (nat_lt 1 d.parallelism) result
+
+-- what asking whether a text needs a new hash answers
+pub record RehashAnswers (encoded : List ℕ) (config : Config) (result : Result Bool Error) : Type 0 where
+  pub unspelled : SpellsNothing encoded → result ≡ Err DecodingFail
+  pub spelled : (d : Spelled) → Spells encoded d →
+      MatchResult result (λ differs. IsTrue differs ↔ Differs d config) (λ e. e ≡ OutOfMemory)
+
 -- the answer fits the command: of `hash` the lines for the password, where the input's bytes are known;
--- of the others a verdict
+-- of the others the verdict
 abbrev pub IsAnswer : Command → Option (List ℕ) → Answer → Type 0
 IsAnswer (Hash config salt) input (Hashed lines) = IfSome input (λ password. string_bytes lines ≡ hash_lines config salt.now password)
 IsAnswer (Hash config salt) input (Verdict verdict) = ⊥
 IsAnswer (Verify encoded) input (Hashed lines) = ⊥
-IsAnswer (Verify encoded) input (Verdict verdict) = ⊤
+IsAnswer (Verify encoded) input (Verdict verdict) = IfSome input (λ password. VerifyAnswers encoded.now password (Ok verdict))
 IsAnswer (Rehash config encoded) input (Hashed lines) = ⊥
-IsAnswer (Rehash config encoded) input (Verdict verdict) = ⊤
+IsAnswer (Rehash config encoded) input (Verdict verdict) = RehashAnswers encoded.now config (Ok verdict)
 
 -- the refusal of a hash: the first of the settings table, or a shortage where there is none
 abbrev pub IsRefusal : Config → List ℕ → List ℕ → Error → Type 0
@@ -51,12 +67,12 @@ IsRefusal config salt password refusal =
     (IsShortage (may_lack_workers config) refusal)
     (λ first. refusal ≡ first)
 
--- the refusal may be that of the command: of `hash` that of the password, where the input's bytes are
--- known, or that of the memory to read it
+-- the refusal may be that of the command: that of the password, where the input's bytes are known, or
+-- that of the memory to read it; `rehash` reads none
 abbrev pub MayRefuse : Command → Option (List ℕ) → Error → Type 0
 MayRefuse (Hash config salt) input refusal = (refusal ≡ OutOfMemory) ⊎ IfSome input (λ password. IsRefusal config salt.now password refusal)
-MayRefuse (Verify encoded) input refusal = ⊤
-MayRefuse (Rehash config encoded) input refusal = ⊤
+MayRefuse (Verify encoded) input refusal = (refusal ≡ OutOfMemory) ⊎ IfSome input (λ password. VerifyAnswers encoded.now password (Err refusal))
+MayRefuse (Rehash config encoded) input refusal = RehashAnswers encoded.now config (Err refusal)
 
 -- the command needs no input
 abbrev pub NeedsNoInput : Command → Type 0
