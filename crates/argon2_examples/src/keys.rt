@@ -9,26 +9,28 @@ use std::marker::Sync;
 use std::sync::Wait;
 use std::thread::Threads;
 
-/// The key of a password, computed in the threads that the configuration asks for.
+/// The key of a password, computed in the threads that the configuration asks for. It is the one tag
+/// that RFC 9106 defines, or an error: never another key.
 pub fn derive<R: Threads + Wait + Sync>(
     rt: &R,
     alloc: Global,
     password: &[u8],
     salt: &[u8],
     config: &Config,
-) -> Result<Vec<u8>> {
+) -> Result<Vec<u8>>
+    ensures { IfOk result (λ key. key.items ≡ tag_of password.now salt.now config.now config.now.hash_length) }
+{
     hash_raw(rt, alloc, password, salt, config)
 }
 
-/// The same key, computed in the caller's thread. It is the one tag that RFC 9106 defines, or an
-/// error: never another key.
+/// The same key, computed in the caller's thread.
 pub fn derive_alone(alloc: Global, password: &[u8], salt: &[u8], config: &Config) -> Result<Vec<u8>>
     ensures { IfOk result (λ key. key.items ≡ tag_of password.now salt.now config.now config.now.hash_length) }
 {
     hash_raw_sequential(alloc, password, salt, config)
 }
 
-/// Whether a key is the password's.
+/// Whether a key is the password's: `Ok(true)` exactly where the key is the tag of its own length.
 pub fn is_key_of<R: Threads + Wait + Sync>(
     rt: &R,
     alloc: Global,
@@ -36,12 +38,13 @@ pub fn is_key_of<R: Threads + Wait + Sync>(
     salt: &[u8],
     key: &[u8],
     config: &Config,
-) -> Result<bool> {
+) -> Result<bool>
+    ensures { IfOk result (λ same. IsTrue same ↔ (key.now ≡ tag_of password.now salt.now config.now (length key.now))) }
+{
     verify_raw(rt, alloc, password, salt, key, config)
 }
 
-/// Whether a key is the password's, computed in the caller's thread: `Ok(true)` exactly where the
-/// key is the tag of its own length.
+/// The same, computed in the caller's thread.
 pub fn is_key_of_alone(
     alloc: Global,
     password: &[u8],

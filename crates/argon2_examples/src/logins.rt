@@ -1,7 +1,10 @@
 //! Passwords of users, kept as encoded texts.
 
-ghost use Rattle.std.specs.Prelude.{◌≡◌};
+ghost use Rattle.std.specs.Prelude.{◌≡◌, IfOk};
+ghost use Rattle.std.specs.String.{string_bytes};
 ghost use Rattle.argon2.specs.Grammar.{SpellsNothing};
+ghost use Rattle.argon2.specs.Tag.{tag_of};
+ghost use Rattle.argon2.specs.Text.{spelled_of, text_of};
 
 use argon2::{
     Config, Error, Result, hash_encoded, hash_encoded_sequential, needs_rehash, verify_encoded,
@@ -19,7 +22,9 @@ pub fn register<R: Threads + Wait + Sync>(
     password: &[u8],
     salt: &[u8],
     config: &Config,
-) -> Result<String> {
+) -> Result<String>
+    ensures { IfOk result (λ text. string_bytes text ≡ text_of (spelled_of config.now salt.now (tag_of password.now salt.now config.now config.now.hash_length))) }
+{
     hash_encoded(rt, alloc, password, salt, config)
 }
 
@@ -29,7 +34,9 @@ pub fn register_alone(
     password: &[u8],
     salt: &[u8],
     config: &Config,
-) -> Result<String> {
+) -> Result<String>
+    ensures { IfOk result (λ text. string_bytes text ≡ text_of (spelled_of config.now salt.now (tag_of password.now salt.now config.now config.now.hash_length))) }
+{
     hash_encoded_sequential(alloc, password, salt, config)
 }
 
@@ -53,7 +60,9 @@ pub fn log_in_with_pepper<R: Threads + Wait + Sync>(
     password: &[u8],
     pepper: &[u8],
     ad: &[u8],
-) -> Result<bool> {
+) -> Result<bool>
+    ensures { SpellsNothing kept.now → result ≡ Err Error.DecodingFail }
+{
     verify_encoded_ext(rt, alloc, kept, password, pepper, ad)
 }
 
@@ -64,7 +73,9 @@ pub fn log_in_alone(
     password: &[u8],
     pepper: &[u8],
     ad: &[u8],
-) -> Result<bool> {
+) -> Result<bool>
+    ensures { SpellsNothing kept.now → result ≡ Err Error.DecodingFail }
+{
     verify_encoded_sequential(alloc, kept, password, pepper, ad)
 }
 
