@@ -7,6 +7,7 @@ use Rattle.std.proofs.lemmas.List.{get_or-set_same, get_or-set_other, length-set
 use Rattle.std.specs.Borrow.{Bor}
 use Rattle.std.proofs.lemmas.List.FromFn.{get_or-map-range_with_len, length-map-range_with_len, fill_by_all}
 use Rattle.std.proofs.Math.Nat.{div-add-mod, mod-lt, div-lt_iff_lt-mul}
+use Rattle.std.proofs.lemmas.Nat.{div-mul-add}
 use Rattle.argon2_blocks.specs.Block.{xor}
 use Rattle.argon2_blocks.specs.Compression.{compress}
 use Rattle.argon2.specs.Setting.{Setting, IsSetting, Place, IsPlace, Job, IsJob, lane_length, slice_of}
@@ -77,6 +78,19 @@ module _ (v : SnapshotValue) (snapshot : IsSnapshot v) (lane index : ℕ) (lane_
   -- a column of the slice is its start and an index
   own_index : (c : ℕ) → c / s.segment_length ≡ v.job.slice → v.job.slice * s.segment_length + c % s.segment_length ≡ c
   own_index c e = let d = div-add-mod c s.segment_length in let p : c / s.segment_length * s.segment_length ≡ v.job.slice * s.segment_length = ap (λ q. q * s.segment_length) e in omega (arith, d, p)
+
+  -- the block before one that isn't the first of its segment stands in the segment
+  pub seen_before : (blocks : List (List ℕ)) → 0 < index → get_or blocks (index - 1) [] ≡ seen v blocks lane (previous s at).column
+  seen_before blocks h =
+      let c = at.column - 1 in
+      let e : v.job.slice * s.segment_length + (index - 1) ≡ c = omega (arith, h) in
+      let q : c / s.segment_length ≡ v.job.slice = ap (λ n. n / s.segment_length) (sym e) ∙ div-mul-add v.job.slice s.segment_length (index - 1) (omega (arith, index_fits)) in
+      let o = own_index c q in
+      let r : c % s.segment_length ≡ index - 1 = omega (arith, o, e) in
+      elim (eqb_tells at.column 0) [
+        | inl w ↦ absurd (omega (arith, w.1, h))
+        | inr w ↦ rw w.0 (elim (eqb_tells (c / s.segment_length) v.job.slice) [ inl z ↦ rw (z.0, r) refl | inr z ↦ absurd (omega (arith, z.1, q)) ])
+      ]
 
   module _ (blocks : List (List ℕ)) (filled : IsFilledTo v.job lane index blocks) where
     seen_own : (c : ℕ) → c < at.column → seen v blocks lane c ≡ block_at s (record { pass = v.job.pass; lane = lane; column = c })

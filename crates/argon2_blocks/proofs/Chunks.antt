@@ -1,5 +1,5 @@
 -- A block as sixteen vectors.
-use Rattle.std.proofs.Common.{◌≡◌, ℕ, zero, suc, ◌<◌, ◌≤◌, ◌+◌, ◌*◌, List, [], ◌∷◌, ◌++◌, length, take, drop, refl, ap, arith, sym, ◌∙◌, bit_xor, length-append}
+use Rattle.std.proofs.Common.{◌≡◌, ℕ, zero, suc, ◌<◌, ◌≤◌, ◌+◌, ◌*◌, List, [], ◌∷◌, ◌++◌, length, take, drop, set, refl, ap, arith, sym, ◌∙◌, bit_xor, length-append}
 use Rattle.std.proofs.Math.Seq.{drop-append-add, take-append_seam}
 use Rattle.std.specs.Prelude.{slice_index_or}
 use Rattle.std.specs.Simd.Lanes.{zip2, Each1, chunk, put_chunk}
@@ -56,6 +56,13 @@ vector_at (x ∷ v) zero e h = sym (take_front x (joined v) 8 e.0)
 vector_at (x ∷ v) (suc k) e h =
     vector_at v k e.1 (omega arith)
     ∙ sym (ap (λ l. take 8 l) (drop_front x (joined v) 8 (8 * k) (8 * suc k) e.0 (omega arith)))
+
+-- the first vector of a block's exclusive or, worked out again
+pub first_again : (v : List (List ℕ)) (x y first : List ℕ) → joined v ≡ xor x y → Each1 Long v → 0 < length v →
+    first ≡ zip2 bit_xor (take 8 x) (take 8 y) → set v 0 first ≡ v
+first_again [] x y first e long some h = absurd (omega arith)
+first_again (a ∷ v) x y first e long some h =
+    ap (λ f. f ∷ v) (h ∙ sym (vector_at (a ∷ v) 0 long some ∙ (ap (λ l. chunk 0 8 l) e ∙ chunk_xor 0 8 x y)))
 
 pub length_joined : (v : List (List ℕ)) → Each1 Long v → length (joined v) ≡ 8 * length v
 length_joined [] e = refl

@@ -1,18 +1,19 @@
 //! Filling one lane's segment of a slice.
 
 ghost use Rattle.std.specs.Prelude.{◌≡◌, ◌≢◌, ℕ, ◌+◌, ◌*◌, ◌/◌, ◌%◌, ◌^◌, ◌<◌, ◌≤◌, ◌-◌, List, [], true, false, length, map, slice_index_or};
-ghost use Rattle.argon2.specs.Filling.{IsFilledTo, first_index, place_of, reference_of};
+ghost use Rattle.argon2.specs.Filling.{IsFilledTo, IsSnapshot, first_index, place_of, reference_of, seen};
 ghost use Rattle.argon2.specs.Recurrence.{block_at, drawn_word};
 ghost use Rattle.argon2.specs.Reference.{is_independent, previous};
 ghost use Rattle.argon2.specs.Schedule.{blocks_in_slice};
 ghost use Rattle.argon2.specs.Segment.{IsReady, segment_at};
 ghost use Rattle.argon2.specs.Setting.{lane_length};
+ghost use Rattle.argon2.specs.Source.{IsBefore, source_block};
 
 mod positions;
 mod snapshot;
 
 use crate::parts::context::Job;
-use crate::parts::memory::Segment;
+use crate::parts::memory::{Segment, Source};
 use argon2_blocks::common::{ADDRESSES_IN_BLOCK, QWORDS_IN_BLOCK, SYNC_POINTS};
 use positions::pick;
 pub use positions::reference_positions;
@@ -34,6 +35,24 @@ fn previous_column(job: &Job, index: u32) -> u32
     }
 }
 
+/// The block before the one at an index, as the lane that is filled sees it.
+fn source_before<'a>(snapshot: &'a Snapshot<'_>, lane: u32, index: u32) -> Source<'a>
+    requires lane_fits { lane < snapshot.now.job.setting.lanes }
+    requires index_fits { index < snapshot.now.job.setting.segment_length }
+    requires later { first_index snapshot.now.job ≤ index }
+    ensures value { let j = snapshot.now.job in (blocks : List (List ℕ)) →
+        source_block blocks result ≡ seen snapshot.now blocks lane (previous j.setting (place_of j lane index)).column }
+    ensures snapshot { IsSnapshot snapshot.now }
+    ensures before { IsBefore index result }
+{
+    let job = snapshot.job();
+    if index == 0 {
+        snapshot.source(lane, previous_column(job, index), index)
+    } else {
+        Source::Own(index as usize - 1)
+    }
+}
+
 /// Writes the block at an index, from the one before it and the one that it refers to.
 fn write_block(
     snapshot: &Snapshot<'_>,
@@ -50,30 +69,22 @@ fn write_block(
     ensures filled { IsFilledTo snapshot.now.job lane (index + 1) segment.new.blocks }
     ensures tally { segment.new.tally ≡ (segment.old.tally + 1) % 2 ^ 64 }
 {
-    let job = snapshot.job();
-    let prev = snapshot.source(lane, previous_column(job, index), index);
+    let prev = source_before(snapshot, lane, index);
     let reference = snapshot.source(reference.0, reference.1, index);
-    segment.write(index as usize, prev, reference, job.combines());
+    segment.write(index as usize, prev, reference, snapshot.job().combines());
 }
 
 /// The word that the block at an index draws, in a segment whose references rest on the blocks.
-fn dependent_word(
-    snapshot: &Snapshot<'_>,
-    job: &Job,
-    lane: u32,
-    index: u32,
-    segment: &Segment,
-) -> u64
-    requires same_job { job.now ≡ snapshot.now.job }
-    requires dependent { is_independent job.now.setting.variant job.now.pass job.now.slice ≡ false }
-    requires lane_fits { lane < job.now.setting.lanes }
-    requires index_fits { index < job.now.setting.segment_length }
-    requires later { first_index job.now ≤ index }
-    requires filled { IsFilledTo job.now lane index segment.now.blocks }
-    ensures { result ≡ drawn_word job.now.setting (block_at job.now.setting) (place_of job.now lane index) }
+fn dependent_word(snapshot: &Snapshot<'_>, lane: u32, index: u32, segment: &Segment) -> u64
+    requires dependent { is_independent snapshot.now.job.setting.variant snapshot.now.job.pass snapshot.now.job.slice ≡ false }
+    requires lane_fits { lane < snapshot.now.job.setting.lanes }
+    requires index_fits { index < snapshot.now.job.setting.segment_length }
+    requires later { first_index snapshot.now.job ≤ index }
+    requires filled { IsFilledTo snapshot.now.job lane index segment.now.blocks }
+    ensures { let s = snapshot.now.job.setting in
+        result ≡ drawn_word s (block_at s) (place_of snapshot.now.job lane index) }
 {
-    let before = snapshot.source(lane, previous_column(job, index), index);
-    segment.named(before)[0]
+    segment.named(source_before(snapshot, lane, index))[0]
 }
 
 /// Fills a segment whose references rest on the blocks, one after another.
@@ -88,7 +99,7 @@ fn fill_dependent(snapshot: &Snapshot<'_>, lane: u32, segment: &mut Segment)
     let job = snapshot.job();
     let _tally = segment.tally();
     for index in job.first_index()..job.segment_length() {
-        let word = dependent_word(snapshot, job, lane, index, segment);
+        let word = dependent_word(snapshot, lane, index, segment);
         write_block(snapshot, lane, index, pick(job, lane, index, word), segment);
     }
 }
@@ -117,7 +128,7 @@ fn write_blocks(
     }
 }
 
-/// Fills a segment whose references rest on no block, 128 of them at a time.
+/// Fills a segment whose references rest on no block, up to each multiple of 128 of them at a time.
 fn fill_independent(snapshot: &Snapshot<'_>, lane: u32, segment: &mut Segment)
     requires independent { is_independent snapshot.now.job.setting.variant snapshot.now.job.pass snapshot.now.job.slice ≡ true }
     requires lane_fits { lane < snapshot.now.job.setting.lanes }
@@ -131,7 +142,8 @@ fn fill_independent(snapshot: &Snapshot<'_>, lane: u32, segment: &mut Segment)
     let mut references = [(0, 0); QWORDS_IN_BLOCK];
     let mut index = job.first_index();
     while index < job.segment_length() {
-        let count = u32::min(ADDRESSES_IN_BLOCK, job.segment_length() - index);
+        let left_here = ADDRESSES_IN_BLOCK - index % ADDRESSES_IN_BLOCK;
+        let count = u32::min(left_here, job.segment_length() - index);
         let some = &mut references[..count as usize];
         reference_positions(job, lane, index, some);
         write_blocks(snapshot, lane, index, some, segment);

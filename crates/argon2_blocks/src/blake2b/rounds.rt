@@ -70,6 +70,7 @@ fn mix(v: &mut [u64; 16], a: usize, b: usize, c: usize, d: usize, x: u64, y: u64
 
 // A round: four columns are mixed, and then four diagonals.
 #[tactic(auto, unfolding(crate::specs::Blake2b::round))]
+#[inline(always)]
 fn round(v: &mut [u64; 16], m: &[u64; 16], order: &[usize; 16])
     requires { IsTrue (list_all (λ i. nat_lt i 16) order.now) }
     ensures { v.new ≡ round m.now v.old order.now }

@@ -2,7 +2,7 @@
 //!
 //! Both steps permute all eight rows, or columns, at once: one in each lane.
 
-ghost use Rattle.std.specs.Prelude.{◌≡◌, ◌<◌, ◌≤◌, ◌+◌, ◌*◌, length, if◌then◌else◌, bit_xor};
+ghost use Rattle.std.specs.Prelude.{◌≡◌, ◌<◌, ◌≤◌, ◌+◌, ◌*◌, length, take, if◌then◌else◌, bit_xor};
 ghost use Rattle.std.specs.Simd.Lanes.{zip2, Each1};
 ghost use Rattle.argon2_blocks.specs.Lane.{joined};
 ghost use Rattle.argon2_blocks.specs.Block.{xor};
@@ -76,6 +76,29 @@ fn xor_vectors(x: &[u64x8; 16], y: &[u64x8; 16]) -> [u64x8; 16]
     ]
 }
 
+// The exclusive or of the first vectors of two blocks.
+//
+// It stays a call that leaves a vector in memory: so the compiler aligns the caller's frame to whole
+// vectors, and none that it keeps there lies across two cache lines.
+#[inline(never)]
+fn first_sum(x: &[u64; QWORDS_IN_BLOCK], y: &[u64; QWORDS_IN_BLOCK]) -> u64x8
+    ensures { result ≡ zip2 bit_xor (take 8 x.now) (take 8 y.now) }
+{
+    xor_lanes(u64x8::from_slice(&x[0..8]), u64x8::from_slice(&y[0..8]))
+}
+
+// The exclusive or of two blocks, eight words to a vector.
+#[inline(always)]
+fn sum(x: &[u64; QWORDS_IN_BLOCK], y: &[u64; QWORDS_IN_BLOCK]) -> [u64x8; 16]
+    ensures value { joined result ≡ xor x.now y.now }
+    ensures long { Each1 (λ a. length a ≡ 8) result }
+{
+    let first = first_sum(x, y);
+    let mut all = xor_vectors(&load(x), &load(y));
+    all[0] = first;
+    all
+}
+
 // Writes the exclusive or of two lists of vectors.
 #[inline(always)]
 fn store(x: &[u64x8; 16], y: &[u64x8; 16], w: &mut [u64; QWORDS_IN_BLOCK])
@@ -130,7 +153,7 @@ pub(super) fn fill_words(
     ensures { let g = compress prev.now reference.now in
         next.new ≡ (if with_xor then xor g next.old else g) }
 {
-    let r = xor_vectors(&load(prev), &load(reference));
+    let r = sum(prev, reference);
     let v = permute_block(&r);
     if with_xor {
         store_onto(&r, &v, next);

@@ -77,11 +77,11 @@ fn drawn_lane(job: &Job, lane: u32, word: u64) -> u32
         → result ≡ drawn_lane job.now.setting word (place_of job.now lane index) }
     ensures job { IsJob job.now }
 {
-    let drawn = word / HALF % u64::from(job.lanes());
-    if job.pass() == 0 && job.slice() == 0 {
+    let lanes = job.lanes();
+    if lanes == 1 || job.pass() == 0 && job.slice() == 0 {
         lane
     } else {
-        drawn as u32
+        (word / HALF) as u32 % lanes
     }
 }
 

@@ -10,7 +10,6 @@ returns c =
     let q = c.requires in
     let v = c.args.snapshot.now in
     let blocks = c.args.segment.now.blocks in
-    let before : c.previous_column.result ≡ (previous v.job.setting (place_of v.job c.args.lane c.args.index)).column = rw q.same_job at (c.previous_column.ensures.value c.args.lane) in
     let word : c.index.result.now ≡ slice_index (seen v blocks c.args.lane (previous v.job.setting (place_of v.job c.args.lane c.args.index)).column) 0 =
-    c.index.ensures ∙ ap (λ (block : List ℕ). slice_index block 0) (c.named.ensures ∙ c.source-before.ensures.value blocks ∙ ap (λ (column : ℕ). seen v blocks c.args.lane column) before) in
-    rw q.same_job (drawn_from_previous v c.source-before.ensures.snapshot c.args.lane c.args.index (rw q.same_job at q.lane_fits) (rw q.same_job at q.index_fits) (rw q.same_job at q.later) blocks (rw q.same_job at q.filled) c.index.result.now (rw q.same_job at q.dependent) word)
+    c.index.ensures ∙ ap (λ (block : List ℕ). slice_index block 0) (c.named.ensures ∙ c.source_before.ensures.value blocks) in
+    drawn_from_previous v c.source_before.ensures.snapshot c.args.lane c.args.index q.lane_fits q.index_fits q.later blocks q.filled c.index.result.now q.dependent word
