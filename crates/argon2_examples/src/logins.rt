@@ -1,14 +1,14 @@
 //! Passwords of users, kept as encoded texts.
 
-ghost use Rattle.std.specs.Prelude.{◌≡◌, IfOk};
+ghost use Rattle.std.specs.Prelude.{◌≡◌, ℕ, IfOk, List, length};
 ghost use Rattle.std.specs.String.{string_bytes};
 ghost use Rattle.argon2.specs.Grammar.{SpellsNothing};
 ghost use Rattle.argon2.specs.Tag.{tag_of};
 ghost use Rattle.argon2.specs.Text.{spelled_of, text_of};
 
 use argon2::{
-    Config, Error, Result, hash_encoded, hash_encoded_sequential, needs_rehash, verify_encoded,
-    verify_encoded_ext, verify_encoded_sequential,
+    Config, Error, Result, encoded_len, hash_encoded, hash_encoded_sequential, needs_rehash,
+    verify_encoded, verify_encoded_ext, verify_encoded_sequential,
 };
 use std::alloc::Global;
 use std::marker::Sync;
@@ -85,4 +85,19 @@ pub fn is_outdated(alloc: Global, kept: &str, today: &Config) -> Result<bool>
     ensures { SpellsNothing kept.now → result ≡ Err Error.DecodingFail }
 {
     needs_rehash(alloc, kept, today)
+}
+
+/// How many bytes a text of these settings takes in a store, for a salt of so many bytes.
+pub fn text_length(config: &Config, salt_len: u32) -> u64
+    ensures { (salt hash : List ℕ) → length salt ≡ salt_len → length hash ≡ config.now.hash_length
+        → result ≡ length (text_of (spelled_of config.now salt hash)) }
+{
+    encoded_len(
+        config.variant,
+        config.mem_cost,
+        config.time_cost,
+        config.lanes,
+        salt_len,
+        config.hash_length,
+    )
 }

@@ -4,7 +4,7 @@
 mod keys;
 mod logins;
 
-use argon2::{Config, ThreadMode, Variant, Version, encoded_len};
+use argon2::{Config, ThreadMode, Variant, Version};
 
 const TEXT: &str =
     "$argon2i$v=19$m=256,t=2,p=1$c29tZXNhbHQ$iekCn0Y3spW+sCcFanM2xBT63UP2sghkUoHLIUpWRS8";
@@ -58,7 +58,6 @@ fn main(rt: HostRuntime) -> anyhow::Result<()> {
         logins::is_outdated(alloc, TEXT, &two_lanes)?
     )?;
 
-    let length = encoded_len(Variant::Argon2i, 4096, 10, 10, 8, 32);
-    println!(rt; "encoded_len: {length}")?;
+    println!(rt; "text_length: {}", logins::text_length(&two_lanes, 8))?;
     Ok(())
 }
