@@ -13,7 +13,7 @@ use Rattle.argon2.specs.Reference.{columns, left_by_last_pass, without_last, all
 use Rattle.argon2.specs.Recurrence.{Blocks, drawn_word, next_block, recurrence, block_at, first_block, combines}
 use Rattle.argon2.specs.Matrix.{Matrix, IsBegun, written}
 use Rattle.argon2.specs.Schedule.{Progress, IsSchedule, blocks_in_slice, block_from, next_column, step, after_slice, after_slices}
-use Rattle.argon2.specs.AnyOrder.{EveryOrderAgrees, IsRun}
+use Rattle.argon2.specs.AnyOrder.{EveryOrderAgrees}
 use Rattle.argon2.proofs.References.{all-append, all-take, all-get_or, all-columns_from, some_allowed, own_lane_first, drawn_lane_fits, drawn_place_fits}
 use Rattle.argon2.proofs.Recurrences.{same_choice, both-true, block_at-recurrence}
 

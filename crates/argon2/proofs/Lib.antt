@@ -25,3 +25,5 @@ pub mod TextSpellings
 pub mod TextWritten
 pub mod TextMarks
 pub mod StoredTexts
+pub mod HashBytes
+pub mod TextVerdicts

@@ -9,7 +9,7 @@ use Rattle.argon2.specs.Segment.{SegmentValue, IsReady, segment_at, segment_bloc
 use Rattle.argon2.specs.MemoryValue.{MemoryValue, HasShape, block_of, last_blocks_of, segment_in, IsFilledBelow, blocks_written}
 use Rattle.argon2.specs.Matrix.{HoldsLastPass}
 use Rattle.argon2.proofs.Slices.{slice_fits}
-use Rattle.argon2.proofs.AnyOrder.{IsNext, other_eqb, slice_of_sum}
+use Rattle.argon2.proofs.AnyOrder.{IsNext, other_eqb}
 use Rattle.std.proofs.lemmas.List.FromFn.{get_or-map-range_with_len, length-map-range_with_len, fill_by_all}
 use Rattle.std.proofs.Math.Nat.{div-add-mod, mod-lt, mul-le-mul_right}
 use Rattle.argon2.specs.Recurrence.{block_at}

@@ -1,5 +1,5 @@
 -- What a comparison and a computed tag say of a hash.
-use Rattle.std.proofs.Common.{◌≡◌, ℕ, zero, ◌≤◌, Bool, List, [], ◌∷◌, length, Option, None, Some, Ok, Err, Result, refl, arith, sym, ◌∙◌, ap}
+use Rattle.std.proofs.Common.{◌≡◌, ℕ, Bool, List, [], ◌∷◌, length, Option, None, Some, Ok, Err, Result, refl, arith, sym, ◌∙◌, ap}
 use Rattle.std.specs.Prelude.{◌↔◌, IsTrue, MatchResult, bit_or, bit_xor}
 use Rattle.std.specs.List.{fold, zip}
 use Rattle.std.specs.Int.Bits.{xor_assoc, xor_self, xor_zero_l, xor_zero_r}

@@ -1,5 +1,5 @@
 -- Laws of the definitions, which calls without arguments carry.
-use Rattle.std.specs.Prelude.{◌≡◌, ℕ, List, length, Option, None, Result, Bool, IsTrue, MatchResult}
+use Rattle.std.specs.Prelude.{◌≡◌, ℕ, List, length, None, Result, Bool, IsTrue, MatchResult}
 use Rattle.argon2.specs.declared.config.Config.{Config}
 use Rattle.argon2.specs.declared.error.Error.{Error}
 use Rattle.argon2.specs.declared.thread_mode.ThreadMode.{ThreadMode}

@@ -1,6 +1,5 @@
 use Rattle.std.proofs.Common.{◌≡◌, false}
 use Rattle.std.specs.Prelude.{◌↔◌, IsTrue}
-use Rattle.argon2.specs.Config.{may_lack_workers}
 use Rattle.argon2.proofs.Verdicts.{verdict_by}
 use Rattle.argon2.proofs.argon2.verifying.verify_raw_sequential.Goals as goal
 

@@ -1,7 +1,6 @@
-use Rattle.std.proofs.Common.{◌≡◌, ℕ, ◌+◌, ◌*◌, ◌%◌, ◌^◌, List, ap, ◌∙◌}
+use Rattle.std.proofs.Common.{ℕ, ◌+◌, ◌*◌, ◌%◌, ◌^◌, List, ap, ◌∙◌}
 use Rattle.argon2.specs.MemoryValue.{HasShape, blocks_written, writes_in}
 use Rattle.argon2.specs.Segment.{SegmentValue}
-use Rattle.argon2.specs.Slices.{segments_of}
 use Rattle.argon2.proofs.First.{filled_begun}
 use Rattle.argon2.proofs.Passes.{all_written, holds_last_pass}
 use Rattle.argon2.proofs.parts.fill.fill_in_turn.Goals as goal

@@ -1,7 +1,6 @@
-use Rattle.std.proofs.Common.{◌≡◌, ◌*◌, ◌<◌, length, set, get_or, arith, sym, ◌∙◌, ap, List, [], Vec, Global}
+use Rattle.std.proofs.Common.{◌≡◌, ◌*◌, ◌<◌, length, set, get_or, arith, sym, ◌∙◌, ap, List, []}
 use Rattle.std.proofs.lemmas.List.{with_items_is}
 use Rattle.std.specs.Vec.{with_items}
-use Rattle.argon2.specs.Filling.{no_segment}
 use Rattle.argon2.specs.Schedule.{blocks_in_slice}
 use Rattle.argon2.specs.Segment.{SegmentValue}
 use Rattle.argon2.specs.Slices.{segments_of}

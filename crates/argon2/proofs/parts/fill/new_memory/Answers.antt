@@ -1,4 +1,4 @@
-use Rattle.std.proofs.Common.{◌≡◌, ◌*◌, ◌≤◌, arith, ap}
+use Rattle.std.proofs.Common.{◌*◌, arith, ap}
 use Rattle.argon2.specs.Prehash.{setting_of}
 use Rattle.argon2.proofs.Accepted.{context_setting}
 use Rattle.argon2.proofs.parts.fill.new_memory.Goals as goal

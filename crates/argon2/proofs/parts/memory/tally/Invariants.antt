@@ -1,4 +1,4 @@
-use Rattle.std.proofs.Common.{◌≡◌, ◌%◌, ◌^◌, take, map}
+use Rattle.std.proofs.Common.{◌≡◌, ◌%◌, ◌^◌, take}
 use Rattle.std.specs.List.{sum_by}
 use Rattle.argon2.specs.MemoryValue.{slice_writes}
 use Rattle.argon2.specs.Slices.{segments_of}

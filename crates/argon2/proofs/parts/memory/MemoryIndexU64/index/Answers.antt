@@ -1,4 +1,4 @@
-use Rattle.std.proofs.Common.{◌≡◌, ◌<◌, ◌*◌, arith, ap, inl, inr, ◌∙◌}
+use Rattle.std.proofs.Common.{◌<◌, ◌*◌, arith, ap, inl, inr, ◌∙◌}
 use Rattle.std.proofs.lemmas.Bool.Decides.{eqb_tells}
 use Rattle.std.proofs.Math.Nat.{div-lt_iff_lt-mul}
 use Rattle.argon2.proofs.parts.memory.MemoryIndexU64.index.Goals as goal

@@ -1,7 +1,5 @@
-use Rattle.std.proofs.Common.{◌≡◌, ◌<◌, arith}
-use Rattle.argon2.specs.Context.{setting_of_context}
+use Rattle.std.proofs.Common.{arith}
 use Rattle.argon2.specs.Prehash.{setting_of}
-use Rattle.argon2.specs.Setting.{Setting, IsSetting}
 use Rattle.argon2.proofs.Accepted.{context_setting}
 use Rattle.argon2.proofs.parts.context.job.Job.new.Goals as goal
 
