@@ -27,3 +27,5 @@ pub mod TextMarks
 pub mod Replays
 pub mod Boards
 pub mod StoredTexts
+pub mod HashBytes
+pub mod TextVerdicts

@@ -104,12 +104,12 @@ split_same (x ∷ a) b (z ∷ c) d len same =
     let rest = split_same a b c d (omega (arith, len)) behind in
     (rw (first, rest.0) refl, rest.1)
 
-both_bytes : (a b : List ℕ) → IsBytes a → IsBytes b → IsBytes (a ++ b)
+pub both_bytes : (a b : List ℕ) → IsBytes a → IsBytes b → IsBytes (a ++ b)
 both_bytes [] b p q i = q i
 both_bytes (x ∷ a) b p q zero = p 0
 both_bytes (x ∷ a) b p q (suc i) = both_bytes a b (λ k. p (suc k)) q i
 
-take_bytes : (n : ℕ) (bytes : List ℕ) → IsBytes bytes → IsBytes (take n bytes)
+pub take_bytes : (n : ℕ) (bytes : List ℕ) → IsBytes bytes → IsBytes (take n bytes)
 take_bytes n bytes h = front_bytes (take n bytes) (drop n bytes) (rw (take-append-drop n bytes) h)
 
 drop_bytes : (n : ℕ) (bytes : List ℕ) → IsBytes bytes → IsBytes (drop n bytes)

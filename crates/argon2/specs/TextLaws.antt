@@ -1,13 +1,20 @@
 -- Laws of the encoded text.
-use Rattle.std.specs.Prelude.{◌≡◌, ◌⊎◌, ℕ, ◌==◌, ◌<◌, ◌^◌, List, [], ◌∷◌, ◌++◌, codes, count_by}
+use Rattle.std.specs.Prelude.{◌≡◌, ◌⊎◌, ℕ, ◌==◌, ◌<◌, ◌^◌, List, [], ◌∷◌, ◌++◌, codes, count_by, length, None, Result, Bool, IsTrue, MatchResult}
 use Rattle.std.specs.Fmt.{decimal}
 use Rattle.std.specs.List.{join_with_byte}
 use Rattle.base64.specs.GeneralPurpose.{IsBytes}
+use Rattle.argon2.specs.declared.config.Config.{Config}
+use Rattle.argon2.specs.declared.error.Error.{Error}
 use Rattle.argon2.specs.declared.variant.Variant.TheVariants.{Argon2i}
 use Rattle.argon2.specs.declared.version.Version.TheVariants.{Version10}
+use Rattle.argon2.specs.Answers.{IsShortage}
+use Rattle.argon2.specs.Settings.{refusal_of}
+use Rattle.argon2.specs.Stored.{IsStoredConfig}
+use Rattle.argon2.specs.Tag.{tag_of}
 use Rattle.argon2.specs.Variant.{lowercase_name}
+use Rattle.argon2.specs.Verdict.{IsVerdict}
 use Rattle.argon2.specs.Version.{version_text}
-use Rattle.argon2.specs.Text.{Spelled, base64, text_of}
+use Rattle.argon2.specs.Text.{Spelled, base64, spelled_of, text_of}
 use Rattle.argon2.specs.Grammar.{HasHead, Spells, comma, dollar}
 
 -- a text spells at most one value
@@ -77,3 +84,22 @@ abbrev pub SpellsExample : Type 0
 SpellsExample = Spells
     (codes "$Argon2i$m=+4096,t=03,p=1$c2FsdDEyMzQ$MTIzNDU2Nzg5MDEyMzQ1Njc4OTAxMjM0NTY3ODkwMTI")
     example_value
+
+-- what the numbers and bytes of a configuration and a salt keep to
+pub record IsInput (config : Config) (given_salt : List ℕ) : Type 0 where
+  pub mem_cost : config.mem_cost < 2 ^ 32
+  pub time_cost : config.time_cost < 2 ^ 32
+  pub lanes : config.lanes < 2 ^ 32
+  pub salt : IsBytes given_salt
+
+-- the answer is that the hash is the tag, or that memory or a worker was lacking
+abbrev pub IsVerified : Bool → Result Bool Error → Type 0
+IsVerified workers answer = MatchResult answer (λ same. IsTrue same) (IsShortage workers)
+
+-- the text of an accepted tag spells a value that verifies with the same password, secret and
+-- associated data, whatever the thread mode
+abbrev pub HashedTextVerifies : Type 0
+HashedTextVerifies = (pwd salt : List ℕ) (config : Config) (len : ℕ) → IsInput config salt → refusal_of config (length pwd) (length salt) len ≡ None →
+    let text = text_of (spelled_of config salt (tag_of pwd salt config len)) in
+    (d : Spelled) × Spells text d × ((used : Config) (workers : Bool) (answer : Result Bool Error) → IsStoredConfig d config.secret.now config.ad.now used →
+    IsVerdict pwd d.salt d.hash used workers answer → IsVerified workers answer)

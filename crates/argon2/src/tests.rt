@@ -1,5 +1,7 @@
 //! Tags from outside: the vectors of RFC 9106, section 5, and those of rust-argon2's own tests.
 
+mod refusals;
+mod rehash;
 mod texts;
 mod types;
 

@@ -4,8 +4,8 @@
 use super::{MODES, config};
 use crate::{
     Config, Error, ThreadMode, Variant, Version, encoded_len, hash_encoded,
-    hash_encoded_sequential, needs_rehash, verify_encoded, verify_encoded_ext,
-    verify_encoded_sequential, verify_raw, verify_raw_sequential,
+    hash_encoded_sequential, verify_encoded, verify_encoded_ext, verify_encoded_sequential,
+    verify_raw, verify_raw_sequential,
 };
 use std::test::Fail;
 
@@ -244,81 +244,32 @@ fn verifies_more_lanes_than_workers(rt: HostRuntime) -> Result<(), Fail> {
     Ok(())
 }
 
+// The three examples of the original's documentation.
 #[test]
-fn tells_texts_to_hash_again(rt: HostRuntime) -> Result<(), Fail> {
+fn verifies_by_the_default_settings(rt: HostRuntime) -> Result<(), Fail> {
     let alloc = rt.alloc();
-    let same = Config {
-        ad: b"ad",
-        secret: b"secret",
-        thread_mode: ThreadMode::Parallel,
-        ..config(Variant::Argon2i, Version::Version13, 1)
-    };
-    assert_eq!(rt; needs_rehash(alloc, TEXT, &same), Ok(false));
-    let plus =
-        "$argon2i$v=19$m=+256,t=2,p=1$c29tZXNhbHQ$iekCn0Y3spW+sCcFanM2xBT63UP2sghkUoHLIUpWRS8";
-    assert_eq!(rt; needs_rehash(alloc, plus, &same), Ok(false));
-    for other in [
-        Config {
-            variant: Variant::Argon2id,
-            ..same
-        },
-        Config {
-            version: Version::Version10,
-            ..same
-        },
-        Config {
-            mem_cost: 257,
-            ..same
-        },
-        Config {
-            time_cost: 3,
-            ..same
-        },
-        Config { lanes: 2, ..same },
-        Config {
-            hash_length: 16,
-            ..same
-        },
-    ] {
-        assert_eq!(rt; needs_rehash(alloc, TEXT, &other), Ok(true), "{other:?}");
-    }
-    let older = Config {
-        mem_cost: 4096,
-        time_cost: 3,
-        ..config(Variant::Argon2i, Version::Version10, 1)
-    };
-    let text = "$Argon2i$m=+4096,t=03,p=1$c2FsdDEyMzQ$MTIzNDU2Nzg5MDEyMzQ1Njc4OTAxMjM0NTY3ODkwMTI";
-    assert_eq!(rt; needs_rehash(alloc, text, &older), Ok(false));
-    assert_eq!(rt; needs_rehash(alloc, "x", &older), Err(Error::DecodingFail));
-    // Settings that the table refuses are compared all the same.
-    let refused = Config {
-        hash_length: 0,
-        lanes: 0,
-        mem_cost: 7,
-        time_cost: 0,
-        ..older
-    };
-    assert_eq!(rt;
-        needs_rehash(alloc, "$argon2i$m=7,t=0,p=0$$", &refused),
-        Ok(false)
-    );
+    let text = hash_encoded(&rt, alloc, b"password", b"randomsalt", &Config::default())?;
+    assert!(rt; verify_encoded(&rt, alloc, text.as_str(), b"password")?);
     Ok(())
 }
 
 #[test]
-fn runs_the_examples_of_the_documentation(rt: HostRuntime) -> Result<(), Fail> {
+fn verifies_by_own_settings(rt: HostRuntime) -> Result<(), Fail> {
     let alloc = rt.alloc();
-    let text = hash_encoded(&rt, alloc, b"password", b"randomsalt", &Config::default())?;
-    assert!(rt; verify_encoded(&rt, alloc, text.as_str(), b"password")?);
-    let many = Config {
-        lanes: 4,
+    let config = Config {
         mem_cost: 65536,
         thread_mode: ThreadMode::Parallel,
         time_cost: 10,
         ..config(Variant::Argon2i, Version::Version13, 4)
     };
-    let text = hash_encoded(&rt, alloc, b"password", b"othersalt", &many)?;
+    let text = hash_encoded(&rt, alloc, b"password", b"othersalt", &config)?;
     assert!(rt; verify_encoded(&rt, alloc, text.as_str(), b"password")?);
+    Ok(())
+}
+
+#[test]
+fn verifies_a_raw_hash_by_a_preset(rt: HostRuntime) -> Result<(), Fail> {
+    let alloc = rt.alloc();
     let tag = hex::decode(
         alloc,
         "9e8789c8b42834220afc00085ac73acc308651216994abbfddd69b2592032efd",

@@ -1,8 +1,45 @@
 //! The small types: their numbers and names, and what `serde` writes of a refusal.
 
-use crate::{Error, ThreadMode, Variant, Version};
+use crate::{Config, Error, ThreadMode, Variant, Version};
 use std::alloc::{AllocError, Global};
 use std::test::Fail;
+
+#[test]
+fn holds_the_recommended_settings(rt: HostRuntime) {
+    for (preset, variant, mem_cost, time_cost) in [
+        (Config::original(), Variant::Argon2i, 4096, 3),
+        (Config::owasp1(), Variant::Argon2id, 47104, 1),
+        (Config::owasp2(), Variant::Argon2id, 19456, 2),
+        (Config::owasp3(), Variant::Argon2id, 12288, 3),
+        (Config::owasp4(), Variant::Argon2id, 9216, 4),
+        (Config::owasp5(), Variant::Argon2id, 7168, 5),
+        (Config::rfc9106(), Variant::Argon2id, 2097152, 1),
+        (Config::rfc9106_low_mem(), Variant::Argon2id, 65536, 3),
+        (Config::default(), Variant::Argon2id, 19456, 2),
+    ] {
+        let settings = Config {
+            ad: b"",
+            hash_length: 32,
+            lanes: 1,
+            mem_cost,
+            secret: b"",
+            thread_mode: ThreadMode::Sequential,
+            time_cost,
+            variant,
+            version: Version::Version13,
+        };
+        assert_eq!(rt; preset, settings);
+        assert!(rt; preset.uses_sequential());
+    }
+}
+
+#[test]
+fn takes_the_defaults_of_the_default_settings(rt: HostRuntime) {
+    assert_eq!(rt; ThreadMode::default(), ThreadMode::Sequential);
+    assert_eq!(rt; Variant::default(), Variant::Argon2i);
+    assert_eq!(rt; Version::default(), Version::Version13);
+    assert_eq!(rt; Variant::Argon2id.as_uppercase_str(), "Argon2id");
+}
 
 #[test]
 fn chooses_the_thread_mode_by_the_threads(rt: HostRuntime) {

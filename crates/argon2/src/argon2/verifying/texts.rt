@@ -136,3 +136,6 @@ fn config_of<'a>(stored: &Decoded, secret: &'a [u8], ad: &'a [u8]) -> Config<'a>
         version: stored.version,
     }
 }
+
+#[cfg(test)]
+mod tests;

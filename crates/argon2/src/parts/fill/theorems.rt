@@ -3,6 +3,7 @@
 
 ghost use Rattle.argon2.specs.AnyOrder.{EveryOrderAgrees, NoEntryReadsOthers, PicksHoldTheirBlocks};
 ghost use Rattle.argon2.specs.Laws.{IsOnlySolution, LengthIsTheHash, MeetsRecurrence, OwnTagVerifies, TagForgetsMode};
+ghost use Rattle.argon2.specs.TextLaws.{HashedTextVerifies, HeadHasItems, IsJoinedItems, SpellsExample, SpellsOne, SpellsOwnValue, WritesExample};
 
 /// The blocks that the contracts speak of meet the recurrence at every place (RFC 9106, 3.2), and
 /// nothing else does.
@@ -20,10 +21,19 @@ pub fn any_order()
     ensures picks { PicksHoldTheirBlocks }
 {}
 
-/// The laws of tags and verdicts: the tag does not depend on the thread mode; a verdict goes by the
-/// hash's own length; and the tag of any length verifies with the same inputs.
+/// The laws of tags, verdicts and texts: the tag does not depend on the thread mode; a verdict goes
+/// by the hash's own length; the tag of any length verifies with the same inputs; a text spells at most
+/// one value; a written text spells its own value, and verifies with the same inputs; and what the
+/// `$` of a written text and of one that spells a head divide. Two texts show the format.
 pub fn laws()
     ensures mode { TagForgetsMode }
     ensures length { LengthIsTheHash }
     ensures own_tag { OwnTagVerifies }
+    ensures one_value { SpellsOne }
+    ensures own_value { SpellsOwnValue }
+    ensures own_text { HashedTextVerifies }
+    ensures items { IsJoinedItems }
+    ensures marks { HeadHasItems }
+    ensures written { WritesExample }
+    ensures spelled { SpellsExample }
 {}
