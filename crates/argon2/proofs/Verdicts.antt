@@ -67,7 +67,7 @@ pub length_is_the_hash : LengthIsTheHash
 unfolding refusal_of
 length_is_the_hash pwd salt config field len = (refl, tag_of-hash_length pwd salt config field len)
 
-length-tag_of : (pwd salt : List ℕ) (config : Config) (len : ℕ) → length (tag_of pwd salt config len) ≡ len
+pub length-tag_of : (pwd salt : List ℕ) (config : Config) (len : ℕ) → length (tag_of pwd salt config len) ≡ len
 unfolding tag_of tag_from
 length-tag_of pwd salt config len = length-stretched_hash len _
 

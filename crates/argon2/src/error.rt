@@ -79,7 +79,7 @@ pub enum Error {
 
 impl Error {
     /// The refusal in a few words.
-    fn message(&self) -> &'static str
+    pub fn message(&self) -> &'static str
         ensures { result.now ≡ message_of self.now }
     {
         match *self {

@@ -1,0 +1,118 @@
+"""Hashes and verifies passwords by the shared object that c/run makes: example.py FILE.
+
+It exits with 1 where an answer is not the one that RFC 9106, section 5, gives. c/run runs it.
+"""
+import ctypes
+import sys
+
+OK = 0
+MISMATCH = 64
+MESSAGE_SIZE = 64
+VARIANTS = {"argon2d": 0, "argon2i": 1, "argon2id": 2}
+
+
+class Settings(ctypes.Structure):
+    """`proved_argon2_settings` of argon2.h."""
+
+    _fields_ = [
+        (name, ctypes.c_uint32)
+        for name in ("variant", "version", "mem_cost", "time_cost", "lanes", "hash_length")
+    ]
+
+
+class Refused(Exception):
+    """A call was refused, with the number of the refusal."""
+
+    def __init__(self, number, text):
+        super().__init__(text)
+        self.number = number
+
+
+class Argon2:
+    """The calls of the library, over `bytes`."""
+
+    def __init__(self, file):
+        self.library = ctypes.CDLL(file)
+        slice_of_bytes = [ctypes.c_char_p, ctypes.c_size_t]
+        settings = [ctypes.POINTER(Settings)]
+        for name, arguments, result in (
+            ("hash_raw", 4 * slice_of_bytes + settings + slice_of_bytes, ctypes.c_uint32),
+            ("hash_encoded", 4 * slice_of_bytes + settings + slice_of_bytes, ctypes.c_uint32),
+            ("verify_raw", 4 * slice_of_bytes + settings + slice_of_bytes, ctypes.c_uint32),
+            ("verify_encoded", 4 * slice_of_bytes, ctypes.c_uint32),
+            ("encoded_len", settings + [ctypes.c_uint32], ctypes.c_uint64),
+            ("message", [ctypes.c_uint32] + slice_of_bytes, ctypes.c_uint32),
+        ):
+            call = getattr(self.library, f"proved_argon2_{name}")
+            call.argtypes, call.restype = arguments, result
+            setattr(self, f"_{name}", call)
+
+    def message(self, number):
+        """The text of a refusal."""
+        text = ctypes.create_string_buffer(MESSAGE_SIZE)
+        if self._message(number, text, MESSAGE_SIZE) != OK:
+            return f"Refusal {number}"
+        return text.value.decode()
+
+    def _checked(self, code):
+        if code != OK:
+            raise Refused(code, self.message(code))
+
+    def hash_raw(self, password, salt, settings, secret=b"", ad=b""):
+        """The tag of a password."""
+        tag = ctypes.create_string_buffer(settings.hash_length)
+        self._checked(self._hash_raw(*_slices(password, salt, secret, ad), settings, tag, settings.hash_length))
+        return tag.raw
+
+    def hash_encoded(self, password, salt, settings, secret=b"", ad=b""):
+        """The text of a password's hash."""
+        size = self._encoded_len(settings, len(salt)) + 1
+        text = ctypes.create_string_buffer(size)
+        self._checked(self._hash_encoded(*_slices(password, salt, secret, ad), settings, text, size))
+        return text.value.decode()
+
+    def verify_encoded(self, text, password, secret=b"", ad=b""):
+        """Whether a stored text is the hash of a password."""
+        code = self._verify_encoded(*_slices(text.encode(), password, secret, ad))
+        if code == MISMATCH:
+            return False
+        self._checked(code)
+        return True
+
+
+def _slices(*slices):
+    return [argument for each in slices for argument in (each, len(each))]
+
+
+def expect(holds, what):
+    print(f"{what}: {'yes' if holds else 'NO'}")
+    if not holds:
+        sys.exit(1)
+
+
+def main():
+    argon2 = Argon2(sys.argv[1])
+    password, salt, secret, ad = bytes([1] * 32), bytes([2] * 16), bytes([3] * 8), bytes([4] * 12)
+    for variant, tag in (
+        ("argon2d", "512b391b6f1162975371d30919734294f868e3be3984f3c1a13a4db9fabe4acb"),
+        ("argon2i", "c814d9d1dc7f37aa13f0d77f2494bda1c8de6b016dd388d29952a4c4672b6ce8"),
+        ("argon2id", "0d640df58d78766c08c037a34a8b53c9d01ef0452d75b65eb52520e96b01e659"),
+    ):
+        settings = Settings(VARIANTS[variant], 0x13, 32, 3, 4, 32)
+        hashed = argon2.hash_raw(password, salt, settings, secret, ad)
+        expect(hashed.hex() == tag, f"the tag of {variant} is that of RFC 9106")
+
+    text = argon2.hash_encoded(password, salt, settings, secret, ad)
+    expect(argon2.verify_encoded(text, password, secret, ad), "the text verifies")
+    expect(not argon2.verify_encoded(text, password, ad, secret), "with the secret and the associated data swapped it does not match")
+    stored = "$argon2d$m=256,t=2,p=1$c29tZXNhbHQ$vUBIaP8AxS51Q8gzLmp3KlckiS1+Mo1c8lO7yOcms3E"
+    expect(argon2.verify_encoded(stored, b"password"), "the right password matches")
+    expect(not argon2.verify_encoded(stored, b"Password"), "a wrong password does not match")
+    try:
+        argon2.verify_encoded("$argon2id$", password)
+        expect(False, "what is no text is refused")
+    except Refused as refused:
+        expect((refused.number, str(refused)) == (19, "Decoding failed"), "what is no text is refused")
+
+
+main()

@@ -1,0 +1,4 @@
+pub mod Numbers
+pub mod Lengths
+pub mod Verdicts
+pub mod HashTexts

@@ -1,0 +1,29 @@
+-- The variant and the version of a number.
+use Rattle.std.proofs.Common.{◌≡◌, ℕ, None, Some, refl, sym, subst, inl, inr}
+use Rattle.std.proofs.lemmas.Bool.Decides.{eqb_tells}
+use Rattle.argon2.specs.declared.variant.Variant.{Variant}
+use Rattle.argon2.specs.declared.variant.Variant.TheVariants.{Argon2d, Argon2i, Argon2id}
+use Rattle.argon2.specs.declared.version.Version.TheVariants.{Version10, Version13}
+use Rattle.argon2.specs.Variant.{IsNoVariantNumber, variant_number}
+use Rattle.argon2.specs.Version.{IsNoVersionNumber}
+use Rattle.argon2_c.specs.Settings.{variant_of, version_of}
+
+pub variant_of-number : (variant : Variant) (number : ℕ) → variant_number variant ≡ number → variant_of number ≡ Some variant
+variant_of-number Argon2d number e = subst (λ n. variant_of n ≡ Some Argon2d) e refl
+variant_of-number Argon2i number e = subst (λ n. variant_of n ≡ Some Argon2i) e refl
+variant_of-number Argon2id number e = subst (λ n. variant_of n ≡ Some Argon2id) e refl
+
+pub variant_of-none : (number : ℕ) → IsNoVariantNumber number → variant_of number ≡ None
+variant_of-none number none = elim (eqb_tells number 0) [
+  | inl w ↦ absurd (none Argon2d (sym w.1))
+  | inr w ↦ elim (eqb_tells number 1) [
+    | inl v ↦ absurd (none Argon2i (sym v.1))
+    | inr v ↦ elim (eqb_tells number 2) [ inl u ↦ absurd (none Argon2id (sym u.1)) | inr u ↦ rw (w.0, v.0, u.0) refl ]
+  ]
+]
+
+pub version_of-none : (number : ℕ) → IsNoVersionNumber number → version_of number ≡ None
+version_of-none number none = elim (eqb_tells number 0x10) [
+  | inl w ↦ absurd (none Version10 (sym w.1))
+  | inr w ↦ elim (eqb_tells number 0x13) [ inl v ↦ absurd (none Version13 (sym v.1)) | inr v ↦ rw (w.0, v.0) refl ]
+]

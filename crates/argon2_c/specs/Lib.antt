@@ -1,0 +1,4 @@
+pub mod Refusal
+pub mod Settings
+pub mod Buffer
+pub mod Answers

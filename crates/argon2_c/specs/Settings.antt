@@ -1,0 +1,44 @@
+-- The configuration that settings in numbers stand for.
+use Rattle.std.specs.Prelude.{ℕ, ◌==◌, if◌then◌else◌, List, Option, Some, None, Result, Ok, Err}
+use Rattle.std.specs.Borrow.{Bor}
+use Rattle.argon2.specs.declared.config.Config.{Config}
+use Rattle.argon2.specs.declared.error.Error.{Error}
+use Rattle.argon2.specs.declared.error.Error.TheVariants.{IncorrectType, IncorrectVersion}
+use Rattle.argon2.specs.declared.thread_mode.ThreadMode.TheVariants.{Sequential}
+use Rattle.argon2.specs.declared.variant.Variant.{Variant}
+use Rattle.argon2.specs.declared.variant.Variant.TheVariants.{Argon2d, Argon2i, Argon2id}
+use Rattle.argon2.specs.declared.version.Version.{Version}
+use Rattle.argon2.specs.declared.version.Version.TheVariants.{Version10, Version13}
+use Rattle.argon2_c.specs.declared.settings.Settings.{Settings}
+
+-- the variant and the version of a number (RFC 9106, 3.2)
+abbrev pub variant_of : ℕ → Option Variant
+variant_of number =
+    if number == 0 then Some Argon2d
+    else (if number == 1 then Some Argon2i else (if number == 2 then Some Argon2id else None))
+
+abbrev pub version_of : ℕ → Option Version
+version_of number = if number == 0x10 then Some Version10 else (if number == 0x13 then Some Version13 else None)
+
+-- the settings with this variant and this version, filled in the caller's thread
+abbrev pub config_with : Settings → Bor (List ℕ) → Bor (List ℕ) → Variant → Version → Config
+config_with settings secret ad variant version = record {
+  ad = ad;
+  hash_length = settings.hash_length;
+  lanes = settings.lanes;
+  mem_cost = settings.mem_cost;
+  secret = secret;
+  thread_mode = Sequential;
+  time_cost = settings.time_cost;
+  variant = variant;
+  version = version;
+}
+
+-- that, where the numbers are those of a variant and of a version; the variant is looked at first
+abbrev pub config_at : Settings → Bor (List ℕ) → Bor (List ℕ) → Option Variant → Option Version → Result Config Error
+config_at settings secret ad None version = Err IncorrectType
+config_at settings secret ad (Some variant) None = Err IncorrectVersion
+config_at settings secret ad (Some variant) (Some version) = Ok (config_with settings secret ad variant version)
+
+abbrev pub config_of : Settings → Bor (List ℕ) → Bor (List ℕ) → Result Config Error
+config_of settings secret ad = config_at settings secret ad (variant_of settings.variant) (version_of settings.version)

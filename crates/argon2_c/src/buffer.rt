@@ -1,0 +1,20 @@
+//! Writing a text to a buffer of the caller's.
+
+ghost use Rattle.argon2_c.specs.Buffer.{WritesText};
+
+use crate::refusal::Refusal;
+
+/// Writes a text to a buffer, and zeros from there to its end. A buffer with no room for one zero is
+/// `WrongLength`, and as it was.
+pub fn write_text(text: &str, buffer: &mut [u8]) -> Result<(), Refusal>
+    ensures { WritesText text.now buffer.old buffer.new result }
+{
+    let text = text.as_bytes();
+    if buffer.len() <= text.len() {
+        return Err(Refusal::WrongLength);
+    }
+    let (written, rest) = buffer.split_at_mut(text.len());
+    written.copy_from_slice(text);
+    rest.fill(0);
+    Ok(())
+}

@@ -1,0 +1,73 @@
+//! Hashing a password into a buffer of the caller's.
+
+ghost use Rattle.std.specs.Prelude.{◌≡◌, length};
+ghost use Rattle.argon2.specs.Settings.{refusal_of};
+ghost use Rattle.argon2_c.specs.Answers.{WritesHashText, WritesTag};
+ghost use Rattle.argon2_c.specs.Settings.{config_of};
+
+use crate::buffer::write_text;
+use crate::refusal::Refusal;
+use crate::settings::{Settings, text_len};
+use argon2::parts::context::first_refusal;
+use argon2::{Config, Error, hash_encoded_sequential, hash_raw_sequential};
+use std::alloc::Global;
+
+/// Writes the tag of a password to a buffer of `settings.hash_length` bytes.
+///
+/// The numbers of the settings are looked at first, then the settings table, then the buffer, and the
+/// first refusal is the only answer, before any memory is asked for. On a refusal the buffer is as it
+/// was.
+pub fn hash_raw(
+    alloc: Global,
+    pwd: &[u8],
+    salt: &[u8],
+    secret: &[u8],
+    ad: &[u8],
+    settings: &Settings,
+    out: &mut [u8],
+) -> Result<(), Refusal>
+    ensures { WritesTag (config_of settings.now secret.entry ad.entry) pwd.now salt.now out.old out.new result }
+{
+    let config = settings.config(secret, ad)?;
+    if let Some(error) = refused(&config, pwd, salt) {
+        return Err(Refusal::Library(error));
+    }
+    if out.len() != config.hash_length as usize {
+        return Err(Refusal::WrongLength);
+    }
+    let tag = hash_raw_sequential(alloc, pwd, salt, &config)?;
+    out.copy_from_slice(&tag);
+    Ok(())
+}
+
+/// Writes the text of a password's hash, and zeros behind it, to a buffer with more bytes than the
+/// text. It refuses as `hash_raw`.
+pub fn hash_encoded(
+    alloc: Global,
+    pwd: &[u8],
+    salt: &[u8],
+    secret: &[u8],
+    ad: &[u8],
+    settings: &Settings,
+    text: &mut [u8],
+) -> Result<(), Refusal>
+    ensures { WritesHashText (config_of settings.now secret.entry ad.entry) pwd.now salt.now text.old text.new result }
+{
+    let config = settings.config(secret, ad)?;
+    if let Some(error) = refused(&config, pwd, salt) {
+        return Err(Refusal::Library(error));
+    }
+    if text.len() as u64 <= text_len(&config, salt.len() as u32) {
+        return Err(Refusal::WrongLength);
+    }
+    let encoded = hash_encoded_sequential(alloc, pwd, salt, &config)?;
+    write_text(encoded.as_str(), text)
+}
+
+/// The first refusal of the settings table.
+fn refused(config: &Config<'_>, pwd: &[u8], salt: &[u8]) -> Option<Error>
+    ensures { result ≡ refusal_of config.now (length pwd.now) (length salt.now) config.now.hash_length }
+{
+    let hash_len = u64::from(config.hash_length);
+    first_refusal(config, pwd.len() as u64, salt.len() as u64, hash_len)
+}

@@ -1,0 +1,108 @@
+//! A C face of `argon2`: the calls that hash and verify in the caller's thread, for C.
+//!
+//! Each export calls the function of its name below and returns the number of what that one answers:
+//! 0, or a refusal's. `include/argon2.h` is the header, and docs/C.md says how to build and to link.
+//! A slice is a pointer and then a length; `alloc` takes no argument of the C call.
+#![tactic(auto)]
+
+ghost use Rattle.std.specs.Prelude.{ℕ, List};
+ghost use Rattle.std.specs.Borrow.{Bor};
+ghost use Rattle.argon2_c.specs.Answers.{IsTextLength, JudgesRaw, JudgesText, WritesHashText, WritesMessage, WritesTag};
+ghost use Rattle.argon2_c.specs.Refusal.{IsCodeOf};
+ghost use Rattle.argon2_c.specs.Settings.{config_of};
+
+mod buffer;
+mod hashing;
+mod refusal;
+mod settings;
+mod verifying;
+
+use refusal::code_of;
+pub use settings::Settings;
+use std::alloc::Global;
+
+#[cfg(test)]
+mod tests;
+
+/// Writes the tag of a password (RFC 9106, 3.2) to `out`, which has `settings.hash_length` bytes. On a
+/// refusal `out` is as it was.
+#[unsafe(no_mangle)]
+pub extern "C" fn proved_argon2_hash_raw(
+    alloc: Global,
+    pwd: &[u8],
+    salt: &[u8],
+    secret: &[u8],
+    ad: &[u8],
+    settings: &Settings,
+    out: &mut [u8],
+) -> u32
+    ensures { IsCodeOf (WritesTag (config_of settings.now secret.entry ad.entry) pwd.now salt.now out.old out.new) result }
+{
+    code_of(&hashing::hash_raw(alloc, pwd, salt, secret, ad, settings, out))
+}
+
+/// Writes the text of a password's hash and then zeros to `text`, which has more bytes than the text.
+/// On a refusal `text` is as it was.
+#[unsafe(no_mangle)]
+pub extern "C" fn proved_argon2_hash_encoded(
+    alloc: Global,
+    pwd: &[u8],
+    salt: &[u8],
+    secret: &[u8],
+    ad: &[u8],
+    settings: &Settings,
+    text: &mut [u8],
+) -> u32
+    ensures { IsCodeOf (WritesHashText (config_of settings.now secret.entry ad.entry) pwd.now salt.now text.old text.new) result }
+{
+    code_of(&hashing::hash_encoded(alloc, pwd, salt, secret, ad, settings, text))
+}
+
+/// Returns 0 exactly where `hash` is the tag of a password; `settings.hash_length` is not looked at.
+#[unsafe(no_mangle)]
+pub extern "C" fn proved_argon2_verify_raw(
+    alloc: Global,
+    pwd: &[u8],
+    salt: &[u8],
+    secret: &[u8],
+    ad: &[u8],
+    settings: &Settings,
+    hash: &[u8],
+) -> u32
+    ensures { IsCodeOf (JudgesRaw (config_of settings.now secret.entry ad.entry) pwd.now salt.now hash.now) result }
+{
+    code_of(&verifying::verify_raw(alloc, pwd, salt, secret, ad, settings, hash))
+}
+
+/// Returns 0 exactly where a stored text is the hash of a password with this secret and this
+/// associated data.
+#[unsafe(no_mangle)]
+pub extern "C" fn proved_argon2_verify_encoded(
+    alloc: Global,
+    text: &[u8],
+    pwd: &[u8],
+    secret: &[u8],
+    ad: &[u8],
+) -> u32
+    ensures { IsCodeOf (JudgesText text.now pwd.now secret.now ad.now) result }
+{
+    code_of(&verifying::verify_encoded(alloc, text, pwd, secret, ad))
+}
+
+/// The length of the text that `proved_argon2_hash_encoded` writes, without the zero behind it, or 0
+/// where the variant's or the version's number is none.
+#[unsafe(no_mangle)]
+pub extern "C" fn proved_argon2_encoded_len(settings: &Settings, salt_len: u32) -> u64
+    ensures { (secret ad : Bor (List ℕ)) → IsTextLength (config_of settings.now secret ad) salt_len result }
+{
+    settings.encoded_len(salt_len)
+}
+
+/// Writes the text of the refusal of a number and then zeros to `text`, which has more bytes than the
+/// text: 64 are enough for each. On a refusal `text` is as it was.
+#[unsafe(no_mangle)]
+pub extern "C" fn proved_argon2_message(number: u32, text: &mut [u8]) -> u32
+    ensures { IsCodeOf (WritesMessage number text.old text.new) result }
+{
+    code_of(&refusal::write_message(number, text))
+}

@@ -1,0 +1,160 @@
+//! The refusals of the C calls, their numbers and their texts.
+
+ghost use Rattle.std.specs.Prelude.{◌≡◌, IfSome};
+ghost use Rattle.argon2.specs.declared.error.Error.{Error};
+ghost use Rattle.argon2_c.specs.Answers.{WritesMessage};
+ghost use Rattle.argon2_c.specs.Refusal.{code_of, library_number, message_of, number_of};
+ghost use Rattle.argon2_c.specs.declared.refusal.Refusal.{Refusal};
+ghost use Rattle.argon2_c.specs.declared.refusal.Refusal.TheVariants.{Library};
+
+use crate::buffer::write_text;
+use argon2::Error;
+
+/// Why a C call was refused.
+#[derive(Debug, Drop, PartialEq)]
+pub enum Refusal {
+    /// The library refused.
+    Library(Error),
+
+    /// The password, the secret or the associated data is not the one of the hash.
+    Mismatch,
+
+    /// The buffer has another length than the tag, or no more bytes than the text.
+    WrongLength,
+
+    /// The text is not UTF-8.
+    NotUtf8,
+
+    /// The number is that of no refusal.
+    UnknownNumber,
+}
+
+impl From<Error> for Refusal {
+    ghost from_gives = { λ error refusal. refusal ≡ Library error };
+
+    fn from(error: Error) -> Refusal {
+        Refusal::Library(error)
+    }
+}
+
+/// The number of a refusal of the library: its place among them, from 1.
+fn library_number(error: &Error) -> u32
+    ensures { result ≡ library_number error.now }
+{
+    match *error {
+        Error::OutputTooShort => 1,
+        Error::OutputTooLong => 2,
+        Error::PwdTooShort => 3,
+        Error::PwdTooLong => 4,
+        Error::SaltTooShort => 5,
+        Error::SaltTooLong => 6,
+        Error::AdTooShort => 7,
+        Error::AdTooLong => 8,
+        Error::SecretTooShort => 9,
+        Error::SecretTooLong => 10,
+        Error::TimeTooSmall => 11,
+        Error::TimeTooLarge => 12,
+        Error::MemoryTooLittle => 13,
+        Error::MemoryTooMuch => 14,
+        Error::LanesTooFew => 15,
+        Error::LanesTooMany => 16,
+        Error::IncorrectType => 17,
+        Error::IncorrectVersion => 18,
+        Error::DecodingFail => 19,
+        Error::OutOfMemory => 20,
+        Error::WorkerRefused => 21,
+    }
+}
+
+/// The refusal of the library that has a number.
+fn library_refusal(number: u32) -> Option<Error>
+    ensures read { IfSome result (λ e. library_number e ≡ number) }
+    ensures undoes { (e : Error) → library_number e ≡ number → result ≡ Some e }
+{
+    match number {
+        1 => Some(Error::OutputTooShort),
+        2 => Some(Error::OutputTooLong),
+        3 => Some(Error::PwdTooShort),
+        4 => Some(Error::PwdTooLong),
+        5 => Some(Error::SaltTooShort),
+        6 => Some(Error::SaltTooLong),
+        7 => Some(Error::AdTooShort),
+        8 => Some(Error::AdTooLong),
+        9 => Some(Error::SecretTooShort),
+        10 => Some(Error::SecretTooLong),
+        11 => Some(Error::TimeTooSmall),
+        12 => Some(Error::TimeTooLarge),
+        13 => Some(Error::MemoryTooLittle),
+        14 => Some(Error::MemoryTooMuch),
+        15 => Some(Error::LanesTooFew),
+        16 => Some(Error::LanesTooMany),
+        17 => Some(Error::IncorrectType),
+        18 => Some(Error::IncorrectVersion),
+        19 => Some(Error::DecodingFail),
+        20 => Some(Error::OutOfMemory),
+        21 => Some(Error::WorkerRefused),
+        _ => None,
+    }
+}
+
+impl Refusal {
+    /// The number of the refusal, as C sees it.
+    pub fn number(&self) -> u32
+        ensures { result ≡ number_of self.now }
+    {
+        match self {
+            Refusal::Library(error) => library_number(error),
+            Refusal::Mismatch => 64,
+            Refusal::WrongLength => 65,
+            Refusal::NotUtf8 => 66,
+            Refusal::UnknownNumber => 67,
+        }
+    }
+
+    /// The refusal that has a number.
+    pub fn from_number(number: u32) -> Option<Refusal>
+        ensures read { IfSome result (λ refusal. number_of refusal ≡ number) }
+        ensures undoes { (refusal : Refusal) → number_of refusal ≡ number → result ≡ Some refusal }
+    {
+        match number {
+            64 => Some(Refusal::Mismatch),
+            65 => Some(Refusal::WrongLength),
+            66 => Some(Refusal::NotUtf8),
+            67 => Some(Refusal::UnknownNumber),
+            _ => library_refusal(number).map(Refusal::Library),
+        }
+    }
+
+    /// The refusal in a few words.
+    pub fn message(&self) -> &'static str
+        ensures { result.now ≡ message_of self.now }
+    {
+        match self {
+            Refusal::Library(error) => error.message(),
+            Refusal::Mismatch => "The password does not match",
+            Refusal::WrongLength => "The buffer has the wrong length",
+            Refusal::NotUtf8 => "The text is not UTF-8",
+            Refusal::UnknownNumber => "There is no refusal of this number",
+        }
+    }
+}
+
+/// What a call returns to C: 0, or the number of the refusal.
+pub fn code_of(answer: &Result<(), Refusal>) -> u32
+    ensures { result ≡ code_of answer.now }
+{
+    match answer {
+        Ok(()) => 0,
+        Err(refusal) => refusal.number(),
+    }
+}
+
+/// Writes the text of the refusal of a number to a buffer.
+pub fn write_message(number: u32, text: &mut [u8]) -> Result<(), Refusal>
+    ensures { WritesMessage number text.old text.new result }
+{
+    match Refusal::from_number(number) {
+        Some(refusal) => write_text(refusal.message(), text),
+        None => Err(Refusal::UnknownNumber),
+    }
+}

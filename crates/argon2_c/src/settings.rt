@@ -1,0 +1,79 @@
+//! The settings of a hash in numbers, as C passes them.
+
+ghost use Rattle.std.specs.Prelude.{◌≡◌, ℕ, List, Ok};
+ghost use Rattle.std.specs.Borrow.{Bor};
+ghost use Rattle.argon2_c.specs.Answers.{IsTextLength};
+ghost use Rattle.argon2_c.specs.Settings.{config_of};
+
+use argon2::{Config, ThreadMode, Variant, Version};
+
+/// The settings of a hash: all that a tag depends on beside the password, the salt, the secret and the
+/// associated data.
+#[repr(C)]
+#[derive(Clone, Copy, Debug)]
+pub struct Settings {
+    /// 0 for Argon2d, 1 for Argon2i, 2 for Argon2id.
+    pub variant: u32,
+
+    /// 0x10 or 0x13.
+    pub version: u32,
+
+    /// The memory in KiB, at least 8 a lane.
+    pub mem_cost: u32,
+
+    /// The number of passes over the memory, at least 1.
+    pub time_cost: u32,
+
+    /// The number of lanes, 1 to 2^24 - 1.
+    pub lanes: u32,
+
+    /// The length of the hash in bytes, at least 4.
+    pub hash_length: u32,
+}
+
+impl Settings {
+    /// The configuration of these settings, filled in the caller's thread. A number that is none of a
+    /// variant is `IncorrectType`, and then one that is none of a version `IncorrectVersion`.
+    pub fn config<'a>(&self, secret: &'a [u8], ad: &'a [u8]) -> argon2::Result<Config<'a>>
+        ensures { result ≡ config_of self.now secret.entry ad.entry }
+    {
+        let variant = Variant::from_u32(self.variant)?;
+        let version = Version::from_u32(self.version)?;
+        Ok(Config {
+            ad,
+            hash_length: self.hash_length,
+            lanes: self.lanes,
+            mem_cost: self.mem_cost,
+            secret,
+            thread_mode: ThreadMode::Sequential,
+            time_cost: self.time_cost,
+            variant,
+            version,
+        })
+    }
+
+    /// The length of the text that is hashed to with a salt of this length, or 0 where the settings
+    /// have no configuration.
+    pub fn encoded_len(&self, salt_len: u32) -> u64
+        ensures { (secret ad : Bor (List ℕ)) → IsTextLength (config_of self.now secret ad) salt_len result }
+    {
+        match self.config(&[], &[]) {
+            Ok(config) => text_len(&config, salt_len),
+            Err(_) => 0,
+        }
+    }
+}
+
+/// The length of the text that is hashed to in a configuration, with a salt of this length.
+pub fn text_len(config: &Config<'_>, salt_len: u32) -> u64
+    ensures { IsTextLength (Ok config.now) salt_len result }
+{
+    argon2::encoded_len(
+        config.variant,
+        config.mem_cost,
+        config.time_cost,
+        config.lanes,
+        salt_len,
+        config.hash_length,
+    )
+}

@@ -1,0 +1,57 @@
+//! Verifying a password against a hash or a stored text.
+
+ghost use Rattle.std.specs.Prelude.{◌≡◌};
+ghost use Rattle.argon2_c.specs.Answers.{JudgesRaw, JudgesText, judgement_of};
+ghost use Rattle.argon2_c.specs.Settings.{config_of};
+
+use crate::refusal::Refusal;
+use crate::settings::Settings;
+use argon2::{verify_encoded_sequential, verify_raw_sequential};
+use std::alloc::Global;
+
+/// Whether a hash is the tag of its own length: `Ok` where it is, `Mismatch` where it is not. The
+/// numbers of the settings and then the settings table are looked at before any memory is asked for;
+/// `settings.hash_length` is not looked at.
+pub fn verify_raw(
+    alloc: Global,
+    pwd: &[u8],
+    salt: &[u8],
+    secret: &[u8],
+    ad: &[u8],
+    settings: &Settings,
+    hash: &[u8],
+) -> Result<(), Refusal>
+    ensures { JudgesRaw (config_of settings.now secret.entry ad.entry) pwd.now salt.now hash.now result }
+{
+    let config = settings.config(secret, ad)?;
+    judgement(verify_raw_sequential(alloc, pwd, salt, hash, &config))
+}
+
+/// Whether a stored text is the hash of a password with this secret and this associated data: `Ok`
+/// where it is, `Mismatch` where it is not. A text that is not UTF-8 is `NotUtf8`, one that spells
+/// nothing `DecodingFail`; what it spells is judged as by `verify_raw`.
+pub fn verify_encoded(
+    alloc: Global,
+    text: &[u8],
+    pwd: &[u8],
+    secret: &[u8],
+    ad: &[u8],
+) -> Result<(), Refusal>
+    ensures { JudgesText text.now pwd.now secret.now ad.now result }
+{
+    match std::str::from_utf8(text) {
+        Ok(text) => judgement(verify_encoded_sequential(alloc, text, pwd, secret, ad)),
+        Err(_) => Err(Refusal::NotUtf8),
+    }
+}
+
+/// A verdict without a truth value, which nobody can forget to look at.
+fn judgement(verdict: argon2::Result<bool>) -> Result<(), Refusal>
+    ensures { result ≡ judgement_of verdict }
+{
+    if verdict? {
+        Ok(())
+    } else {
+        Err(Refusal::Mismatch)
+    }
+}
