@@ -1,0 +1,273 @@
+/* Times whole hashes of our library beside its peers, in one interleaved run.
+ *
+ * Each round runs every implementation once, so that a slow moment of the machine falls on all of
+ * them; the least time of all rounds counts. Every tag is compared before it is timed.
+ *
+ * usage: driver OURS.so OURS-V3.so [SECONDS [PROGRAM PROGRAM-V3]]
+ *
+ * SECONDS is how long each case runs. The programs are `argon2_program` in its two builds: only a
+ * program has threads, so the cases with threads time whole processes, the peers' too. */
+#include "hashers.h"
+
+#include <gcrypt.h>
+#include <sodium.h>
+#include <stdio.h>
+#include <stdlib.h>
+#include <string.h>
+#include <sys/resource.h>
+#include <sys/wait.h>
+#include <time.h>
+#include <unistd.h>
+
+enum { MOST_HASHERS = 8 };
+
+static const struct input the_input = { "password", 8, "somesaltsomesalt" };
+
+static struct hasher hashers[MOST_HASHERS];
+static int hasher_count;
+
+/* Where the tables compare: libargon2 and libsodium stand behind our two builds. */
+enum { OURS, OURS_V3, FIRST_PEER, AFTER_COMPARED = FIRST_PEER + 2 };
+
+static double nanoseconds(void)
+{
+    struct timespec now;
+    clock_gettime(CLOCK_MONOTONIC, &now);
+    return (double)now.tv_sec * 1e9 + (double)now.tv_nsec;
+}
+
+static void name_hashers(void)
+{
+    hashers[hasher_count++] = (struct hasher) { "ours", ours_default };
+    hashers[hasher_count++] = (struct hasher) { "ours-v3", ours_v3 };
+    for (const struct hasher *peer = peers; peer->name != NULL; peer++)
+        hashers[hasher_count++] = *peer;
+}
+
+/* How many blocks a hash writes. */
+static double blocks(const struct cost *cost)
+{
+    return (double)cost->passes * (cost->memory / (4 * cost->lanes) * (4 * cost->lanes));
+}
+
+/* Ends the run where a tag is not the first one's. Which implementations answer goes to `answers`. */
+static void compare_tags(const struct cost *cost, int answers[MOST_HASHERS])
+{
+    uint8_t first[TAG_LENGTH], tag[TAG_LENGTH];
+    int has_first = 0;
+    for (int i = 0; i < hasher_count; i++) {
+        answers[i] = hashers[i].hash(cost, &the_input, tag) == 0;
+        if (!answers[i])
+            continue;
+        if (has_first && memcmp(first, tag, TAG_LENGTH) != 0) {
+            fprintf(stderr, "%s gives another tag\n", hashers[i].name);
+            exit(1);
+        }
+        memcpy(first, tag, TAG_LENGTH);
+        has_first = 1;
+    }
+}
+
+/* The least time of a hash in each implementation. */
+static void time_hashes(const struct cost *cost, const int answers[MOST_HASHERS], double seconds, double least[MOST_HASHERS])
+{
+    uint8_t tag[TAG_LENGTH];
+    const double end = nanoseconds() + seconds * 1e9;
+    for (int i = 0; i < hasher_count; i++)
+        least[i] = 1e300;
+    for (int round = 0; round < 3 || nanoseconds() < end; round++) {
+        for (int i = 0; i < hasher_count; i++) {
+            if (!answers[i])
+                continue;
+            const double begin = nanoseconds();
+            hashers[i].hash(cost, &the_input, tag);
+            const double spent = nanoseconds() - begin;
+            if (spent < least[i])
+                least[i] = spent;
+        }
+    }
+}
+
+static void print_heads(void)
+{
+    printf("%-20s", "(m KiB, t, p)");
+    for (int i = 0; i < hasher_count; i++)
+        printf(" %11s", hashers[i].name);
+    printf("\n");
+}
+
+/* Nanoseconds a block, and below them each time as a part of libargon2's and of libsodium's. */
+static void print_times(const struct cost *cost, const int answers[MOST_HASHERS], const double least[MOST_HASHERS])
+{
+    char name[40];
+    snprintf(name, sizeof name, "(%u, %u, %u) x %u", cost->memory, cost->passes, cost->lanes, cost->threads);
+    printf("%-20s", name);
+    for (int i = 0; i < hasher_count; i++)
+        answers[i] ? printf(" %8.1f ns", least[i] / blocks(cost)) : printf(" %11s", "-");
+    printf("\n");
+    for (int peer = FIRST_PEER; peer < AFTER_COMPARED; peer++) {
+        if (!answers[peer])
+            continue;
+        printf("  of %-15s", hashers[peer].name);
+        for (int i = 0; i < hasher_count; i++)
+            answers[i] ? printf(" %11.2f", least[i] / least[peer]) : printf(" %11s", "-");
+        printf("\n");
+    }
+}
+
+static void run_case(const struct cost *cost, double seconds)
+{
+    int answers[MOST_HASHERS];
+    double least[MOST_HASHERS];
+    compare_tags(cost, answers);
+    time_hashes(cost, answers, seconds, least);
+    print_times(cost, answers, least);
+}
+
+static double least_compression(compress_function *compress)
+{
+    const uint32_t count = 2000;
+    double least = 1e300;
+    for (int round = 0; round < 200; round++) {
+        const double begin = nanoseconds();
+        compress(count, (uint64_t)round);
+        const double spent = nanoseconds() - begin;
+        if (spent < least)
+            least = spent;
+    }
+    return least / (2 * count);
+}
+
+static long peak_kib(void)
+{
+    struct rusage usage;
+    getrusage(RUSAGE_SELF, &usage);
+    return usage.ru_maxrss;
+}
+
+/* How far one hash raises the most memory that a fresh process holds, less its matrix, in KiB. */
+static void print_memory(const struct cost *cost)
+{
+    printf("memory beside %6u ", cost->memory);
+    for (int i = 0; i < hasher_count; i++) {
+        fflush(stdout);
+        const pid_t child = fork();
+        if (child == 0) {
+            uint8_t tag[TAG_LENGTH];
+            const long before = peak_kib();
+            if (hashers[i].hash(cost, &the_input, tag) == 0)
+                printf(" %7ld KiB", peak_kib() - before - (long)cost->memory);
+            else
+                printf(" %11s", "-");
+            fflush(stdout);
+            _exit(0);
+        }
+        waitpid(child, NULL, 0);
+    }
+    printf("\n");
+}
+
+/* The two builds of the program, which hash with threads; NULL where there are none. */
+static const char *programs[2];
+
+static void run_program(const char *program, const struct cost *cost, int tag_end)
+{
+    char passes[16], memory[16], lanes[16], length[16];
+    int password[2];
+    snprintf(passes, sizeof passes, "%u", cost->passes);
+    snprintf(memory, sizeof memory, "%u", cost->memory);
+    snprintf(lanes, sizeof lanes, "%u", cost->lanes);
+    snprintf(length, sizeof length, "%u", (unsigned)TAG_LENGTH);
+    if (pipe(password) != 0 || write(password[1], the_input.password, the_input.password_length) < 0)
+        _exit(1);
+    close(password[1]);
+    dup2(password[0], 0);
+    dup2(tag_end, 1);
+    execl(program, program, "hash", "argon2id", "19", passes, memory, lanes, length, "par", "somesaltsomesalt",
+        (char *)NULL);
+    _exit(1);
+}
+
+static void run_peer(hash_function *hash, const struct cost *cost, int tag_end)
+{
+    uint8_t tag[TAG_LENGTH];
+    if (hash(cost, &the_input, tag) != 0)
+        _exit(1);
+    for (int i = 0; i < TAG_LENGTH; i++)
+        dprintf(tag_end, "%02x", tag[i]);
+    _exit(0);
+}
+
+/* The time of a process that hashes, whose tag goes to `tag`; a number below 0 where it refuses. */
+static double time_process(int i, const struct cost *cost, char tag[2 * TAG_LENGTH])
+{
+    int ends[2], status;
+    size_t got = 0;
+    ssize_t more;
+    if (i < FIRST_PEER && programs[i] == NULL)
+        return -1;
+    fflush(stdout);
+    const double begin = nanoseconds();
+    if (pipe(ends) != 0)
+        exit(1);
+    const pid_t child = fork();
+    if (child == 0 && i < FIRST_PEER)
+        run_program(programs[i], cost, ends[1]);
+    if (child == 0)
+        run_peer(hashers[i].hash, cost, ends[1]);
+    close(ends[1]);
+    while (got < 2 * TAG_LENGTH && (more = read(ends[0], tag + got, 2 * TAG_LENGTH - got)) > 0)
+        got += (size_t)more;
+    waitpid(child, &status, 0);
+    close(ends[0]);
+    return WIFEXITED(status) && WEXITSTATUS(status) == 0 && got == 2 * TAG_LENGTH ? nanoseconds() - begin : -1;
+}
+
+static void run_threads(const struct cost *cost, double seconds)
+{
+    char first[2 * TAG_LENGTH], tag[2 * TAG_LENGTH];
+    int answers[MOST_HASHERS] = { 0 };
+    double least[MOST_HASHERS];
+    const double end = nanoseconds() + seconds * 1e9;
+    time_process(FIRST_PEER, cost, first);
+    for (int round = 0; round < 3 || nanoseconds() < end; round++) {
+        for (int i = 0; i < hasher_count; i++) {
+            const double spent = time_process(i, cost, tag);
+            if (spent < 0)
+                continue;
+            if (memcmp(first, tag, sizeof tag) != 0) {
+                fprintf(stderr, "%s gives another tag\n", hashers[i].name);
+                exit(1);
+            }
+            if (!answers[i] || spent < least[i])
+                least[i] = spent;
+            answers[i] = 1;
+        }
+    }
+    print_times(cost, answers, least);
+}
+
+int main(int argc, char **argv)
+{
+    const double seconds = argc > 3 ? atof(argv[3]) : 5.0;
+    for (int i = 0; i < 2 && argc > 5; i++)
+        programs[i] = argv[4 + i];
+    if (argc < 3 || load_ours(argv[1], argv[2]) || sodium_init() < 0 || gcry_check_version(NULL) == NULL)
+        return 1;
+    gcry_control(GCRYCTL_DISABLE_SECMEM, 0);
+    gcry_control(GCRYCTL_INITIALIZATION_FINISHED, 0);
+    name_hashers();
+    print_heads();
+    print_memory(&(struct cost) { 65536, 1, 1, 1 });
+    if (compress_default != NULL && compress_v3 != NULL)
+        printf("%-20s %8.1f ns %8.1f ns\n", "compression, warm", least_compression(compress_default),
+            least_compression(compress_v3));
+    run_case(&(struct cost) { 256, 2, 1, 1 }, seconds);
+    run_case(&(struct cost) { 19456, 2, 1, 1 }, seconds);
+    run_case(&(struct cost) { 65536, 3, 1, 1 }, seconds);
+    run_case(&(struct cost) { 65536, 3, 4, 1 }, seconds);
+    printf("whole processes, with threads:\n");
+    run_threads(&(struct cost) { 65536, 3, 4, 4 }, seconds);
+    run_threads(&(struct cost) { 262144, 1, 4, 4 }, seconds);
+    return 0;
+}
