@@ -1,6 +1,6 @@
 //! Tags from outside: the vectors of RFC 9106, section 5, and those of rust-argon2's own tests.
 
-mod refusals;
+pub(crate) mod refused;
 mod rehash;
 mod texts;
 mod types;

@@ -55,10 +55,9 @@ impl Model for Board {
 fn waiting(alloc: Global, segments: Vec<Segment>) -> std::result::Result<Vec<Slot>, AllocError>
     ensures { IfOk result (λ slots. slots.items ≡ map Slot.Waiting segments.items) }
 {
-    segments
-        .into_iter()
-        .map(|segment| Slot::Waiting(segment))
-        .collect(alloc)
+    let mut slots = Vec::with_capacity(alloc, segments.len())?;
+    slots.extend(segments.into_iter().map(|segment| Slot::Waiting(segment)))?;
+    Ok(slots)
 }
 
 impl Board {

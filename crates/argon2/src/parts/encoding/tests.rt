@@ -5,8 +5,8 @@ mod faults;
 
 use super::{base64_len, decode_string, encode_string, encoded_len, num_len};
 use crate::config::Config;
-use crate::error::Error;
 use crate::parts::context::Context;
+use crate::tests::refused::tell;
 use crate::thread_mode::ThreadMode;
 use crate::variant::Variant;
 use crate::version::Version;
@@ -204,36 +204,19 @@ fn shows_a_decoded_value(rt: HostRuntime) -> Result<(), Fail> {
     Ok(())
 }
 
-// Whatever allocation is refused: the value, or that memory ran out.
 #[test]
 fn decode_string_refused_in_turn(rt: HostRuntime) -> Result<(), Fail> {
-    match decode_string(rt.alloc(), TEXT) {
-        Ok(decoded) => {
-            assert_eq!(rt; decoded.salt.as_slice(), b"somesalt".as_slice());
-            assert_eq!(rt; decoded.hash.as_slice(), TAG.as_slice());
-            println!(rt; "value")?;
-        }
-        Err(error) => {
-            assert_eq!(rt; error, Error::OutOfMemory);
-            println!(rt; "{error}")?;
-        }
-    }
-    Ok(())
+    let answer = decode_string(rt.alloc(), TEXT).map(|decoded| {
+        decoded.salt.as_slice() == b"somesalt".as_slice()
+            && decoded.hash.as_slice() == TAG.as_slice()
+    });
+    tell(&rt, answer)
 }
 
 #[test]
 fn encode_string_refused_in_turn(rt: HostRuntime) -> Result<(), Fail> {
     let config = config(Variant::Argon2i, Version::Version13, 256, 2);
     let context = Context::new(config, b"password", b"somesalt")?;
-    match encode_string(rt.alloc(), &context, &TAG) {
-        Ok(text) => {
-            assert_eq!(rt; text.as_str(), TEXT);
-            println!(rt; "value")?;
-        }
-        Err(error) => {
-            assert_eq!(rt; error, Error::OutOfMemory);
-            println!(rt; "{error}")?;
-        }
-    }
-    Ok(())
+    let answer = encode_string(rt.alloc(), &context, &TAG);
+    tell(&rt, answer.map(|text| text.as_str() == TEXT))
 }
