@@ -3,7 +3,7 @@
  * Each round runs every implementation once, so that a slow moment of the machine falls on all of
  * them; the least time of all rounds counts. Every tag is compared before it is timed.
  *
- * usage: driver OURS.so OURS-V3.so [SECONDS [PROGRAM PROGRAM-V3]]
+ * usage: driver OURS.so OURS-V3.so COMPRESS.so COMPRESS-V3.so [SECONDS [PROGRAM PROGRAM-V3]]
  *
  * SECONDS is how long each case runs. The programs are `argon2_program` in its two builds: only a
  * program has threads, so the cases with threads time whole processes, the peers' too. */
@@ -249,19 +249,18 @@ static void run_threads(const struct cost *cost, double seconds)
 
 int main(int argc, char **argv)
 {
-    const double seconds = argc > 3 ? atof(argv[3]) : 5.0;
-    for (int i = 0; i < 2 && argc > 5; i++)
-        programs[i] = argv[4 + i];
-    if (argc < 3 || load_ours(argv[1], argv[2]) || sodium_init() < 0 || gcry_check_version(NULL) == NULL)
+    const double seconds = argc > 5 ? atof(argv[5]) : 5.0;
+    for (int i = 0; i < 2 && argc > 7; i++)
+        programs[i] = argv[6 + i];
+    if (argc < 5 || load_ours(argv + 1) || sodium_init() < 0 || gcry_check_version(NULL) == NULL)
         return 1;
     gcry_control(GCRYCTL_DISABLE_SECMEM, 0);
     gcry_control(GCRYCTL_INITIALIZATION_FINISHED, 0);
     name_hashers();
     print_heads();
     print_memory(&(struct cost) { 65536, 1, 1, 1 });
-    if (compress_default != NULL && compress_v3 != NULL)
-        printf("%-20s %8.1f ns %8.1f ns\n", "compression, warm", least_compression(compress_default),
-            least_compression(compress_v3));
+    printf("%-20s %8.1f ns %8.1f ns\n", "compression, warm", least_compression(compress_default),
+        least_compression(compress_v3));
     run_case(&(struct cost) { 256, 2, 1, 1 }, seconds);
     run_case(&(struct cost) { 19456, 2, 1, 1 }, seconds);
     run_case(&(struct cost) { 65536, 3, 1, 1 }, seconds);

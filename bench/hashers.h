@@ -32,8 +32,9 @@ struct hasher {
 /* The peers, in the order of the columns; the name of the last is NULL. */
 extern const struct hasher peers[];
 
-/* Our library as it was built for the default processor and for x86-64-v3 (ours.c). */
-int load_ours(const char *default_path, const char *v3_path);
+/* Our library and the compression alone, each as it was built for the default processor and for
+ * x86-64-v3 (ours.c). Not 0 where one of the four libraries lacks. */
+int load_ours(char *const paths[4]);
 hash_function ours_default, ours_v3;
 
 /* Compresses 2 * count blocks that stay in the cache, by each build. */

@@ -1,29 +1,31 @@
-/* Our library, loaded twice: its two builds have the same names. */
+/* Our library by its C face, loaded twice: its two builds have the same names. */
+#include "../crates/argon2_c/include/argon2.h"
 #include "hashers.h"
 
 #include <dlfcn.h>
 #include <stdio.h>
 
-/* What the static library that is timed exports (crates/bench_lib). For another library change the
- * names and the call below; one with no compression of its own goes without that line. */
-static const char hash_name[] = "bench_hash";
-static const char compress_name[] = "bench_compress";
+typedef uint32_t hash_raw(const uint8_t *pwd, size_t pwd_len, const uint8_t *salt, size_t salt_len,
+    const uint8_t *secret, size_t secret_len, const uint8_t *ad, size_t ad_len,
+    const proved_argon2_settings *settings, uint8_t *out, size_t out_len);
 
-typedef uint32_t export_function(uint32_t variant, uint32_t passes, uint32_t memory, uint32_t lanes,
-    const uint8_t *password, size_t password_length, const uint8_t *salt, size_t salt_length,
-    uint8_t tag[TAG_LENGTH]);
-
-enum { ARGON2ID = 2 };
-
-static export_function *hash_default, *hash_v3;
+static hash_raw *hash_default, *hash_v3;
 compress_function *compress_default, *compress_v3;
 
-static int call(export_function *hash, const struct cost *cost, const struct input *input, uint8_t *tag)
+static int call(hash_raw *hash, const struct cost *cost, const struct input *input, uint8_t *tag)
 {
+    const proved_argon2_settings settings = {
+        .variant = PROVED_ARGON2_ID,
+        .version = PROVED_ARGON2_VERSION_13,
+        .mem_cost = cost->memory,
+        .time_cost = cost->passes,
+        .lanes = cost->lanes,
+        .hash_length = TAG_LENGTH,
+    };
     if (cost->threads != 1)
         return 1;
-    return (int)hash(ARGON2ID, cost->passes, cost->memory, cost->lanes, (const uint8_t *)input->password,
-        input->password_length, input->salt, SALT_LENGTH, tag);
+    return (int)hash((const uint8_t *)input->password, input->password_length, input->salt, SALT_LENGTH,
+        PROVED_ARGON2_EMPTY, 0, PROVED_ARGON2_EMPTY, 0, &settings, tag, TAG_LENGTH);
 }
 
 int ours_default(const struct cost *cost, const struct input *input, uint8_t tag[TAG_LENGTH])
@@ -36,19 +38,21 @@ int ours_v3(const struct cost *cost, const struct input *input, uint8_t tag[TAG_
     return call(hash_v3, cost, input, tag);
 }
 
-static int load(const char *path, export_function **hash, compress_function **compress)
+/* The function of a name in a library, or NULL where there is none, which is told. */
+static void *loaded(const char *path, const char *name)
 {
     void *library = dlopen(path, RTLD_NOW | RTLD_LOCAL);
-    if (library == NULL) {
+    void *function = library == NULL ? NULL : dlsym(library, name);
+    if (function == NULL)
         fprintf(stderr, "%s\n", dlerror());
-        return 1;
-    }
-    *hash = (export_function *)dlsym(library, hash_name);
-    *compress = (compress_function *)dlsym(library, compress_name);
-    return *hash == NULL;
+    return function;
 }
 
-int load_ours(const char *default_path, const char *v3_path)
+int load_ours(char *const paths[4])
 {
-    return load(default_path, &hash_default, &compress_default) || load(v3_path, &hash_v3, &compress_v3);
+    hash_default = (hash_raw *)loaded(paths[0], "proved_argon2_hash_raw");
+    hash_v3 = (hash_raw *)loaded(paths[1], "proved_argon2_hash_raw");
+    compress_default = (compress_function *)loaded(paths[2], "bench_compress");
+    compress_v3 = (compress_function *)loaded(paths[3], "bench_compress");
+    return hash_default == NULL || hash_v3 == NULL || compress_default == NULL || compress_v3 == NULL;
 }
