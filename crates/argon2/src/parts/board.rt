@@ -1,7 +1,7 @@
 //! The lanes of one slice, which workers claim and give back. Each lane stands in exactly one place:
 //! it waits, is out, or is done.
 
-ghost use Rattle.std.specs.Prelude.{◌≡◌, ℕ, ◌+◌, ◌*◌, ◌^◌, ◌<◌, ◌≤◌, ◌↔◌, ◌++◌, ◌∷◌, [], IfErr, IfNone, IfOk, IfSome, IsOk, None, OnErr, OnOk, Some, length, map, replicate, slice_get, slice_set};
+ghost use Rattle.std.specs.Prelude.{◌≡◌, ℕ, ◌+◌, ◌*◌, ◌^◌, ◌<◌, ◌≤◌, ◌↔◌, ◌++◌, ◌∷◌, [], IfErr, IfNone, IfOk, IfSome, IsOk, IsTrue, None, OnErr, OnOk, Some, length, map, replicate, slice_get, slice_set};
 ghost use Rattle.argon2.specs.Board.{AllDone, AreReady, HoldSlice};
 ghost use Rattle.argon2.specs.Replay.{least_waiting, replay};
 
@@ -163,6 +163,18 @@ impl Board {
         self.slots[lane as usize] = Slot::Done(filled.segment);
         self.log.push_reserved(Event::Put(lane));
         Ok(())
+    }
+
+    /// Whether all lanes are done.
+    pub(super) fn is_done(&self) -> bool
+        ensures { IsTrue result ↔ AllDone self.now.places }
+    {
+        for lane in 0..self.job.lanes() {
+            let Place::Done = self.place(lane) else {
+                return false;
+            };
+        }
+        true
     }
 
     /// The filled segments of the slice, in order of lanes. `WorkerRefused` exactly where a lane is

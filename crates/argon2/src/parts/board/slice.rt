@@ -1,6 +1,7 @@
 //! A slice by workers, which claim its lanes under one lock and fill them outside it.
 
-ghost use Rattle.std.specs.Prelude.{◌≡◌, ◌+◌, ◌^◌, ◌<◌, IfErr, IfOk};
+ghost use Rattle.std.specs.Prelude.{◌≡◌, ◌+◌, ◌^◌, ◌<◌, IfErr, IfOk, IsTrue};
+ghost use Rattle.argon2.specs.Board.{AllDone};
 ghost use Rattle.argon2.specs.Permit.{PermitsAll};
 
 use crate::error::Error;
@@ -50,10 +51,17 @@ fn work<R: Wait, G: Gate>(
     }
 }
 
+/// Whether a board is of the snapshot's job, and all its lanes are done.
+fn is_filled(board: &Board, snapshot: &Snapshot<'_>) -> bool
+    ensures { IsTrue result → (board.now.job ≡ snapshot.now.job) × AllDone board.now.places }
+{
+    board.job() == snapshot.job() && board.is_done()
+}
+
 /// Fills the lanes of a board by so many workers, at least one. The board and the snapshot are of
 /// one job. The workers take and put lanes under one lock, which each holds for that alone, and fill
-/// them outside it. `WorkerRefused` where the start of a worker was refused, also where the others
-/// finished the slice. It takes no memory of its own.
+/// them outside it. The board comes back with all lanes done. `WorkerRefused` where the start of a
+/// worker was refused, also where the others finished the slice. It takes no memory of its own.
 pub fn fill_slice<R: Threads + Wait + Sync, G: Gate>(
     rt: &R,
     board: Board,
@@ -64,6 +72,7 @@ pub fn fill_slice<R: Threads + Wait + Sync, G: Gate>(
     requires job { board.job ≡ snapshot.now.job }
     requires some_worker { 0 < workers }
     ensures job { IfOk result (λ b. b.job ≡ snapshot.now.job) }
+    ensures done { IfOk result (λ b. AllDone b.places) }
     ensures refused { IfErr result (λ e. e ≡ Error.WorkerRefused) }
 {
     fill_slice_with(rt, board, snapshot, gate, &AllPermitted, 0, workers)
@@ -85,6 +94,7 @@ pub fn fill_slice_with<R: Threads + Wait + Sync, G: Gate, P: Permit>(
     requires some_worker { 0 < workers }
     requires numbers_fit { first + workers < 2 ^ 64 }
     ensures job { IfOk result (λ b. b.job ≡ snapshot.now.job) }
+    ensures done { IfOk result (λ b. AllDone b.places) }
     ensures permitted { IfOk result (λ _. PermitsAll (P.permits permit.now) first workers) }
     ensures refused { IfErr result (λ e. e ≡ Error.WorkerRefused) }
 {
@@ -110,7 +120,7 @@ pub fn fill_slice_with<R: Threads + Wait + Sync, G: Gate, P: Permit>(
     );
     let back = board.lock(rt).take();
     match back {
-        Some(board) if permitted && started && board.job() == snapshot.job() => Ok(board),
+        Some(board) if permitted && started && is_filled(&board, snapshot) => Ok(board),
         _ => Err(Error::WorkerRefused),
     }
 }
