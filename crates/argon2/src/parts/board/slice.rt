@@ -1,6 +1,6 @@
 //! A slice by workers, which claim its lanes under one lock and fill them outside it.
 
-ghost use Rattle.std.specs.Prelude.{◌≡◌, ◌+◌, ◌^◌, ◌<◌, IfErr, IfOk, IsTrue};
+ghost use Rattle.std.specs.Prelude.{◌≡◌, ◌+◌, ◌^◌, ◌<◌, ◌↔◌, IfErr, IfOk, IsTrue};
 ghost use Rattle.argon2.specs.Board.{AllDone};
 ghost use Rattle.argon2.specs.Permit.{PermitsAll};
 
@@ -53,7 +53,7 @@ fn work<R: Wait, G: Gate>(
 
 /// Whether a board is of the snapshot's job, and all its lanes are done.
 fn is_filled(board: &Board, snapshot: &Snapshot<'_>) -> bool
-    ensures { IsTrue result → (board.now.job ≡ snapshot.now.job) × AllDone board.now.places }
+    ensures { IsTrue result ↔ ((board.now.job ≡ snapshot.now.job) × AllDone board.now.places) }
 {
     board.job() == snapshot.job() && board.is_done()
 }
