@@ -1,5 +1,5 @@
 /* Our library by its C face, loaded twice: its two builds have the same names. */
-#include "../crates/argon2_c/include/argon2.h"
+#include "../crates/argon2_c/include/proved_argon2.h"
 #include "hashers.h"
 
 #include <dlfcn.h>
@@ -25,7 +25,7 @@ static int call(hash_raw *hash, const struct cost *cost, const struct input *inp
     if (cost->threads != 1)
         return 1;
     return (int)hash((const uint8_t *)input->password, input->password_length, input->salt, SALT_LENGTH,
-        PROVED_ARGON2_EMPTY, 0, PROVED_ARGON2_EMPTY, 0, &settings, tag, TAG_LENGTH);
+        (const uint8_t *)"", 0, (const uint8_t *)"", 0, &settings, tag, TAG_LENGTH);
 }
 
 int ours_default(const struct cost *cost, const struct input *input, uint8_t tag[TAG_LENGTH])

@@ -1,35 +1,52 @@
-pub mod Variant
-pub mod Version
-pub mod ThreadMode
-pub mod Config
-pub mod Error
-pub mod Settings
-pub mod Setting
-pub mod Prehash
-pub mod Context
-pub mod Reference
-pub mod Recurrence
-pub mod Tag
-pub mod Matrix
-pub mod Schedule
-pub mod Positions
-pub mod Segment
-pub mod Source
-pub mod Filling
-pub mod MemoryValue
-pub mod Slices
-pub mod Answers
-pub mod Verdict
-pub mod Stored
-pub mod Rehash
-pub mod AnyOrder
+pub mod Standard
+pub mod Views
 pub mod Laws
-pub mod Text
-pub mod Grammar
-pub mod Cutting
-pub mod TextViews
-pub mod TextLaws
-pub mod Replay
-pub mod Board
-pub mod Slots
-pub mod Permit
+pub use Rattle.argon2_settings.specs.Standard.Variant
+pub use Rattle.argon2_settings.specs.Views.Names
+pub use Rattle.argon2_settings.specs.Standard.Version
+pub use Rattle.argon2_settings.specs.Views.Modes
+pub use Rattle.argon2_settings.specs.Standard.ThreadModes
+pub use Rattle.argon2_settings.specs.Views.Presets
+pub use Rattle.argon2_settings.specs.Views.Messages
+pub use Rattle.argon2_settings.specs.Standard.SettingsTable
+pub use Rattle.argon2_settings.specs.Standard.Setting
+pub use Rattle.argon2_settings.specs.Views.Jobs
+pub use Rattle.argon2_settings.specs.Standard.Prehash
+pub use Rattle.argon2_settings.specs.Views.Contexts
+pub use Rattle.argon2_settings.specs.Standard.Reference
+pub use Rattle.argon2_settings.specs.Standard.Recurrence
+pub use Rattle.argon2_settings.specs.Standard.Tag
+pub use Rattle.argon2_blocks.specs.Standard.Blake2b
+pub use Rattle.argon2_blocks.specs.Standard.Hprime
+pub use Rattle.argon2_blocks.specs.Standard.Block
+pub use Rattle.argon2_blocks.specs.Standard.Compression
+pub use Rattle.argon2_blocks.specs.Views.Lane
+pub use Rattle.argon2_fill.specs.Laws.Matrix
+pub use Rattle.argon2_fill.specs.Laws.Schedule
+pub use Rattle.argon2_fill.specs.Views.Positions
+pub use Rattle.argon2_fill.specs.Views.Segments
+pub use Rattle.argon2_fill.specs.Views.Sources
+pub use Rattle.argon2_fill.specs.Views.Filling
+pub use Rattle.argon2_fill.specs.Views.Memories
+pub use Rattle.argon2_fill.specs.Views.SliceLists
+pub use Rattle.argon2_settings.specs.Standard.Outcome
+pub use Rattle.argon2_fill.specs.Laws.AnyOrder
+pub use Rattle.argon2_text.specs.Standard.Text
+pub use Rattle.argon2_text.specs.Standard.Grammar
+pub use Rattle.argon2_text.specs.Views.Faults
+pub use Rattle.argon2_text.specs.Views.Cutting
+pub use Rattle.argon2_text.specs.Views.Texts
+pub use Rattle.argon2_fill.specs.Views.Replay
+pub use Rattle.argon2_fill.specs.Views.Boards
+pub use Rattle.argon2_fill.specs.Views.Slots
+pub use Rattle.argon2_fill.specs.Views.Permits
+pub use Rattle.argon2_settings.specs.declared.config.Config as ConfigType
+pub use Rattle.argon2_settings.specs.declared.context.Context as ContextType
+pub use Rattle.argon2_settings.specs.declared.error.Error as ErrorType
+pub use Rattle.argon2_settings.specs.declared.thread_mode.ThreadMode as ThreadModeType
+pub use Rattle.argon2_settings.specs.declared.variant.Variant as VariantType
+pub use Rattle.argon2_settings.specs.declared.version.Version as VersionType
+pub use Rattle.argon2_fill.specs.declared.memory.segment.Source as SourceType
+pub use Rattle.argon2_fill.specs.declared.workers.event.Event as EventType
+pub use Rattle.argon2_fill.specs.declared.workers.event.Place as PlaceType
+pub use Rattle.argon2_text.specs.declared.decoded.Decoded as DecodedType

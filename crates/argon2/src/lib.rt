@@ -2,27 +2,28 @@
 //! standard's recurrence defines, and every refusal is the one that a table names.
 #![tactic(auto)]
 
-mod argon2;
-mod config;
-mod error;
+mod hashing;
 pub mod parts;
-mod result;
-mod thread_mode;
-mod variant;
-mod version;
+mod rehashing;
+mod verifying;
 
-pub use argon2::{
-    hash_encoded, hash_encoded_sequential, hash_raw, hash_raw_sequential, needs_rehash,
-    verify_encoded, verify_encoded_ext, verify_encoded_sequential, verify_raw,
+pub use argon2_settings::config::Config;
+pub use argon2_settings::error::Error;
+pub use argon2_settings::result::Result;
+pub use argon2_settings::thread_mode::ThreadMode;
+pub use argon2_settings::variant::Variant;
+pub use argon2_settings::version::Version;
+pub use argon2_text::encoding::encoded_len;
+pub use hashing::{
+    hash_encoded, hash_encoded_in, hash_encoded_in_sequential, hash_encoded_sequential, hash_raw,
+    hash_raw_in, hash_raw_in_sequential, hash_raw_sequential,
+};
+pub use rehashing::needs_rehash;
+pub use verifying::{
+    verify_encoded, verify_encoded_ext, verify_encoded_in, verify_encoded_in_sequential,
+    verify_encoded_sequential, verify_raw, verify_raw_in, verify_raw_in_sequential,
     verify_raw_sequential,
 };
-pub use config::Config;
-pub use error::Error;
-pub use parts::encoding::encoded_len;
-pub use result::Result;
-pub use thread_mode::ThreadMode;
-pub use variant::Variant;
-pub use version::Version;
 
 #[cfg(test)]
 mod tests;

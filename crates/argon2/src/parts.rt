@@ -2,10 +2,11 @@
 
 pub mod board;
 pub mod context;
-pub mod decoded;
 pub mod encoding;
 pub mod fill;
 pub mod memory;
 pub mod segment;
+mod theorems;
 
 pub use argon2_blocks::{blake2b, block, common};
+pub use argon2_text::decoded;

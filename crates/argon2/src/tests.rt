@@ -1,9 +1,6 @@
 //! Tags from outside: the vectors of RFC 9106, section 5, and those of rust-argon2's own tests.
 
-pub(crate) mod refused;
-mod rehash;
 mod texts;
-mod types;
 
 use crate::{Config, Error, ThreadMode, Variant, Version, hash_raw, hash_raw_sequential};
 use std::alloc::Global;
@@ -187,13 +184,16 @@ fn gives_the_tags_of_each_variant_and_version(rt: HostRuntime) -> Result<(), Fai
 #[test]
 fn hashes_the_memory_cost_as_given(rt: HostRuntime) -> Result<(), Fail> {
     let alloc = rt.alloc();
-    let mut exact = config(Variant::Argon2i, Version::Version13, 4);
-    exact.mem_cost = 32;
-    let mut rounded = exact;
-    rounded.mem_cost = 35;
-    let one = hash_raw(&rt, alloc, b"password", b"somesalt", &exact)?;
-    let other = hash_raw(&rt, alloc, b"password", b"somesalt", &rounded)?;
-    assert_ne!(rt; one.as_slice(), other.as_slice());
+    for thread_mode in [ThreadMode::Sequential, ThreadMode::Parallel] {
+        let mut exact = config(Variant::Argon2i, Version::Version13, 4);
+        exact.thread_mode = thread_mode;
+        exact.mem_cost = 32;
+        let mut rounded = exact;
+        rounded.mem_cost = 35;
+        let one = hash_raw(&rt, alloc, b"password", b"somesalt", &exact)?;
+        let other = hash_raw(&rt, alloc, b"password", b"somesalt", &rounded)?;
+        assert_ne!(rt; one.as_slice(), other.as_slice());
+    }
     Ok(())
 }
 

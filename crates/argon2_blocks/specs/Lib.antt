@@ -1,9 +1,3 @@
-pub mod Word
-pub mod Blake2b
-pub mod StretchedHash
-pub mod Block
-pub mod Compression
-pub mod Absorbed
-pub mod Lends
-pub mod Lane
-pub mod Shuffles
+pub mod Standard
+pub mod Views
+pub mod Laws

@@ -1,7 +1,11 @@
 //! Blocks of Argon2's memory and their compression (RFC 9106, 3.2, 3.5 and 3.6).
 
+mod columns;
 mod kernel;
+mod lane_wise;
 mod lanes;
+mod rows;
+mod shuffles;
 #[cfg(test)]
 mod tests;
 mod transpose;
@@ -10,8 +14,8 @@ ghost use Rattle.std.specs.Prelude.{◌≡◌, ◌<◌, ◌↔◌, ⊤, IsTrue, 
 ghost use Rattle.std.specs.Cmp.Lexicographic.{nat_list_eq_equiv, pointwise};
 ghost use Rattle.std.specs.Cmp.{partial_equiv_from_equiv};
 ghost use Rattle.std.specs.Fmt.{debug_list, decimal};
-ghost use Rattle.argon2_blocks.specs.Block.{block_bytes, block_of_bytes, xor, zero_block};
-ghost use Rattle.argon2_blocks.specs.Compression.{compress};
+ghost use Rattle.argon2_blocks.specs.Standard.Block.{block_bytes, block_of_bytes, xor, zero_block};
+ghost use Rattle.argon2_blocks.specs.Standard.Compression.{compress_g};
 
 use crate::common::{BLOCK_SIZE, QWORDS_IN_BLOCK};
 use crate::little_endian::{read_words, write_words};
@@ -134,7 +138,7 @@ impl Index<usize> for Block {
 /// The word at an index below 128, to be written.
 impl IndexMut<usize> for Block {
     ghost use Rattle.std.specs.Borrow.{sem};
-    ghost use Rattle.argon2_blocks.specs.Lends.{lends_word};
+    ghost use Rattle.argon2_blocks.specs.Views.Lends.{lends_word};
 
     fn index_mut(&mut self, index: usize) -> &mut u64
         requires { index < 128 }
@@ -160,7 +164,7 @@ impl BitXorAssign<&Block> for Block {
 /// Makes `next` the compression G of two blocks (RFC 9106, 3.5), or with `with_xor` the exclusive
 /// or of that and the old `next`. It takes no memory.
 pub fn fill_block(prev: &Block, reference: &Block, next: &mut Block, with_xor: bool)
-    ensures { let g = compress prev.now reference.now in
+    ensures { let g = compress_g prev.now reference.now in
         next.new ≡ (if with_xor then xor g next.old else g) }
 {
     fill_words(&prev.words, &reference.words, &mut next.words, with_xor);

@@ -1,7 +1,8 @@
-//! BLAKE2b, the stretched hash, and Argon2's blocks with their compression.
+//! BLAKE2b, the hash function of variable length H', and Argon2's blocks with their compression.
 #![tactic(auto)]
 
 pub mod blake2b;
 pub mod block;
 pub mod common;
 mod little_endian;
+pub mod theorems;

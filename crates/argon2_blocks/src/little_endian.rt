@@ -2,12 +2,12 @@
 
 ghost use Rattle.std.specs.Prelude.{◌≡◌, ◌+◌, ◌*◌, ◌≤◌, length, slice_range};
 ghost use Rattle.std.specs.Int.{w64, from_le_bytes};
-ghost use Rattle.argon2_blocks.specs.Word.{bytes_of, words_of};
+ghost use Rattle.argon2_blocks.specs.Standard.Word.{bytes_of, words_of};
 
 /// The size of a word, in bytes.
 const WORD_SIZE: usize = 8;
 
-// The word whose bytes begin at `at`.
+/// The word whose bytes begin at `at` (RFC 7693, 2.4).
 fn read_word(bytes: &[u8], at: usize) -> u64
     requires { at + 8 ≤ length bytes.now }
     ensures { result ≡ from_le_bytes w64 (slice_range bytes.now at (at + 8)) }

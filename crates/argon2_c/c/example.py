@@ -1,23 +1,31 @@
 """Hashes and verifies passwords by the shared object that c/run makes: example.py FILE.
 
-It exits with 1 where an answer is not the one that RFC 9106, section 5, gives. c/run runs it.
+It exits with 1 where an answer is not the one that another implementation gave: the tags are answers of
+libargon2 (Debian's libargon2-dev 0~20171227-0.3+deb12u1). c/run runs it.
 """
 import ctypes
 import sys
 
 OK = 0
 MISMATCH = 64
+NEEDS_REHASH = 68
 MESSAGE_SIZE = 64
 VARIANTS = {"argon2d": 0, "argon2i": 1, "argon2id": 2}
 
 
 class Settings(ctypes.Structure):
-    """`proved_argon2_settings` of argon2.h."""
+    """`proved_argon2_settings` of proved_argon2.h."""
 
     _fields_ = [
         (name, ctypes.c_uint32)
         for name in ("variant", "version", "mem_cost", "time_cost", "lanes", "hash_length")
     ]
+
+
+class Stored(ctypes.Structure):
+    """`proved_argon2_stored` of proved_argon2.h."""
+
+    _fields_ = [("settings", Settings), ("salt_length", ctypes.c_uint32)]
 
 
 class Refused(Exception):
@@ -40,6 +48,9 @@ class Argon2:
             ("hash_encoded", 4 * slice_of_bytes + settings + slice_of_bytes, ctypes.c_uint32),
             ("verify_raw", 4 * slice_of_bytes + settings + slice_of_bytes, ctypes.c_uint32),
             ("verify_encoded", 4 * slice_of_bytes, ctypes.c_uint32),
+            ("read", slice_of_bytes + [ctypes.POINTER(Stored)], ctypes.c_uint32),
+            ("needs_rehash", slice_of_bytes + settings, ctypes.c_uint32),
+            ("owasp2", [], Settings),
             ("encoded_len", settings + [ctypes.c_uint32], ctypes.c_uint64),
             ("message", [ctypes.c_uint32] + slice_of_bytes, ctypes.c_uint32),
         ):
@@ -79,13 +90,31 @@ class Argon2:
         self._checked(code)
         return True
 
+    def read(self, text):
+        """What a stored text spells."""
+        stored = Stored()
+        self._checked(self._read(*_slices(text.encode()), stored))
+        return stored
+
+    def needs_rehash(self, text, settings):
+        """Whether a stored text was made with other settings."""
+        code = self._needs_rehash(*_slices(text.encode()), settings)
+        if code == NEEDS_REHASH:
+            return True
+        self._checked(code)
+        return False
+
+    def recommended(self):
+        """OWASP's second recommendation."""
+        return self._owasp2()
+
 
 def _slices(*slices):
     return [argument for each in slices for argument in (each, len(each))]
 
 
 def expect(holds, what):
-    print(f"{what}: {'yes' if holds else 'NO'}")
+    print(f"{'passed' if holds else 'FAILED'}: {what}")
     if not holds:
         sys.exit(1)
 
@@ -94,17 +123,22 @@ def main():
     argon2 = Argon2(sys.argv[1])
     password, salt, secret, ad = bytes([1] * 32), bytes([2] * 16), bytes([3] * 8), bytes([4] * 12)
     for variant, tag in (
-        ("argon2d", "512b391b6f1162975371d30919734294f868e3be3984f3c1a13a4db9fabe4acb"),
-        ("argon2i", "c814d9d1dc7f37aa13f0d77f2494bda1c8de6b016dd388d29952a4c4672b6ce8"),
-        ("argon2id", "0d640df58d78766c08c037a34a8b53c9d01ef0452d75b65eb52520e96b01e659"),
+        ("argon2d", "25a4abae52dffc34d0abcc697616e07ba4a60465bf0eff6c"),
+        ("argon2i", "38c2e9ed4c1a44580384c10d390cb225f0421b0784734424"),
+        ("argon2id", "b005389bcdd53aefb9e46aea3104e0a471e0de6e6f60cbb2"),
     ):
-        settings = Settings(VARIANTS[variant], 0x13, 32, 3, 4, 32)
+        settings = Settings(VARIANTS[variant], 0x13, 64, 3, 4, 24)
         hashed = argon2.hash_raw(password, salt, settings, secret, ad)
-        expect(hashed.hex() == tag, f"the tag of {variant} is that of RFC 9106")
+        expect(hashed.hex() == tag, f"the tag of {variant} is libargon2's")
 
     text = argon2.hash_encoded(password, salt, settings, secret, ad)
     expect(argon2.verify_encoded(text, password, secret, ad), "the text verifies")
     expect(not argon2.verify_encoded(text, password, ad, secret), "with the secret and the associated data swapped it does not match")
+    read = argon2.read(text)
+    numbers = [getattr(read.settings, name) for name, _ in Settings._fields_] + [read.salt_length]
+    expect(numbers == [2, 0x13, 64, 3, 4, 24, 16], "the text is read")
+    expect(not argon2.needs_rehash(text, settings), "the text has these settings")
+    expect(argon2.needs_rehash(text, argon2.recommended()), "the text has other settings than OWASP's second")
     stored = "$argon2d$m=256,t=2,p=1$c29tZXNhbHQ$vUBIaP8AxS51Q8gzLmp3KlckiS1+Mo1c8lO7yOcms3E"
     expect(argon2.verify_encoded(stored, b"password"), "the right password matches")
     expect(not argon2.verify_encoded(stored, b"Password"), "a wrong password does not match")

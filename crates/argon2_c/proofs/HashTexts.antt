@@ -1,11 +1,11 @@
 -- What hashing leaves in a buffer for the text.
 use Rattle.std.proofs.Common.{◌≡◌, ℕ, ◌<◌, ◌≤◌, false, true, List, length, Option, None, Some, Result, Ok, Err, nat_lt, refl, ap, arith}
 use Rattle.std.proofs.lemmas.Bool.{le-ltb, lt-ltb}
-use Rattle.argon2.specs.declared.config.Config.{Config}
-use Rattle.argon2.specs.declared.error.Error.{Error}
-use Rattle.argon2.specs.declared.error.Error.TheVariants.{OutOfMemory}
-use Rattle.argon2.specs.Answers.{Answers}
-use Rattle.argon2.specs.Settings.{refusal_of}
+use Rattle.argon2.specs.ConfigType.{Config}
+use Rattle.argon2.specs.ErrorType.{Error}
+use Rattle.argon2.specs.ErrorType.TheVariants.{OutOfMemory}
+use Rattle.argon2.specs.Outcome.{IsOutcome}
+use Rattle.argon2.specs.SettingsTable.{refusal_of}
 use Rattle.argon2_c.specs.Answers.{IsTextLength, WritesHashText, hash_text}
 use Rattle.argon2_c.specs.declared.refusal.Refusal.TheVariants.{Library, WrongLength}
 use Rattle.argon2_c.proofs.Lengths.{length-hash_text}
@@ -13,19 +13,25 @@ use Rattle.argon2_c.proofs.Lengths.{length-hash_text}
 -- an accepted call, and the length of its text
 module _ (stood : Result Config Error) (config : Config) (pwd salt : List ℕ) (len : ℕ) (is : stood ≡ Ok config)
     (accepted : refusal_of config (length pwd) (length salt) config.hash_length ≡ None) (known : IsTextLength (Ok config) (length salt) len) where
+  -- the length that is known is that of the hash's text
   abbrev size : len ≡ length (hash_text pwd salt config)
   size = length-hash_text config pwd salt (length salt) len refl known
 
+  -- a buffer that is no longer than the text has the wrong length, and is left as it was
   pub too_short : (old : List ℕ) → length old ≤ len → WritesHashText stood pwd salt old old (Err WrongLength)
   too_short old short =
-      let full : nat_lt (length (hash_text pwd salt config)) (length old) ≡ false = le-ltb (length (hash_text pwd salt config)) (length old) (omega (arith, size, short)) in
+      let full : nat_lt (length (hash_text pwd salt config)) (length old) ≡ false = le-ltb (length (hash_text pwd salt config)) (length old) (omega
+      (arith, size, short)) in
       rw (is, accepted, full) (refl, refl)
 
+  -- where a buffer is longer than the text, memory may be refused, and the buffer is as it was
   pub lacks_memory : (old : List ℕ) (e : Error) → len < length old → e ≡ OutOfMemory → WritesHashText stood pwd salt old old (Err (Library e))
   lacks_memory old e fits memory =
-      let room : nat_lt (length (hash_text pwd salt config)) (length old) ≡ true = lt-ltb (length (hash_text pwd salt config)) (length old) (omega (arith, size, fits)) in
+      let room : nat_lt (length (hash_text pwd salt config)) (length old) ≡ true = lt-ltb (length (hash_text pwd salt config)) (length old) (omega
+      (arith, size, fits)) in
       rw (is, accepted, room) (ap Library memory, refl)
 
-pub shortage : {A : Type 0} (refusal : Option Error) (P : A → Type 0) (e : Error) → refusal ≡ None → Answers refusal false P (Err e) → e ≡ OutOfMemory
+-- where nothing in the settings is refused, an error is a lack of memory
+pub shortage : {A : Type 0} (refusal : Option Error) (P : A → Type 0) (e : Error) → refusal ≡ None → IsOutcome refusal false P (Err e) → e ≡ OutOfMemory
 shortage None P e none h = h
 shortage (Some r) P e none h = absurd (cc)

@@ -2,16 +2,19 @@
 use Rattle.std.proofs.Common.{◌≡◌, ℕ, ◌≤◌, Bool, false, true, List, length, Option, None, Some, Ok, nat_lt, cond, ◌*◌, refl}
 use Rattle.std.specs.Prelude.{◌==◌, ◌||◌}
 use Rattle.std.proofs.lemmas.Bool.{ltb-false}
-use Rattle.argon2.specs.declared.config.Config.{Config}
-use Rattle.argon2.specs.declared.error.Error.{Error}
-use Rattle.argon2.specs.Settings.{max_length, max_lanes, refusal_of}
+use Rattle.argon2.specs.ConfigType.{Config}
+use Rattle.argon2.specs.ErrorType.{Error}
+use Rattle.argon2.specs.SettingsTable.{max_length, max_lanes, refusal_of}
 use Rattle.argon2.specs.Tag.{tag_of}
-use Rattle.argon2.proofs.Verdicts.{length-tag_of}
+use Rattle.argon2.proofs.Verification.Verdicts.{length-tag_of}
 use Rattle.argon2_c.specs.Answers.{IsTextLength, hash_text}
 
-pub length-hash_text : (config : Config) (pwd salt : List ℕ) (salt_len len : ℕ) → length salt ≡ salt_len → IsTextLength (Ok config) salt_len len → len ≡ length (hash_text pwd salt config)
+-- the text's length for a configuration and a length of salt is that of the hash's text
+pub length-hash_text : (config : Config) (pwd salt : List ℕ) (salt_len len : ℕ) → length salt ≡ salt_len → IsTextLength (Ok config) salt_len len
+    → len ≡ length (hash_text pwd salt config)
 length-hash_text config pwd salt salt_len len e is = is salt (tag_of pwd salt config config.hash_length) e (length-tag_of pwd salt config config.hash_length)
 
+-- where a table refuses nothing, its first row does not apply and the rest refuses nothing
 later_row : (b : Bool) (r : Error) (rest : Option Error) → cond b (Some r) rest ≡ None → (b ≡ false) × (rest ≡ None)
 later_row true r rest h = absurd (cc)
 later_row false r rest h = (refl, h)

@@ -2,3 +2,4 @@ pub mod Numbers
 pub mod Lengths
 pub mod Verdicts
 pub mod HashTexts
+pub mod Comparisons

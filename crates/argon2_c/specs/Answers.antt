@@ -1,12 +1,12 @@
 -- What the calls answer. Each takes the configuration that its settings stand for, or the refusal of
 -- their numbers, and each goes on from the words of the library's own contract.
 use Rattle.std.specs.Prelude.{◌≡◌, ℕ, ◌==◌, Bool, true, false, nat_lt, if◌then◌else◌, List, length, Option, Some, None, Result, Ok, Err, IsUtf8}
-use Rattle.argon2.specs.declared.config.Config.{Config}
-use Rattle.argon2.specs.declared.error.Error.{Error}
-use Rattle.argon2.specs.declared.error.Error.TheVariants.{DecodingFail, OutOfMemory}
+use Rattle.argon2.specs.ConfigType.{Config}
+use Rattle.argon2.specs.ErrorType.{Error}
+use Rattle.argon2.specs.ErrorType.TheVariants.{DecodingFail, OutOfMemory}
 use Rattle.argon2.specs.Grammar.{Spells, SpellsNothing}
-use Rattle.argon2.specs.Settings.{refusal_of}
-use Rattle.argon2.specs.Stored.{IsStoredConfig}
+use Rattle.argon2.specs.SettingsTable.{refusal_of}
+use Rattle.argon2.specs.Standard.Stored.{IsStoredConfig}
 use Rattle.argon2.specs.Tag.{tag_of}
 use Rattle.argon2.specs.Text.{Spelled, spelled_of, text_of}
 use Rattle.argon2_c.specs.Buffer.{WritesText, padded}

@@ -1,4 +1,6 @@
 pub mod Refusal
 pub mod Settings
+pub mod Recommended
 pub mod Buffer
 pub mod Answers
+pub mod Reading

@@ -1,10 +1,12 @@
 -- The numbers and the texts of the refusals.
 use Rattle.std.specs.Prelude.{◌≡◌, ℕ, List, codes, Result, Ok, Err}
-use Rattle.argon2.specs.declared.error.Error.{Error}
-use Rattle.argon2.specs.declared.error.Error.TheVariants.{OutputTooShort, OutputTooLong, PwdTooShort, PwdTooLong, SaltTooShort, SaltTooLong, AdTooShort, AdTooLong, SecretTooShort, SecretTooLong, TimeTooSmall, TimeTooLarge, MemoryTooLittle, MemoryTooMuch, LanesTooFew, LanesTooMany, IncorrectType, IncorrectVersion, DecodingFail, OutOfMemory, WorkerRefused}
-use Rattle.argon2.specs.Error.{message_of as library_message}
+use Rattle.argon2.specs.ErrorType.{Error}
+use Rattle.argon2.specs.ErrorType.TheVariants.{OutputTooShort, OutputTooLong, PwdTooShort, PwdTooLong, SaltTooShort, SaltTooLong, AdTooShort}
+use Rattle.argon2.specs.ErrorType.TheVariants.{AdTooLong, SecretTooShort, SecretTooLong, TimeTooSmall, TimeTooLarge, MemoryTooLittle, MemoryTooMuch}
+use Rattle.argon2.specs.ErrorType.TheVariants.{LanesTooFew, LanesTooMany, IncorrectType, IncorrectVersion, DecodingFail, OutOfMemory, WorkerRefused}
+use Rattle.argon2.specs.Messages.{message_of as library_message}
 use Rattle.argon2_c.specs.declared.refusal.Refusal.{Refusal}
-use Rattle.argon2_c.specs.declared.refusal.Refusal.TheVariants.{Library, Mismatch, WrongLength, NotUtf8, UnknownNumber}
+use Rattle.argon2_c.specs.declared.refusal.Refusal.TheVariants.{Library, Mismatch, WrongLength, NotUtf8, UnknownNumber, NeedsRehash}
 
 -- the library's refusals, from 1 in their order
 abbrev pub library_number : Error → ℕ
@@ -37,6 +39,7 @@ number_of Mismatch = 64
 number_of WrongLength = 65
 number_of NotUtf8 = 66
 number_of UnknownNumber = 67
+number_of NeedsRehash = 68
 
 abbrev pub IsNoNumber : ℕ → Type 0
 IsNoNumber number = (refusal : Refusal) → number_of refusal ≡ number → ⊥
@@ -47,6 +50,7 @@ message_of Mismatch = codes "The password does not match"
 message_of WrongLength = codes "The buffer has the wrong length"
 message_of NotUtf8 = codes "The text is not UTF-8"
 message_of UnknownNumber = codes "There is no refusal of this number"
+message_of NeedsRehash = codes "The text was made with other settings"
 
 -- what a call returns to C: 0, or the number of the refusal
 abbrev pub code_of : Result (Unit {0}) Refusal → ℕ

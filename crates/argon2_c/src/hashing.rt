@@ -1,7 +1,7 @@
 //! Hashing a password into a buffer of the caller's.
 
 ghost use Rattle.std.specs.Prelude.{◌≡◌, length};
-ghost use Rattle.argon2.specs.Settings.{refusal_of};
+ghost use Rattle.argon2.specs.SettingsTable.{refusal_of};
 ghost use Rattle.argon2_c.specs.Answers.{WritesHashText, WritesTag};
 ghost use Rattle.argon2_c.specs.Settings.{config_of};
 
@@ -26,7 +26,8 @@ pub fn hash_raw(
     settings: &Settings,
     out: &mut [u8],
 ) -> Result<(), Refusal>
-    ensures { WritesTag (config_of settings.now secret.entry ad.entry) pwd.now salt.now out.old out.new result }
+    ensures { WritesTag (config_of settings.now secret.entry ad.entry) pwd.now salt.now out.old
+        out.new result }
 {
     let config = settings.config(secret, ad)?;
     if let Some(error) = refused(&config, pwd, salt) {
@@ -51,7 +52,8 @@ pub fn hash_encoded(
     settings: &Settings,
     text: &mut [u8],
 ) -> Result<(), Refusal>
-    ensures { WritesHashText (config_of settings.now secret.entry ad.entry) pwd.now salt.now text.old text.new result }
+    ensures { WritesHashText (config_of settings.now secret.entry ad.entry) pwd.now salt.now
+        text.old text.new result }
 {
     let config = settings.config(secret, ad)?;
     if let Some(error) = refused(&config, pwd, salt) {
@@ -66,7 +68,8 @@ pub fn hash_encoded(
 
 /// The first refusal of the settings table.
 fn refused(config: &Config<'_>, pwd: &[u8], salt: &[u8]) -> Option<Error>
-    ensures { result ≡ refusal_of config.now (length pwd.now) (length salt.now) config.now.hash_length }
+    ensures { result ≡ refusal_of config.now (length pwd.now)
+        (length salt.now) config.now.hash_length }
 {
     let hash_len = u64::from(config.hash_length);
     first_refusal(config, pwd.len() as u64, salt.len() as u64, hash_len)

@@ -1,22 +1,30 @@
 //! A C face of `argon2`: the calls that hash and verify in the caller's thread, for C.
 //!
 //! Each export calls the function of its name below and returns the number of what that one answers:
-//! 0, or a refusal's. `include/argon2.h` is the header, and docs/C.md says how to build and to link.
+//! 0, or a refusal's. `include/proved_argon2.h` is the header, and docs/C.md says how to build and to link.
 //! A slice is a pointer and then a length; `alloc` takes no argument of the C call.
 #![tactic(auto)]
 
-ghost use Rattle.std.specs.Prelude.{ℕ, List};
+ghost use Rattle.std.specs.Prelude.{◌≡◌, ℕ, List};
 ghost use Rattle.std.specs.Borrow.{Bor};
 ghost use Rattle.argon2_c.specs.Answers.{IsTextLength, JudgesRaw, JudgesText, WritesHashText, WritesMessage, WritesTag};
+ghost use Rattle.argon2_c.specs.Reading.{ComparesSettings, ReadsText};
 ghost use Rattle.argon2_c.specs.Refusal.{IsCodeOf};
 ghost use Rattle.argon2_c.specs.Settings.{config_of};
 
 mod buffer;
 mod hashing;
+mod reading;
+mod recommended;
 mod refusal;
 mod settings;
 mod verifying;
 
+pub use reading::Stored;
+pub use recommended::{
+    proved_argon2_owasp1, proved_argon2_owasp2, proved_argon2_owasp3, proved_argon2_owasp4,
+    proved_argon2_owasp5, proved_argon2_rfc9106, proved_argon2_rfc9106_low_mem,
+};
 use refusal::code_of;
 pub use settings::Settings;
 use std::alloc::Global;
@@ -36,7 +44,8 @@ pub extern "C" fn proved_argon2_hash_raw(
     settings: &Settings,
     out: &mut [u8],
 ) -> u32
-    ensures { IsCodeOf (WritesTag (config_of settings.now secret.entry ad.entry) pwd.now salt.now out.old out.new) result }
+    ensures { IsCodeOf (WritesTag (config_of settings.now secret.entry ad.entry) pwd.now salt.now
+        out.old out.new) result }
 {
     code_of(&hashing::hash_raw(alloc, pwd, salt, secret, ad, settings, out))
 }
@@ -53,12 +62,14 @@ pub extern "C" fn proved_argon2_hash_encoded(
     settings: &Settings,
     text: &mut [u8],
 ) -> u32
-    ensures { IsCodeOf (WritesHashText (config_of settings.now secret.entry ad.entry) pwd.now salt.now text.old text.new) result }
+    ensures { IsCodeOf (WritesHashText (config_of settings.now secret.entry ad.entry) pwd.now
+        salt.now text.old text.new) result }
 {
     code_of(&hashing::hash_encoded(alloc, pwd, salt, secret, ad, settings, text))
 }
 
-/// Returns 0 exactly where `hash` is the tag of a password; `settings.hash_length` is not looked at.
+/// Returns 0 only where `hash` is the tag of a password, and 64 only where it is not;
+/// `settings.hash_length` is not looked at.
 #[unsafe(no_mangle)]
 pub extern "C" fn proved_argon2_verify_raw(
     alloc: Global,
@@ -69,13 +80,14 @@ pub extern "C" fn proved_argon2_verify_raw(
     settings: &Settings,
     hash: &[u8],
 ) -> u32
-    ensures { IsCodeOf (JudgesRaw (config_of settings.now secret.entry ad.entry) pwd.now salt.now hash.now) result }
+    ensures { IsCodeOf (JudgesRaw (config_of settings.now secret.entry ad.entry) pwd.now salt.now
+        hash.now) result }
 {
     code_of(&verifying::verify_raw(alloc, pwd, salt, secret, ad, settings, hash))
 }
 
-/// Returns 0 exactly where a stored text is the hash of a password with this secret and this
-/// associated data.
+/// Returns 0 only where a stored text is the hash of a password with this secret and this associated
+/// data, and 64 only where it is not.
 #[unsafe(no_mangle)]
 pub extern "C" fn proved_argon2_verify_encoded(
     alloc: Global,
@@ -89,11 +101,31 @@ pub extern "C" fn proved_argon2_verify_encoded(
     code_of(&verifying::verify_encoded(alloc, text, pwd, secret, ad))
 }
 
+/// Writes what a stored text spells to `stored`, and verifies nothing. On a refusal `stored` is as it
+/// was.
+#[unsafe(no_mangle)]
+pub extern "C" fn proved_argon2_read(alloc: Global, text: &[u8], stored: &mut Stored) -> u32
+    ensures { IsCodeOf (ReadsText text.now stored.old stored.new) result }
+{
+    code_of(&reading::read(alloc, text, stored))
+}
+
+/// Returns 0 only where a stored text was made with these settings, whatever its salt is, and 68 only
+/// where it was made with others.
+#[unsafe(no_mangle)]
+pub extern "C" fn proved_argon2_needs_rehash(alloc: Global, text: &[u8], settings: &Settings) -> u32
+    ensures { (secret ad : Bor (List ℕ))
+        → IsCodeOf (ComparesSettings (config_of settings.now secret ad) text.now) result }
+{
+    code_of(&reading::needs_rehash(alloc, text, settings))
+}
+
 /// The length of the text that `proved_argon2_hash_encoded` writes, without the zero behind it, or 0
 /// where the variant's or the version's number is none.
 #[unsafe(no_mangle)]
 pub extern "C" fn proved_argon2_encoded_len(settings: &Settings, salt_len: u32) -> u64
-    ensures { (secret ad : Bor (List ℕ)) → IsTextLength (config_of settings.now secret ad) salt_len result }
+    ensures { (secret ad : Bor (List ℕ)) → IsTextLength
+        (config_of settings.now secret ad) salt_len result }
 {
     settings.encoded_len(salt_len)
 }
@@ -105,4 +137,13 @@ pub extern "C" fn proved_argon2_message(number: u32, text: &mut [u8]) -> u32
     ensures { IsCodeOf (WritesMessage number text.old text.new) result }
 {
     code_of(&refusal::write_message(number, text))
+}
+
+/// The version of the library as a number: 1,000,000 times the major one, 1,000 times the minor one and
+/// the patch.
+#[unsafe(no_mangle)]
+pub extern "C" fn proved_argon2_library_version() -> u32
+    ensures { result ≡ 1000000 }
+{
+    1_000_000
 }

@@ -1,7 +1,7 @@
 //! The refusals of the C calls, their numbers and their texts.
 
 ghost use Rattle.std.specs.Prelude.{◌≡◌, IfSome};
-ghost use Rattle.argon2.specs.declared.error.Error.{Error};
+ghost use Rattle.argon2.specs.ErrorType.{Error};
 ghost use Rattle.argon2_c.specs.Answers.{WritesMessage};
 ghost use Rattle.argon2_c.specs.Refusal.{code_of, library_number, message_of, number_of};
 ghost use Rattle.argon2_c.specs.declared.refusal.Refusal.{Refusal};
@@ -27,6 +27,9 @@ pub enum Refusal {
 
     /// The number is that of no refusal.
     UnknownNumber,
+
+    /// The text was made with other settings.
+    NeedsRehash,
 }
 
 impl From<Error> for Refusal {
@@ -108,6 +111,7 @@ impl Refusal {
             Refusal::WrongLength => 65,
             Refusal::NotUtf8 => 66,
             Refusal::UnknownNumber => 67,
+            Refusal::NeedsRehash => 68,
         }
     }
 
@@ -121,6 +125,7 @@ impl Refusal {
             65 => Some(Refusal::WrongLength),
             66 => Some(Refusal::NotUtf8),
             67 => Some(Refusal::UnknownNumber),
+            68 => Some(Refusal::NeedsRehash),
             _ => library_refusal(number).map(Refusal::Library),
         }
     }
@@ -135,6 +140,7 @@ impl Refusal {
             Refusal::WrongLength => "The buffer has the wrong length",
             Refusal::NotUtf8 => "The text is not UTF-8",
             Refusal::UnknownNumber => "There is no refusal of this number",
+            Refusal::NeedsRehash => "The text was made with other settings",
         }
     }
 }

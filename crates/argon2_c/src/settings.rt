@@ -55,7 +55,8 @@ impl Settings {
     /// The length of the text that is hashed to with a salt of this length, or 0 where the settings
     /// have no configuration.
     pub fn encoded_len(&self, salt_len: u32) -> u64
-        ensures { (secret ad : Bor (List ℕ)) → IsTextLength (config_of self.now secret ad) salt_len result }
+        ensures { (secret ad : Bor (List ℕ)) → IsTextLength
+            (config_of self.now secret ad) salt_len result }
     {
         match self.config(&[], &[]) {
             Ok(config) => text_len(&config, salt_len),

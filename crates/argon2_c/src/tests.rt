@@ -1,6 +1,8 @@
 //! The C calls against the vectors of RFC 9106, section 5, and rust-argon2's own texts.
 
 mod messages;
+mod reading;
+mod recommended;
 
 use crate::{
     Settings, proved_argon2_encoded_len, proved_argon2_hash_encoded, proved_argon2_hash_raw,

@@ -21,7 +21,8 @@ pub fn verify_raw(
     settings: &Settings,
     hash: &[u8],
 ) -> Result<(), Refusal>
-    ensures { JudgesRaw (config_of settings.now secret.entry ad.entry) pwd.now salt.now hash.now result }
+    ensures { JudgesRaw (config_of settings.now secret.entry ad.entry) pwd.now salt.now hash.now
+        result }
 {
     let config = settings.config(secret, ad)?;
     judgement(verify_raw_sequential(alloc, pwd, salt, hash, &config))

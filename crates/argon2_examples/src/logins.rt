@@ -1,10 +1,14 @@
 //! Passwords of users, kept as encoded texts.
 
-ghost use Rattle.std.specs.Prelude.{◌≡◌, ℕ, IfOk, List, length};
+ghost use Rattle.std.specs.Prelude.{◌≡◌, ◌↔◌, ℕ, [], IfOk, IsTrue, List, MatchResult, false, length, nat_lt};
 ghost use Rattle.std.specs.String.{string_bytes};
-ghost use Rattle.argon2.specs.Grammar.{SpellsNothing};
+ghost use Rattle.argon2.specs.ConfigType.{Config};
+ghost use Rattle.argon2.specs.Grammar.{Spells, SpellsNothing};
+ghost use Rattle.argon2.specs.Standard.Rehash.{Differs};
+ghost use Rattle.argon2.specs.Standard.Stored.{IsStoredConfig};
+ghost use Rattle.argon2.specs.Standard.Verdict.{IsVerdict};
 ghost use Rattle.argon2.specs.Tag.{tag_of};
-ghost use Rattle.argon2.specs.Text.{spelled_of, text_of};
+ghost use Rattle.argon2.specs.Text.{Spelled, spelled_of, text_of};
 
 use argon2::{
     Config, Error, Result, encoded_len, hash_encoded, hash_encoded_sequential, needs_rehash,
@@ -47,7 +51,10 @@ pub fn log_in<R: Threads + Wait + Sync>(
     kept: &str,
     password: &[u8],
 ) -> Result<bool>
-    ensures { SpellsNothing kept.now → result ≡ Err Error.DecodingFail }
+    ensures unspelled { SpellsNothing kept.now → result ≡ Err Error.DecodingFail }
+    ensures spelled { (d : Spelled) (config : Config) → Spells kept.now d
+        → IsStoredConfig d [] [] config
+        → IsVerdict password.now d.salt d.hash config (nat_lt 1 d.parallelism) result }
 {
     verify_encoded(rt, alloc, kept, password)
 }
@@ -61,7 +68,10 @@ pub fn log_in_with_pepper<R: Threads + Wait + Sync>(
     pepper: &[u8],
     ad: &[u8],
 ) -> Result<bool>
-    ensures { SpellsNothing kept.now → result ≡ Err Error.DecodingFail }
+    ensures unspelled { SpellsNothing kept.now → result ≡ Err Error.DecodingFail }
+    ensures spelled { (d : Spelled) (config : Config) → Spells kept.now d
+        → IsStoredConfig d pepper.now ad.now config
+        → IsVerdict password.now d.salt d.hash config (nat_lt 1 d.parallelism) result }
 {
     verify_encoded_ext(rt, alloc, kept, password, pepper, ad)
 }
@@ -74,7 +84,10 @@ pub fn log_in_alone(
     pepper: &[u8],
     ad: &[u8],
 ) -> Result<bool>
-    ensures { SpellsNothing kept.now → result ≡ Err Error.DecodingFail }
+    ensures unspelled { SpellsNothing kept.now → result ≡ Err Error.DecodingFail }
+    ensures spelled { (d : Spelled) (config : Config) → Spells kept.now d
+        → IsStoredConfig d pepper.now ad.now config
+        → IsVerdict password.now d.salt d.hash config false result }
 {
     verify_encoded_sequential(alloc, kept, password, pepper, ad)
 }
@@ -82,7 +95,10 @@ pub fn log_in_alone(
 /// Whether the kept text was made with other settings than those of today, so that the password is
 /// to be hashed anew at the next login.
 pub fn is_outdated(alloc: Global, kept: &str, today: &Config) -> Result<bool>
-    ensures { SpellsNothing kept.now → result ≡ Err Error.DecodingFail }
+    ensures unspelled { SpellsNothing kept.now → result ≡ Err Error.DecodingFail }
+    ensures spelled { (d : Spelled) → Spells kept.now d
+        → MatchResult result (λ differs. IsTrue differs
+        ↔ Differs d today.now) (λ e. e ≡ Error.OutOfMemory) }
 {
     needs_rehash(alloc, kept, today)
 }

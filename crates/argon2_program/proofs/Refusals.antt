@@ -1,7 +1,7 @@
 -- Refusals that are passed on, and what holds where the input's bytes are known.
-use Rattle.std.proofs.Common.{◌≡◌, ℕ, List, Option, None, Some, IfSome, Result, Ok, Err, IfErr, sym, subst}
+use Rattle.std.proofs.Common.{◌≡◌, ℕ, List, Option, None, Some, IfSome, MatchOption, Result, Ok, Err, IfErr, sym, subst}
 use Rattle.std.specs.Result.{IsErr, IsErrAnd}
-use Rattle.argon2.specs.declared.error.Error.{Error}
+use Rattle.argon2.specs.ErrorType.{Error}
 use Rattle.argon2_program.specs.declared.fault.Fault.{Fault}
 use Rattle.argon2_program.specs.declared.fault.Fault.TheVariants.{Refused}
 
@@ -15,3 +15,9 @@ passed_on (Err fault) refusal P h p = subst P (sym h.1) p
 pub for_known : (input : Option (List ℕ)) (read : List ℕ) (P : List ℕ → Type 0) → IfSome input (λ bytes. read ≡ bytes) → P read → IfSome input P
 for_known None read P h p = tt
 for_known (Some bytes) read P h p = subst P h p
+
+-- what is known of an accepted value, where a refusal would have been an error
+pub at_accepted : {A : Type 0} (refusal : Option Error) (P : Type 0) (value : A) →
+    MatchOption refusal P (λ (e : Error). let r : Result A Error = Ok value in r ≡ Err e) → P
+at_accepted None P value h = h
+at_accepted (Some e) P value h = absurd (cc)

@@ -1,18 +1,19 @@
 -- What a command answers.
-use Rattle.std.specs.Prelude.{◌≡◌, ◌↔◌, ◌⊎◌, ℕ, true, false, List, [], ◌++◌, codes, length, nat_lt, string_bytes, Bool, IsTrue, Option, IfSome, MatchOption, MatchResult, Result, Ok, Err, ⊤}
+use Rattle.std.specs.Prelude.{◌≡◌, ◌↔◌, ◌⊎◌, ℕ, true, false, List, [], ◌++◌, codes, length, nat_lt, string_bytes, Bool, IsTrue, Option, IfSome}
+use Rattle.std.specs.Prelude.{MatchOption, MatchResult, Result, Ok, Err, ⊤}
 use Rattle.hex.specs.Hex.{encode_lower}
-use Rattle.argon2.specs.Answers.{IsShortage}
-use Rattle.argon2.specs.Config.{may_lack_workers}
+use Rattle.argon2.specs.Outcome.{IsShortage}
+use Rattle.argon2.specs.ThreadModes.{may_lack_workers}
 use Rattle.argon2.specs.Grammar.{Spells, SpellsNothing}
-use Rattle.argon2.specs.Rehash.{Differs}
-use Rattle.argon2.specs.Settings.{refusal_of}
-use Rattle.argon2.specs.Stored.{IsStoredConfig}
+use Rattle.argon2.specs.Standard.Rehash.{Differs}
+use Rattle.argon2.specs.SettingsTable.{refusal_of}
+use Rattle.argon2.specs.Standard.Stored.{IsStoredConfig}
 use Rattle.argon2.specs.Tag.{tag_of}
 use Rattle.argon2.specs.Text.{Spelled, spelled_of, text_of}
-use Rattle.argon2.specs.Verdict.{IsVerdict}
-use Rattle.argon2.specs.declared.config.Config.{Config}
-use Rattle.argon2.specs.declared.error.Error.{Error}
-use Rattle.argon2.specs.declared.error.Error.TheVariants.{DecodingFail, OutOfMemory}
+use Rattle.argon2.specs.Standard.Verdict.{IsVerdict}
+use Rattle.argon2.specs.ConfigType.{Config}
+use Rattle.argon2.specs.ErrorType.{Error}
+use Rattle.argon2.specs.ErrorType.TheVariants.{DecodingFail, OutOfMemory}
 use Rattle.argon2_program.specs.declared.answer.Answer.{Answer}
 use Rattle.argon2_program.specs.declared.answer.Answer.TheVariants.{Hashed, Verdict}
 use Rattle.argon2_program.specs.declared.command.Command.{Command}

@@ -1,6 +1,6 @@
 -- What a fault is told as.
 use Rattle.std.specs.Prelude.{ℕ, List, [], ◌++◌, codes}
-use Rattle.argon2.specs.Error.{message_of}
+use Rattle.argon2.specs.Messages.{message_of}
 use Rattle.argon2_program.specs.declared.fault.Fault.{Fault}
 use Rattle.argon2_program.specs.declared.fault.Fault.TheVariants.{Usage, Input, Refused, Output}
 

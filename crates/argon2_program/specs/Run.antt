@@ -3,7 +3,7 @@ use Rattle.std.specs.Prelude.{◌≡◌, ℕ, List, Option}
 use Rattle.std.specs.Io.KnownBytes.{Appends}
 use Rattle.argon2_program.specs.Answer.{IsAnswer, MayRefuse, NeedsNoInput, answer_status, lines_of}
 use Rattle.argon2_program.specs.Words.{IsCommand}
-use Rattle.argon2.specs.declared.error.Error.{Error}
+use Rattle.argon2.specs.ErrorType.{Error}
 use Rattle.argon2_program.specs.declared.answer.Answer.{Answer}
 use Rattle.argon2_program.specs.declared.command.Command.{Command}
 

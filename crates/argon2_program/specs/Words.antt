@@ -5,9 +5,9 @@ use Rattle.std.specs.declared.alloc.Global.{Global}
 use Rattle.std.specs.declared.string.String.{String}
 use Rattle.argon2.specs.Variant.{IsName}
 use Rattle.argon2.specs.Version.{version_text}
-use Rattle.argon2.specs.declared.config.Config.{Config}
-use Rattle.argon2.specs.declared.thread_mode.ThreadMode.{ThreadMode}
-use Rattle.argon2.specs.declared.thread_mode.ThreadMode.TheVariants.{Sequential, Parallel, AtMost}
+use Rattle.argon2.specs.ConfigType.{Config}
+use Rattle.argon2.specs.ThreadModeType.{ThreadMode}
+use Rattle.argon2.specs.ThreadModeType.TheVariants.{Sequential, Parallel, AtMost}
 use Rattle.argon2_program.specs.declared.command.Command.{Command}
 use Rattle.argon2_program.specs.declared.command.Command.TheVariants.{Hash, Verify, Rehash}
 

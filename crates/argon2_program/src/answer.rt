@@ -1,17 +1,22 @@
 //! What a command answers.
 
-ghost use Rattle.std.specs.Prelude.{◌≡◌, ◌⊎◌, IfErr, IfOk, IfSome, IsNone, OnOk, length, string_bytes};
+ghost use Rattle.std.specs.Prelude.{◌≡◌, ◌⊎◌, IfErr, IfOk, IfSome, IsNone, OnOk, length, string_bytes, vec_len};
 ghost use Rattle.std.specs.Io.KnownBytes.{Keeps};
-ghost use Rattle.argon2.specs.Settings.{refusal_of};
-ghost use Rattle.argon2.specs.declared.error.Error.{Error};
-ghost use Rattle.argon2.specs.declared.error.Error.TheVariants.{OutOfMemory};
+ghost use Rattle.argon2.specs.Outcome.{IsShortage};
+ghost use Rattle.argon2.specs.ThreadModes.{may_lack_workers};
+ghost use Rattle.argon2.specs.SettingsTable.{refusal_of};
+ghost use Rattle.argon2.specs.Tag.{tag_of};
+ghost use Rattle.argon2.specs.ErrorType.{Error};
+ghost use Rattle.argon2.specs.ErrorType.TheVariants.{OutOfMemory};
 ghost use Rattle.argon2_program.specs.Answer.{IsAnswer, IsRefusal, MayRefuse, NeedsNoInput, answer_status, hash_lines, lines_of};
 
 use crate::command::Command;
 use crate::fault::Fault;
 use argon2::parts::context::Context;
 use argon2::parts::encoding::encode_string;
-use argon2::{Config, Error, hash_raw, needs_rehash, verify_encoded};
+use argon2::parts::fill::{fill_memory_blocks, finalize, initialize, prepare_memory};
+use argon2::parts::memory::Memory;
+use argon2::{Config, Error, needs_rehash, verify_encoded};
 use std::alloc::Global;
 use std::io::{ErrorKind, Read};
 use std::marker::Sync;
@@ -38,8 +43,10 @@ impl Answer {
     ) -> Result<Answer, Fault>
         ensures answer { IfOk result (IsAnswer command.now (I.remaining input.old)) }
         ensures fault { IfErr result (λ fault. (fault ≡ Fault.Input)
-            ⊎ ((refusal : Error) × (fault ≡ Fault.Refused refusal) × MayRefuse command.now (I.remaining input.old) refusal)) }
-        ensures unread { NeedsNoInput command.now → Keeps (I.remaining input.old) (I.remaining input.new) }
+            ⊎ ((refusal : Error) × (fault ≡ Fault.Refused refusal)
+            × MayRefuse command.now (I.remaining input.old) refusal)) }
+        ensures unread { NeedsNoInput command.now
+            → Keeps (I.remaining input.old) (I.remaining input.new) }
     {
         match *command {
             Command::Hash { config, salt } => {
@@ -82,8 +89,10 @@ impl Answer {
 
 /// All bytes of the input.
 fn read_password<I: Read>(alloc: Global, input: &mut I) -> Result<Vec<u8>, Fault>
-    ensures bytes { IfOk result (λ password. IfSome (I.remaining input.old) (λ bytes. password.items ≡ bytes)) }
-    ensures fault { IfErr result (λ fault. (fault ≡ Fault.Input) ⊎ (fault ≡ Fault.Refused OutOfMemory)) }
+    ensures bytes { IfOk result (λ password. IfSome (I.remaining input.old)
+        (λ bytes. password.items ≡ bytes)) }
+    ensures fault { IfErr result (λ fault. (fault ≡ Fault.Input)
+        ⊎ (fault ≡ Fault.Refused OutOfMemory)) }
 {
     let mut password = Vec::new(alloc);
     match input.read_to_end(&mut password) {
@@ -95,6 +104,40 @@ fn read_password<I: Read>(alloc: Global, input: &mut I) -> Result<Vec<u8>, Fault
     }
 }
 
+/// The tag of an accepted call.
+fn tag<R: Threads + Wait + Sync>(
+    rt: &R,
+    alloc: Global,
+    context: &Context<'_>,
+) -> argon2::Result<Vec<u8>>
+    ensures tag { let c = context.now in
+        IfOk result (λ tag. tag.items ≡ tag_of c.pwd.now c.salt.now c.config c.config.hash_length) }
+    ensures length { IfOk result (λ tag. vec_len tag ≡ context.now.config.hash_length) }
+    ensures refused { IfErr result (IsShortage (may_lack_workers context.now.config)) }
+{
+    let mut memory = Memory::empty(alloc);
+    prepare_memory(alloc, context, &mut memory)?;
+    initialize(context, &mut memory);
+    fill_memory_blocks(rt, alloc, context, &mut memory)?;
+    finalize(alloc, context, &memory)
+}
+
+/// The tag of an accepted call in lower-case hexadecimal and its encoded text, a line each.
+fn tag_lines<R: Threads + Wait + Sync>(
+    rt: &R,
+    alloc: Global,
+    context: &Context<'_>,
+) -> argon2::Result<String>
+    ensures lines { let c = context.now in
+        IfOk result (λ lines. string_bytes lines ≡ hash_lines c.config c.salt.now c.pwd.now) }
+    ensures refused { IfErr result (IsShortage (may_lack_workers context.now.config)) }
+{
+    let tag = tag(rt, alloc, context)?;
+    let text = encode_string(alloc, context, tag.as_slice())?;
+    let hexadecimal = hex::encode(alloc, tag.as_slice())?;
+    Ok(format!(in alloc; "{hexadecimal}\n{text}\n")?)
+}
+
 /// The tag of a password in lower-case hexadecimal and its encoded text, a line each.
 fn hash_lines<R: Threads + Wait + Sync>(
     rt: &R,
@@ -103,13 +146,14 @@ fn hash_lines<R: Threads + Wait + Sync>(
     salt: &[u8],
     config: Config<'_>,
 ) -> argon2::Result<String>
-    ensures lines { IfOk result (λ lines. string_bytes lines ≡ hash_lines config.entry salt.now password.now) }
-    ensures accepted { OnOk result (IsNone (refusal_of config.entry (length password.now) (length salt.now) config.entry.hash_length)) }
+    ensures lines { IfOk result (λ lines. string_bytes lines
+        ≡ hash_lines config.entry salt.now password.now) }
+    ensures accepted { OnOk result (IsNone (refusal_of config.entry (length password.now)
+        (length salt.now) config.entry.hash_length)) }
     ensures refused { IfErr result (IsRefusal config.entry salt.now password.now) }
 {
-    let tag = hash_raw(rt, alloc, password, salt, &config)?;
-    let context = Context::new(config, password, salt)?;
-    let text = encode_string(alloc, &context, tag.as_slice())?;
-    let hexadecimal = hex::encode(alloc, tag.as_slice())?;
-    Ok(format!(in alloc; "{hexadecimal}\n{text}\n")?)
+    match Context::new(config, password, salt) {
+        Ok(context) => tag_lines(rt, alloc, &context),
+        Err(refusal) => Err(refusal),
+    }
 }

@@ -1,7 +1,7 @@
 //! The words that the program is started with.
 
 ghost use Rattle.std.specs.Prelude.{◌≡◌, ◌⊎◌, IfErr};
-ghost use Rattle.argon2.specs.declared.error.Error.TheVariants.{OutOfMemory};
+ghost use Rattle.argon2.specs.ErrorType.TheVariants.{OutOfMemory};
 
 use crate::fault::Fault;
 use argon2::Error;

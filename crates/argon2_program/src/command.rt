@@ -1,8 +1,8 @@
 //! The commands, and how they are read from the words.
 
 ghost use Rattle.std.specs.Prelude.{◌≡◌, ◌≤◌, ℕ, length, IfSome, IfNone, MatchOption};
-ghost use Rattle.argon2.specs.declared.config.Config.{Config};
-ghost use Rattle.argon2.specs.declared.thread_mode.ThreadMode.{ThreadMode};
+ghost use Rattle.argon2.specs.ConfigType.{Config};
+ghost use Rattle.argon2.specs.ThreadModeType.{ThreadMode};
 ghost use Rattle.argon2_program.specs.Words.{AreSettings, IsCommand, IsMode, IsNoCommand, IsNumber, texts_of};
 
 use argon2::{Config, ThreadMode, Variant, Version};
@@ -31,7 +31,8 @@ pub enum Command<'a> {
 impl<'a> Command<'a> {
     /// The command of these words, those after the program's name; None where they are none.
     pub fn from_words(words: &'a [String]) -> Option<Command<'a>>
-        ensures { MatchOption result (IsNoCommand (texts_of words.now)) (IsCommand (texts_of words.now)) }
+        ensures { MatchOption result (IsNoCommand (texts_of words.now)) (IsCommand
+            (texts_of words.now)) }
     {
         match words {
             [name, _, _, _, _, _, _, mode, salt] if name.as_str() == "hash" => Some(
@@ -76,7 +77,8 @@ fn settings_of<'a>(words: &[String], thread_mode: ThreadMode) -> Option<Config<'
 
 /// The mode of `seq`, `par`, or `max` followed at once by a number.
 fn mode_of(word: &str) -> Option<ThreadMode>
-    ensures { MatchOption result ((mode : ThreadMode) → IsMode word.now mode → ⊥) (IsMode word.now) }
+    ensures { MatchOption result ((mode : ThreadMode) → IsMode word.now mode
+        → ⊥) (IsMode word.now) }
 {
     match word {
         "seq" => Some(ThreadMode::Sequential),

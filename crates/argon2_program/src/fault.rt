@@ -2,7 +2,7 @@
 
 ghost use Rattle.std.specs.Prelude.{◌≡◌, OnOk};
 ghost use Rattle.std.specs.Io.KnownBytes.{Appends};
-ghost use Rattle.argon2.specs.declared.error.Error.TheVariants.{OutOfMemory};
+ghost use Rattle.argon2.specs.ErrorType.TheVariants.{OutOfMemory};
 ghost use Rattle.argon2_program.specs.Fault.{fault_status, line_of};
 ghost use Rattle.argon2_program.specs.declared.fault.Fault.TheVariants.{Refused};
 
@@ -50,7 +50,8 @@ impl Fault {
 
     /// Writes the fault's line, where it has one.
     fn write_line<W: Write>(&self, errors: &mut W) -> io::Result<()>
-        ensures { OnOk result (Appends (W.contents errors.old) (W.contents errors.new) (line_of self.now)) }
+        ensures { OnOk result (Appends (W.contents errors.old) (W.contents errors.new)
+            (line_of self.now)) }
     {
         match self {
             Fault::Usage => errors.write_all(b"usage\n")?,

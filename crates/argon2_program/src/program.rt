@@ -42,8 +42,10 @@ pub fn run<R: Threads + Wait + Sync, I: Read, O: Write, E: Write>(
         (O.contents output.old) (O.contents output.new) result }
     ensures usage { (result ≡ 3) ↔ IsNoCommand (texts_of words.now) }
     ensures refused { result ≡ 2 → IsRefused (texts_of words.now) (I.remaining input.old) }
-    ensures unwritten { (result ≡ 2) ⊎ (result ≡ 3) → Keeps (O.contents output.old) (O.contents output.new) }
-    ensures unread { NeedNoInput (texts_of words.now) → Keeps (I.remaining input.old) (I.remaining input.new) }
+    ensures unwritten { (result ≡ 2) ⊎ (result ≡ 3)
+        → Keeps (O.contents output.old) (O.contents output.new) }
+    ensures unread { NeedNoInput (texts_of words.now)
+        → Keeps (I.remaining input.old) (I.remaining input.new) }
     ensures silent { result < 2 → Keeps (E.contents errors.old) (E.contents errors.new) }
 {
     match attempt(rt, alloc, words, input, output) {
@@ -63,9 +65,12 @@ fn attempt<R: Threads + Wait + Sync, I: Read, O: Write>(
     ensures answered { IfOk result (Answered (texts_of words.now) (I.remaining input.old)
         (O.contents output.old) (O.contents output.new)) }
     ensures usage { (result ≡ Err Fault.Usage) ↔ IsNoCommand (texts_of words.now) }
-    ensures refused { IfErr result (λ fault. fault_status fault ≡ 2 → IsRefused (texts_of words.now) (I.remaining input.old)) }
-    ensures unread { NeedNoInput (texts_of words.now) → Keeps (I.remaining input.old) (I.remaining input.new) }
-    ensures unwritten { IfErr result (λ fault. fault ≢ Fault.Output → Keeps (O.contents output.old) (O.contents output.new)) }
+    ensures refused { IfErr result (λ fault. fault_status fault ≡ 2
+        → IsRefused (texts_of words.now) (I.remaining input.old)) }
+    ensures unread { NeedNoInput (texts_of words.now)
+        → Keeps (I.remaining input.old) (I.remaining input.new) }
+    ensures unwritten { IfErr result (λ fault. fault ≢ Fault.Output
+        → Keeps (O.contents output.old) (O.contents output.new)) }
 {
     let command = Command::from_words(words).ok_or(Fault::Usage)?;
     let answer = Answer::to(rt, alloc, &command, input)?;

@@ -1,7 +1,7 @@
 //! Questions for the verdict on an encoded text.
 
 use crate::question::refused;
-use anyhow::{Result, anyhow, ensure};
+use anyhow::{Result, anyhow, bail, ensure};
 use argon2::parts::context::Context;
 use argon2::parts::decoded::Decoded;
 use argon2::parts::encoding::{decode_string, encode_string};
@@ -56,9 +56,10 @@ fn rewritten(alloc: Global, decoded: &Decoded) -> Result<String> {
         variant: decoded.variant,
         version: decoded.version,
     };
-    let context = Context::new(config, PASSWORD, decoded.salt.as_slice()).map_err(|refusal| anyhow!(
-        "it has a verdict and {refusal}"
-    ))?;
+    let context = match Context::new(config, PASSWORD, decoded.salt.as_slice()) {
+        Ok(context) => context,
+        Err(refusal) => bail!("it has a verdict and {refusal}"),
+    };
     encode_string(alloc, &context, decoded.hash.as_slice()).map_err(|refusal| anyhow!(
         "it cannot be written: {refusal}"
     ))

@@ -1,9 +1,9 @@
-//! Expected values come from outside: RFC 7693, Python's hashlib, and the stretched hash written in
-//! Python above hashlib.
+//! Expected values come from outside: RFC 7693, Python's hashlib, and H' written in Python above
+//! hashlib.
 
 ghost use Rattle.std.specs.Prelude.{◌<◌, ◌≤◌};
 
-use super::stretched::link_count;
+use super::variable_length::chain_length;
 use super::{blake2b, hprime};
 use std::process::Abort;
 
@@ -167,20 +167,15 @@ fn hashes_to_fewer_bytes(rt: HostRuntime) {
 }
 
 #[test]
-fn cuts_the_stretched_hash_into_its_pieces(rt: HostRuntime) {
-    for (len, links, last) in [
-        (64, 0, 64),
-        (65, 1, 33),
-        (96, 1, 64),
-        (97, 2, 33),
-        (1024, 30, 64),
-    ] {
-        assert_eq!(rt; link_count(len), links, "links of {len} bytes");
-        assert_eq!(rt; 32 * links + last, len, "all pieces of {len} bytes");
+fn cuts_long_hashes_into_halves_and_a_last_hash(rt: HostRuntime) {
+    for (len, halves, last) in [(65, 1, 33), (96, 1, 64), (97, 2, 33), (1024, 30, 64)] {
+        assert!(rt; 64 < len);
+        assert_eq!(rt; chain_length(len), halves, "halves in {len} bytes");
+        assert_eq!(rt; 32 * halves + last, len, "all of {len} bytes");
     }
 }
 
-fn short_hash_of_stretched(message: &[u8], len: usize) -> u128
+fn short_hash_of_hprime(message: &[u8], len: usize) -> u128
     requires some { 0 < len }
     requires few { len ≤ 1024 }
 {
@@ -189,9 +184,9 @@ fn short_hash_of_stretched(message: &[u8], len: usize) -> u128
     short_hash_of(&out[..len])
 }
 
-// Of each stretched hash, the BLAKE2b hash of 16 bytes.
+// Of each hash of variable length, the BLAKE2b hash of 16 bytes.
 #[test]
-fn stretches_hashes(rt: HostRuntime) {
+fn hashes_to_each_length(rt: HostRuntime) {
     let message = message();
     let known = [
         (1, 0x649324c4203039aa409203c527cb344e),
@@ -207,6 +202,6 @@ fn stretches_hashes(rt: HostRuntime) {
     ];
     for (len, hash) in known {
         assert!(rt; 0 < len && len <= 1024);
-        assert_eq!(rt; short_hash_of_stretched(&message, len), hash, "{len} bytes");
+        assert_eq!(rt; short_hash_of_hprime(&message, len), hash, "{len} bytes");
     }
 }

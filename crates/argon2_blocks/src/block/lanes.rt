@@ -2,9 +2,10 @@
 
 ghost use Rattle.std.specs.Prelude.{◌≡◌, ◌<◌, ◌^◌, ℕ, List, length, map};
 ghost use Rattle.std.specs.Simd.Lanes.{zip2, Each1};
-ghost use Rattle.argon2_blocks.specs.Word.{turn_right};
-ghost use Rattle.argon2_blocks.specs.Compression.{add_product, permute};
-ghost use Rattle.argon2_blocks.specs.Lane.{lane, half_round};
+ghost use Rattle.std.specs.Int.{w64, rotate_right};
+ghost use Rattle.argon2_blocks.specs.Standard.Compression.{add_product, permute_p};
+ghost use Rattle.argon2_blocks.specs.Views.Lane.{half_round, lane};
+ghost use Rattle.argon2_blocks.specs.Views.Spread.{two_mixes};
 
 use std::simd::prelude::*;
 
@@ -35,7 +36,7 @@ fn add_product(x: u64x8, y: u64x8) -> u64x8
 // Each lane turned to the right by 63 bits, which is one to the left.
 #[inline(always)]
 fn rotate_by_63(x: u64x8) -> u64x8
-    ensures { result ≡ map (λ a. turn_right a 63) x }
+    ensures { result ≡ map (λ a. rotate_right w64 a 63) x }
 {
     known(x);
     (x >> u64x8::splat(63)) | (x + x)
@@ -44,7 +45,7 @@ fn rotate_by_63(x: u64x8) -> u64x8
 // Each lane turned to the right by 32 bits, which is 4 bytes.
 #[inline(always)]
 fn rotate_by_32(x: u64x8) -> u64x8
-    ensures { result ≡ map (λ a. turn_right a 32) x }
+    ensures { result ≡ map (λ a. rotate_right w64 a 32) x }
 {
     known(x);
     u64x8::from_le_bytes(
@@ -59,7 +60,7 @@ fn rotate_by_32(x: u64x8) -> u64x8
 // Each lane turned to the right by 24 bits, which is 3 bytes.
 #[inline(always)]
 fn rotate_by_24(x: u64x8) -> u64x8
-    ensures { result ≡ map (λ a. turn_right a 24) x }
+    ensures { result ≡ map (λ a. rotate_right w64 a 24) x }
 {
     known(x);
     u64x8::from_le_bytes(
@@ -74,7 +75,7 @@ fn rotate_by_24(x: u64x8) -> u64x8
 // Each lane turned to the right by 16 bits, which is 2 bytes.
 #[inline(always)]
 fn rotate_by_16(x: u64x8) -> u64x8
-    ensures { result ≡ map (λ a. turn_right a 16) x }
+    ensures { result ≡ map (λ a. rotate_right w64 a 16) x }
 {
     known(x);
     u64x8::from_le_bytes(
@@ -86,61 +87,37 @@ fn rotate_by_16(x: u64x8) -> u64x8
     )
 }
 
-// Four of the eight mixes, side by side.
+// Two mixes in each lane: of the vectors 0, 2, 4 and 6, and of the others.
+//
+// They go side by side, since each step of one waits for the step before. More than two at a time
+// don't fit into the registers.
+#[inline(always)]
+pub(super) fn mix_two(v: [u64x8; 8]) -> [u64x8; 8]
+    ensures { (i : ℕ) → i < 8 → lane i result ≡ two_mixes (lane i v) }
+{
+    let [a0, a1, b0, b1, c0, c1, d0, d1] = v;
+    let (a0, a1) = (add_product(a0, b0), add_product(a1, b1));
+    let (d0, d1) = (rotate_by_32(d0 ^ a0), rotate_by_32(d1 ^ a1));
+    let (c0, c1) = (add_product(c0, d0), add_product(c1, d1));
+    let (b0, b1) = (rotate_by_24(b0 ^ c0), rotate_by_24(b1 ^ c1));
+    let (a0, a1) = (add_product(a0, b0), add_product(a1, b1));
+    let (d0, d1) = (rotate_by_16(d0 ^ a0), rotate_by_16(d1 ^ a1));
+    let (c0, c1) = (add_product(c0, d0), add_product(c1, d1));
+    let (b0, b1) = (rotate_by_63(b0 ^ c0), rotate_by_63(b1 ^ c1));
+    [a0, a1, b0, b1, c0, c1, d0, d1]
+}
+
+// Four of the eight mixes.
 #[inline(always)]
 fn half_round(v: [u64x8; 16]) -> [u64x8; 16]
     ensures { (i : ℕ) → i < 8 → lane i result ≡ half_round (lane i v) }
 {
-    let [
-        a0,
-        a1,
-        a2,
-        a3,
-        b0,
-        b1,
-        b2,
-        b3,
-        c0,
-        c1,
-        c2,
-        c3,
-        d0,
-        d1,
-        d2,
-        d3,
-    ] = v;
-    let a0 = add_product(a0, b0);
-    let a1 = add_product(a1, b1);
-    let a2 = add_product(a2, b2);
-    let a3 = add_product(a3, b3);
-    let d0 = rotate_by_32(d0 ^ a0);
-    let d1 = rotate_by_32(d1 ^ a1);
-    let d2 = rotate_by_32(d2 ^ a2);
-    let d3 = rotate_by_32(d3 ^ a3);
-    let c0 = add_product(c0, d0);
-    let c1 = add_product(c1, d1);
-    let c2 = add_product(c2, d2);
-    let c3 = add_product(c3, d3);
-    let b0 = rotate_by_24(b0 ^ c0);
-    let b1 = rotate_by_24(b1 ^ c1);
-    let b2 = rotate_by_24(b2 ^ c2);
-    let b3 = rotate_by_24(b3 ^ c3);
-    let a0 = add_product(a0, b0);
-    let a1 = add_product(a1, b1);
-    let a2 = add_product(a2, b2);
-    let a3 = add_product(a3, b3);
-    let d0 = rotate_by_16(d0 ^ a0);
-    let d1 = rotate_by_16(d1 ^ a1);
-    let d2 = rotate_by_16(d2 ^ a2);
-    let d3 = rotate_by_16(d3 ^ a3);
-    let c0 = add_product(c0, d0);
-    let c1 = add_product(c1, d1);
-    let c2 = add_product(c2, d2);
-    let c3 = add_product(c3, d3);
-    let b0 = rotate_by_63(b0 ^ c0);
-    let b1 = rotate_by_63(b1 ^ c1);
-    let b2 = rotate_by_63(b2 ^ c2);
-    let b3 = rotate_by_63(b3 ^ c3);
+    let [a0, a1, b0, b1, c0, c1, d0, d1] = mix_two([
+        v[0], v[1], v[4], v[5], v[8], v[9], v[12], v[13],
+    ]);
+    let [a2, a3, b2, b3, c2, c3, d2, d3] = mix_two([
+        v[2], v[3], v[6], v[7], v[10], v[11], v[14], v[15],
+    ]);
     [
         a0, a1, a2, a3, b0, b1, b2, b3, c0, c1, c2, c3, d0, d1, d2, d3,
     ]
@@ -149,7 +126,7 @@ fn half_round(v: [u64x8; 16]) -> [u64x8; 16]
 // All eight mixes: the diagonals are turned into columns and back.
 #[inline(always)]
 fn round(v: [u64x8; 16]) -> [u64x8; 16]
-    ensures { (i : ℕ) → i < 8 → lane i result ≡ permute (lane i v) }
+    ensures { (i : ℕ) → i < 8 → lane i result ≡ permute_p (lane i v) }
 {
     let r = half_round(v);
     let r = half_round([
@@ -166,7 +143,7 @@ fn round(v: [u64x8; 16]) -> [u64x8; 16]
 /// in a lane of the vectors become P of them. Sums and products wrap. It takes no memory.
 #[inline(always)]
 pub fn permute_lanes(v: &mut [u64x8; 16])
-    ensures { (i : ℕ) → i < 8 → lane i v.new ≡ permute (lane i v.old) }
+    ensures { (i : ℕ) → i < 8 → lane i v.new ≡ permute_p (lane i v.old) }
 {
     *v = round(*v);
 }

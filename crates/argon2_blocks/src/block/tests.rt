@@ -1,9 +1,10 @@
-//! The compression over vectors beside a plain one, and what blocks look like from outside.
+//! The compression beside two other forms of it, and what blocks look like from outside.
 
 mod plain;
 
 ghost use Rattle.std.specs.Prelude.{◌<◌};
 
+use super::lane_wise::fill_words_by_lanes;
 use super::{Block, fill_block, permute_lanes};
 use crate::blake2b::blake2b;
 use plain::{fill_plainly, permute};
@@ -38,11 +39,16 @@ fn short_hash_of(block: &Block) -> u128 {
     u128::from_be_bytes(hash)
 }
 
+// Compares the compression with the one over lanes and with the plain one.
 fn check_fill(rt: &impl Abort, prev: &Block, reference: &Block, old: &Block) {
     for with_xor in [false, true] {
         let mut expected = Block::zero();
         old.copy_to(&mut expected);
         fill_plainly(prev, reference, &mut expected, with_xor);
+        let mut by_lanes = Block::zero();
+        old.copy_to(&mut by_lanes);
+        fill_words_by_lanes(&prev.words, &reference.words, &mut by_lanes.words, with_xor);
+        assert!(rt; by_lanes == expected, "by lanes, with_xor {with_xor}");
         let mut next = Block::zero();
         old.copy_to(&mut next);
         fill_block(prev, reference, &mut next, with_xor);

@@ -2,17 +2,18 @@
 
 ghost use Rattle.std.specs.Prelude.{◌≡◌, ◌<◌, ◌+◌, ◌*◌, ◌++◌, [], ◌∷◌, ℕ, length, map, slice_index, slice_index_or};
 ghost use Rattle.std.specs.List.{range_with_len};
-ghost use Rattle.argon2_blocks.specs.Lane.{column, lane, vector_pair};
-ghost use Rattle.argon2_blocks.specs.Shuffles.{even, even_pairs, high_halves, interleave_high, interleave_low, low_halves, odd, odd_pairs};
+ghost use Rattle.argon2_blocks.specs.Views.Lane.{column, lane, vector_pair};
+ghost use Rattle.argon2_blocks.specs.Views.Shuffles.{even_lanes, even_pairs, interleave_high, interleave_low, odd_lanes, odd_pairs};
 ghost use Rattle.std.specs.Simd.Lanes.{Each1};
 
 use super::lanes::known;
+use super::shuffles::{high_halves, low_halves};
 use std::simd::prelude::*;
 
 // The even lanes of two vectors, by turns.
 #[inline(always)]
 fn even(a: u64x8, b: u64x8) -> u64x8
-    ensures value { result ≡ even a b }
+    ensures value { result ≡ even_lanes a b }
     ensures left { length a ≡ 8 }
     ensures right { length b ≡ 8 }
 {
@@ -24,7 +25,7 @@ fn even(a: u64x8, b: u64x8) -> u64x8
 // The odd lanes of two vectors, by turns.
 #[inline(always)]
 fn odd(a: u64x8, b: u64x8) -> u64x8
-    ensures value { result ≡ odd a b }
+    ensures value { result ≡ odd_lanes a b }
     ensures left { length a ≡ 8 }
     ensures right { length b ≡ 8 }
 {
@@ -55,30 +56,6 @@ fn odd_pairs(a: u64x8, b: u64x8) -> u64x8
     known(a);
     known(b);
     a.shuffle(b, [2, 3, 10, 11, 6, 7, 14, 15])
-}
-
-// The first four lanes of each vector.
-#[inline(always)]
-fn low_halves(a: u64x8, b: u64x8) -> u64x8
-    ensures value { result ≡ low_halves a b }
-    ensures left { length a ≡ 8 }
-    ensures right { length b ≡ 8 }
-{
-    known(a);
-    known(b);
-    a.shuffle(b, [0, 1, 2, 3, 8, 9, 10, 11])
-}
-
-// The last four lanes of each vector.
-#[inline(always)]
-fn high_halves(a: u64x8, b: u64x8) -> u64x8
-    ensures value { result ≡ high_halves a b }
-    ensures left { length a ≡ 8 }
-    ensures right { length b ≡ 8 }
-{
-    known(a);
-    known(b);
-    a.shuffle(b, [4, 5, 6, 7, 12, 13, 14, 15])
 }
 
 // The first four lanes of two vectors, by turns.

@@ -31,6 +31,7 @@ fn gives_the_text_of_each_number(rt: HostRuntime) {
         (65, "The buffer has the wrong length"),
         (66, "The text is not UTF-8"),
         (67, "There is no refusal of this number"),
+        (68, "The text was made with other settings"),
     ] {
         let mut text = [7u8; 64];
         assert_eq!(rt; proved_argon2_message(number, &mut text), 0);
@@ -40,7 +41,7 @@ fn gives_the_text_of_each_number(rt: HostRuntime) {
 
 #[test]
 fn refuses_a_number_of_no_refusal(rt: HostRuntime) {
-    for number in [0, 22, 63, 68, u32::MAX] {
+    for number in [0, 22, 63, 69, u32::MAX] {
         let mut text = [7u8; 64];
         assert_eq!(rt; proved_argon2_message(number, &mut text), 67);
         assert!(rt; text == [7; 64]);

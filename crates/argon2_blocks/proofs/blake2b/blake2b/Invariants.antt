@@ -1,6 +1,6 @@
 use Rattle.std.proofs.Common.{length, take}
 use Rattle.std.specs.List.{flat_map}
-use Rattle.argon2_blocks.specs.Absorbed.{Holds}
+use Rattle.argon2_blocks.specs.Views.HasherView.{Holds}
 use Rattle.argon2_blocks.proofs.blake2b.blake2b.Given as goal
 
 abbrev pub invariant-loop-piece : goal.invariant-loop-piece

@@ -1,5 +1,5 @@
 use Rattle.std.proofs.Common.{sym, ◌∙◌}
-use Rattle.argon2_blocks.proofs.WordBytes.{word_at}
+use Rattle.argon2_blocks.proofs.WordLists.Bytes.{word_at}
 use Rattle.argon2_blocks.proofs.little_endian.read_word.Goals as goal
 
 pub returns : goal.returns

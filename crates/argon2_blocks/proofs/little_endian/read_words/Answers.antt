@@ -1,5 +1,5 @@
 use Rattle.std.proofs.Common.{arith, sym}
-use Rattle.argon2_blocks.proofs.WordBytes.{words_of_more, words_of_none}
+use Rattle.argon2_blocks.proofs.WordLists.Bytes.{words_of_more, words_of_none}
 use Rattle.argon2_blocks.proofs.little_endian.read_words.Goals as goal
 
 pub loop-i-init : goal.loop-i-init

@@ -1,5 +1,5 @@
 use Rattle.std.proofs.Common.{◌≡◌, take}
-use Rattle.argon2_blocks.specs.Word.{words_of}
+use Rattle.argon2_blocks.specs.Standard.Word.{words_of}
 use Rattle.argon2_blocks.proofs.little_endian.read_words.Given as goal
 
 abbrev pub invariant-loop-i : goal.invariant-loop-i

@@ -1,5 +1,5 @@
 use Rattle.std.proofs.Common.{◌≡◌, ◌*◌, take}
-use Rattle.argon2_blocks.specs.Word.{bytes_of}
+use Rattle.argon2_blocks.specs.Standard.Word.{bytes_of}
 use Rattle.argon2_blocks.proofs.little_endian.write_words.Given as goal
 
 abbrev pub invariant-loop-i : goal.invariant-loop-i

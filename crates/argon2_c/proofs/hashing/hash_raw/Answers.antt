@@ -1,8 +1,8 @@
 -- The tag has the length that was asked for.
 use Rattle.std.proofs.Common.{◌≡◌, length, sym, ap, ◌∙◌}
 use Rattle.argon2.specs.Tag.{tag_of}
-use Rattle.argon2.proofs.StoredTexts.{accepted_value}
-use Rattle.argon2.proofs.Verdicts.{length-tag_of}
+use Rattle.argon2.proofs.Verification.StoredTexts.{accepted_value}
+use Rattle.argon2.proofs.Verification.Verdicts.{length-tag_of}
 use Rattle.argon2_c.proofs.hashing.hash_raw.Goals as goal
 
 pub copy_from_slice-requires : goal.copy_from_slice-requires

@@ -1,6 +1,6 @@
 use Rattle.std.proofs.Common.{◌≡◌, ◌∙◌, ap, refl, sym, arith}
-use Rattle.argon2_blocks.specs.Block.{xor}
-use Rattle.argon2_blocks.proofs.Words.{xor-step_at, xor-undone}
+use Rattle.argon2_blocks.specs.Standard.Block.{xor}
+use Rattle.argon2_blocks.proofs.WordLists.Xor.{xor-step_at, xor-undone}
 use Rattle.argon2_blocks.proofs.block.BlockBitXorAssignRefBlock.bitxor_assign.Goals as goal
 
 pub loop-i-init : goal.loop-i-init
@@ -8,7 +8,8 @@ unfolding xor
 loop-i-init c = refl
 
 pub loop-i-preserved : goal.loop-i-preserved
-loop-i-preserved c = xor-step_at c.loop-i.i c.self.inside.words c.rhs.inside.words c.loop-i.self-inside.words (omega (arith, c.self.told, c.loop-i-test.true)) (omega (arith, c.rhs.told, c.loop-i-test.true)) c.loop-i.invariant
+loop-i-preserved c = xor-step_at c.loop-i.i c.self.inside.words c.rhs.inside.words c.loop-i.self-inside.words (omega
+    (arith, c.self.told, c.loop-i-test.true)) (omega (arith, c.rhs.told, c.loop-i-test.true)) c.loop-i.invariant
 
 pub returns-clause-twice : goal.returns-clause-twice
 returns-clause-twice c =

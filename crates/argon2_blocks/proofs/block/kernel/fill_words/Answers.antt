@@ -1,6 +1,6 @@
 use Rattle.std.proofs.Common.{refl, ap, ◌∙◌}
-use Rattle.argon2_blocks.specs.Block.{xor}
-use Rattle.argon2_blocks.proofs.Whole.{compressed}
+use Rattle.argon2_blocks.specs.Standard.Block.{xor}
+use Rattle.argon2_blocks.proofs.Compression.Whole.{compressed}
 use Rattle.argon2_blocks.proofs.block.kernel.fill_words.Goals as goal
 
 pub returns-then-with_xor : goal.returns-then-with_xor

@@ -1,12 +1,12 @@
 use Rattle.std.proofs.Common.{arith, ◌≡◌, ◌∙◌}
-use Rattle.argon2_blocks.specs.Block.{xor}
-use Rattle.argon2_blocks.specs.Lane.{joined}
-use Rattle.argon2_blocks.proofs.Stores.{put_part, put_done, length_128, chunk_at}
+use Rattle.argon2_blocks.specs.Standard.Block.{xor}
+use Rattle.argon2_blocks.specs.Views.Lane.{vector_words}
+use Rattle.argon2_blocks.proofs.Compression.Stores.{put_part, put_done, length_128, chunk_at}
 use Rattle.argon2_blocks.proofs.block.kernel.store.Goals as goal
 
 pub loop-k-preserved : goal.loop-k-preserved
 loop-k-preserved c =
-    put_part c.loop-k.k _ (xor (joined c.args.x.now) (joined c.args.y.now)) c.args.w.now c.loop-k.w c.xor_lanes.result
+    put_part c.loop-k.k _ (xor (vector_words c.args.x.now) (vector_words c.args.y.now)) c.args.w.now c.loop-k.w c.xor_lanes.result
     (omega arith) (length_128 c.args.x.now c.args.y.now (omega arith) (omega arith) c.requires.left c.requires.right)
     (omega arith) (omega arith) (omega arith) c.loop-k.invariant
     (c.xor_lanes.ensures.value ∙ chunk_at c.args.x.now c.args.y.now c.loop-k.k (omega arith) (omega arith) c.requires.left c.requires.right (omega arith))
@@ -15,5 +15,5 @@ pub returns : goal.returns
 returns c =
     let e : c.loop-k.k ≡ 16 = omega arith in
     (rw e at c.loop-k.invariant)
-    ∙ put_done (xor (joined c.args.x.now) (joined c.args.y.now)) c.args.w.now
+    ∙ put_done (xor (vector_words c.args.x.now) (vector_words c.args.y.now)) c.args.w.now
     (length_128 c.args.x.now c.args.y.now (omega arith) (omega arith) c.requires.left c.requires.right) (omega arith)

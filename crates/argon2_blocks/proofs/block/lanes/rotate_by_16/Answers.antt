@@ -1,4 +1,4 @@
-use Rattle.argon2_blocks.proofs.Turns.{by16}
+use Rattle.argon2_blocks.proofs.Compression.Turns.{by16}
 use Rattle.argon2_blocks.proofs.block.lanes.rotate_by_16.Goals as goal
 
 pub returns : goal.returns

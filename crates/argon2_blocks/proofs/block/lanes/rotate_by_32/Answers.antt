@@ -1,4 +1,4 @@
-use Rattle.argon2_blocks.proofs.Turns.{by32}
+use Rattle.argon2_blocks.proofs.Compression.Turns.{by32}
 use Rattle.argon2_blocks.proofs.block.lanes.rotate_by_32.Goals as goal
 
 pub returns : goal.returns

@@ -1,4 +1,4 @@
-use Rattle.argon2_blocks.proofs.Turns.{by63}
+use Rattle.argon2_blocks.proofs.Compression.Turns.{by63}
 use Rattle.argon2_blocks.proofs.block.lanes.rotate_by_63.Goals as goal
 
 pub returns : goal.returns

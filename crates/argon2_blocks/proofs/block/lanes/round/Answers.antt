@@ -1,5 +1,5 @@
 use Rattle.std.proofs.Common.{arith}
-use Rattle.argon2_blocks.proofs.LaneRounds.{round_at}
+use Rattle.argon2_blocks.proofs.Compression.LaneRounds.{round_at}
 use Rattle.argon2_blocks.proofs.block.lanes.round.Goals as goal
 
 pub returns : goal.returns

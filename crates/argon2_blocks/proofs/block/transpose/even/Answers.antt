@@ -1,5 +1,5 @@
 use Rattle.std.proofs.Common.{[], ◌∷◌}
-use Rattle.argon2_blocks.proofs.Places.{picked}
+use Rattle.argon2_blocks.proofs.Compression.Places.{picked}
 use Rattle.argon2_blocks.proofs.block.transpose.even.Goals as goal
 
 pub returns-clause-value : goal.returns-clause-value

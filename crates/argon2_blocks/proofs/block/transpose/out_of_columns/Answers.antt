@@ -1,5 +1,5 @@
 use Rattle.std.proofs.Common.{arith}
-use Rattle.argon2_blocks.proofs.Places.{out_at}
+use Rattle.argon2_blocks.proofs.Compression.Places.{out_at}
 use Rattle.argon2_blocks.proofs.block.transpose.out_of_columns.Goals as goal
 
 pub returns-clause-value : goal.returns-clause-value

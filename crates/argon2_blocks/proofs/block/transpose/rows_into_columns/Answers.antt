@@ -1,5 +1,5 @@
 use Rattle.std.proofs.Common.{arith}
-use Rattle.argon2_blocks.proofs.Places.{columns_at}
+use Rattle.argon2_blocks.proofs.Compression.Places.{columns_at}
 use Rattle.argon2_blocks.proofs.block.transpose.rows_into_columns.Goals as goal
 
 pub returns : goal.returns

@@ -1,7 +1,7 @@
 use Rattle.std.proofs.Common.{arith, ap, ◌≡◌, [], length}
 use Rattle.std.proofs.lemmas.Simd.{pick_l_whole}
 use Rattle.std.specs.Prelude.{slice_index_or}
-use Rattle.argon2_blocks.proofs.Places.{each_of_8, lanes_of}
+use Rattle.argon2_blocks.proofs.Compression.Places.{each_of_8, lanes_of}
 use Rattle.argon2_blocks.proofs.block.transpose.transpose.Goals as goal
 
 pub returns-clause-value : goal.returns-clause-value

@@ -1,6 +1,6 @@
 use Rattle.std.proofs.Common.{length, take, ap, ◌∙◌, arith}
-use Rattle.argon2_blocks.specs.Word.{bytes_of}
-use Rattle.argon2_blocks.proofs.Absorbing.{Holds_all, filled}
+use Rattle.argon2_blocks.specs.Standard.Word.{bytes_of}
+use Rattle.argon2_blocks.proofs.Hashing.Hasher.{blake2b_held, put_mid_zeros}
 use Rattle.argon2_blocks.proofs.blake2b.hasher.Hasher.finish.Goals as goal
 
 pub returns : goal.returns
@@ -10,4 +10,4 @@ returns c = λ m held.
     let zeros = c.fill.ensures.after (λ y e. e) in
     c.copy_from_slice.ensures.after
     ∙ ap (take nn) (c.write_words.ensures.bytes ∙ ap bytes_of c.compress_bytes.ensures)
-    ∙ Holds_all nn m _ s held (filled s.used s.buffer c.fill.new.self s.used_fits (omega arith) zeros)
+    ∙ blake2b_held nn m _ s held (put_mid_zeros s.used s.buffer c.fill.new.self s.used_fits (omega arith) zeros)

@@ -1,5 +1,5 @@
 use Rattle.std.proofs.Common.{refl}
-use Rattle.argon2_blocks.specs.Absorbed.{state_after}
+use Rattle.argon2_blocks.specs.Standard.Blake2b.{state_after}
 use Rattle.argon2_blocks.proofs.blake2b.hasher.Hasher.new.Goals as goal
 
 pub returns : goal.returns

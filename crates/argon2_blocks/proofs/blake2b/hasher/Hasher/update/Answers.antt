@@ -1,6 +1,6 @@
 use Rattle.std.proofs.Common.{◌≡◌, ℕ, List, ◌+◌, ◌++◌, take, drop, ap, ◌∙◌, arith}
 use Rattle.std.proofs.lemmas.List.{append-nil, append_assoc, take_all, take_rest}
-use Rattle.argon2_blocks.proofs.Absorbing.{taken_more}
+use Rattle.argon2_blocks.proofs.Hashing.Messages.{take-take_more}
 use Rattle.argon2_blocks.proofs.blake2b.hasher.Hasher.update.Goals as goal
 
 pub loop-start-init : goal.loop-start-init
@@ -12,10 +12,10 @@ loop-start-preserved c = (
   λ nn m held.
       let bytes = c.args.bytes.now in
       let a = c.loop-start.start in
-      let n = c.take_some-start.result in
-      let taken = rw take_rest at (c.take_some-start.ensures.taken nn (m ++ take a bytes) (c.loop-start.invariant.1 nn m held)) in
+      let n = c.fill_buffer-start.result in
+      let taken = rw take_rest at (c.fill_buffer-start.ensures.taken nn (m ++ take a bytes) (c.loop-start.invariant.1 nn m held)) in
       let same : (m ++ take a bytes) ++ take n (drop a bytes) ≡ m ++ take (a + n) bytes =
-      append_assoc m (take a bytes) (take n (drop a bytes)) ∙ ap (λ (l : List ℕ). m ++ l) (taken_more bytes a n) in
+      append_assoc m (take a bytes) (take n (drop a bytes)) ∙ ap (λ (l : List ℕ). m ++ l) (take-take_more bytes a n) in
       rw (← same) taken,
 )
 

@@ -1,5 +1,5 @@
 use Rattle.std.proofs.Common.{ℕ, List, length, ◌-◌, ◌≤◌, ◌++◌, take}
-use Rattle.argon2_blocks.specs.Absorbed.{Holds}
+use Rattle.argon2_blocks.specs.Views.HasherView.{Holds}
 use Rattle.argon2_blocks.proofs.blake2b.hasher.Hasher.update.Given as goal
 
 abbrev pub invariant-loop-start : goal.invariant-loop-start

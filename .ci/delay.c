@@ -1,0 +1,48 @@
+/* Lets each new thread of the program that it is preloaded into wait before it begins, for up to
+   DELAY_MICROSECONDS, another time for each. The toolchain's clang has no headers, so what is used of
+   the C library is declared here. */
+
+typedef __SIZE_TYPE__ size;
+typedef int create(void *, const void *, void *(*)(void *), void *);
+
+extern void *dlsym(void *, const char *);
+extern char *getenv(const char *);
+extern unsigned long strtoul(const char *, char **, int);
+extern int usleep(unsigned);
+
+enum { MOST_THREADS = 4096 };
+
+struct start {
+  void *(*run)(void *);
+  void *argument;
+  unsigned wait;
+};
+
+static void *const NEXT = (void *)-1l;
+static create *next_create;
+static unsigned long most;
+static unsigned long drawn = 88172645463325252ul;
+static struct start starts[MOST_THREADS];
+static unsigned long count;
+
+__attribute__((constructor)) static void begin(void) {
+  const char *number = getenv("DELAY_MICROSECONDS");
+  next_create = (create *)dlsym(NEXT, "pthread_create");
+  most = number ? strtoul(number, 0, 10) : 0;
+}
+
+static void *wait_and_run(void *given) {
+  struct start *start = given;
+  usleep(start->wait);
+  return start->run(start->argument);
+}
+
+int pthread_create(void *thread, const void *attributes, void *(*run)(void *), void *argument) {
+  unsigned long number = count++;
+  if (most == 0 || number >= MOST_THREADS) return next_create(thread, attributes, run, argument);
+  drawn ^= drawn << 13;
+  drawn ^= drawn >> 7;
+  drawn ^= drawn << 17;
+  starts[number] = (struct start){run, argument, (unsigned)(drawn % most)};
+  return next_create(thread, attributes, wait_and_run, &starts[number]);
+}

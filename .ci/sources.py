@@ -1,0 +1,204 @@
+"""What stands in the sources: functions with their spans and clauses, the paths under which users find
+them, tests, and must-fail edits. It goes by the form that `rt fmt` gives them."""
+
+import re
+from pathlib import Path
+
+TOP = Path(__file__).resolve().parent.parent
+FUNCTION = re.compile(r'^( *)(pub(?:\([a-z]+\))? )?(?:const )?(?:extern "C" )?fn (\w+)')
+IMPL = re.compile(r'^impl(?:<[^{]*?>)? (?:(.+) for )?([\w<>\'_, &()]+?)(?: \{|$)')
+CLAUSE = re.compile(r'^ +(requires|ensures)\*?(?: (\w+))? \{')
+GHOST = re.compile(r'^    ghost (?!use)(\w+) =')
+RE_EXPORT = re.compile(r'^pub use ([\w:]+?)(?:::\{([^}]*)\})?;', re.M)
+GHOST_TRAITS = ('Model',)
+
+
+def crates():
+    """The crates of the repository, in the order of crates.txt."""
+    names = re.findall(r'^(\w+)', (TOP / 'crates.txt').read_text(encoding='utf-8'), re.M)
+    assert names, 'crates.txt names no crate'
+    return names
+
+
+class Function:
+    """A function: its module, its type or trait, its lines, and the names of its clauses."""
+
+    def __init__(self, module, owner, name, is_public, first):
+        self.module, self.owner, self.name = module, owner, name
+        self.is_public, self.first, self.last = is_public, first, first
+        self.clauses, self.is_test, self.path = [], False, None
+
+    @property
+    def crate(self):
+        return self.module.path[0]
+
+    @property
+    def label(self):
+        """Its name beside its type or trait, as `Board::take` or `Default for Config`."""
+        if self.owner is None:
+            return self.name
+        return f'{self.owner}::{self.name}' if ' for ' not in self.owner else self.owner
+
+
+class Module:
+    """One file of src/: its functions, what it names to its users, and its public submodules."""
+
+    def __init__(self, crate, file):
+        self.file, self.text = file, file.read_text(encoding='utf-8')
+        folder = TOP / 'crates' / crate / 'src'
+        parts = file.relative_to(folder).with_suffix('').parts
+        self.path = (crate,) + (() if parts in (('lib',), ('main',)) else parts)
+        self.is_test = parts[0] == 'tests' or 'tests' in parts
+        self.submodules = re.findall(r'^pub mod (\w+);', self.text, re.M)
+        self.types = {name: derives for derives, name in re.findall(
+            r'(?:^#\[derive\(([^)]*)\)\]\n(?:^#.*\n)*)?^pub (?:struct|enum|trait) (\w+)', self.text, re.M)}
+        self.exports = dict(self.read_exports())
+        self.functions = list(self.read_functions())
+
+    def read_exports(self):
+        for path, names in RE_EXPORT.findall(self.text):
+            path = tuple(path.split('::'))
+            for name in re.findall(r'\w+', names):
+                yield name, path + (name,)
+            if not names:
+                yield path[-1], path
+
+    def read_functions(self):
+        owner, is_trait, indent, current, is_test, clauses = None, False, '', None, False, []
+        for number, line in enumerate(self.text.split('\n'), 1):
+            if line.startswith('#[test]'):
+                is_test = True
+            if current is None and line.startswith('impl'):
+                what, name = IMPL.match(line).groups()
+                name = re.sub(r'<.*', '', name)
+                owner, is_trait, clauses = (f'{what} for {name}' if what else name), False, []
+                owner = re.sub(r'^(fmt|std::\w+)::', '', owner)
+            elif current is None and line.startswith('pub trait '):
+                owner, is_trait, clauses = re.match(r'pub trait (\w+)', line).group(1), True, []
+            elif current is None and line == '}':
+                owner, is_trait = None, False
+            ghost = GHOST.match(line)
+            if ghost and ghost.group(1) not in ('Value', 'view', 'inverse', 'invariant'):
+                clauses.append(ghost.group(1))
+            start = FUNCTION.match(line) if current is None else None
+            if start:
+                indent, visibility, name = start.groups()
+                public = visibility == 'pub ' or is_trait or bool(owner and ' for ' in owner)
+                current = Function(self, owner if indent else None, name, public, number)
+                current.is_test, is_test = is_test, False
+                if indent and owner and ' for ' in owner:
+                    current.clauses = clauses
+            if current is None:
+                continue
+            clause = CLAUSE.match(line)
+            if clause:
+                current.clauses.append(clause.groups())
+            if (line == indent + '}' or line.endswith('{}') and not clause
+                    or line == indent + '{}' or is_trait and line.endswith(';')):
+                current.last = number
+                yield current
+                current = None
+
+
+class Sources:
+    """All crates."""
+
+    def __init__(self):
+        self.modules = {}
+        for crate in crates():
+            for file in sorted((TOP / 'crates' / crate / 'src').rglob('*.rt')):
+                module = Module(crate, file)
+                self.modules[module.path] = module
+        self.functions = [f for module in self.modules.values() for f in module.functions]
+        self.tests = {f.name: f for f in self.functions if f.is_test}
+        self.places = {}
+        for crate in crates():
+            self.walk((crate,), (crate,), set())
+        for function in self.functions:
+            function.path = self.path_of(function)
+
+    def target(self, module, path):
+        """The place that a path of a module means, where its items stand."""
+        if path[0] == 'crate':
+            path = module.path[:1] + path[1:]
+        elif path[0] not in crates():
+            path = module.path + path
+        for cut in range(len(path) - 1, 0, -1):
+            holder = self.modules.get(path[:cut])
+            if holder and path[cut] in holder.exports:
+                return self.target(holder, holder.exports[path[cut]] + path[cut + 1:])
+        return path
+
+    def walk(self, place, public, seen):
+        """Notes under which public path each item of a module and below it is found."""
+        module = self.modules.get(place)
+        if module is None or (place, public) in seen:
+            return
+        seen.add((place, public))
+        names = {f.name for f in module.functions if f.owner is None and f.is_public} | set(module.types)
+        for name in names:
+            self.note(place + (name,), public + (name,))
+        for name, path in module.exports.items():
+            target = self.target(module, path)
+            self.note(target, public + (name,))
+            self.walk(target, public + (name,), seen)
+        for name in module.submodules:
+            self.walk(place + (name,), public + (name,), seen)
+
+    def note(self, place, public):
+        """Keeps the path that users go by: one of argon2, or of the block's crate, and the shortest."""
+        rank = (public[0] != 'argon2', len(public))
+        if place not in self.places or rank < (self.places[place][0] != 'argon2', len(self.places[place])):
+            self.places[place] = public
+
+    def path_of(self, function):
+        """The public path of a function, or None where users do not reach it."""
+        if not function.is_public or function.module.is_test:
+            return None
+        if function.owner is None:
+            place = self.places.get(function.module.path + (function.name,))
+            return place and '::'.join(place)
+        what, _, name = function.owner.rpartition(' for ')
+        if what in GHOST_TRAITS:
+            return None
+        place = self.places.get(function.module.path + (name,))
+        if place is None:
+            return None
+        return f'{what} for {"::".join(place)}' if what else '::'.join(place + (function.name,))
+
+
+class Edit:
+    """A must-fail edit: its crate, and the function in whose span its last text stands."""
+
+    def __init__(self, path, sources):
+        self.name, self.crate = path.stem, path.parent.parent.name
+        self.function, self.file, self.fault, texts, old = None, None, None, {}, None
+        for line in path.read_text(encoding='utf-8').splitlines():
+            if line.startswith('file: '):
+                file = TOP / 'crates' / self.crate / line[6:]
+                self.file = file
+                texts.setdefault(file, file.read_text(encoding='utf-8') if file.exists() else '')
+            elif line.startswith('old: '):
+                old = line[5:]
+            elif line.startswith('new:'):
+                self.apply(file, texts, old, line[4:].removeprefix(' '), sources)
+        if old is None:
+            self.fault = 'it has no text'
+
+    def apply(self, file, texts, old, new, sources):
+        """One pair of texts. The old one has to stand once in the file as the pairs before it left it."""
+        count = texts[file].count(old)
+        if count != 1:
+            self.fault = self.fault or f'its text stands {count} times in {file.relative_to(TOP)}: {old.strip()}'
+            return
+        line = texts[file][:texts[file].index(old)].count('\n') + 1
+        self.file, self.function = file, next((f for f in sources.functions if f.module.file == file
+                                               and f.first <= line <= f.last), None)
+        texts[file] = texts[file].replace(old, new)
+
+
+def edits(sources):
+    found = [Edit(path, sources) for crate in crates()
+             for path in sorted((TOP / 'crates' / crate / 'must-fail').glob('*.edit'))]
+    assert found, 'there is no must-fail edit'
+    return found

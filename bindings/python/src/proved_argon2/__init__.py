@@ -1,0 +1,39 @@
+"""Argon2 password hashing (RFC 9106) by a library that is proved, with the names of argon2-cffi.
+
+    >>> from proved_argon2 import PasswordHasher
+    >>> hasher = PasswordHasher()
+    >>> text = hasher.hash("correct horse battery staple")
+    >>> hasher.verify(text, "correct horse battery staple")
+    True
+
+`low_level` has the calls that take bytes and settings, `profiles` recommended settings, and `exceptions` what
+is raised.
+"""
+from . import exceptions, low_level, profiles
+from ._parameters import Parameters, extract_parameters
+from ._password_hasher import (
+    DEFAULT_HASH_LENGTH,
+    DEFAULT_MEMORY_COST,
+    DEFAULT_PARALLELISM,
+    DEFAULT_RANDOM_SALT_LENGTH,
+    DEFAULT_TIME_COST,
+    PasswordHasher,
+)
+from .low_level import Type
+
+__version__ = "1.0.0"
+
+__all__ = [
+    "DEFAULT_HASH_LENGTH",
+    "DEFAULT_MEMORY_COST",
+    "DEFAULT_PARALLELISM",
+    "DEFAULT_RANDOM_SALT_LENGTH",
+    "DEFAULT_TIME_COST",
+    "Parameters",
+    "PasswordHasher",
+    "Type",
+    "exceptions",
+    "extract_parameters",
+    "low_level",
+    "profiles",
+]

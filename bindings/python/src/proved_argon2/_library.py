@@ -1,0 +1,163 @@
+"""The shared object, and its calls over `bytes`."""
+import ctypes
+import os
+import sys
+from pathlib import Path
+from typing import Any, List, Tuple, Union
+
+SONAME = "libproved_argon2.so.1"
+VARIABLE = "PROVED_ARGON2_LIBRARY"
+
+# What a call answers: done or a match, another password, a buffer that does not fit, a text that is not UTF-8.
+OK = 0
+DECODING_FAIL = 19
+OUT_OF_MEMORY = 20
+MISMATCH = 64
+WRONG_LENGTH = 65
+NOT_UTF8 = 66
+
+# A buffer of this many bytes has room for the text of each refusal.
+MESSAGE_SIZE = 64
+
+# The greatest number that a setting has.
+MAX_NUMBER = 0xFFFFFFFF
+
+
+class Settings(ctypes.Structure):
+    """`proved_argon2_settings` of the header."""
+
+    _fields_ = [
+        (name, ctypes.c_uint32)
+        for name in ("variant", "version", "mem_cost", "time_cost", "lanes", "hash_length")
+    ]
+
+
+class Stored(ctypes.Structure):
+    """`proved_argon2_stored` of the header."""
+
+    _fields_ = [("settings", Settings), ("salt_length", ctypes.c_uint32)]
+
+
+class Refused(Exception):
+    """The library refused a call, with this number."""
+
+    def __init__(self, number: int) -> None:
+        super().__init__(message(number))
+        self.number = number
+
+
+def _files() -> List[str]:
+    """Where the shared object may be: where the environment says, or else where the loader looks, beside this
+    Python, or in the repository's build where this file stands in the repository."""
+    named = os.environ.get(VARIABLE)
+    if named:
+        return [named]
+    files = [SONAME, os.path.join(sys.prefix, "lib", SONAME)]
+    here = Path(__file__).resolve().parent
+    if here.parts[-4:] == ("bindings", "python", "src", "proved_argon2"):
+        files.append(str(here.parents[2] / "out" / "x86-64-v2" / SONAME))
+    return files
+
+
+# The types of what each call takes, and of what it returns.
+_BYTES: List[Any] = [ctypes.c_char_p, ctypes.c_size_t]
+_SETTINGS: List[Any] = [ctypes.POINTER(Settings)]
+_CALLS: Tuple[Tuple[str, List[Any], Any], ...] = (
+    ("hash_raw", 4 * _BYTES + _SETTINGS + _BYTES, ctypes.c_uint32),
+    ("hash_encoded", 4 * _BYTES + _SETTINGS + _BYTES, ctypes.c_uint32),
+    ("verify_encoded", 4 * _BYTES, ctypes.c_uint32),
+    ("read", [*_BYTES, ctypes.POINTER(Stored)], ctypes.c_uint32),
+    ("encoded_len", [*_SETTINGS, ctypes.c_uint32], ctypes.c_uint64),
+    ("message", [ctypes.c_uint32, *_BYTES], ctypes.c_uint32),
+    ("library_version", [], ctypes.c_uint32),
+)
+
+
+def _bound(file: str) -> ctypes.CDLL:
+    """The shared object in a file, with the types of its calls."""
+    library = ctypes.CDLL(file)
+    for name, arguments, result in _CALLS:
+        call = getattr(library, f"proved_argon2_{name}")
+        call.argtypes, call.restype = arguments, result
+    return library
+
+
+def _load() -> ctypes.CDLL:
+    reasons = []
+    for file in _files():
+        try:
+            return _bound(file)
+        except (OSError, AttributeError) as error:
+            reasons.append(str(error))
+    raise ImportError(
+        f"{SONAME} cannot be loaded: run ./install in the repository of proved-argon2, or name the file in "
+        f"{VARIABLE} ({'; '.join(reasons)})"
+    )
+
+
+_library = _load()
+
+
+def _slices(*pieces: bytes) -> List[Union[bytes, int]]:
+    """Each piece and its length. An empty piece has an address too."""
+    arguments: List[Union[bytes, int]] = []
+    for piece in pieces:
+        arguments += [piece, len(piece)]
+    return arguments
+
+
+def _require(number: int, wanted: int = OK) -> None:
+    if number != wanted:
+        raise Refused(number)
+
+
+def _room(length: int) -> "ctypes.Array[ctypes.c_char]":
+    """So many zeros to write to."""
+    try:
+        return ctypes.create_string_buffer(length)
+    except (MemoryError, OverflowError):
+        raise Refused(OUT_OF_MEMORY) from None
+
+
+def hash_raw(pwd: bytes, salt: bytes, secret: bytes, ad: bytes, settings: Settings) -> bytes:
+    """The tag. The settings are judged without room to write to first, before any memory is asked for."""
+    given = _slices(pwd, salt, secret, ad)
+    _require(_library.proved_argon2_hash_raw(*given, settings, b"", 0), WRONG_LENGTH)
+    tag = _room(settings.hash_length)
+    _require(_library.proved_argon2_hash_raw(*given, settings, tag, len(tag)))
+    return tag.raw
+
+
+def hash_encoded(pwd: bytes, salt: bytes, secret: bytes, ad: bytes, settings: Settings) -> bytes:
+    """The text. The settings are judged without room to write to first, before any memory is asked for."""
+    given = _slices(pwd, salt, secret, ad)
+    _require(_library.proved_argon2_hash_encoded(*given, settings, b"", 0), WRONG_LENGTH)
+    text = _room(_library.proved_argon2_encoded_len(settings, len(salt)) + 1)
+    _require(_library.proved_argon2_hash_encoded(*given, settings, text, len(text)))
+    return text.value
+
+
+def verify_encoded(text: bytes, pwd: bytes, secret: bytes, ad: bytes) -> None:
+    """Returns where the text is the hash of the password, and else raises `Refused`."""
+    _require(_library.proved_argon2_verify_encoded(*_slices(text, pwd, secret, ad)))
+
+
+def read(text: bytes) -> Stored:
+    """What a text spells."""
+    stored = Stored()
+    _require(_library.proved_argon2_read(text, len(text), stored))
+    return stored
+
+
+def message(number: int) -> str:
+    """The text of a refusal's number."""
+    text = ctypes.create_string_buffer(MESSAGE_SIZE)
+    if _library.proved_argon2_message(number, text, len(text)) != OK:
+        return f"There is no refusal {number}"
+    return text.value.decode("ascii")
+
+
+def version() -> Tuple[int, int, int]:
+    """The version of the shared object."""
+    number = _library.proved_argon2_library_version()
+    return number // 1_000_000, number // 1_000 % 1_000, number % 1_000

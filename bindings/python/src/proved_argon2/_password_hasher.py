@@ -1,0 +1,157 @@
+"""Passwords as texts to keep."""
+import os
+from typing import Literal, Optional, Union
+
+from ._parameters import Parameters, extract_parameters
+from .exceptions import InvalidHashError, VerificationError
+from .low_level import ARGON2_VERSION, Type, hash_secret, verify_secret
+from .profiles import RFC_9106_LOW_MEMORY
+
+DEFAULT_RANDOM_SALT_LENGTH = RFC_9106_LOW_MEMORY.salt_len
+DEFAULT_HASH_LENGTH = RFC_9106_LOW_MEMORY.hash_len
+DEFAULT_TIME_COST = RFC_9106_LOW_MEMORY.time_cost
+DEFAULT_MEMORY_COST = RFC_9106_LOW_MEMORY.memory_cost
+DEFAULT_PARALLELISM = RFC_9106_LOW_MEMORY.parallelism
+
+_BEGINNINGS = (b"$argon2i$", b"$argon2d$", b"$argon2id")
+
+
+class PasswordHasher:
+    """Hashes passwords with these settings, and verifies those of any settings.
+
+    `time_cost` is the passes over the memory; `memory_cost` is in KiB, at least 8 for each of the lanes, which
+    `parallelism` says. The lengths are in bytes: `hash_len` is at least 4 and `salt_len` at least 8. A password
+    that is a `str` is encoded in `encoding`.
+    """
+
+    __slots__ = ("_parameters", "encoding")
+
+    def __init__(
+        self,
+        time_cost: int = DEFAULT_TIME_COST,
+        memory_cost: int = DEFAULT_MEMORY_COST,
+        parallelism: int = DEFAULT_PARALLELISM,
+        hash_len: int = DEFAULT_HASH_LENGTH,
+        salt_len: int = DEFAULT_RANDOM_SALT_LENGTH,
+        encoding: str = "utf-8",
+        type: Type = Type.ID,
+    ) -> None:
+        settings = {
+            "time_cost": (time_cost, int),
+            "memory_cost": (memory_cost, int),
+            "parallelism": (parallelism, int),
+            "hash_len": (hash_len, int),
+            "salt_len": (salt_len, int),
+            "encoding": (encoding, str),
+            "type": (type, Type),
+        }
+        for name, (value, wanted) in settings.items():
+            if not isinstance(value, wanted):
+                raise TypeError(f"'{name}' must be {wanted.__name__}, not {value.__class__.__name__}")
+        self._parameters = Parameters(
+            type=type,
+            version=ARGON2_VERSION,
+            salt_len=salt_len,
+            hash_len=hash_len,
+            time_cost=time_cost,
+            memory_cost=memory_cost,
+            parallelism=parallelism,
+        )
+        self.encoding = encoding
+
+    @classmethod
+    def from_parameters(cls, params: Parameters) -> "PasswordHasher":
+        """A hasher with these settings. Its version is `ARGON2_VERSION`, whatever theirs is."""
+        return cls(
+            time_cost=params.time_cost,
+            memory_cost=params.memory_cost,
+            parallelism=params.parallelism,
+            hash_len=params.hash_len,
+            salt_len=params.salt_len,
+            type=params.type,
+        )
+
+    @property
+    def time_cost(self) -> int:
+        """The passes over the memory."""
+        return self._parameters.time_cost
+
+    @property
+    def memory_cost(self) -> int:
+        """The memory in KiB."""
+        return self._parameters.memory_cost
+
+    @property
+    def parallelism(self) -> int:
+        """The lanes."""
+        return self._parameters.parallelism
+
+    @property
+    def hash_len(self) -> int:
+        """The length of the hash in bytes."""
+        return self._parameters.hash_len
+
+    @property
+    def salt_len(self) -> int:
+        """The length of the salt in bytes."""
+        return self._parameters.salt_len
+
+    @property
+    def type(self) -> Type:
+        """The variant."""
+        return self._parameters.type
+
+    def hash(self, password: Union[str, bytes], *, salt: Optional[bytes] = None) -> str:
+        """Hash a password to a text to keep, with a random salt where none is given.
+
+        Raises `HashingError` where the settings are refused or there is no memory.
+        """
+        return hash_secret(
+            secret=self._password_bytes(password),
+            salt=os.urandom(self.salt_len) if salt is None else salt,
+            time_cost=self.time_cost,
+            memory_cost=self.memory_cost,
+            parallelism=self.parallelism,
+            hash_len=self.hash_len,
+            type=self.type,
+        ).decode("ascii")
+
+    def verify(self, hash: Union[str, bytes], password: Union[str, bytes]) -> Literal[True]:
+        """Return `True` where a text is that of a password, and raise where it is not.
+
+        Raises `VerifyMismatchError` where it is that of another password, `InvalidHashError` where it does not
+        begin as a hash, and `VerificationError` where it spells none, its settings are refused or there is no
+        memory. The memory is that which the text names: look at a text of a stranger by
+        `extract_parameters` first.
+        """
+        text = self._text_bytes(hash)
+        return verify_secret(text, self._password_bytes(password), self._variant_of(text))
+
+    def check_needs_rehash(self, hash: Union[str, bytes]) -> bool:
+        """Whether a text was made with other settings than these, also with another length of the salt.
+
+        Raises `InvalidHashError` where it spells no hash.
+        """
+        return self._parameters != extract_parameters(self._text_bytes(hash))
+
+    @staticmethod
+    def _variant_of(text: bytes) -> Type:
+        """The variant of a text. One that begins as a hash and spells none cannot be verified."""
+        try:
+            return extract_parameters(text).type
+        except InvalidHashError as error:
+            if text.startswith(_BEGINNINGS):
+                raise VerificationError(str(error)) from None
+            raise
+
+    def _password_bytes(self, password: Union[str, bytes]) -> bytes:
+        return password.encode(self.encoding) if isinstance(password, str) else password
+
+    @staticmethod
+    def _text_bytes(hash: Union[str, bytes]) -> bytes:
+        if isinstance(hash, bytes):
+            return hash
+        try:
+            return hash.encode("ascii")
+        except UnicodeEncodeError:
+            raise InvalidHashError("a hash is ASCII") from None

@@ -1,0 +1,24 @@
+"""What is raised."""
+
+
+class Argon2Error(Exception):
+    """A call to Argon2 was refused. `args[0]` says why."""
+
+
+class VerificationError(Argon2Error):
+    """A password could not be verified."""
+
+
+class VerifyMismatchError(VerificationError):
+    """The password is not that of the hash."""
+
+
+class HashingError(Argon2Error):
+    """A password could not be hashed."""
+
+
+class InvalidHashError(ValueError):
+    """The text spells no hash."""
+
+
+InvalidHash = InvalidHashError

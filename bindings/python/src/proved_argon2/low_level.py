@@ -1,0 +1,138 @@
+"""The calls that take bytes and settings.
+
+`secret` is the password here, as in argon2-cffi. A key (also called pepper) and associated data, which
+RFC 9106 calls secret value and associated data, are `key` and `associated_data`. The library starts no
+thread: lanes are computed one after another, with the same hash.
+"""
+from enum import Enum
+from typing import Literal
+
+from ._library import (
+    DECODING_FAIL,
+    MAX_NUMBER,
+    MISMATCH,
+    NOT_UTF8,
+    Refused,
+    Settings,
+    hash_encoded,
+    hash_raw,
+    message,
+    read,
+    verify_encoded,
+)
+from .exceptions import HashingError, VerificationError, VerifyMismatchError
+
+ARGON2_VERSION = 19
+"""The version of RFC 9106, 0x13."""
+
+__all__ = ["ARGON2_VERSION", "Type", "error_to_str", "hash_secret", "hash_secret_raw", "verify_secret"]
+
+
+class Type(Enum):
+    """The variants of Argon2."""
+
+    D = 0
+    """References are drawn from the blocks."""
+
+    I = 1  # noqa: E741
+    """References are drawn from no block."""
+
+    ID = 2
+    """References are drawn from no block in the first half of the first pass. The one to choose."""
+
+
+def _settings(
+    time_cost: int, memory_cost: int, parallelism: int, hash_len: int, type: Type, version: int
+) -> Settings:
+    """The settings, where each is a number of 32 bits."""
+    names = ("version", "memory_cost", "time_cost", "parallelism", "hash_len")
+    numbers = (version, memory_cost, time_cost, parallelism, hash_len)
+    for name, number in zip(names, numbers):
+        if not 0 <= number <= MAX_NUMBER:
+            raise HashingError(f"{name} is {number}: no number of 32 bits")
+    return Settings(Type(type).value, *numbers)
+
+
+def _require_bytes(**given: bytes) -> None:
+    for name, piece in given.items():
+        if not isinstance(piece, bytes):
+            raise TypeError(f"'{name}' must be bytes, not {piece.__class__.__name__}")
+
+
+def hash_secret(
+    secret: bytes,
+    salt: bytes,
+    time_cost: int,
+    memory_cost: int,
+    parallelism: int,
+    hash_len: int,
+    type: Type,
+    version: int = ARGON2_VERSION,
+    *,
+    key: bytes = b"",
+    associated_data: bytes = b"",
+) -> bytes:
+    """Hash the password `secret` to a text, in `memory_cost` KiB.
+
+    Raises `HashingError` where the settings are refused or there is no memory.
+    """
+    _require_bytes(secret=secret, salt=salt, key=key, associated_data=associated_data)
+    settings = _settings(time_cost, memory_cost, parallelism, hash_len, type, version)
+    try:
+        return hash_encoded(secret, salt, key, associated_data, settings)
+    except Refused as refused:
+        raise HashingError(str(refused)) from None
+
+
+def hash_secret_raw(
+    secret: bytes,
+    salt: bytes,
+    time_cost: int,
+    memory_cost: int,
+    parallelism: int,
+    hash_len: int,
+    type: Type,
+    version: int = ARGON2_VERSION,
+    *,
+    key: bytes = b"",
+    associated_data: bytes = b"",
+) -> bytes:
+    """Hash the password `secret` to `hash_len` bytes, in `memory_cost` KiB.
+
+    Raises `HashingError` where the settings are refused or there is no memory.
+    """
+    _require_bytes(secret=secret, salt=salt, key=key, associated_data=associated_data)
+    settings = _settings(time_cost, memory_cost, parallelism, hash_len, type, version)
+    try:
+        return hash_raw(secret, salt, key, associated_data, settings)
+    except Refused as refused:
+        raise HashingError(str(refused)) from None
+
+
+def verify_secret(
+    hash: bytes, secret: bytes, type: Type, *, key: bytes = b"", associated_data: bytes = b""
+) -> Literal[True]:
+    """Return `True` where the text `hash` is that of the password `secret`, and is of this type.
+
+    Raises `VerifyMismatchError` where it is that of another password, and `VerificationError` where it
+    spells no hash of this type, its settings are refused or there is no memory.
+    """
+    _require_bytes(hash=hash, secret=secret, key=key, associated_data=associated_data)
+    try:
+        if read(hash).settings.variant != Type(type).value:
+            raise Refused(DECODING_FAIL)
+        verify_encoded(hash, secret, key, associated_data)
+    except Refused as refused:
+        error = VerifyMismatchError if refused.number == MISMATCH else VerificationError
+        raise error(str(refused)) from None
+    return True
+
+
+def error_to_str(error: int) -> str:
+    """The text of a refusal's number, which is the library's own and not libargon2's."""
+    return message(error)
+
+
+def spells_nothing(refused: Refused) -> bool:
+    """Whether a text was refused as one that spells no hash."""
+    return refused.number in (DECODING_FAIL, NOT_UTF8)

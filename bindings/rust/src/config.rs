@@ -1,0 +1,119 @@
+use crate::{ThreadMode, Variant, Version};
+
+/// The settings of a hash.
+///
+/// `Debug` shows the secret: keep it out of logs.
+///
+/// # Examples
+///
+/// ```
+/// use proved_argon2::{Config, ThreadMode, Variant, Version};
+///
+/// let config = Config::default();
+/// assert_eq!(config.variant, Variant::Argon2id);
+/// assert_eq!(config.version, Version::Version13);
+/// assert_eq!(config.mem_cost, 19 * 1024);
+/// assert_eq!(config.time_cost, 2);
+/// assert_eq!(config.lanes, 1);
+/// assert_eq!(config.hash_length, 32);
+/// assert_eq!(config.thread_mode, ThreadMode::Sequential);
+/// assert!(config.secret.is_empty() && config.ad.is_empty());
+/// ```
+#[derive(Clone, Copy, Debug, PartialEq)]
+pub struct Config<'a> {
+    /// The associated data.
+    pub ad: &'a [u8],
+
+    /// The length of the hash in bytes, at least 4.
+    pub hash_length: u32,
+
+    /// The lanes, at most 2^24 - 1. The tag depends on them.
+    pub lanes: u32,
+
+    /// The memory in KiB, at least 8 for each lane.
+    pub mem_cost: u32,
+
+    /// The secret, which is also called the key or the pepper.
+    pub secret: &'a [u8],
+
+    /// The thread mode, which neither the tag nor the time depend on here.
+    pub thread_mode: ThreadMode,
+
+    /// The passes over the memory, at least 1.
+    pub time_cost: u32,
+
+    /// The variant.
+    pub variant: Variant,
+
+    /// The version.
+    pub version: Version,
+}
+
+impl<'a> Config<'a> {
+    /// The default of the C program of Argon2's authors: Argon2i, 3 passes over 4 MiB.
+    pub fn original() -> Config<'a> {
+        Config { variant: Variant::Argon2i, ..Config::argon2id(4096, 3) }
+    }
+
+    /// The first of OWASP's equal choices: 1 pass over 46 MiB.
+    pub fn owasp1() -> Config<'a> {
+        Config::argon2id(47104, 1)
+    }
+
+    /// The second of OWASP's equal choices, and the default: 2 passes over 19 MiB.
+    pub fn owasp2() -> Config<'a> {
+        Config::argon2id(19456, 2)
+    }
+
+    /// The third of OWASP's equal choices: 3 passes over 12 MiB.
+    pub fn owasp3() -> Config<'a> {
+        Config::argon2id(12288, 3)
+    }
+
+    /// The fourth of OWASP's equal choices: 4 passes over 9 MiB.
+    pub fn owasp4() -> Config<'a> {
+        Config::argon2id(9216, 4)
+    }
+
+    /// The fifth of OWASP's equal choices: 5 passes over 7 MiB.
+    pub fn owasp5() -> Config<'a> {
+        Config::argon2id(7168, 5)
+    }
+
+    /// RFC 9106's first choice, in one lane where the standard has four: 1 pass over 2 GiB.
+    pub fn rfc9106() -> Config<'a> {
+        Config::argon2id(2097152, 1)
+    }
+
+    /// RFC 9106's choice for little memory, in one lane where the standard has four: 3 passes over 64 MiB.
+    pub fn rfc9106_low_mem() -> Config<'a> {
+        Config::argon2id(65536, 3)
+    }
+
+    /// Whether the lanes are computed in one thread wherever threads are started.
+    pub fn uses_sequential(&self) -> bool {
+        self.thread_mode == ThreadMode::Sequential || self.lanes == 1
+    }
+
+    /// Argon2id in one lane, with a hash of 32 bytes.
+    fn argon2id(mem_cost: u32, time_cost: u32) -> Config<'a> {
+        Config {
+            ad: &[],
+            hash_length: 32,
+            lanes: 1,
+            mem_cost,
+            secret: &[],
+            thread_mode: ThreadMode::Sequential,
+            time_cost,
+            variant: Variant::Argon2id,
+            version: Version::Version13,
+        }
+    }
+}
+
+impl Default for Config<'_> {
+    /// [`Config::owasp2`].
+    fn default() -> Self {
+        Config::owasp2()
+    }
+}

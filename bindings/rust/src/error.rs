@@ -1,0 +1,163 @@
+use std::fmt;
+
+/// Why a call was refused.
+#[derive(Clone, Debug, PartialEq)]
+pub enum Error {
+    /// The hash is shorter than 4 bytes.
+    OutputTooShort,
+
+    /// The hash is longer than 2^32 - 1 bytes.
+    OutputTooLong,
+
+    /// Never answered: no password is too short.
+    PwdTooShort,
+
+    /// The password is longer than 2^32 - 1 bytes.
+    PwdTooLong,
+
+    /// The salt is shorter than 8 bytes.
+    SaltTooShort,
+
+    /// The salt is longer than 2^32 - 1 bytes.
+    SaltTooLong,
+
+    /// Never answered: no associated data is too short.
+    AdTooShort,
+
+    /// The associated data is longer than 2^32 - 1 bytes.
+    AdTooLong,
+
+    /// Never answered: no secret is too short.
+    SecretTooShort,
+
+    /// The secret is longer than 2^32 - 1 bytes.
+    SecretTooLong,
+
+    /// There is no pass.
+    TimeTooSmall,
+
+    /// Never answered: no number of passes is too large.
+    TimeTooLarge,
+
+    /// There are less than 8 KiB for each lane.
+    MemoryTooLittle,
+
+    /// Never answered: no memory is too much.
+    MemoryTooMuch,
+
+    /// There is no lane.
+    LanesTooFew,
+
+    /// There are more than 2^24 - 1 lanes.
+    LanesTooMany,
+
+    /// No variant has this number.
+    IncorrectType,
+
+    /// No version has this number.
+    IncorrectVersion,
+
+    /// The text spells no hash.
+    DecodingFail,
+
+    /// Memory was refused.
+    OutOfMemory,
+
+    /// Never answered here: no worker is started.
+    WorkerRefused,
+}
+
+impl Error {
+    /// The errors in the order of their numbers, which begin with 1.
+    const NUMBERED: [Error; 21] = [
+        Error::OutputTooShort,
+        Error::OutputTooLong,
+        Error::PwdTooShort,
+        Error::PwdTooLong,
+        Error::SaltTooShort,
+        Error::SaltTooLong,
+        Error::AdTooShort,
+        Error::AdTooLong,
+        Error::SecretTooShort,
+        Error::SecretTooLong,
+        Error::TimeTooSmall,
+        Error::TimeTooLarge,
+        Error::MemoryTooLittle,
+        Error::MemoryTooMuch,
+        Error::LanesTooFew,
+        Error::LanesTooMany,
+        Error::IncorrectType,
+        Error::IncorrectVersion,
+        Error::DecodingFail,
+        Error::OutOfMemory,
+        Error::WorkerRefused,
+    ];
+
+    /// The error of a refusal's number.
+    ///
+    /// # Panics
+    ///
+    /// Where the library answers a number that no refusal of it has, which it never does.
+    pub(crate) fn of_number(number: u32) -> Error {
+        let place = usize::try_from(number).ok().and_then(|number| number.checked_sub(1));
+        match place.and_then(|place| Error::NUMBERED.get(place)) {
+            Some(error) => error.clone(),
+            None => panic!("the library answered {number}, which is no refusal"),
+        }
+    }
+
+    fn text(&self) -> &'static str {
+        match self {
+            Error::OutputTooShort => "Output is too short",
+            Error::OutputTooLong => "Output is too long",
+            Error::PwdTooShort => "Password is too short",
+            Error::PwdTooLong => "Password is too long",
+            Error::SaltTooShort => "Salt is too short",
+            Error::SaltTooLong => "Salt is too long",
+            Error::AdTooShort => "Associated data is too short",
+            Error::AdTooLong => "Associated data is too long",
+            Error::SecretTooShort => "Secret is too short",
+            Error::SecretTooLong => "Secret is too long",
+            Error::TimeTooSmall => "Time cost is too small",
+            Error::TimeTooLarge => "Time cost is too large",
+            Error::MemoryTooLittle => "Memory cost is too small",
+            Error::MemoryTooMuch => "Memory cost is too large",
+            Error::LanesTooFew => "Too few lanes",
+            Error::LanesTooMany => "Too many lanes",
+            Error::IncorrectType => "There is no such type of Argon2",
+            Error::IncorrectVersion => "There is no such version of Argon2",
+            Error::DecodingFail => "Decoding failed",
+            Error::OutOfMemory => "Out of memory",
+            Error::WorkerRefused => "A worker was refused",
+        }
+    }
+}
+
+impl fmt::Display for Error {
+    fn fmt(&self, f: &mut fmt::Formatter<'_>) -> fmt::Result {
+        f.write_str(self.text())
+    }
+}
+
+impl std::error::Error for Error {}
+
+#[cfg(test)]
+mod tests {
+    use super::Error;
+    use crate::face;
+
+    #[test]
+    fn each_number_and_text_is_the_library_s() {
+        for (number, error) in (1..).zip(&Error::NUMBERED) {
+            assert_eq!(Error::of_number(number), *error);
+            assert_eq!(face::message(number).as_deref(), Some(error.to_string().as_str()));
+        }
+        assert_eq!(face::message(22), None);
+    }
+
+    #[test]
+    #[should_panic(expected = "the library answered 0")]
+    fn no_error_has_the_number_of_success() {
+        Error::of_number(0);
+    }
+}

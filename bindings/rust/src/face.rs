@@ -1,0 +1,193 @@
+//! The calls of the C library, as safe functions that return its number. All `unsafe` code stands here.
+//!
+//! The library is passed a pointer and a length of each slice. It reads what is passed as `*const`, writes
+//! what is passed as `*mut` within its length, and keeps no pointer. A slice's pointer is never null.
+
+use crate::Config;
+
+/// Done, or a match.
+pub const OK: u32 = 0;
+
+/// A verifying call: the password is another.
+pub const MISMATCH: u32 = 64;
+
+/// The buffer does not fit.
+pub const WRONG_LENGTH: u32 = 65;
+
+/// The text has other settings.
+pub const NEEDS_REHASH: u32 = 68;
+
+/// A buffer of this many bytes has room for the text of each refusal.
+#[cfg(test)]
+const MESSAGE_SIZE: usize = 64;
+
+/// `proved_argon2_settings` of the header.
+#[repr(C)]
+struct Settings {
+    variant: u32,
+    version: u32,
+    mem_cost: u32,
+    time_cost: u32,
+    lanes: u32,
+    hash_length: u32,
+}
+
+impl Settings {
+    fn of(config: &Config<'_>) -> Settings {
+        Settings {
+            variant: config.variant.as_u32(),
+            version: config.version.as_u32(),
+            mem_cost: config.mem_cost,
+            time_cost: config.time_cost,
+            lanes: config.lanes,
+            hash_length: config.hash_length,
+        }
+    }
+}
+
+#[rustfmt::skip]
+extern "C" {
+    fn proved_argon2_hash_raw(
+        pwd: *const u8, pwd_len: usize,
+        salt: *const u8, salt_len: usize,
+        secret: *const u8, secret_len: usize,
+        ad: *const u8, ad_len: usize,
+        settings: *const Settings,
+        out: *mut u8, out_len: usize,
+    ) -> u32;
+    fn proved_argon2_hash_encoded(
+        pwd: *const u8, pwd_len: usize,
+        salt: *const u8, salt_len: usize,
+        secret: *const u8, secret_len: usize,
+        ad: *const u8, ad_len: usize,
+        settings: *const Settings,
+        text: *mut u8, text_len: usize,
+    ) -> u32;
+    fn proved_argon2_verify_raw(
+        pwd: *const u8, pwd_len: usize,
+        salt: *const u8, salt_len: usize,
+        secret: *const u8, secret_len: usize,
+        ad: *const u8, ad_len: usize,
+        settings: *const Settings,
+        hash: *const u8, hash_len: usize,
+    ) -> u32;
+    fn proved_argon2_verify_encoded(
+        text: *const u8, text_len: usize,
+        pwd: *const u8, pwd_len: usize,
+        secret: *const u8, secret_len: usize,
+        ad: *const u8, ad_len: usize,
+    ) -> u32;
+    fn proved_argon2_needs_rehash(text: *const u8, text_len: usize, settings: *const Settings) -> u32;
+    fn proved_argon2_encoded_len(settings: *const Settings, salt_len: u32) -> u64;
+    #[cfg(test)]
+    fn proved_argon2_message(number: u32, text: *mut u8, text_len: usize) -> u32;
+    #[cfg(test)]
+    fn proved_argon2_library_version() -> u32;
+}
+
+/// Writes the tag to `out`, which has `config.hash_length` bytes.
+#[rustfmt::skip]
+pub fn hash_raw(pwd: &[u8], salt: &[u8], config: &Config<'_>, out: &mut [u8]) -> u32 {
+    let settings = Settings::of(config);
+    // SAFETY: each pointer and length are those of a slice, and `out` is borrowed for this call alone.
+    unsafe {
+        proved_argon2_hash_raw(
+            pwd.as_ptr(), pwd.len(),
+            salt.as_ptr(), salt.len(),
+            config.secret.as_ptr(), config.secret.len(),
+            config.ad.as_ptr(), config.ad.len(),
+            &settings,
+            out.as_mut_ptr(), out.len(),
+        )
+    }
+}
+
+/// Writes the text and then zeros to `text`, which has more bytes than the text.
+#[rustfmt::skip]
+pub fn hash_encoded(pwd: &[u8], salt: &[u8], config: &Config<'_>, text: &mut [u8]) -> u32 {
+    let settings = Settings::of(config);
+    // SAFETY: each pointer and length are those of a slice, and `text` is borrowed for this call alone.
+    unsafe {
+        proved_argon2_hash_encoded(
+            pwd.as_ptr(), pwd.len(),
+            salt.as_ptr(), salt.len(),
+            config.secret.as_ptr(), config.secret.len(),
+            config.ad.as_ptr(), config.ad.len(),
+            &settings,
+            text.as_mut_ptr(), text.len(),
+        )
+    }
+}
+
+/// Compares a hash with the tag of its length.
+#[rustfmt::skip]
+pub fn verify_raw(pwd: &[u8], salt: &[u8], hash: &[u8], config: &Config<'_>) -> u32 {
+    let settings = Settings::of(config);
+    // SAFETY: each pointer and length are those of a slice, and nothing is written.
+    unsafe {
+        proved_argon2_verify_raw(
+            pwd.as_ptr(), pwd.len(),
+            salt.as_ptr(), salt.len(),
+            config.secret.as_ptr(), config.secret.len(),
+            config.ad.as_ptr(), config.ad.len(),
+            &settings,
+            hash.as_ptr(), hash.len(),
+        )
+    }
+}
+
+/// Compares a text with a password.
+#[rustfmt::skip]
+pub fn verify_encoded(text: &str, pwd: &[u8], secret: &[u8], ad: &[u8]) -> u32 {
+    // SAFETY: each pointer and length are those of a slice, and nothing is written.
+    unsafe {
+        proved_argon2_verify_encoded(
+            text.as_ptr(), text.len(),
+            pwd.as_ptr(), pwd.len(),
+            secret.as_ptr(), secret.len(),
+            ad.as_ptr(), ad.len(),
+        )
+    }
+}
+
+/// Compares the settings of a text with others.
+pub fn needs_rehash(text: &str, config: &Config<'_>) -> u32 {
+    let settings = Settings::of(config);
+    // SAFETY: the pointer and the length are those of a slice, and nothing is written.
+    unsafe { proved_argon2_needs_rehash(text.as_ptr(), text.len(), &settings) }
+}
+
+/// The length of a text for a salt of this length.
+pub fn encoded_len(config: &Config<'_>, salt_len: u32) -> u64 {
+    let settings = Settings::of(config);
+    // SAFETY: the settings are read, and nothing is written.
+    unsafe { proved_argon2_encoded_len(&settings, salt_len) }
+}
+
+/// The text of a refusal's number.
+#[cfg(test)]
+pub fn message(number: u32) -> Option<String> {
+    let mut text = [0; MESSAGE_SIZE];
+    // SAFETY: the pointer and the length are those of an array that is borrowed for this call alone.
+    let answer = unsafe { proved_argon2_message(number, text.as_mut_ptr(), text.len()) };
+    let end = text.iter().position(|byte| *byte == 0)?;
+    (answer == OK).then(|| String::from_utf8_lossy(&text[..end]).into_owned())
+}
+
+/// The version of the library: 1,000,000 times the major one, 1,000 times the minor one and the patch.
+#[cfg(test)]
+fn library_version() -> u32 {
+    // SAFETY: the call takes nothing.
+    unsafe { proved_argon2_library_version() }
+}
+
+#[cfg(test)]
+mod tests {
+    #[test]
+    fn the_library_has_the_version_of_this_crate_and_the_repository() {
+        let version = env!("CARGO_PKG_VERSION");
+        let numbers: Vec<u32> = version.split('.').map(|number| number.parse().unwrap()).collect();
+        assert_eq!(include_str!("../../../VERSION").trim_end(), version);
+        assert_eq!(super::library_version(), numbers[0] * 1_000_000 + numbers[1] * 1_000 + numbers[2]);
+    }
+}

@@ -1,0 +1,115 @@
+use crate::face::{self, OK, WRONG_LENGTH};
+use crate::{Config, Error, Result, ThreadMode, Variant, Version};
+
+/// The length in bytes of the text of a hash.
+///
+/// # Examples
+///
+/// ```
+/// use proved_argon2::{self as argon2, Variant};
+///
+/// assert_eq!(argon2::encoded_len(Variant::Argon2i, 4096, 10, 10, 8, 32), 86);
+/// ```
+pub fn encoded_len(
+    variant: Variant,
+    mem_cost: u32,
+    time_cost: u32,
+    parallelism: u32,
+    salt_len: u32,
+    hash_len: u32,
+) -> u64 {
+    let config = Config {
+        ad: &[],
+        hash_length: hash_len,
+        lanes: parallelism,
+        mem_cost,
+        secret: &[],
+        thread_mode: ThreadMode::Sequential,
+        time_cost,
+        variant,
+        version: Version::Version13,
+    };
+    face::encoded_len(&config, salt_len)
+}
+
+/// Hashes a password, to a text that has the settings, the salt and the hash.
+///
+/// A salt is made anew for each password, of 16 random bytes.
+///
+/// # Errors
+///
+/// The first of the settings that is out of its bounds, or [`Error::OutOfMemory`].
+///
+/// # Examples
+///
+/// ```
+/// use proved_argon2::{self as argon2, Config};
+///
+/// let text = argon2::hash_encoded(b"password", b"somesalt", &Config::default())?;
+/// assert!(text.starts_with("$argon2id$v=19$m=19456,t=2,p=1$c29tZXNhbHQ$"));
+/// # Ok::<(), argon2::Error>(())
+/// ```
+pub fn hash_encoded(pwd: &[u8], salt: &[u8], config: &Config<'_>) -> Result<String> {
+    require_settings(face::hash_encoded(pwd, salt, config, &mut []))?;
+    let salt_len = u32::try_from(salt.len()).map_err(|_| Error::SaltTooLong)?;
+    let length = usize::try_from(face::encoded_len(config, salt_len)).map_err(|_| Error::OutOfMemory)?;
+    let mut text = zeros(length + 1)?;
+    require_done(face::hash_encoded(pwd, salt, config, &mut text))?;
+    text.truncate(length);
+    Ok(String::from_utf8(text).expect("a text is ASCII"))
+}
+
+/// Hashes a password, to a hash of `config.hash_length` bytes.
+///
+/// # Errors
+///
+/// The first of the settings that is out of its bounds, or [`Error::OutOfMemory`].
+///
+/// # Examples
+///
+/// ```
+/// use proved_argon2::{self as argon2, Config, ThreadMode, Variant};
+///
+/// // Four lanes, which are computed one after another here, with the tag of four threads.
+/// let config = Config {
+///     variant: Variant::Argon2d,
+///     lanes: 4,
+///     thread_mode: ThreadMode::Parallel,
+///     ..Config::default()
+/// };
+/// assert_eq!(argon2::hash_raw(b"password", b"somesalt", &config)?.len(), 32);
+/// # Ok::<(), argon2::Error>(())
+/// ```
+pub fn hash_raw(pwd: &[u8], salt: &[u8], config: &Config<'_>) -> Result<Vec<u8>> {
+    require_settings(face::hash_raw(pwd, salt, config, &mut []))?;
+    let length = usize::try_from(config.hash_length).map_err(|_| Error::OutOfMemory)?;
+    let mut tag = zeros(length)?;
+    require_done(face::hash_raw(pwd, salt, config, &mut tag))?;
+    Ok(tag)
+}
+
+/// The refusal of a call that was given no room to write to. The settings are judged before the room, and so
+/// no memory is asked for where they are refused.
+fn require_settings(number: u32) -> Result<()> {
+    if number == WRONG_LENGTH {
+        Ok(())
+    } else {
+        Err(Error::of_number(number))
+    }
+}
+
+fn require_done(number: u32) -> Result<()> {
+    if number == OK {
+        Ok(())
+    } else {
+        Err(Error::of_number(number))
+    }
+}
+
+/// So many zeros, where there is memory.
+fn zeros(length: usize) -> Result<Vec<u8>> {
+    let mut bytes = Vec::new();
+    bytes.try_reserve_exact(length).map_err(|_| Error::OutOfMemory)?;
+    bytes.resize(length, 0);
+    Ok(bytes)
+}

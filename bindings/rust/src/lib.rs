@@ -1,0 +1,68 @@
+//! Argon2 password hashing (RFC 9106) by a library that is proved, with the names of `rust-argon2` 3.0.
+//!
+//! A program that uses `rust-argon2` changes one line of its `Cargo.toml`:
+//!
+//! ```toml
+//! argon2 = { package = "proved-argon2", path = "../argon2/bindings/rust" }
+//! ```
+//!
+//! # Examples
+//!
+//! Keep a password as a text, and verify it:
+//!
+//! ```
+//! use proved_argon2::{self as argon2, Config};
+//!
+//! let salt = b"randomsalt";
+//! let text = argon2::hash_encoded(b"password", salt, &Config::default())?;
+//! assert!(argon2::verify_encoded(&text, b"password")?);
+//! # Ok::<(), argon2::Error>(())
+//! ```
+//!
+//! With settings of one's own:
+//!
+//! ```
+//! use proved_argon2::{self as argon2, Config, Variant};
+//!
+//! let config = Config { variant: Variant::Argon2i, mem_cost: 4096, lanes: 4, ..Config::default() };
+//! let text = argon2::hash_encoded(b"password", b"othersalt", &config)?;
+//! assert!(argon2::verify_encoded(&text, b"password")?);
+//! # Ok::<(), argon2::Error>(())
+//! ```
+//!
+//! # What is proved
+//!
+//! The library behind this crate is proved to compute Argon2 and to read and write its texts. This crate
+//! passes bytes to it and is not proved; its only `unsafe` code is the module `face`.
+//!
+//! # Threads
+//!
+//! The library starts no thread. [`ThreadMode::Parallel`] is accepted, and the lanes are computed one after
+//! another, in the caller's thread and with the same tag.
+//!
+//! # Limits
+//!
+//! Passwords and memory are not wiped. A text says how much memory it is verified with, up to 4 TiB: verify
+//! no text of a stranger.
+#![deny(unsafe_code)]
+#![warn(missing_docs)]
+
+mod config;
+mod error;
+#[allow(unsafe_code)]
+mod face;
+mod hashing;
+mod result;
+mod thread_mode;
+mod variant;
+mod verifying;
+mod version;
+
+pub use config::Config;
+pub use error::Error;
+pub use hashing::{encoded_len, hash_encoded, hash_raw};
+pub use result::Result;
+pub use thread_mode::ThreadMode;
+pub use variant::Variant;
+pub use verifying::{needs_rehash, verify_encoded, verify_encoded_ext, verify_raw};
+pub use version::Version;

@@ -1,0 +1,73 @@
+use crate::{Error, Result};
+use std::fmt;
+
+/// The variants of Argon2 (RFC 9106, 1): where the references of a block are drawn from.
+#[derive(Clone, Copy, Debug, Default, Eq, PartialEq, PartialOrd, Ord)]
+pub enum Variant {
+    /// From the blocks, and so from the password.
+    Argon2d = 0,
+
+    /// From no block: the places that are read say nothing about the password.
+    #[default]
+    Argon2i = 1,
+
+    /// From no block in the first half of the first pass, and then from the blocks. The one to choose.
+    Argon2id = 2,
+}
+
+impl Variant {
+    /// The name as texts are written: `argon2d`, `argon2i` or `argon2id`.
+    pub fn as_lowercase_str(&self) -> &'static str {
+        match self {
+            Variant::Argon2d => "argon2d",
+            Variant::Argon2i => "argon2i",
+            Variant::Argon2id => "argon2id",
+        }
+    }
+
+    /// The name with a capital: `Argon2d`, `Argon2i` or `Argon2id`.
+    pub fn as_uppercase_str(&self) -> &'static str {
+        match self {
+            Variant::Argon2d => "Argon2d",
+            Variant::Argon2i => "Argon2i",
+            Variant::Argon2id => "Argon2id",
+        }
+    }
+
+    /// The number: 0, 1 or 2.
+    pub fn as_u32(&self) -> u32 {
+        *self as u32
+    }
+
+    /// The number: 0, 1 or 2.
+    pub fn as_u64(&self) -> u64 {
+        *self as u64
+    }
+
+    /// The variant of a name, in lower case or with a capital; [`Error::DecodingFail`] for any other text.
+    #[allow(clippy::should_implement_trait)]
+    pub fn from_str(name: &str) -> Result<Variant> {
+        match name {
+            "argon2d" | "Argon2d" => Ok(Variant::Argon2d),
+            "argon2i" | "Argon2i" => Ok(Variant::Argon2i),
+            "argon2id" | "Argon2id" => Ok(Variant::Argon2id),
+            _ => Err(Error::DecodingFail),
+        }
+    }
+
+    /// The variant of a number; [`Error::IncorrectType`] above 2.
+    pub fn from_u32(number: u32) -> Result<Variant> {
+        match number {
+            0 => Ok(Variant::Argon2d),
+            1 => Ok(Variant::Argon2i),
+            2 => Ok(Variant::Argon2id),
+            _ => Err(Error::IncorrectType),
+        }
+    }
+}
+
+impl fmt::Display for Variant {
+    fn fmt(&self, f: &mut fmt::Formatter<'_>) -> fmt::Result {
+        f.write_str(self.as_lowercase_str())
+    }
+}

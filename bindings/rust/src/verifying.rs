@@ -1,0 +1,94 @@
+use crate::face::{self, MISMATCH, NEEDS_REHASH, OK};
+use crate::{Config, Error, Result};
+
+/// Whether a text is the hash of a password, without a secret or associated data.
+///
+/// # Errors
+///
+/// [`Error::DecodingFail`] for a text that spells no hash; else the first of its settings that is out of its
+/// bounds, or [`Error::OutOfMemory`].
+///
+/// # Examples
+///
+/// ```
+/// use proved_argon2 as argon2;
+///
+/// let text = "$argon2i$v=19$m=4096,t=3,p=1$c29tZXNhbHQ$iWh06vD8Fy27wf9npn6FXWiCX4K6pW6Ue1Bnzz07Z8A";
+/// assert!(argon2::verify_encoded(text, b"password")?);
+/// assert!(!argon2::verify_encoded(text, b"Password")?);
+/// # Ok::<(), argon2::Error>(())
+/// ```
+pub fn verify_encoded(encoded: &str, pwd: &[u8]) -> Result<bool> {
+    verify_encoded_ext(encoded, pwd, &[], &[])
+}
+
+/// Whether a text is the hash of a password with this secret and this associated data.
+///
+/// # Errors
+///
+/// As [`verify_encoded`], and that the secret or the associated data are too long.
+///
+/// # Examples
+///
+/// ```
+/// use proved_argon2 as argon2;
+///
+/// let text = "$argon2i$v=19$m=4096,t=3,p=1$c29tZXNhbHQ$OlcSvlN20Lz43sK3jhCJ9K04oejhiY0AmI+ck6nuETo";
+/// assert!(argon2::verify_encoded_ext(text, b"password", b"secret", b"ad")?);
+/// # Ok::<(), argon2::Error>(())
+/// ```
+pub fn verify_encoded_ext(encoded: &str, pwd: &[u8], secret: &[u8], ad: &[u8]) -> Result<bool> {
+    verdict(face::verify_encoded(encoded, pwd, secret, ad), MISMATCH)
+}
+
+/// Whether a hash is that of a password. `config.hash_length` is not looked at.
+///
+/// # Errors
+///
+/// The first of the settings that is out of its bounds, or [`Error::OutOfMemory`].
+///
+/// # Examples
+///
+/// ```
+/// use proved_argon2::{self as argon2, Config};
+///
+/// let hash = argon2::hash_raw(b"password", b"somesalt", &Config::owasp5())?;
+/// assert!(argon2::verify_raw(b"password", b"somesalt", &hash, &Config::owasp5())?);
+/// # Ok::<(), argon2::Error>(())
+/// ```
+pub fn verify_raw(pwd: &[u8], salt: &[u8], hash: &[u8], config: &Config<'_>) -> Result<bool> {
+    verdict(face::verify_raw(pwd, salt, hash, config), MISMATCH)
+}
+
+/// Whether a text was made with another variant, version, memory, passes, lanes or length of the hash.
+///
+/// Ask it once the password has matched, and hash the password anew where it is so.
+///
+/// # Errors
+///
+/// [`Error::DecodingFail`] for a text that spells no hash, or [`Error::OutOfMemory`].
+///
+/// # Examples
+///
+/// ```
+/// use proved_argon2::{self as argon2, Config};
+///
+/// let text = argon2::hash_encoded(b"password", b"somesalt", &Config::owasp5())?;
+/// assert!(!argon2::needs_rehash(&text, &Config::owasp5())?);
+/// assert!(argon2::needs_rehash(&text, &Config::default())?);
+/// # Ok::<(), argon2::Error>(())
+/// ```
+pub fn needs_rehash(encoded: &str, config: &Config<'_>) -> Result<bool> {
+    verdict(face::needs_rehash(encoded, config), NEEDS_REHASH).map(|agrees| !agrees)
+}
+
+/// Whether a call answered 0 and not this number; anything else is a refusal.
+fn verdict(number: u32, other: u32) -> Result<bool> {
+    if number == OK {
+        Ok(true)
+    } else if number == other {
+        Ok(false)
+    } else {
+        Err(Error::of_number(number))
+    }
+}

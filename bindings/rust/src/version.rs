@@ -1,0 +1,45 @@
+use crate::{Error, Result};
+use std::fmt;
+
+/// The versions of Argon2.
+#[derive(Clone, Copy, Debug, Default, Eq, PartialEq, PartialOrd, Ord)]
+pub enum Version {
+    /// 0x10: later passes write over the blocks.
+    Version10 = 0x10,
+
+    /// 0x13, that of RFC 9106. The one to choose.
+    #[default]
+    Version13 = 0x13,
+}
+
+impl Version {
+    /// The number: 16 or 19.
+    pub fn as_u32(&self) -> u32 {
+        *self as u32
+    }
+
+    /// The version of `16` or `19`; [`Error::DecodingFail`] for any other text.
+    #[allow(clippy::should_implement_trait)]
+    pub fn from_str(number: &str) -> Result<Version> {
+        match number {
+            "16" => Ok(Version::Version10),
+            "19" => Ok(Version::Version13),
+            _ => Err(Error::DecodingFail),
+        }
+    }
+
+    /// The version of a number; [`Error::IncorrectVersion`] where it is neither 16 nor 19.
+    pub fn from_u32(number: u32) -> Result<Version> {
+        match number {
+            0x10 => Ok(Version::Version10),
+            0x13 => Ok(Version::Version13),
+            _ => Err(Error::IncorrectVersion),
+        }
+    }
+}
+
+impl fmt::Display for Version {
+    fn fmt(&self, f: &mut fmt::Formatter<'_>) -> fmt::Result {
+        write!(f, "{}", self.as_u32())
+    }
+}

@@ -1,0 +1,75 @@
+//! The outside vectors in bindings/vectors.
+
+use proved_argon2::{hash_raw, verify_encoded, verify_raw, Config, Error, ThreadMode, Variant, Version};
+
+const RAW: &str = include_str!("../../vectors/raw.txt");
+const TEXTS: &str = include_str!("../../vectors/texts.txt");
+
+/// The bytes of hexadecimal digits, or of `-` none.
+fn bytes_of(field: &str) -> Vec<u8> {
+    let digits = if field == "-" { "" } else { field };
+    (0..digits.len()).step_by(2).map(|at| u8::from_str_radix(&digits[at..at + 2], 16).unwrap()).collect()
+}
+
+/// What a line of raw.txt says: the settings without secret and associated data, these four, and the answer.
+struct Row<'a> {
+    config: Config<'static>,
+    pwd: Vec<u8>,
+    salt: Vec<u8>,
+    secret: Vec<u8>,
+    ad: Vec<u8>,
+    answer: &'a str,
+}
+
+impl Row<'_> {
+    fn of(line: &str) -> Row<'_> {
+        let fields: Vec<&str> = line.splitn(11, ' ').collect();
+        let number = |at: usize| fields[at].parse().unwrap();
+        Row {
+            config: Config {
+                variant: Variant::from_str(fields[0]).unwrap(),
+                version: Version::from_str(fields[1]).unwrap(),
+                time_cost: number(2),
+                mem_cost: number(3),
+                lanes: number(4),
+                hash_length: number(5),
+                thread_mode: ThreadMode::Parallel,
+                ..Config::default()
+            },
+            pwd: bytes_of(fields[6]),
+            salt: bytes_of(fields[7]),
+            secret: bytes_of(fields[8]),
+            ad: bytes_of(fields[9]),
+            answer: fields[10],
+        }
+    }
+
+    fn answer_of(result: Result<String, Error>) -> String {
+        result.unwrap_or_else(|error| format!("ERR {error}"))
+    }
+}
+
+#[test]
+fn each_tag_and_refusal_is_that_of_the_vectors() {
+    for line in RAW.lines() {
+        let row = Row::of(line);
+        let config = Config { secret: &row.secret, ad: &row.ad, ..row.config };
+        let tag = hash_raw(&row.pwd, &row.salt, &config);
+        if let Ok(tag) = &tag {
+            assert_eq!(verify_raw(&row.pwd, &row.salt, tag, &config), Ok(true), "{line}");
+        }
+        let hexadecimal = tag.map(|tag| tag.iter().map(|byte| format!("{byte:02x}")).collect());
+        assert_eq!(Row::answer_of(hexadecimal), row.answer, "{line}");
+    }
+    assert_eq!(RAW.lines().count(), 240);
+}
+
+#[test]
+fn each_text_verifies_as_in_the_vectors() {
+    for line in TEXTS.lines() {
+        let (text, answer) = line.split_once('\t').unwrap();
+        let verdict = verify_encoded(text, b"password").map(|verdict| verdict.to_string());
+        assert_eq!(Row::answer_of(verdict), answer, "{text}");
+    }
+    assert_eq!(TEXTS.lines().count(), 147);
+}

@@ -1,0 +1,38 @@
+# shellcheck shell=bash disable=SC2034
+# What the tests of the installation share: a folder of their own, and what is to be installed.
+# shellcheck source=bindings/tests/common.bash
+. bindings/tests/common.bash
+
+version=$(<VERSION)
+work=$(mktemp -d)
+trap 'chmod -R u+w "$work"; rm -rf "$work"' EXIT
+chmod 755 "$work"
+prefix="$work/a prefix"
+library=libproved_argon2.so
+export PKG_CONFIG_PATH="$prefix/lib/pkgconfig"
+
+# What is in a folder.
+files_in() {
+    (cd "$1" && find . ! -type d -printf '%P\n' | LC_ALL=C sort)
+}
+
+has_what_is_installed() {
+    diff <(files_in "$1") <(LC_ALL=C sort <<END
+bin/proved-argon2
+$(cd crates/argon2_c/include && printf 'include/%s\n' *.h)
+lib/glibc-hwcaps/x86-64-v3/$library.${version%%.*}
+lib/glibc-hwcaps/x86-64-v3/$library.$version
+lib/libproved_argon2.a
+lib/$library
+lib/$library.${version%%.*}
+lib/$library.$version
+lib/pkgconfig/proved_argon2.pc
+libexec/proved-argon2/argon2_program
+libexec/proved-argon2/commands.sh
+libexec/proved-argon2/help.txt
+share/man/man1/proved-argon2.1
+share/man/man3/proved_argon2.3
+share/proved-argon2/installed
+END
+    )
+}

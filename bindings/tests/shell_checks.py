@@ -1,0 +1,50 @@
+"""What the tests of the shell share: each takes the words PROGRAM COMMAND.. and prints a line for each check.
+
+PROGRAM is the file of the program, and COMMAND runs it through the script around it.
+"""
+import pathlib
+import re
+import subprocess
+import sys
+import traceback
+
+PROGRAM, *COMMAND = sys.argv[1:]
+ROOT = pathlib.Path(__file__).resolve().parents[2]
+VERSION = (ROOT / "VERSION").read_text().strip()
+SMALL = "argon2id 19 1 8 1 16 seq".split()
+STORED = "$argon2i$v=19$m=256,t=2,p=1$c29tZXNhbHQ$iekCn0Y3spW+sCcFanM2xBT63UP2sghkUoHLIUpWRS8"
+CHECKS = []
+
+
+def check(function):
+    CHECKS.append(function)
+    return function
+
+
+def require(holds, *seen):
+    if not holds:
+        raise AssertionError(" ".join(map(repr, seen)))
+
+
+def piped(words, given=b"", command=None, **more):
+    """The status, standard output and standard error of the words."""
+    done = subprocess.run([*(command or COMMAND), *words], input=given, capture_output=True, timeout=120, **more)
+    return done.returncode, done.stdout, done.stderr
+
+
+def verifies(text, password):
+    return piped(["verify", text.strip()], password, command=[PROGRAM])[0] == 0
+
+
+def main():
+    failed = 0
+    for function in CHECKS:
+        name = re.sub(r"_s_|_s$", "'s ", function.__name__).replace("_", " ").strip()
+        try:
+            function()
+            print(f"passed: {name}", flush=True)
+        except Exception:
+            failed += 1
+            print(f"FAILED: {name}", flush=True)
+            print("    " + traceback.format_exc().replace("\n", "\n    "), flush=True)
+    sys.exit(failed > 0)

@@ -1,0 +1,201 @@
+-- What is verified of a stored text rests on what it spells, the secret and the associated data alone.
+use Rattle.std.proofs.Common.{◌≡◌, ℕ, Bool, true, false, List, length, Option, None, Some, Result, Ok, Err, nat_lt, ◌==◌, not, if◌then◌else◌, refl}
+use Rattle.std.proofs.Common.{sym, ap, subst, ◌∙◌, arith, inl, inr}
+use Rattle.std.specs.Prelude.{◌↔◌, IsNone, IsTrue, IfOk, IfErr}
+use Rattle.std.proofs.Math.Nat.{min-eq_left}
+use Rattle.std.proofs.lemmas.Bool.{cases_Bool, ltb-true, ne_eqb}
+use Rattle.argon2_settings.specs.declared.config.Config.{Config}
+use Rattle.argon2_settings.specs.declared.error.Error.{Error}
+use Rattle.argon2_settings.specs.declared.error.Error.TheVariants.{DecodingFail, OutOfMemory}
+use Rattle.argon2_text.specs.declared.decoded.Decoded.{Decoded}
+use Rattle.argon2_text.specs.declared.encoding.reading.Head.{Head}
+use Rattle.argon2_settings.specs.declared.thread_mode.ThreadMode.{ThreadMode}
+use Rattle.argon2_settings.specs.declared.thread_mode.ThreadMode.TheVariants.{AtMost, Sequential}
+use Rattle.argon2_settings.specs.Standard.Outcome.{IsOutcome}
+use Rattle.argon2_settings.specs.Standard.ThreadModes.{fills_alone, may_lack_workers}
+use Rattle.argon2_text.specs.Standard.Grammar.{IsItem, Spells, SpellsNothing}
+use Rattle.argon2_text.specs.Views.Faults.{Refuses}
+use Rattle.argon2_settings.specs.Standard.Prehash.{prehash_of, setting_of}
+use Rattle.argon2.specs.Standard.Rehash.{Agrees, Differs}
+use Rattle.argon2_settings.specs.Standard.SettingsTable.{refusal_of}
+use Rattle.argon2.specs.Views.StoredTexts.{IsAccepted, IsConfigOf, max_workers}
+use Rattle.argon2.specs.Standard.Stored.{IsStoredConfig}
+use Rattle.argon2_settings.specs.Standard.Tag.{tag_of}
+use Rattle.argon2_text.specs.Standard.Text.{Spelled}
+use Rattle.argon2_text.specs.Views.Texts.{IsSpellingOf, spelled_by, spelled_with}
+use Rattle.argon2.specs.Standard.Verdict.{IsVerdict}
+use Rattle.argon2_settings.proofs.Settings.Accepted.{hash_fits}
+use Rattle.argon2_text.proofs.Reading.TextItems.{item_unique}
+use Rattle.argon2.proofs.TextLaws.TextSpellings.{spells_one}
+
+-- an option that equals None holds nothing
+none_holds : {A : Type 0} {o : Option A} → o ≡ None → IsNone o
+none_holds e = rw e refl
+
+-- ---- the fields that count
+
+-- the table looks at the lanes, the costs and the lengths
+pub refusal_of-same : (x y : Config) (pwd salt hash : ℕ) → x.lanes ≡ y.lanes → x.mem_cost ≡ y.mem_cost → x.time_cost ≡ y.time_cost
+    → x.secret.now ≡ y.secret.now → x.ad.now ≡ y.ad.now → refusal_of x pwd salt hash ≡ refusal_of y pwd salt hash
+unfolding refusal_of
+refusal_of-same x y pwd salt hash lanes mem_cost time_cost secret ad = rw (lanes, mem_cost, time_cost, secret, ad) refl
+
+-- and the tag at the variant and the version too
+tag_of-same : (x y : Config) (pwd salt : List ℕ) (len : ℕ) → x.variant ≡ y.variant → x.version ≡ y.version → x.lanes ≡ y.lanes → x.mem_cost ≡ y.mem_cost
+    → x.time_cost ≡ y.time_cost → x.secret.now ≡ y.secret.now → x.ad.now ≡ y.ad.now → tag_of pwd salt x len ≡ tag_of pwd salt y len
+unfolding tag_of setting_of prehash_of
+tag_of-same x y pwd salt len variant version lanes mem_cost time_cost secret ad = rw (variant, version, lanes, mem_cost, time_cost, secret, ad) refl
+
+-- a verdict is the same for all configurations with what a text spells, the secret and the data
+pub verdict-same : (d : Spelled) (pwd secret ad : List ℕ) (x y : Config) (workers : Bool) (answer : Result Bool Error) → IsStoredConfig d secret ad x
+    → IsStoredConfig d secret ad y
+    → IsVerdict pwd d.salt d.hash x workers answer → IsVerdict pwd d.salt d.hash y workers answer
+verdict-same d pwd secret ad x y workers answer a b verdict =
+    let refusal = refusal_of-same x y (length pwd) (length d.salt) (length d.hash) (a.lanes ∙ sym b.lanes) (a.mem_cost ∙ sym b.mem_cost)
+    (a.time_cost ∙ sym b.time_cost) (a.secret ∙ sym b.secret) (a.ad ∙ sym b.ad) in
+    let tag = tag_of-same x y pwd d.salt (length d.hash) (a.variant ∙ sym b.variant) (a.version ∙ sym b.version) (a.lanes ∙ sym b.lanes)
+    (a.mem_cost ∙ sym b.mem_cost) (a.time_cost ∙ sym b.time_cost) (a.secret ∙ sym b.secret) (a.ad ∙ sym b.ad) in
+    rw (refusal, tag) at verdict
+
+-- ---- the configuration that is verified with
+
+-- a thread mode chosen for stored texts fills with workers just where there are several lanes
+workers_flag : (mode : ThreadMode) (lanes : ℕ) → mode ≡ (if nat_lt 1 lanes then AtMost max_workers else Sequential)
+    → not (fills_alone mode lanes) ≡ nat_lt 1 lanes
+workers_flag mode lanes is = elim (cases_Bool (nat_lt 1 lanes)) [
+  | inl many ↦
+      let other : (lanes == 1) ≡ false = ne_eqb lanes 1 (omega (arith, ltb-true 1 lanes many)) in
+      rw (is, many, other) refl
+  | inr one ↦ rw (is, one) refl
+]
+
+-- the verdict of the configuration that a text's value is verified with is that of the text
+pub stored_verdict : (stored : Decoded) (d : Spelled) (pwd secret ad : List ℕ) (used config : Config) (answer : Result Bool Error) → spelled_by stored ≡ d
+    → IsConfigOf (spelled_by stored) secret ad used → IsStoredConfig d secret ad config
+    → IsVerdict pwd stored.salt.items stored.hash.items used (may_lack_workers used) answer → IsVerdict pwd d.salt d.hash config (nat_lt 1 d.parallelism) answer
+stored_verdict stored d pwd secret ad used config answer same used_is config_is verdict =
+    let flag : may_lack_workers used ≡ nat_lt 1 stored.parallelism =
+    ap (λ n. not (fills_alone used.thread_mode n)) used_is.stored.lanes ∙ workers_flag used.thread_mode stored.parallelism used_is.thread_mode in
+    let here = subst (λ (v : Spelled). IsStoredConfig v secret ad config) (sym same) config_is in
+    let told = verdict-same (spelled_by stored) pwd secret ad used config (nat_lt 1 stored.parallelism) answer used_is.stored here (rw flag at verdict) in
+    subst (λ (v : Spelled). IsVerdict pwd v.salt v.hash config (nat_lt 1 v.parallelism) answer) same told
+
+-- without workers too, the verdict of the configuration that is verified with is that of the text
+pub stored_verdict_alone : (stored : Decoded) (d : Spelled) (pwd secret ad : List ℕ) (used config : Config) (answer : Result Bool Error) → spelled_by stored ≡ d
+    → IsConfigOf (spelled_by stored) secret ad used → IsStoredConfig d secret ad config
+    → IsVerdict pwd stored.salt.items stored.hash.items used false answer → IsVerdict pwd d.salt d.hash config false answer
+stored_verdict_alone stored d pwd secret ad used config answer same used_is config_is verdict =
+    let here = subst (λ (v : Spelled). IsStoredConfig v secret ad config) (sym same) config_is in
+    let told = verdict-same (spelled_by stored) pwd secret ad used config false answer used_is.stored here verdict in
+    subst (λ (v : Spelled). IsVerdict pwd v.salt v.hash config false answer) same told
+
+-- ---- answers before the tag is asked for
+
+-- any value of the text is the one with the salt and the hash behind its head
+spelled_at : (text : List ℕ) (h : Head) (d : Spelled) → (s : IsSpellingOf text h) → Spells text d → d ≡ spelled_with h s.0 s.1
+spelled_at text h d (salt, hash, is) s = spells_one text d (spelled_with h salt hash) s is.spells
+
+-- what a head's refusal says
+abbrev pub RefusesHead : Head → ℕ → List ℕ → List ℕ → Option Error → Type 0
+RefusesHead h pwd_len secret ad refusal = (config : Config) (salt hash : List ℕ) → IsItem h.salt.now salt → IsItem h.hash.now hash
+    → IsStoredConfig (spelled_with h salt hash) secret ad config → refusal ≡ refusal_of config pwd_len (length salt) (length hash)
+
+-- a refusal for the same lanes, costs, secret, data and lengths is the configuration's own
+pub refusal_found : (refusal : Option Error) (x config : Config) (pwd n m : ℕ) (salt hash : List ℕ) → refusal ≡ refusal_of x pwd n m → n ≡ length salt
+    → m ≡ length hash
+    → x.lanes ≡ config.lanes → x.mem_cost ≡ config.mem_cost → x.time_cost ≡ config.time_cost → x.secret.now ≡ config.secret.now → x.ad.now ≡ config.ad.now
+    → refusal ≡ refusal_of config pwd (length salt) (length hash)
+refusal_found refusal x config pwd n m salt hash found salt_len hash_len lanes mem_cost time_cost secret ad =
+    rw (salt_len, hash_len) at found ∙ refusal_of-same x config pwd (length salt) (length hash) lanes mem_cost time_cost secret ad
+
+-- it is that of any value of the text
+refusal_told : (text : List ℕ) (h : Head) (pwd_len : ℕ) (secret ad : List ℕ) (refusal : Option Error) (d : Spelled) (config : Config)
+    → RefusesHead h pwd_len secret ad refusal
+    → IsSpellingOf text h → Spells text d → IsStoredConfig d secret ad config → refusal ≡ refusal_of config pwd_len (length d.salt) (length d.hash)
+refusal_told text h pwd_len secret ad refusal d config told s spells stored =
+    let same = spelled_at text h d s spells in
+    let here = told config s.0 s.1 s.2.salt_item s.2.hash_item (subst (λ (v : Spelled). IsStoredConfig v secret ad config) same stored) in
+    subst (λ (v : Spelled). refusal ≡ refusal_of config pwd_len (length v.salt) (length v.hash)) (sym same) here
+
+-- where a text's head is refused, that refusal is the outcome for each value it spells
+pub text_refused : (text : List ℕ) (h : Head) (pwd_len : ℕ) (secret ad : List ℕ) (refusal : Option Error) (d : Spelled) (config : Config) (e : Error)
+    → RefusesHead h pwd_len secret ad refusal → IsSpellingOf text h → refusal ≡ Some e → Spells text d → IsStoredConfig d secret ad config
+    → IsOutcome (refusal_of config pwd_len (length d.salt) (length d.hash)) false (λ (stored : Decoded). spelled_by stored ≡ d) (Err e)
+text_refused text h pwd_len secret ad refusal d config e told s some spells stored =
+    rw (sym (refusal_told text h pwd_len secret ad refusal d config told s spells stored), some) refl
+
+-- what is decoded of a head and its items is the value that they spell, or memory was refused
+decoded_value : (h : Head) (salt hash : List ℕ) (d : Spelled) (r : Result Decoded Error) → IsItem h.salt.now salt → IsItem h.hash.now hash
+    → d ≡ spelled_with h salt hash
+    → IfOk r (λ x. spelled_by x ≡ spelled_with h x.salt.items x.hash.items) → IfOk r (λ x. IsItem h.salt.now x.salt.items × IsItem h.hash.now x.hash.items)
+    → IfErr r (λ e. e ≡ OutOfMemory) → IsOutcome None false (λ (stored : Decoded). spelled_by stored ≡ d) r
+decoded_value h salt hash d (Ok x) a b is settings items memory =
+    let same_salt = item_unique h.salt.now x.salt.items salt items.0 a in
+    let same_hash = item_unique h.hash.now x.hash.items hash items.1 b in
+    settings ∙ ap (λ s. spelled_with h s x.hash.items) same_salt ∙ ap (λ s. spelled_with h salt s) same_hash ∙ sym is
+decoded_value h salt hash d (Err e) a b is settings items memory = memory
+
+-- where a text's head is not refused, its value is decoded or memory was refused
+pub text_decoded : (text : List ℕ) (h : Head) (pwd_len : ℕ) (secret ad : List ℕ) (refusal : Option Error) (d : Spelled) (config : Config)
+    (r : Result Decoded Error)
+    → RefusesHead h pwd_len secret ad refusal → IsSpellingOf text h → refusal ≡ None → Spells text d → IsStoredConfig d secret ad config
+    → IfOk r (λ x. spelled_by x ≡ spelled_with h x.salt.items x.hash.items) → IfOk r (λ x. IsItem h.salt.now x.salt.items × IsItem h.hash.now x.hash.items)
+    → IfErr r (λ e. e ≡ OutOfMemory) → IsOutcome (refusal_of config pwd_len (length d.salt) (length d.hash)) false (λ
+    (stored : Decoded). spelled_by stored ≡ d) r
+text_decoded text h pwd_len secret ad refusal d config r told s none spells stored settings items memory =
+    rw (sym (refusal_told text h pwd_len secret ad refusal d config told s spells stored), none)
+    (decoded_value h s.0 s.1 d r s.2.salt_item s.2.hash_item (spelled_at text h d s spells) settings items memory)
+
+-- what was decoded behind a head that is not refused is accepted
+pub head_accepted : (h : Head) (pwd_len : ℕ) (secret ad : List ℕ) (refusal : Option Error) (r : Result Decoded Error)
+    → RefusesHead h pwd_len secret ad refusal → refusal ≡ None
+    → IfOk r (λ x. spelled_by x ≡ spelled_with h x.salt.items x.hash.items) → IfOk r (λ x. IsItem h.salt.now x.salt.items × IsItem h.hash.now x.hash.items)
+    → IfOk r (λ stored. IsAccepted (spelled_by stored) pwd_len secret ad)
+head_accepted h pwd_len secret ad refusal (Ok x) told none settings items = λ config is.
+    sym (told config x.salt.items x.hash.items items.0 items.1 (subst (λ (v : Spelled). IsStoredConfig v secret ad config) settings is)) ∙ none
+head_accepted h pwd_len secret ad refusal (Err e) told none settings items = tt
+
+-- the configuration of an accepted value has the hash's own length, and is accepted
+pub own_length : (d : Spelled) (pwd_len : ℕ) (secret ad : List ℕ) (used : Config) → IsAccepted d pwd_len secret ad → IsConfigOf d secret ad used
+    → used.hash_length ≡ length d.hash
+own_length d pwd_len secret ad used accepted is =
+    let fits = hash_fits used pwd_len (length d.salt) (length d.hash) (none_holds (accepted used is.stored)) in
+    is.hash_length ∙ min-eq_left fits
+
+-- the configuration that an accepted value is verified with is refused nothing
+pub stored_accepted : (d : Spelled) (pwd_len : ℕ) (secret ad : List ℕ) (used : Config) → IsAccepted d pwd_len secret ad → IsConfigOf d secret ad used
+    → IsNone (refusal_of used pwd_len (length d.salt) used.hash_length)
+unfolding refusal_of
+stored_accepted d pwd_len secret ad used accepted is =
+    rw (own_length d pwd_len secret ad used accepted is) (none_holds (accepted used is.stored))
+
+-- a head that spells a value leaves no text that spells nothing
+pub spells_some : (text : List ℕ) (h : Head) → IsSpellingOf text h → SpellsNothing text → ⊥
+spells_some text h (salt, hash, is) none = none (spelled_with h salt hash) is.spells
+
+-- what was decoded is the value
+pub accepted_value : {A : Type 0} (refusal : Option Error) (P : A → Type 0) (x : A) → IsOutcome refusal false P (Ok x) → P x
+accepted_value None P x h = h
+accepted_value (Some r) P x h = absurd (cc)
+
+-- ---- rehashing
+
+-- a text that spells nothing is refused with a failed decoding
+pub refuses_nothing : (text : List ℕ) (e : Error) → SpellsNothing text → Refuses text e → e ≡ DecodingFail
+refuses_nothing text e none (inl (fail, _)) = fail
+refuses_nothing text e none (inr (_, (d, s))) = absurd (none d s)
+
+-- a text that spells a value is refused only for lack of memory
+pub refuses_some : (text : List ℕ) (d : Spelled) (e : Error) → Spells text d → Refuses text e → e ≡ OutOfMemory
+refuses_some text d e s (inl (_, none)) = absurd (none d s)
+refuses_some text d e s (inr (memory, _)) = memory
+
+-- where an answer tells whether a value agrees, its negation tells whether it differs
+differs_by : (d : Spelled) (config : Config) (agrees : Bool) → IsTrue agrees ↔ Agrees d config → IsTrue (not agrees) ↔ Differs d config
+differs_by d config true h = ((λ t. cc), λ differs. absurd (differs (h.0 refl)))
+differs_by d config false h = ((λ t agrees. let no = h.1 agrees in cc), λ differs. refl)
+
+-- the negated answer on a decoded value tells whether the text's value differs
+pub not_agreeing : (stored d : Spelled) (config : Config) (agrees : Bool) → stored ≡ d → IsTrue agrees ↔ Agrees stored config
+    → IsTrue (not agrees) ↔ Differs d config
+not_agreeing stored d config agrees same h = differs_by d config agrees (subst (λ (v : Spelled). IsTrue agrees ↔ Agrees v config) same h)

@@ -1,0 +1,108 @@
+-- What a comparison and a computed tag say of a hash.
+use Rattle.std.proofs.Common.{◌≡◌, ℕ, Bool, true, false, List, [], ◌∷◌, length, Option, None, Some, Ok, Err, Result, refl, arith, sym, ◌∙◌, ap}
+use Rattle.std.specs.Prelude.{◌↔◌, IsNone, IsTrue, MatchResult, bit_or, bit_xor}
+use Rattle.std.specs.List.{fold, zip}
+use Rattle.std.specs.Int.Bits.{xor_assoc, xor_self, xor_zero_l, xor_zero_r}
+use Rattle.std.proofs.lemmas.Nat.{le_or_l, le_or_r}
+use Rattle.argon2_settings.specs.declared.config.Config.{Config}
+use Rattle.argon2_settings.specs.declared.error.Error.{Error}
+use Rattle.argon2_settings.specs.declared.context.Context.{Context}
+use Rattle.argon2_settings.specs.Standard.Outcome.{IsOutcome, IsShortage}
+use Rattle.argon2_settings.specs.Standard.SettingsTable.{refusal_of}
+use Rattle.argon2_settings.specs.Standard.Prehash.{prehash_of, setting_of}
+use Rattle.argon2_settings.specs.Standard.Tag.{tag_from, tag_of}
+use Rattle.argon2.specs.Laws.Definitions.{LengthIsTheHash, OwnTagVerifies, TagForgetsMode}
+use Rattle.argon2_settings.proofs.Settings.HashLengths.{length-hprime}
+use Rattle.argon2.specs.Standard.Verdict.{IsVerdict}
+use Rattle.argon2.specs.Views.Comparison.{difference_of}
+
+-- ---- comparing
+
+-- numbers whose exclusive or is 0 are equal
+equal_by_xor : (x y : ℕ) → bit_xor x y ≡ 0 → x ≡ y
+equal_by_xor x y e =
+    sym (xor_zero_r x) ∙ ap (λ n. bit_xor x n) (sym (xor_self y)) ∙ sym (xor_assoc x y y) ∙ ap (λ n. bit_xor n y) e ∙ xor_zero_l y
+
+-- where the differences of two equally long lists gather to 0 from d, d is 0 and the lists equal
+no_difference : (d : ℕ) (xs ys : List ℕ) → length xs ≡ length ys →
+    fold (λ difference (a, b). bit_or difference (bit_xor a b)) d (zip xs ys) ≡ 0 → (d ≡ 0) × (xs ≡ ys)
+no_difference d [] [] h e = (e, refl)
+no_difference d [] (y ∷ ys) h e = absurd (omega (arith, h))
+no_difference d (x ∷ xs) [] h e = absurd (omega (arith, h))
+no_difference d (x ∷ xs) (y ∷ ys) h e =
+    let r = no_difference (bit_or d (bit_xor x y)) xs ys (omega (arith, h)) e in
+    let left = le_or_l d (bit_xor x y) in
+    let right = le_or_r d (bit_xor x y) in
+    let same : x ≡ y = equal_by_xor x y (omega (arith, right, r.0)) in
+    (omega (arith, left, r.0), ap (λ z. z ∷ xs) same ∙ ap (λ zs. y ∷ zs) r.1)
+
+-- a list has no difference from itself
+difference-same : (xs : List ℕ) → difference_of xs xs ≡ 0
+difference-same [] = refl
+difference-same (x ∷ xs) = ap (λ n. fold (λ difference (a, b). bit_or difference (bit_xor a b)) (bit_or 0 n) (zip xs xs)) (xor_self x) ∙ difference-same xs
+
+-- two equally long lists have difference 0 just where they are equal
+pub difference-zero : (xs ys : List ℕ) → length xs ≡ length ys → (difference_of xs ys ≡ 0) ↔ (xs ≡ ys)
+difference-zero xs ys h = ((λ e. (no_difference 0 xs ys h e).1), (λ e. ap (λ zs. difference_of xs zs) (sym e) ∙ difference-same xs))
+
+-- ---- the verdict
+
+-- an option that holds nothing equals None
+none_is : {A : Type 0} (o : Option A) → IsNone o → o ≡ None
+none_is None h = refl
+none_is (Some x) h = absurd (let e : true ≡ false = h in cc)
+
+-- the field for the length of a hash does not count
+pub tag_of-hash_length : (pwd salt : List ℕ) (config : Config) (n len : ℕ)
+    → tag_of pwd salt (record config { hash_length = n }) len ≡ tag_of pwd salt config len
+unfolding tag_of setting_of prehash_of
+tag_of-hash_length pwd salt config n len = refl
+
+-- where an accepted call gives this tag, and the two were compared
+pub compared : (x : Context) (hash tag : List ℕ) (workers same : Bool) → length hash ≡ x.config.hash_length →
+    tag ≡ tag_of x.pwd.now x.salt.now x.config x.config.hash_length → (IsTrue same ↔ (tag ≡ hash)) →
+    IsVerdict x.pwd.now x.salt.now hash x.config workers (Ok same)
+compared x hash tag workers same long given equal =
+    let none = none_is (refusal_of x.config (length x.pwd.now) (length x.salt.now) x.config.hash_length) x.accepted in
+    rw (long, none) ((λ t. sym (equal.0 t) ∙ given), (λ h. equal.1 (given ∙ sym h)))
+
+-- the field for the length of a hash does not count for its verdict
+pub verdict_of_length : (pwd salt hash : List ℕ) (config : Config) (workers : Bool) (answer : Result Bool Error) →
+    IsVerdict pwd salt hash (record config { hash_length = length hash }) workers answer → IsVerdict pwd salt hash config workers answer
+unfolding refusal_of
+verdict_of_length pwd salt hash config workers answer verdict = rw (tag_of-hash_length pwd salt config (length hash) (length hash)) at verdict
+
+-- ---- laws
+
+-- the tag does not depend on the thread mode
+pub tag_forgets_mode : TagForgetsMode
+unfolding tag_of setting_of prehash_of
+tag_forgets_mode pwd salt config mode len = refl
+
+-- neither refusal nor tag depends on the configuration's own field for the hash length
+pub length_is_the_hash : LengthIsTheHash
+unfolding refusal_of
+length_is_the_hash pwd salt config field len = (refl, tag_of-hash_length pwd salt config field len)
+
+-- a tag has the length that is asked for
+pub length-tag_of : (pwd salt : List ℕ) (config : Config) (len : ℕ) → length (tag_of pwd salt config len) ≡ len
+unfolding tag_of tag_from
+length-tag_of pwd salt config len = length-hprime len _
+
+-- where nothing is refused and the tag is the expected one, the answer is true or a shortage
+accepted_verdict : (tag expected : List ℕ) (refusal : Option Error) (workers : Bool) (answer : Result Bool Error) → refusal ≡ None → tag ≡ expected →
+    IsOutcome refusal workers (λ same. IsTrue same ↔ (tag ≡ expected)) answer → MatchResult answer (λ same. IsTrue same) (IsShortage workers)
+accepted_verdict tag expected None workers (Ok same) none e h = h.1 e
+accepted_verdict tag expected None workers (Err error) none e h = h
+accepted_verdict tag expected (Some r) workers answer none e h = absurd (cc)
+
+-- a tag is as long as asked for and, of accepted settings, verifies or meets a shortage
+pub own_tag_verifies : OwnTagVerifies
+own_tag_verifies pwd salt config len =
+    let tag = tag_of pwd salt config len in
+    let n = length-tag_of pwd salt config len in (
+      n,
+      λ accepted workers answer verdict. accepted_verdict tag (tag_of pwd salt config (length tag)) (refusal_of config (length pwd) (length salt)
+          (length tag)) workers answer
+          (ap (λ k. refusal_of config (length pwd) (length salt) k) n ∙ accepted) (ap (λ k. tag_of pwd salt config k) (sym n)) verdict,
+    )

@@ -1,6 +1,0 @@
-use Rattle.std.proofs.Common.{refl}
-use Rattle.argon2.proofs.TextItems.{length-base64}
-use Rattle.argon2.proofs.parts.encoding.lengths.base64_len.Goals as goal
-
-pub returns-clause-exact : goal.returns-clause-exact
-returns-clause-exact c bytes len = rw (length-base64 bytes, len, c.from.ensures) refl

@@ -1,5 +1,0 @@
-use Rattle.argon2.proofs.TextCuts.{cut_gives}
-use Rattle.argon2.proofs.parts.encoding.reading.cut.Goals as goal
-
-pub returns : goal.returns
-returns c = cut_gives c.args.mark c.args.text.now c.split_once.result c.split_once.ensures.cases c.requires

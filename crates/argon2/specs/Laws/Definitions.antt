@@ -1,0 +1,42 @@
+-- Laws of the definitions, which calls without arguments carry.
+use Rattle.std.specs.Prelude.{◌≡◌, ℕ, List, length, None, Result, Bool, IsTrue, MatchResult}
+use Rattle.argon2_settings.specs.declared.config.Config.{Config}
+use Rattle.argon2_settings.specs.declared.error.Error.{Error}
+use Rattle.argon2_settings.specs.declared.thread_mode.ThreadMode.{ThreadMode}
+use Rattle.argon2_settings.specs.Standard.Outcome.{IsShortage}
+use Rattle.argon2_settings.specs.Standard.Setting.{Setting, Position}
+use Rattle.argon2_settings.specs.Views.Jobs.{IsSetting, IsPosition}
+use Rattle.argon2_settings.specs.Standard.SettingsTable.{refusal_of}
+use Rattle.argon2_settings.specs.Standard.Recurrence.{Blocks, recurrence, block_at}
+use Rattle.argon2_settings.specs.Standard.Tag.{tag_of}
+use Rattle.argon2.specs.Standard.Verdict.{IsVerdict}
+
+-- the blocks meet the recurrence at each place
+abbrev pub MeetsRecurrence : Type 0
+MeetsRecurrence = (s : Setting) → IsSetting s → (at : Position) → IsPosition s at → block_at s at ≡ recurrence s (block_at s) at
+
+-- and are all that does
+abbrev pub IsOnlySolution : Type 0
+IsOnlySolution = (s : Setting) → IsSetting s → (f : Blocks) →
+    ((at : Position) → IsPosition s at → f at ≡ recurrence s f at) → (at : Position) → IsPosition s at → f at ≡ block_at s at
+
+-- the tag does not depend on the thread mode
+abbrev pub TagForgetsMode : Type 0
+TagForgetsMode = (pwd salt : List ℕ) (config : Config) (mode : ThreadMode) (len : ℕ) →
+    tag_of pwd salt (record config { thread_mode = mode }) len ≡ tag_of pwd salt config len
+
+-- neither the refusal nor the tag depends on the configuration's own field for the hash length, where
+-- another length is judged
+abbrev pub LengthIsTheHash : Type 0
+LengthIsTheHash = (pwd salt : List ℕ) (config : Config) (field len : ℕ) →
+    (refusal_of (record config { hash_length = field }) (length pwd) (length salt) len ≡ refusal_of config (length pwd) (length salt) len)
+    × (tag_of pwd salt (record config { hash_length = field }) len ≡ tag_of pwd salt config len)
+
+-- the tag of any length is that long, and with the same inputs its verdict is true, where the
+-- settings are accepted
+abbrev pub OwnTagVerifies : Type 0
+OwnTagVerifies = (pwd salt : List ℕ) (config : Config) (len : ℕ) →
+    let tag = tag_of pwd salt config len in
+    (length tag ≡ len) × (refusal_of config (length pwd) (length salt) len ≡ None →
+    (workers : Bool) (answer : Result Bool Error) → IsVerdict pwd salt tag config workers answer →
+    MatchResult answer (λ same. IsTrue same) (IsShortage workers))

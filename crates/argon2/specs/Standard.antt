@@ -1,0 +1,5 @@
+-- What the clauses of the root calls rest on: these definitions are to be read, in this order.
+pub mod Hash
+pub mod Verdict
+pub mod Stored
+pub mod Rehash

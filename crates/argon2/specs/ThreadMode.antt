@@ -1,7 +1,0 @@
--- Which mode a number of threads stands for.
-use Rattle.std.specs.Prelude.{ℕ, nat_lt, if◌then◌else◌}
-use Rattle.argon2.specs.declared.thread_mode.ThreadMode.{ThreadMode}
-use Rattle.argon2.specs.declared.thread_mode.ThreadMode.TheVariants.{Sequential, Parallel}
-
-abbrev pub mode_of_threads : ℕ → ThreadMode
-mode_of_threads threads = if nat_lt 1 threads then Parallel else Sequential

@@ -1,0 +1,22 @@
+-- The configuration that a stored text is verified with.
+use Rattle.std.specs.Prelude.{◌≡◌, ℕ, List, None, length, min, nat_lt, if◌then◌else◌}
+use Rattle.argon2_settings.specs.declared.config.Config.{Config}
+use Rattle.argon2_settings.specs.declared.thread_mode.ThreadMode.TheVariants.{AtMost, Sequential}
+use Rattle.argon2_settings.specs.Standard.SettingsTable.{max_length, refusal_of}
+use Rattle.argon2_text.specs.Standard.Text.{Spelled}
+use Rattle.argon2.specs.Standard.Stored.{IsStoredConfig}
+
+-- the settings table refuses none of the text's settings for a password of this length
+abbrev pub IsAccepted : Spelled → ℕ → List ℕ → List ℕ → Type 0
+IsAccepted d pwd_len secret ad = (config : Config) → IsStoredConfig d secret ad config
+    → refusal_of config pwd_len (length d.salt) (length d.hash) ≡ None
+
+-- how many workers a stored text may ask for
+abbrev pub max_workers : ℕ
+max_workers = 16
+
+-- the one that is verified with: few workers, and the length of the hash as far as the field holds it
+pub record IsConfigOf (d : Spelled) (secret ad : List ℕ) (config : Config) : Type 0 where
+  pub stored : IsStoredConfig d secret ad config
+  pub thread_mode : config.thread_mode ≡ (if nat_lt 1 d.parallelism then AtMost max_workers else Sequential)
+  pub hash_length : config.hash_length ≡ min (length d.hash) max_length

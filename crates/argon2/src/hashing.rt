@@ -1,0 +1,201 @@
+//! Hashing a password: its tag, and its text.
+
+ghost use Rattle.std.specs.Prelude.{◌≡◌, IfErr, IfOk, false, vec_len};
+ghost use Rattle.std.specs.String.{string_bytes};
+ghost use Rattle.argon2_settings.specs.Standard.Outcome.{IsShortage};
+ghost use Rattle.argon2_settings.specs.Standard.ThreadModes.{may_lack_workers};
+ghost use Rattle.argon2_settings.specs.Standard.Tag.{tag_of};
+ghost use Rattle.argon2_text.specs.Standard.Text.{spelled_of, text_of};
+ghost use Rattle.argon2.specs.Standard.Hash.{IsHash};
+
+use crate::parts::context::Context;
+use crate::parts::encoding::encode_string;
+use crate::parts::fill::{
+    fill_memory_blocks, fill_sequential, finalize, initialize, prepare_memory,
+};
+use crate::parts::memory::Memory;
+use crate::{Config, Result};
+use std::alloc::Global;
+use std::marker::Sync;
+use std::sync::Wait;
+use std::thread::Threads;
+
+/// The tag of an accepted call, computed over a memory in the thread mode of its configuration.
+pub(crate) fn tag<R: Threads + Wait + Sync>(
+    rt: &R,
+    alloc: Global,
+    memory: &mut Memory,
+    context: &Context<'_>,
+) -> Result<Vec<u8>>
+    ensures tag { let c = context.now in
+        IfOk result (λ tag. tag.items ≡ tag_of c.pwd.now c.salt.now c.config c.config.hash_length) }
+    ensures length { IfOk result (λ tag. vec_len tag ≡ context.now.config.hash_length) }
+    ensures refused { IfErr result (IsShortage (may_lack_workers context.now.config)) }
+{
+    prepare_memory(alloc, context, memory)?;
+    initialize(context, memory);
+    fill_memory_blocks(rt, alloc, context, memory)?;
+    finalize(alloc, context, memory)
+}
+
+/// The tag of an accepted call, computed over a memory in the caller's thread.
+pub(crate) fn tag_sequential(
+    alloc: Global,
+    memory: &mut Memory,
+    context: &Context<'_>,
+) -> Result<Vec<u8>>
+    ensures tag { let c = context.now in
+        IfOk result (λ tag. tag.items ≡ tag_of c.pwd.now c.salt.now c.config c.config.hash_length) }
+    ensures length { IfOk result (λ tag. vec_len tag ≡ context.now.config.hash_length) }
+    ensures refused { IfErr result (IsShortage false) }
+{
+    prepare_memory(alloc, context, memory)?;
+    initialize(context, memory);
+    fill_sequential(context, memory);
+    finalize(alloc, context, memory)
+}
+
+/// The tag of a password: `config.hash_length` bytes (RFC 9106, 3.2).
+///
+/// The first refusal of the settings is the only answer where there is one, before any memory is
+/// asked for. Else the answer is the tag or, where memory was refused, `OutOfMemory` or, where the
+/// start of a worker was, `WorkerRefused`.
+pub fn hash_raw<R: Threads + Wait + Sync>(
+    rt: &R,
+    alloc: Global,
+    pwd: &[u8],
+    salt: &[u8],
+    config: &Config,
+) -> Result<Vec<u8>>
+    ensures { IsHash pwd.now salt.now config.now (may_lack_workers config.now)
+        (λ tag expected. tag.items ≡ expected) result }
+{
+    hash_raw_in(rt, alloc, &mut Memory::empty(alloc), pwd, salt, config)
+}
+
+/// The tag of a password, as `hash_raw` gives it, computed over a memory that the caller keeps. One
+/// that has the lanes and the lane length of the call is used as it is, whatever stands in it, and
+/// asks for no blocks; another is given back first, and made anew in its place.
+///
+/// After the call the memory holds what the password was hashed with. It is not wiped. Where memory
+/// or a worker was refused, it may have no lanes.
+pub fn hash_raw_in<'a, R: Threads + Wait + Sync>(
+    rt: &R,
+    alloc: Global,
+    memory: &mut Memory,
+    pwd: &'a [u8],
+    salt: &'a [u8],
+    config: &Config<'a>,
+) -> Result<Vec<u8>>
+    ensures { IsHash pwd.now salt.now config.now (may_lack_workers config.now)
+        (λ tag expected. tag.items ≡ expected) result }
+{
+    match Context::new(*config, pwd, salt) {
+        Ok(context) => tag(rt, alloc, memory, &context),
+        Err(refusal) => Err(refusal),
+    }
+}
+
+/// The tag of a password, as `hash_raw` gives it, computed in the caller's thread whatever the
+/// thread mode is.
+pub fn hash_raw_sequential(
+    alloc: Global,
+    pwd: &[u8],
+    salt: &[u8],
+    config: &Config,
+) -> Result<Vec<u8>>
+    ensures { IsHash pwd.now salt.now config.now false
+        (λ tag expected. tag.items ≡ expected) result }
+{
+    hash_raw_in_sequential(alloc, &mut Memory::empty(alloc), pwd, salt, config)
+}
+
+/// The tag of a password, computed in the caller's thread over a memory that the caller keeps, of
+/// which `hash_raw_in` says more.
+pub fn hash_raw_in_sequential<'a>(
+    alloc: Global,
+    memory: &mut Memory,
+    pwd: &'a [u8],
+    salt: &'a [u8],
+    config: &Config<'a>,
+) -> Result<Vec<u8>>
+    ensures { IsHash pwd.now salt.now config.now false
+        (λ tag expected. tag.items ≡ expected) result }
+{
+    match Context::new(*config, pwd, salt) {
+        Ok(context) => tag_sequential(alloc, memory, &context),
+        Err(refusal) => Err(refusal),
+    }
+}
+
+/// The encoded text (PHC string) of a password's hash, as `encode_string` writes it. It answers as
+/// `hash_raw`, with the text in place of the tag.
+pub fn hash_encoded<R: Threads + Wait + Sync>(
+    rt: &R,
+    alloc: Global,
+    pwd: &[u8],
+    salt: &[u8],
+    config: &Config,
+) -> Result<String>
+    ensures { IsHash pwd.now salt.now config.now (may_lack_workers config.now)
+        (λ text tag. string_bytes text ≡ text_of (spelled_of config.now salt.now tag)) result }
+{
+    hash_encoded_in(rt, alloc, &mut Memory::empty(alloc), pwd, salt, config)
+}
+
+/// The encoded text of a password's hash, computed over a memory that the caller keeps, of which
+/// `hash_raw_in` says more.
+pub fn hash_encoded_in<'a, R: Threads + Wait + Sync>(
+    rt: &R,
+    alloc: Global,
+    memory: &mut Memory,
+    pwd: &'a [u8],
+    salt: &'a [u8],
+    config: &Config<'a>,
+) -> Result<String>
+    ensures { IsHash pwd.now salt.now config.now (may_lack_workers config.now)
+        (λ text tag. string_bytes text ≡ text_of (spelled_of config.now salt.now tag)) result }
+{
+    match Context::new(*config, pwd, salt) {
+        Ok(context) => {
+            let hash = tag(rt, alloc, memory, &context)?;
+            encode_string(alloc, &context, &hash)
+        }
+        Err(refusal) => Err(refusal),
+    }
+}
+
+/// The encoded text of a password's hash, as `hash_encoded` gives it, computed in the caller's thread
+/// whatever the thread mode is.
+pub fn hash_encoded_sequential(
+    alloc: Global,
+    pwd: &[u8],
+    salt: &[u8],
+    config: &Config,
+) -> Result<String>
+    ensures { IsHash pwd.now salt.now config.now false
+        (λ text tag. string_bytes text ≡ text_of (spelled_of config.now salt.now tag)) result }
+{
+    hash_encoded_in_sequential(alloc, &mut Memory::empty(alloc), pwd, salt, config)
+}
+
+/// The encoded text of a password's hash, computed in the caller's thread over a memory that the
+/// caller keeps, of which `hash_raw_in` says more.
+pub fn hash_encoded_in_sequential<'a>(
+    alloc: Global,
+    memory: &mut Memory,
+    pwd: &'a [u8],
+    salt: &'a [u8],
+    config: &Config<'a>,
+) -> Result<String>
+    ensures { IsHash pwd.now salt.now config.now false
+        (λ text tag. string_bytes text ≡ text_of (spelled_of config.now salt.now tag)) result }
+{
+    match Context::new(*config, pwd, salt) {
+        Ok(context) => {
+            let hash = tag_sequential(alloc, memory, &context)?;
+            encode_string(alloc, &context, &hash)
+        }
+        Err(refusal) => Err(refusal),
+    }
+}

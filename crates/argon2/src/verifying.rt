@@ -1,0 +1,182 @@
+//! Verifying a password against a hash.
+
+ghost use Rattle.std.specs.Prelude.{◌≡◌, ◌↔◌, IfErr, IfOk, IsTrue, None, Some, false, length};
+ghost use Rattle.argon2_settings.specs.Standard.ThreadModes.{may_lack_workers};
+ghost use Rattle.argon2_settings.specs.Standard.SettingsTable.{refusal_of};
+ghost use Rattle.argon2.specs.Standard.Verdict.{IsVerdict};
+ghost use Rattle.argon2.specs.Views.Comparison.{difference_of};
+
+mod texts;
+
+use crate::hashing::{tag, tag_sequential};
+use crate::parts::context::{Context, first_refusal};
+use crate::parts::memory::Memory;
+use crate::{Config, Result};
+use argon2_settings::context::accepted_context;
+use std::alloc::Global;
+use std::marker::Sync;
+use std::sync::Wait;
+use std::thread::Threads;
+pub use texts::{
+    verify_encoded, verify_encoded_ext, verify_encoded_in, verify_encoded_in_sequential,
+    verify_encoded_sequential,
+};
+
+/// The bits in which two hashes of one length differ at any place.
+fn difference(one: &[u8], other: &[u8]) -> u8
+    ensures { result ≡ difference_of one.now other.now }
+{
+    one.iter()
+        .zip(other)
+        .fold(0, |difference, (a, b)| difference | (a ^ b))
+}
+
+/// Whether two hashes of one length are equal. It looks at every byte of both.
+fn are_equal(one: &[u8], other: &[u8]) -> bool
+    requires { length one.now ≡ length other.now }
+    ensures { IsTrue result ↔ (one.now ≡ other.now) }
+{
+    difference(one, other) == 0
+}
+
+/// The context of a hash of this hash's own length, whatever `config.hash_length` is.
+#[tactic(auto, unfolding(argon2_settings::specs::Standard::SettingsTable::refusal_of))]
+fn context_of_hash<'a>(
+    config: Config<'a>,
+    pwd: &'a [u8],
+    salt: &'a [u8],
+    hash: &[u8],
+) -> Result<Context<'a>>
+    ensures accepted { IfOk result (λ c. refusal_of config.entry (length pwd.entry.now)
+        (length salt.entry.now) (length hash.now) ≡ None) }
+    ensures config { IfOk result (λ c. c.config
+        ≡ record config.entry { hash_length = length hash.now }) }
+    ensures inputs { IfOk result (λ c. (c.pwd.now ≡ pwd.entry.now)
+        × (c.salt.now ≡ salt.entry.now)) }
+    ensures refused { IfErr result (λ e. refusal_of config.entry (length pwd.entry.now)
+        (length salt.entry.now) (length hash.now) ≡ Some e) }
+{
+    let hash_len = hash.len() as u64;
+    match first_refusal(&config, pwd.len() as u64, salt.len() as u64, hash_len) {
+        None => {
+            let hash_length = hash_len as u32;
+            let config = Config {
+                hash_length,
+                ..config
+            };
+            Ok(accepted_context(config, pwd, salt))
+        }
+        Some(refusal) => Err(refusal),
+    }
+}
+
+/// Whether a hash is the tag of an accepted call of its length, computed over a memory in the thread
+/// mode of the configuration.
+fn is_tag<R: Threads + Wait + Sync>(
+    rt: &R,
+    alloc: Global,
+    memory: &mut Memory,
+    context: &Context<'_>,
+    hash: &[u8],
+) -> Result<bool>
+    requires length { length hash.now ≡ context.now.config.hash_length }
+    ensures { let c = context.now in
+        IsVerdict c.pwd.now c.salt.now hash.now c.config (may_lack_workers c.config) result }
+{
+    let tag = tag(rt, alloc, memory, context)?;
+    Ok(are_equal(&tag, hash))
+}
+
+/// Whether a hash is the tag of an accepted call of its length, computed over a memory in the caller's
+/// thread.
+fn is_tag_sequential(
+    alloc: Global,
+    memory: &mut Memory,
+    context: &Context<'_>,
+    hash: &[u8],
+) -> Result<bool>
+    requires length { length hash.now ≡ context.now.config.hash_length }
+    ensures { let c = context.now in
+        IsVerdict c.pwd.now c.salt.now hash.now c.config false result }
+{
+    let tag = tag_sequential(alloc, memory, context)?;
+    Ok(are_equal(&tag, hash))
+}
+
+/// Whether a hash is the tag of its own length.
+///
+/// The settings are judged with the length of the hash; `config.hash_length` is not looked at. The
+/// first refusal is the only answer where there is one, before any memory is asked for: a hash of
+/// more than 2^32 - 1 bytes is `OutputTooLong`. Else the answer is whether the hash is the tag or,
+/// where memory or the start of a worker was refused, `OutOfMemory` or `WorkerRefused`.
+pub fn verify_raw<R: Threads + Wait + Sync>(
+    rt: &R,
+    alloc: Global,
+    pwd: &[u8],
+    salt: &[u8],
+    hash: &[u8],
+    config: &Config,
+) -> Result<bool>
+    ensures { IsVerdict pwd.now salt.now hash.now config.now (may_lack_workers config.now) result }
+{
+    verify_raw_in(
+        rt,
+        alloc,
+        &mut Memory::empty(alloc),
+        pwd,
+        salt,
+        hash,
+        config,
+    )
+}
+
+/// Whether a hash is the tag of its own length, as `verify_raw` says, computed over a memory that the
+/// caller keeps, of which `hash_raw_in` says more.
+pub fn verify_raw_in<'a, R: Threads + Wait + Sync>(
+    rt: &R,
+    alloc: Global,
+    memory: &mut Memory,
+    pwd: &'a [u8],
+    salt: &'a [u8],
+    hash: &[u8],
+    config: &Config<'a>,
+) -> Result<bool>
+    ensures { IsVerdict pwd.now salt.now hash.now config.now (may_lack_workers config.now) result }
+{
+    match context_of_hash(*config, pwd, salt, hash) {
+        Ok(context) => is_tag(rt, alloc, memory, &context, hash),
+        Err(refusal) => Err(refusal),
+    }
+}
+
+/// Whether a hash is the tag of its own length, as `verify_raw` says, computed in the caller's
+/// thread whatever the thread mode is.
+pub fn verify_raw_sequential(
+    alloc: Global,
+    pwd: &[u8],
+    salt: &[u8],
+    hash: &[u8],
+    config: &Config,
+) -> Result<bool>
+    ensures { IsVerdict pwd.now salt.now hash.now config.now false result }
+{
+    verify_raw_in_sequential(alloc, &mut Memory::empty(alloc), pwd, salt, hash, config)
+}
+
+/// Whether a hash is the tag of its own length, computed in the caller's thread over a memory that the
+/// caller keeps, of which `hash_raw_in` says more.
+pub fn verify_raw_in_sequential<'a>(
+    alloc: Global,
+    memory: &mut Memory,
+    pwd: &'a [u8],
+    salt: &'a [u8],
+    hash: &[u8],
+    config: &Config<'a>,
+) -> Result<bool>
+    ensures { IsVerdict pwd.now salt.now hash.now config.now false result }
+{
+    match context_of_hash(*config, pwd, salt, hash) {
+        Ok(context) => is_tag_sequential(alloc, memory, &context, hash),
+        Err(refusal) => Err(refusal),
+    }
+}

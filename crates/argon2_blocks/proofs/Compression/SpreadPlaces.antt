@@ -1,0 +1,199 @@
+-- Rows and columns that change their places among vectors.
+use Rattle.std.proofs.Common.{◌≡◌, ℕ, ◌<◌, ◌+◌, List, [], ◌∷◌, ◌++◌, length, refl, arith, sym}
+use Rattle.std.specs.List.{range_with_len}
+use Rattle.std.specs.Simd.Lanes.{Each1, pick_l}
+use Rattle.std.proofs.lemmas.Simd.{Each1-get_or}
+use Rattle.argon2_blocks.specs.Views.Lane.{column, vector_pair}
+use Rattle.argon2_blocks.specs.Views.Shuffles.{high_halves, low_halves}
+use Rattle.argon2_blocks.specs.Views.Spread.{diagonals, four_and_four, nth_vector, odd_and_even, spread_row, turned_halves, undo_diagonals}
+use Rattle.argon2_blocks.proofs.Compression.Chunks.{Long}
+use Rattle.argon2_blocks.proofs.Compression.Places.{by_elements, each_of_4, each_of_8, two_eights}
+
+-- the vectors, one by one
+abbrev pub all_of_8 : List (List ℕ) → List (List ℕ)
+all_of_8 v = pick_l [] v (range_with_len 0 8)
+
+-- what holds of eight vectors, one by one, for each of four rows or columns
+by_vectors : (P : List (List ℕ) → ℕ → Type 0) → (v : List (List ℕ)) → length v ≡ 8 →
+    P (all_of_8 v) 0 → P (all_of_8 v) 1 → P (all_of_8 v) 2 → P (all_of_8 v) 3 → (k : ℕ) → k < 4 → P v k
+by_vectors P v l p0 p1 p2 p3 k h = by_elements [] 8 (λ v. P v k) v l (each_of_4 (P (all_of_8 v)) p0 p1 p2 p3 k h)
+
+-- ---- diagonals
+
+-- the first, third and last two of eight vectors with their halves turned
+abbrev pub turned_rows : ℕ → ℕ → ℕ → List (List ℕ) → List (List ℕ)
+turned_rows a c d v =
+    turned_halves a (nth_vector v 0) ∷ turned_halves a (nth_vector v 1) ∷ nth_vector v 2 ∷ nth_vector v 3
+    ∷ turned_halves c (nth_vector v 4) ∷ turned_halves c (nth_vector v 5) ∷ turned_halves d (nth_vector v 6) ∷ turned_halves d (nth_vector v 7) ∷ []
+
+-- with the halves turned by 3, 1 and 2 lanes, each of four rows has its diagonals as columns
+pub rows_aligned : (v : List (List ℕ)) → length v ≡ 8 → (j : ℕ) → j < 4 → spread_row (turned_rows 3 1 2 v) j ≡ diagonals (spread_row v j)
+rows_aligned v l j h = by_vectors (λ v j. spread_row (turned_rows 3 1 2 v) j ≡ diagonals (spread_row v j)) v l refl refl refl refl j h
+
+-- with the halves turned by 1, 3 and 2 lanes, each of four rows has its diagonals back
+pub rows_restored : (v : List (List ℕ)) → length v ≡ 8 → (j : ℕ) → j < 4 → spread_row (turned_rows 1 3 2 v) j ≡ undo_diagonals (spread_row v j)
+rows_restored v l j h = by_vectors (λ v j. spread_row (turned_rows 1 3 2 v) j ≡ undo_diagonals (spread_row v j)) v l refl refl refl refl j h
+
+-- the odd lanes of vector i and the even lanes of vector k
+abbrev pub mingled : List (List ℕ) → ℕ → ℕ → List ℕ
+mingled v i k = odd_and_even (nth_vector v i) (nth_vector v k)
+
+abbrev pub aligned_columns : List (List ℕ) → List (List ℕ)
+aligned_columns v =
+    mingled v 1 0 ∷ mingled v 0 1 ∷ nth_vector v 2 ∷ nth_vector v 3 ∷ mingled v 4 5 ∷ mingled v 5 4 ∷ nth_vector v 7 ∷ nth_vector v 6 ∷ []
+
+abbrev pub restored_columns : List (List ℕ) → List (List ℕ)
+restored_columns v =
+    mingled v 0 1 ∷ mingled v 1 0 ∷ nth_vector v 2 ∷ nth_vector v 3 ∷ mingled v 5 4 ∷ mingled v 4 5 ∷ nth_vector v 7 ∷ nth_vector v 6 ∷ []
+
+-- in the aligned vectors each of four columns of the block has its diagonals as columns
+pub columns_aligned : (v : List (List ℕ)) → length v ≡ 8 → (k : ℕ) → k < 4 → column (nth_vector (aligned_columns v)) k ≡ diagonals (column (nth_vector v) k)
+columns_aligned v l k h =
+    by_vectors (λ v k. column (nth_vector (aligned_columns v)) k ≡ diagonals (column (nth_vector v) k)) v l refl refl refl refl k h
+
+-- in the restored vectors each of four columns of the block has its diagonals back
+pub columns_restored : (v : List (List ℕ)) → length v ≡ 8 → (k : ℕ) → k < 4
+    → column (nth_vector (restored_columns v)) k ≡ undo_diagonals (column (nth_vector v) k)
+columns_restored v l k h =
+    by_vectors (λ v k. column (nth_vector (restored_columns v)) k ≡ undo_diagonals (column (nth_vector v) k)) v l refl refl refl refl k h
+
+-- ---- from vectors to rows, from rows to columns, and back to vectors
+
+-- the first, and the second, halves of the vectors i and k
+abbrev pub low : List (List ℕ) → ℕ → ℕ → List ℕ
+low v i k = low_halves (nth_vector v i) (nth_vector v k)
+
+abbrev pub high : List (List ℕ) → ℕ → ℕ → List ℕ
+high v i k = high_halves (nth_vector v i) (nth_vector v k)
+
+abbrev pub rows_of : List (List ℕ) → List (List ℕ)
+rows_of v = low v 0 2 ∷ low v 4 6 ∷ high v 0 2 ∷ high v 4 6 ∷ low v 1 3 ∷ low v 5 7 ∷ high v 1 3 ∷ high v 5 7 ∷ []
+
+-- row j of four that are spread over eight vectors is what vectors 2 * j and 2 * j + 1 held
+pub rows_spread : (v : List (List ℕ)) →
+    length (nth_vector v 0) ≡ 8 → length (nth_vector v 1) ≡ 8 → length (nth_vector v 2) ≡ 8 → length (nth_vector v 3) ≡ 8 →
+    length (nth_vector v 4) ≡ 8 → length (nth_vector v 5) ≡ 8 → length (nth_vector v 6) ≡ 8 → length (nth_vector v 7) ≡ 8 →
+    (j : ℕ) → j < 4 → spread_row (rows_of v) j ≡ vector_pair v j
+rows_spread v l0 l1 l2 l3 l4 l5 l6 l7 j h =
+    each_of_4 (λ j. spread_row (rows_of v) j ≡ vector_pair v j)
+    (two_eights (nth_vector v 0) (nth_vector v 1) l0 l1) (two_eights (nth_vector v 2) (nth_vector v 3) l2 l3)
+    (two_eights (nth_vector v 4) (nth_vector v 5) l4 l5) (two_eights (nth_vector v 6) (nth_vector v 7) l6 l7) j h
+
+abbrev pub left_of : List (List ℕ) → List (List ℕ) → List (List ℕ)
+left_of u v = low u 0 2 ∷ high u 0 2 ∷ low u 1 3 ∷ high u 1 3 ∷ low v 0 2 ∷ high v 0 2 ∷ low v 1 3 ∷ high v 1 3 ∷ []
+
+abbrev pub right_of : List (List ℕ) → List (List ℕ) → List (List ℕ)
+right_of u v = low u 4 6 ∷ high u 4 6 ∷ low u 5 7 ∷ high u 5 7 ∷ low v 4 6 ∷ high v 4 6 ∷ low v 5 7 ∷ high v 5 7 ∷ []
+
+-- eight rows that are spread four and four
+abbrev pub eight_rows : List (List ℕ) → List (List ℕ) → ℕ → List ℕ
+eight_rows u v = four_and_four (spread_row u) (spread_row v)
+
+-- the vectors of the left halves of eight rows hold the columns 0 to 3 of those rows
+pub left_columns : (u v : List (List ℕ)) (k : ℕ) → k < 4 → column (nth_vector (left_of u v)) k ≡ column (eight_rows u v) k
+left_columns u v k h = each_of_4 (λ k. column (nth_vector (left_of u v)) k ≡ column (eight_rows u v) k) refl refl refl refl k h
+
+-- the vectors of the right halves of eight rows hold the columns 4 to 7 of those rows
+pub right_columns : (u v : List (List ℕ)) (k : ℕ) → k < 4 → column (nth_vector (right_of u v)) k ≡ column (eight_rows u v) (k + 4)
+right_columns u v k h = each_of_4 (λ k. column (nth_vector (right_of u v)) k ≡ column (eight_rows u v) (k + 4)) refl refl refl refl k h
+
+-- two vectors of each eight, by turns
+abbrev pub halves_joined : List (List ℕ) → List (List ℕ) → List (List ℕ)
+halves_joined u v =
+    nth_vector u 0 ∷ nth_vector v 0 ∷ nth_vector u 1 ∷ nth_vector v 1 ∷ nth_vector u 2 ∷ nth_vector v 2 ∷ nth_vector u 3 ∷ nth_vector v 3
+    ∷ nth_vector u 4 ∷ nth_vector v 4 ∷ nth_vector u 5 ∷ nth_vector v 5 ∷ nth_vector u 6 ∷ nth_vector v 6 ∷ nth_vector u 7 ∷ nth_vector v 7 ∷ []
+
+-- eight columns, of which four and four stand in the halves of the rows
+abbrev pub eight_columns : List (List ℕ) → List (List ℕ) → ℕ → List ℕ
+eight_columns u v = four_and_four (column (nth_vector u)) (column (nth_vector v))
+
+-- the vectors number j of two lists, joined, are the eight words of the one and of the other
+joined_row : (u v : List (List ℕ)) → length u ≡ 8 → length v ≡ 8 → Each1 Long u → Each1 Long v → (j : ℕ) → j < 8 →
+    nth_vector u j ++ nth_vector v j ≡ pick_l 0 (nth_vector u j) (range_with_len 0 8) ++ pick_l 0 (nth_vector v j) (range_with_len 0 8)
+joined_row u v lu lv eu ev j h =
+    sym (two_eights (nth_vector u j) (nth_vector v j) (Each1-get_or Long u j [] (omega arith) eu) (Each1-get_or Long v j [] (omega arith) ev))
+
+-- row j of eight columns is vector j of the left four and then vector j of the right four
+pub rows_joined : (u v : List (List ℕ)) → length u ≡ 8 → length v ≡ 8 → Each1 Long u → Each1 Long v →
+    (j : ℕ) → j < 8 → vector_pair (halves_joined u v) j ≡ column (eight_columns u v) j
+rows_joined u v lu lv eu ev j h =
+    let row = λ (j : ℕ) (h : j < 8). joined_row u v lu lv eu ev j h in
+    each_of_8 (λ j. vector_pair (halves_joined u v) j ≡ column (eight_columns u v) j)
+    (row 0 (omega arith)) (row 1 (omega arith)) (row 2 (omega arith)) (row 3 (omega arith))
+    (row 4 (omega arith)) (row 5 (omega arith)) (row 6 (omega arith)) (row 7 (omega arith)) j h
+
+-- vectors of eight words each, taken from two lists by turns, have eight words each
+pub halves_long : (u v : List (List ℕ)) → length u ≡ 8 → length v ≡ 8 → Each1 Long u → Each1 Long v → Each1 Long (halves_joined u v)
+halves_long u v lu lv eu ev =
+    let a = λ (k : ℕ) (h : k < 8). Each1-get_or Long u k [] (omega arith) eu in
+    let b = λ (k : ℕ) (h : k < 8). Each1-get_or Long v k [] (omega arith) ev in (
+      a 0 (omega arith),
+      (
+        b 0 (omega arith),
+        (
+          a 1 (omega arith),
+          (
+            b 1 (omega arith),
+            (
+              a 2 (omega arith),
+              (
+                b 2 (omega arith),
+                (
+                  a 3 (omega arith),
+                  (
+                    b 3 (omega arith),
+                    (
+                      a 4 (omega arith),
+                      (
+                        b 4 (omega arith),
+                        (
+                          a 5 (omega arith),
+                          (
+                            b 5 (omega arith),
+                            (
+                              a 6 (omega arith),
+                              (
+                                b 6 (omega arith),
+                                (
+                                  a 7
+                                      (omega arith),
+                                  (b 7 (omega arith), tt),
+                                ),
+                              ),
+                            ),
+                          ),
+                        ),
+                      ),
+                    ),
+                  ),
+                ),
+              ),
+            ),
+          ),
+        ),
+      ),
+    )
+
+-- ---- eight rows, or columns, four by four
+
+-- eight lists are those of q if the first four and the last four are
+pub told_by_fours : (f g q : ℕ → List ℕ) → ((k : ℕ) → k < 4 → f k ≡ q k) → ((k : ℕ) → k < 4 → g k ≡ q (k + 4)) →
+    (k : ℕ) → k < 8 → four_and_four f g k ≡ q k
+told_by_fours f g q ef eg k h =
+    each_of_8 (λ k. four_and_four f g k ≡ q k)
+    (ef 0 (omega arith)) (ef 1 (omega arith)) (ef 2 (omega arith)) (ef 3 (omega arith))
+    (eg 0 (omega arith)) (eg 1 (omega arith)) (eg 2 (omega arith)) (eg 3 (omega arith)) k h
+
+-- eight vectors from the i-th on
+abbrev pub eight_from : ℕ → List (List ℕ) → List (List ℕ)
+eight_from i v =
+    nth_vector v i ∷ nth_vector v (i + 1) ∷ nth_vector v (i + 2) ∷ nth_vector v (i + 3)
+    ∷ nth_vector v (i + 4) ∷ nth_vector v (i + 5) ∷ nth_vector v (i + 6) ∷ nth_vector v (i + 7) ∷ []
+
+-- rows 0 to 3 of a block are the rows of its first eight vectors
+pub upper_pairs : (v : List (List ℕ)) (j : ℕ) → j < 4 → vector_pair (eight_from 0 v) j ≡ vector_pair v j
+upper_pairs v j h = each_of_4 (λ j. vector_pair (eight_from 0 v) j ≡ vector_pair v j) refl refl refl refl j h
+
+-- rows 4 to 7 of a block are the rows of its last eight vectors
+pub lower_pairs : (v : List (List ℕ)) (j : ℕ) → j < 4 → vector_pair (eight_from 8 v) j ≡ vector_pair v (j + 4)
+lower_pairs v j h = each_of_4 (λ j. vector_pair (eight_from 8 v) j ≡ vector_pair v (j + 4)) refl refl refl refl j h

@@ -1,0 +1,155 @@
+-- Words against the bytes that they stand for.
+use Rattle.std.proofs.Common.{◌≡◌, ℕ, zero, suc, ◌+◌, ◌-◌, ◌*◌, ◌^◌, ◌<◌, ◌≤◌, List, [], ◌∷◌, ◌++◌, length, take, drop, get_or, set, map, refl, sym}
+use Rattle.std.proofs.Common.{ap, ◌∙◌, arith, length-append, length-drop, lit<}
+use Rattle.std.proofs.lemmas.List.{append-nil, take_all, take_more, take_more_set, take-take, take-append-drop, drop-take, drop-drop, length-take-le}
+use Rattle.std.proofs.lemmas.List.{get_or-drop, get_or_default, same_lists}
+use Rattle.std.proofs.lemmas.List.Concat.{flat_map-append}
+use Rattle.std.proofs.lemmas.List.FromFn.{length-map-range_with_len, get_or-map-range_with_len, map-range_with_len_more}
+use Rattle.std.proofs.lemmas.Nat.{le_bytes_8, from_le_bytes-to_le_bytes_8}
+use Rattle.std.proofs.lemmas.Slice.{take-put_mid}
+use Rattle.std.specs.Prelude.{slice_range}
+use Rattle.std.specs.List.{range_with_len, flat_map}
+use Rattle.std.specs.Int.{w64, from_le_bytes, to_le_bytes}
+use Rattle.argon2_blocks.specs.Standard.Word.{words_of, bytes_of}
+use borrow.Rule.Slice.PartMut.{put_mid}
+
+-- ---- one word
+
+-- the word that begins a list, from its eight bytes one by one
+from_le_bytes-take : (l : List ℕ) → from_le_bytes w64 (take 8 l) ≡
+    from_le_bytes w64 (get_or l 0 0 ∷ get_or l 1 0 ∷ get_or l 2 0 ∷ get_or l 3 0
+    ∷ get_or l 4 0 ∷ get_or l 5 0 ∷ get_or l 6 0 ∷ get_or l 7 0 ∷ [])
+from_le_bytes-take [] = refl
+from_le_bytes-take (a ∷ []) = refl
+from_le_bytes-take (a ∷ b ∷ []) = refl
+from_le_bytes-take (a ∷ b ∷ c ∷ []) = refl
+from_le_bytes-take (a ∷ b ∷ c ∷ d ∷ []) = refl
+from_le_bytes-take (a ∷ b ∷ c ∷ d ∷ e ∷ []) = refl
+from_le_bytes-take (a ∷ b ∷ c ∷ d ∷ e ∷ f ∷ []) = refl
+from_le_bytes-take (a ∷ b ∷ c ∷ d ∷ e ∷ f ∷ g ∷ []) = refl
+from_le_bytes-take (a ∷ b ∷ c ∷ d ∷ e ∷ f ∷ g ∷ h ∷ r) = refl
+
+-- a part of eight bytes
+slice_range_8 : (bytes : List ℕ) (at : ℕ) → slice_range bytes at (at + 8) ≡ take 8 (drop at bytes)
+slice_range_8 bytes at = let e : at + 8 - at ≡ 8 = omega arith in rw e refl
+
+-- the word whose bytes begin at an index, from its eight bytes one by one
+pub word_at : (bytes : List ℕ) (at : ℕ) → from_le_bytes w64 (slice_range bytes at (at + 8)) ≡
+    from_le_bytes w64 (get_or bytes at 0 ∷ get_or bytes (at + 1) 0 ∷ get_or bytes (at + 2) 0 ∷ get_or bytes (at + 3) 0
+    ∷ get_or bytes (at + 4) 0 ∷ get_or bytes (at + 5) 0 ∷ get_or bytes (at + 6) 0 ∷ get_or bytes (at + 7) 0 ∷ [])
+word_at bytes at =
+    let e : at + 0 ≡ at = omega arith in
+    ap (from_le_bytes w64) (slice_range_8 bytes at) ∙ from_le_bytes-take (drop at bytes) ∙ (simp (get_or-drop, e))
+
+-- ---- a loop's step
+
+-- no words are read
+pub words_of_none : (bytes : List ℕ) → words_of 0 bytes ≡ []
+unfolding words_of
+words_of_none bytes = refl
+
+-- one more word is read
+pub words_of_more : (bytes words : List ℕ) (i x : ℕ) → i < length words → take i words ≡ words_of i bytes
+    → x ≡ from_le_bytes w64 (slice_range bytes (8 * i) (8 * i + 8)) → take (i + 1) (set words i x) ≡ words_of (i + 1) bytes
+unfolding words_of
+words_of_more bytes words i x lt held e =
+    let f = λ (i : ℕ). from_le_bytes w64 (slice_range bytes (8 * i) (8 * i + 8)) in
+    rw (take_more_set words i x lt, held, e) (sym (map-range_with_len_more f 0 i i (omega arith)))
+
+-- no words are written
+pub bytes_of_none : bytes_of [] ≡ []
+unfolding bytes_of
+bytes_of_none = refl
+
+-- one more word is written
+pub bytes_of_more : (bytes words ys : List ℕ) (i k : ℕ) → i < length words → 8 * i ≤ length bytes
+    → take (8 * i) bytes ≡ bytes_of (take i words) → ys ≡ to_le_bytes w64 (get_or words i 0)
+    → take (8 * (i + 1)) (put_mid (8 * i) k bytes ys) ≡ bytes_of (take (i + 1) words)
+unfolding bytes_of
+bytes_of_more bytes words ys i k lt fits held e =
+    let ly : length ys ≡ 8 = rw e refl in
+    let x = get_or words i 0 in
+    take-put_mid (8 * i) k bytes ys (8 * (i + 1)) (omega arith) fits
+    ∙ rw (held, e, take_more words i 0 lt) (sym (flat_map-append (to_le_bytes w64) (take i words) (x ∷ [])))
+
+-- all words are written
+pub bytes_of_all : (bytes words : List ℕ) (i : ℕ) → take (8 * i) bytes ≡ bytes_of (take i words) → length words ≤ i
+    → length bytes ≡ 8 * length words → bytes ≡ bytes_of words
+bytes_of_all bytes words i held all len =
+    sym (take_all (8 * i) bytes (omega arith)) ∙ held ∙ ap bytes_of (take_all i words all)
+
+-- ---- there and back
+
+-- a word has eight bytes
+pub length-bytes_of : (words : List ℕ) → length (bytes_of words) ≡ 8 * length words
+unfolding bytes_of
+length-bytes_of [] = refl
+length-bytes_of (x ∷ xs) =
+    let h = length-bytes_of xs in omega (arith, length-append (to_le_bytes w64 x) (flat_map (to_le_bytes w64) xs), h)
+
+-- a word's bytes among the others
+bytes_of_at : (words : List ℕ) (i : ℕ) → i < length words → take 8 (drop (8 * i) (bytes_of words)) ≡ to_le_bytes w64 (get_or words i 0)
+unfolding bytes_of
+bytes_of_at [] i lt = absurd (omega arith)
+bytes_of_at (x ∷ xs) zero lt = refl
+bytes_of_at (x ∷ xs) (suc i) lt =
+    let e : 8 * suc i ≡ 8 + 8 * i = omega arith in
+    rw (e, ← drop-drop) (bytes_of_at xs i (omega arith))
+
+-- the words in the bytes of words are those words
+pub words_of-bytes_of : (words : List ℕ) → ((i : ℕ) → get_or words i 0 < 2 ^ 64) → words_of (length words) (bytes_of words) ≡ words
+unfolding words_of
+words_of-bytes_of words small =
+    let f = λ (i : ℕ). from_le_bytes w64 (slice_range (bytes_of words) (8 * i) (8 * i + 8)) in
+    same_lists _ _ (length-map-range_with_len f 0 (length words)) (λ k d lt.
+    let within : k < length words = omega (arith, length-map-range_with_len f 0 (length words)) in
+    get_or-map-range_with_len f 0 (length words) k k d within (omega arith)
+    ∙ ap (from_le_bytes w64) (slice_range_8 (bytes_of words) (8 * k) ∙ bytes_of_at words k within)
+    ∙ from_le_bytes-to_le_bytes_8 (get_or words k 0) (small k)
+    ∙ get_or_default words k 0 d within)
+
+-- a byte of the first bytes is a byte
+get_or-take_fits : (l : List ℕ) (n i : ℕ) → ((k : ℕ) → get_or l k 0 < 256) → get_or (take n l) i 0 < 256
+get_or-take_fits [] zero i small = lit< tt
+get_or-take_fits [] (suc n) i small = lit< tt
+get_or-take_fits (x ∷ xs) zero i small = lit< tt
+get_or-take_fits (x ∷ xs) (suc n) zero small = small 0
+get_or-take_fits (x ∷ xs) (suc n) (suc i) small = get_or-take_fits xs n i (λ k. small (suc k))
+
+-- one more value of a function
+map-range_with_len_suc : (f : ℕ → ℕ) (n : ℕ) → map f (range_with_len 0 (suc n)) ≡ map f (range_with_len 0 n) ++ f n ∷ []
+map-range_with_len_suc f n =
+    let e : suc n ≡ n + 1 = omega arith in
+    ap (λ (k : ℕ). map f (range_with_len 0 k)) e ∙ map-range_with_len_more f 0 n n (omega arith)
+
+-- eight more bytes
+take_8_more : (bytes : List ℕ) (n : ℕ) → take (8 * suc n) bytes ≡ take (8 * n) bytes ++ take 8 (drop (8 * n) bytes)
+take_8_more bytes n =
+    let next : List ℕ = take (8 * n + 8) bytes in
+    let e : 8 * suc n ≡ 8 * n + 8 = omega arith in
+    let cut : take (8 * n) next ++ drop (8 * n) next ≡ next = take-append-drop (8 * n) next in
+    rw e (sym (rw (take-take (8 * n) (8 * n + 8) bytes (omega arith), drop-take (8 * n) 8 bytes) at cut))
+
+-- the bytes of the first n words in bytes are the first bytes
+bytes_of-words_of_front : (bytes : List ℕ) (n : ℕ) → ((i : ℕ) → get_or bytes i 0 < 256) → 8 * n ≤ length bytes
+    → bytes_of (words_of n bytes) ≡ take (8 * n) bytes
+unfolding words_of bytes_of
+bytes_of-words_of_front bytes zero small fits = refl
+bytes_of-words_of_front bytes (suc n) small fits =
+    let f = λ (i : ℕ). from_le_bytes w64 (slice_range bytes (8 * i) (8 * i + 8)) in
+    let rest : List ℕ = drop (8 * n) bytes in
+    let part : List ℕ = take 8 rest in
+    let ln : length part ≡ 8 = length-take-le 8 rest (omega (arith, length-drop (8 * n) bytes)) in
+    let low : (i : ℕ) → get_or part i 0 < 256 =
+    λ i. get_or-take_fits rest 8 i (λ k. rw (get_or-drop (8 * n) bytes k 0) (small (8 * n + k))) in
+    let whole : to_le_bytes w64 (f n) ≡ part = le_bytes_8 part (f n) ln low (ap (from_le_bytes w64) (slice_range_8 bytes (8 * n))) in
+    let split : take (8 * suc n) bytes ≡ take (8 * n) bytes ++ part = take_8_more bytes n in
+    let last : map f (range_with_len 0 (suc n)) ≡ map f (range_with_len 0 n) ++ f n ∷ [] = map-range_with_len_suc f n in
+    ap (flat_map (to_le_bytes w64)) last
+    ∙ flat_map-append (to_le_bytes w64) (map f (range_with_len 0 n)) (f n ∷ [])
+    ∙ rw (split, bytes_of-words_of_front bytes n small (omega arith), append-nil, whole) refl
+
+-- the bytes of the words in bytes are those bytes
+pub bytes_of-words_of : (bytes : List ℕ) (n : ℕ) → ((i : ℕ) → get_or bytes i 0 < 256) → length bytes ≡ 8 * n
+    → bytes_of (words_of n bytes) ≡ bytes
+bytes_of-words_of bytes n small e = bytes_of-words_of_front bytes n small (omega arith) ∙ take_all (8 * n) bytes (omega arith)

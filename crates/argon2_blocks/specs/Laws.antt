@@ -1,0 +1,2 @@
+-- Statements on the definitions, which calls without arguments carry.
+pub mod KnownAnswers

@@ -1,0 +1,201 @@
+/*
+ * Every number of the header, asked of the library: each refusal's with its text, the variants and the
+ * versions, the limits and the recommended settings.
+ *
+ * The tags are those of RFC 9106, section 5, and of the tests of the C reference implementation.
+ */
+#include "checks.h"
+
+#include <sys/mman.h>
+
+static const proved_argon2_settings small = {PROVED_ARGON2_ID, PROVED_ARGON2_VERSION_13, 8, 1, 1, 32};
+
+/* ---- refusals */
+
+typedef struct refusal {
+    uint32_t number;
+    const char *message;
+} refusal;
+
+static const refusal refusals[] = {
+    {PROVED_ARGON2_OUTPUT_TOO_SHORT, "Output is too short"},
+    {PROVED_ARGON2_OUTPUT_TOO_LONG, "Output is too long"},
+    {PROVED_ARGON2_PWD_TOO_SHORT, "Password is too short"},
+    {PROVED_ARGON2_PWD_TOO_LONG, "Password is too long"},
+    {PROVED_ARGON2_SALT_TOO_SHORT, "Salt is too short"},
+    {PROVED_ARGON2_SALT_TOO_LONG, "Salt is too long"},
+    {PROVED_ARGON2_AD_TOO_SHORT, "Associated data is too short"},
+    {PROVED_ARGON2_AD_TOO_LONG, "Associated data is too long"},
+    {PROVED_ARGON2_SECRET_TOO_SHORT, "Secret is too short"},
+    {PROVED_ARGON2_SECRET_TOO_LONG, "Secret is too long"},
+    {PROVED_ARGON2_TIME_TOO_SMALL, "Time cost is too small"},
+    {PROVED_ARGON2_TIME_TOO_LARGE, "Time cost is too large"},
+    {PROVED_ARGON2_MEMORY_TOO_LITTLE, "Memory cost is too small"},
+    {PROVED_ARGON2_MEMORY_TOO_MUCH, "Memory cost is too large"},
+    {PROVED_ARGON2_LANES_TOO_FEW, "Too few lanes"},
+    {PROVED_ARGON2_LANES_TOO_MANY, "Too many lanes"},
+    {PROVED_ARGON2_INCORRECT_TYPE, "There is no such type of Argon2"},
+    {PROVED_ARGON2_INCORRECT_VERSION, "There is no such version of Argon2"},
+    {PROVED_ARGON2_DECODING_FAIL, "Decoding failed"},
+    {PROVED_ARGON2_OUT_OF_MEMORY, "Out of memory"},
+    {PROVED_ARGON2_WORKER_REFUSED, "A worker was refused"},
+    {PROVED_ARGON2_MISMATCH, "The password does not match"},
+    {PROVED_ARGON2_WRONG_LENGTH, "The buffer has the wrong length"},
+    {PROVED_ARGON2_NOT_UTF8, "The text is not UTF-8"},
+    {PROVED_ARGON2_UNKNOWN_NUMBER, "There is no refusal of this number"},
+    {PROVED_ARGON2_NEEDS_REHASH, "The text was made with other settings"},
+};
+
+/* A text and zeros behind it, for each number of the header and for no other one. */
+static void check_refusals(void)
+{
+    static const char zeros[PROVED_ARGON2_MESSAGE_SIZE];
+    size_t known = 0;
+    for (size_t i = 0; i < sizeof refusals / sizeof *refusals; i++) {
+        char text[PROVED_ARGON2_MESSAGE_SIZE];
+        const size_t len = strlen(refusals[i].message);
+        memset(text, 7, sizeof text);
+        uint32_t code = proved_argon2_message(refusals[i].number, (uint8_t *)text, sizeof text);
+        check(code == PROVED_ARGON2_OK && memcmp(text, refusals[i].message, len) == 0 &&
+                  memcmp(text + len, zeros, sizeof text - len) == 0,
+              refusals[i].message);
+    }
+    for (uint32_t number = 0; number < 1000; number++) {
+        uint8_t text[PROVED_ARGON2_MESSAGE_SIZE];
+        known += proved_argon2_message(number, text, sizeof text) == PROVED_ARGON2_OK;
+    }
+    check(known == sizeof refusals / sizeof *refusals, "the library has no other refusal");
+}
+
+/* ---- variants and versions */
+
+/* The tag of RFC 9106, section 5, of a variant. */
+static void check_variant(uint32_t variant, const char *expected, const char *name)
+{
+    uint8_t pwd[32], salt[16], secret[8], ad[12], tag[32];
+    const proved_argon2_settings settings = {variant, PROVED_ARGON2_VERSION_13, 32, 3, 4, sizeof tag};
+    memset(pwd, 1, sizeof pwd);
+    memset(salt, 2, sizeof salt);
+    memset(secret, 3, sizeof secret);
+    memset(ad, 4, sizeof ad);
+    uint32_t code = proved_argon2_hash_raw(pwd, sizeof pwd, salt, sizeof salt, secret, sizeof secret, ad, sizeof ad,
+                                           &settings, tag, sizeof tag);
+    check(code == PROVED_ARGON2_OK && is_hex(tag, sizeof tag, expected), name);
+}
+
+/* The tag of the reference implementation's tests: Argon2i, 256 KiB, 2 passes, 1 lane. */
+static void check_version(uint32_t version, const char *expected, const char *name)
+{
+    uint8_t tag[32];
+    const proved_argon2_settings settings = {PROVED_ARGON2_I, version, 256, 2, 1, sizeof tag};
+    uint32_t code = proved_argon2_hash_raw(bytes_of("password"), 8, bytes_of("somesalt"), 8, NULL, 0, NULL, 0, &settings,
+                                           tag, sizeof tag);
+    check(code == PROVED_ARGON2_OK && is_hex(tag, sizeof tag, expected), name);
+}
+
+/* ---- limits */
+
+/* What the first refusal of settings and lengths is; no byte of the inputs is read. */
+typedef struct request {
+    proved_argon2_settings settings;
+    size_t pwd, salt, secret, ad;
+} request;
+
+static const uint8_t *readable;
+
+static uint32_t refusal_of(request request)
+{
+    uint8_t out[4];
+    return proved_argon2_hash_raw(readable, request.pwd, readable, request.salt, readable, request.secret, readable,
+                                  request.ad, &request.settings, out, sizeof out);
+}
+
+static void check_limits_of_settings(void)
+{
+    request it = {small, 0, 8, 0, 0};
+    it.settings.lanes = PROVED_ARGON2_MIN_LANES - 1;
+    check_code(refusal_of(it), PROVED_ARGON2_LANES_TOO_FEW, "one lane less than the least");
+    it.settings.lanes = PROVED_ARGON2_MIN_LANES;
+    check_code(refusal_of(it), PROVED_ARGON2_WRONG_LENGTH, "the least number of lanes");
+    it.settings.lanes = PROVED_ARGON2_MAX_LANES + 1;
+    check_code(refusal_of(it), PROVED_ARGON2_LANES_TOO_MANY, "one lane more than the most");
+    it.settings.lanes = PROVED_ARGON2_MAX_LANES;
+    it.settings.mem_cost = PROVED_ARGON2_MAX_LANES * PROVED_ARGON2_MIN_MEMORY_PER_LANE;
+    check_code(refusal_of(it), PROVED_ARGON2_WRONG_LENGTH, "the most lanes with the least memory");
+    it.settings.mem_cost -= 1;
+    check_code(refusal_of(it), PROVED_ARGON2_MEMORY_TOO_LITTLE, "1 KiB less than the least memory");
+    it.settings = small;
+    it.settings.time_cost = PROVED_ARGON2_MIN_TIME - 1;
+    check_code(refusal_of(it), PROVED_ARGON2_TIME_TOO_SMALL, "one pass less than the least");
+    it.settings.time_cost = PROVED_ARGON2_MIN_TIME;
+    check_code(refusal_of(it), PROVED_ARGON2_WRONG_LENGTH, "the least number of passes");
+    it.settings.hash_length = PROVED_ARGON2_MIN_HASH_LENGTH - 1;
+    check_code(refusal_of(it), PROVED_ARGON2_OUTPUT_TOO_SHORT, "a hash of one byte less than the least");
+    it.settings.hash_length = PROVED_ARGON2_MIN_HASH_LENGTH;
+    check_code(refusal_of(it), PROVED_ARGON2_OK, "the least hash");
+    it.settings.hash_length = PROVED_ARGON2_MAX_HASH_LENGTH;
+    check_code(refusal_of(it), PROVED_ARGON2_WRONG_LENGTH, "the longest hash");
+}
+
+/* Each greatest length is refused for what the table has behind it. */
+static void check_limits_of_inputs(void)
+{
+    request it = {small, (size_t)PROVED_ARGON2_MAX_PWD_LENGTH + 1, 8, 0, 0};
+    check_code(refusal_of(it), PROVED_ARGON2_PWD_TOO_LONG, "a password one byte too long");
+    it.pwd = PROVED_ARGON2_MAX_PWD_LENGTH;
+    it.salt = PROVED_ARGON2_MIN_SALT_LENGTH - 1;
+    check_code(refusal_of(it), PROVED_ARGON2_SALT_TOO_SHORT, "a salt one byte too short");
+    it.salt = (size_t)PROVED_ARGON2_MAX_SALT_LENGTH + 1;
+    check_code(refusal_of(it), PROVED_ARGON2_SALT_TOO_LONG, "a salt one byte too long");
+    it.salt = PROVED_ARGON2_MAX_SALT_LENGTH;
+    it.secret = (size_t)PROVED_ARGON2_MAX_SECRET_LENGTH + 1;
+    check_code(refusal_of(it), PROVED_ARGON2_SECRET_TOO_LONG, "a secret one byte too long");
+    it.secret = PROVED_ARGON2_MAX_SECRET_LENGTH;
+    it.ad = (size_t)PROVED_ARGON2_MAX_AD_LENGTH + 1;
+    check_code(refusal_of(it), PROVED_ARGON2_AD_TOO_LONG, "associated data one byte too long");
+    it.ad = PROVED_ARGON2_MAX_AD_LENGTH;
+    check_code(refusal_of(it), PROVED_ARGON2_WRONG_LENGTH, "the longest inputs");
+    it = (request){small, 0, PROVED_ARGON2_MIN_SALT_LENGTH, 0, 0};
+    check_code(refusal_of(it), PROVED_ARGON2_WRONG_LENGTH, "the shortest inputs");
+    uint32_t code = proved_argon2_verify_raw(NULL, 0, readable, 8, NULL, 0, NULL, 0, &small, readable,
+                                             (size_t)PROVED_ARGON2_MAX_HASH_LENGTH + 1);
+    check_code(code, PROVED_ARGON2_OUTPUT_TOO_LONG, "a hash one byte too long");
+}
+
+/* ---- recommended settings (OWASP, Password Storage Cheat Sheet; RFC 9106, section 4) */
+
+static void check_recommended(proved_argon2_settings settings, uint32_t mib, uint32_t passes, const char *name)
+{
+    check(settings.variant == PROVED_ARGON2_ID && settings.version == PROVED_ARGON2_VERSION_13 &&
+              settings.mem_cost == mib * 1024 && settings.time_cost == passes && settings.lanes == 1 &&
+              settings.hash_length == 32,
+          name);
+}
+
+int main(void)
+{
+    const size_t longest = (size_t)UINT32_MAX + 1;
+    void *mapped = mmap(NULL, longest, PROT_READ, MAP_PRIVATE | MAP_ANONYMOUS | MAP_NORESERVE, -1, 0);
+    check(mapped != MAP_FAILED, "4 GiB of addresses");
+    readable = (const uint8_t *)mapped;
+    check_refusals();
+    check_variant(PROVED_ARGON2_D, "512b391b6f1162975371d30919734294f868e3be3984f3c1a13a4db9fabe4acb", "Argon2d");
+    check_variant(PROVED_ARGON2_I, "c814d9d1dc7f37aa13f0d77f2494bda1c8de6b016dd388d29952a4c4672b6ce8", "Argon2i");
+    check_variant(PROVED_ARGON2_ID, "0d640df58d78766c08c037a34a8b53c9d01ef0452d75b65eb52520e96b01e659", "Argon2id");
+    check_version(PROVED_ARGON2_VERSION_10, "fd4dd83d762c49bdeaf57c47bdcd0c2f1babf863fdeb490df63ede9975fccf06",
+                  "version 0x10");
+    check_version(PROVED_ARGON2_VERSION_13, "89e9029f4637b295beb027056a7336c414fadd43f6b208645281cb214a56452f",
+                  "version 0x13");
+    check_limits_of_settings();
+    check_limits_of_inputs();
+    check_recommended(proved_argon2_owasp1(), 46, 1, "OWASP's first recommendation");
+    check_recommended(proved_argon2_owasp2(), 19, 2, "OWASP's second recommendation");
+    check_recommended(proved_argon2_owasp3(), 12, 3, "OWASP's third recommendation");
+    check_recommended(proved_argon2_owasp4(), 9, 4, "OWASP's fourth recommendation");
+    check_recommended(proved_argon2_owasp5(), 7, 5, "OWASP's fifth recommendation");
+    check_recommended(proved_argon2_rfc9106(), 2048, 1, "RFC 9106's first recommendation");
+    check_recommended(proved_argon2_rfc9106_low_mem(), 64, 3, "RFC 9106's second recommendation");
+    check(proved_argon2_library_version() == PROVED_ARGON2_LIBRARY_VERSION_NUMBER, "the version of the library");
+    printf("version %s %u\n", PROVED_ARGON2_LIBRARY_VERSION, (unsigned)PROVED_ARGON2_LIBRARY_VERSION_NUMBER);
+    return checks_failed != 0;
+}

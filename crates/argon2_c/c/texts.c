@@ -1,0 +1,138 @@
+/*
+ * Looking at texts without verifying them, what a refusal leaves, and null pointers with the length 0.
+ */
+#include "checks.h"
+
+static const proved_argon2_settings small = {PROVED_ARGON2_ID, PROVED_ARGON2_VERSION_13, 8, 1, 1, 32};
+
+/* A text of seven different numbers, of which no hash is made. */
+static const char text[] = "$argon2i$v=19$m=4294967295,t=0,p=6$c29tZXNhbHQ$AAAAAAAAAAAAAAAA";
+static const proved_argon2_settings settings_of_text = {
+    PROVED_ARGON2_I, PROVED_ARGON2_VERSION_13, 4294967295, 0, 6, 12,
+};
+
+static uint32_t needs_rehash(const proved_argon2_settings *settings)
+{
+    return proved_argon2_needs_rehash(bytes_of(text), strlen(text), settings);
+}
+
+static void check_reading(void)
+{
+    proved_argon2_stored stored;
+    memset(&stored, 7, sizeof stored);
+    uint32_t code = proved_argon2_read(bytes_of(text), strlen(text), &stored);
+    check_code(code, PROVED_ARGON2_OK, "a text of settings that no hash is made with is read");
+    check(memcmp(&stored.settings, &settings_of_text, sizeof settings_of_text) == 0, "its settings");
+    check(stored.salt_length == 8, "the length of its salt");
+    const char *older = "$Argon2d$m=+064,t=2,p=1$$";
+    const proved_argon2_settings settings_of_older = {PROVED_ARGON2_D, PROVED_ARGON2_VERSION_10, 64, 2, 1, 0};
+    code = proved_argon2_read(bytes_of(older), strlen(older), &stored);
+    check(code == PROVED_ARGON2_OK && memcmp(&stored.settings, &settings_of_older, sizeof settings_of_older) == 0 &&
+              stored.salt_length == 0,
+          "a text without a version, a salt and a hash");
+}
+
+/* What is no text is refused by a number, and what would have been written is as it was. */
+static void check_unread(const char *it, uint32_t refusal, const char *name)
+{
+    proved_argon2_stored stored, before;
+    memset(&stored, 7, sizeof stored);
+    memset(&before, 7, sizeof before);
+    uint32_t code = proved_argon2_read(bytes_of(it), strlen(it), &stored);
+    check(code == refusal && memcmp(&stored, &before, sizeof stored) == 0 &&
+              proved_argon2_needs_rehash(bytes_of(it), strlen(it), &small) == refusal &&
+              proved_argon2_verify_encoded(bytes_of(it), strlen(it), NULL, 0, NULL, 0, NULL, 0) == refusal,
+          name);
+}
+
+static void check_rehash(void)
+{
+    check_code(needs_rehash(&settings_of_text), PROVED_ARGON2_OK, "the settings of the text");
+    for (size_t i = 0; i < 6; i++) {
+        static const char *const names[6] = {"another variant", "another version", "another memory",
+                                             "another number of passes", "another number of lanes",
+                                             "another length of the hash"};
+        uint32_t numbers[6] = {PROVED_ARGON2_I, PROVED_ARGON2_VERSION_13, 4294967295, 0, 6, 12};
+        proved_argon2_settings other;
+        const uint32_t others[6] = {PROVED_ARGON2_D, PROVED_ARGON2_VERSION_10, 8, 1, 12, 6};
+        numbers[i] = others[i];
+        memcpy(&other, numbers, sizeof other);
+        check_code(needs_rehash(&other), PROVED_ARGON2_NEEDS_REHASH, names[i]);
+    }
+    proved_argon2_settings unknown = settings_of_text;
+    unknown.version = 0x11;
+    check_code(needs_rehash(&unknown), PROVED_ARGON2_INCORRECT_VERSION, "an unknown version");
+    unknown.variant = 3;
+    check_code(needs_rehash(&unknown), PROVED_ARGON2_INCORRECT_TYPE, "an unknown variant");
+}
+
+/* ---- null pointers with the length 0 */
+
+static void check_null_inputs(void)
+{
+    uint8_t tag[32], other[32];
+    const uint8_t none = 0;
+    char encoded[128];
+    proved_argon2_stored stored;
+    uint32_t code = proved_argon2_hash_raw(NULL, 0, bytes_of("somesalt"), 8, NULL, 0, NULL, 0, &small, tag, 32);
+    check_code(code, PROVED_ARGON2_OK, "no password, secret or associated data");
+    code = proved_argon2_hash_raw(&none, 0, bytes_of("somesalt"), 8, &none, 0, &none, 0, &small, other, 32);
+    check(code == PROVED_ARGON2_OK && memcmp(tag, other, sizeof tag) == 0, "it is as with an address");
+    code = proved_argon2_verify_raw(NULL, 0, bytes_of("somesalt"), 8, NULL, 0, NULL, 0, &small, tag, 32);
+    check_code(code, PROVED_ARGON2_OK, "its tag verifies");
+    code = proved_argon2_hash_encoded(NULL, 0, bytes_of("somesalt"), 8, NULL, 0, NULL, 0, &small, (uint8_t *)encoded,
+                                      sizeof encoded);
+    check_code(code, PROVED_ARGON2_OK, "its text");
+    code = proved_argon2_verify_encoded(bytes_of(encoded), strlen(encoded), NULL, 0, NULL, 0, NULL, 0);
+    check_code(code, PROVED_ARGON2_OK, "its text verifies");
+    code = proved_argon2_hash_raw(NULL, 0, NULL, 0, NULL, 0, NULL, 0, &small, tag, 32);
+    check_code(code, PROVED_ARGON2_SALT_TOO_SHORT, "no salt");
+    code = proved_argon2_verify_raw(NULL, 0, bytes_of("somesalt"), 8, NULL, 0, NULL, 0, &small, NULL, 0);
+    check_code(code, PROVED_ARGON2_OUTPUT_TOO_SHORT, "no hash");
+    code = proved_argon2_verify_encoded(NULL, 0, NULL, 0, NULL, 0, NULL, 0);
+    check_code(code, PROVED_ARGON2_DECODING_FAIL, "no text to verify");
+    check_code(proved_argon2_read(NULL, 0, &stored), PROVED_ARGON2_DECODING_FAIL, "no text to read");
+    check_code(proved_argon2_needs_rehash(NULL, 0, &small), PROVED_ARGON2_DECODING_FAIL, "no text to compare");
+}
+
+static void check_null_buffers(void)
+{
+    uint32_t code = proved_argon2_hash_raw(NULL, 0, bytes_of("somesalt"), 8, NULL, 0, NULL, 0, &small, NULL, 0);
+    check_code(code, PROVED_ARGON2_WRONG_LENGTH, "no buffer for a tag");
+    code = proved_argon2_hash_encoded(NULL, 0, bytes_of("somesalt"), 8, NULL, 0, NULL, 0, &small, NULL, 0);
+    check_code(code, PROVED_ARGON2_WRONG_LENGTH, "no buffer for a text");
+    code = proved_argon2_message(PROVED_ARGON2_OUT_OF_MEMORY, NULL, 0);
+    check_code(code, PROVED_ARGON2_WRONG_LENGTH, "no buffer for a message");
+}
+
+/* A buffer of another length is refused, and so is a shorter one for a text; it is as it was. */
+static void check_buffers(void)
+{
+    uint8_t buffer[128], before[128];
+    memset(buffer, 7, sizeof buffer);
+    memset(before, 7, sizeof before);
+    const size_t len = (size_t)proved_argon2_encoded_len(&small, 8);
+    uint32_t shorter = proved_argon2_hash_raw(NULL, 0, bytes_of("somesalt"), 8, NULL, 0, NULL, 0, &small, buffer, 31);
+    uint32_t longer = proved_argon2_hash_raw(NULL, 0, bytes_of("somesalt"), 8, NULL, 0, NULL, 0, &small, buffer, 33);
+    uint32_t full = proved_argon2_hash_encoded(NULL, 0, bytes_of("somesalt"), 8, NULL, 0, NULL, 0, &small, buffer, len);
+    uint32_t message = proved_argon2_message(PROVED_ARGON2_OUT_OF_MEMORY, buffer, strlen("Out of memory"));
+    check(memcmp(buffer, before, sizeof buffer) == 0, "refused buffers are as they were");
+    check_code(shorter, PROVED_ARGON2_WRONG_LENGTH, "a buffer of one byte less than the tag");
+    check_code(longer, PROVED_ARGON2_WRONG_LENGTH, "a buffer of one byte more than the tag");
+    check_code(full, PROVED_ARGON2_WRONG_LENGTH, "a buffer without room for a zero");
+    check_code(message, PROVED_ARGON2_WRONG_LENGTH, "a message without room for a zero");
+}
+
+int main(void)
+{
+    check_reading();
+    check_unread("\xff", PROVED_ARGON2_NOT_UTF8, "what is not UTF-8");
+    check_unread("", PROVED_ARGON2_DECODING_FAIL, "an empty text");
+    check_unread("$argon2id$v=19$m=8,t=1,p=1$c29tZXNhbHQ", PROVED_ARGON2_DECODING_FAIL, "a text without a hash");
+    check_unread("$argon2id$v=19$m=8,t=1,p=1$c29tZXNhbHQ$AAAAA", PROVED_ARGON2_DECODING_FAIL, "a faulty hash");
+    check_rehash();
+    check_null_inputs();
+    check_null_buffers();
+    check_buffers();
+    return checks_failed != 0;
+}

@@ -1,0 +1,125 @@
+/*
+ * Null pointers: a part of proved_argon2.h, which includes it.
+ *
+ * The functions of the library take no null pointer. Each call that takes bytes goes through a function
+ * below, which puts the address of a byte that nobody reads in place of a pointer with the length 0. A
+ * program that loads the library without the header has to do the same.
+ */
+#ifndef PROVED_ARGON2_NULL_H
+#define PROVED_ARGON2_NULL_H
+
+#include "proved_argon2.h"
+
+/* Bytes to read, or an address for none. */
+static inline const uint8_t *proved_argon2_readable(const uint8_t *bytes, size_t len)
+{
+    static const uint8_t none = 0;
+    return len == 0 ? &none : bytes;
+}
+
+/* Bytes to write to, or the address of spare for none. */
+static inline uint8_t *proved_argon2_writable(uint8_t *bytes, size_t len, uint8_t *spare)
+{
+    return len == 0 ? spare : bytes;
+}
+
+PROVED_ARGON2_CHECKED
+static inline uint32_t proved_argon2_nullable_hash_raw(
+    const uint8_t *pwd, size_t pwd_len,
+    const uint8_t *salt, size_t salt_len,
+    const uint8_t *secret, size_t secret_len,
+    const uint8_t *ad, size_t ad_len,
+    const proved_argon2_settings *settings,
+    uint8_t *out, size_t out_len)
+{
+    uint8_t spare;
+    return proved_argon2_hash_raw(
+        proved_argon2_readable(pwd, pwd_len), pwd_len,
+        proved_argon2_readable(salt, salt_len), salt_len,
+        proved_argon2_readable(secret, secret_len), secret_len,
+        proved_argon2_readable(ad, ad_len), ad_len,
+        settings,
+        proved_argon2_writable(out, out_len, &spare), out_len);
+}
+
+PROVED_ARGON2_CHECKED
+static inline uint32_t proved_argon2_nullable_hash_encoded(
+    const uint8_t *pwd, size_t pwd_len,
+    const uint8_t *salt, size_t salt_len,
+    const uint8_t *secret, size_t secret_len,
+    const uint8_t *ad, size_t ad_len,
+    const proved_argon2_settings *settings,
+    uint8_t *text, size_t text_len)
+{
+    uint8_t spare;
+    return proved_argon2_hash_encoded(
+        proved_argon2_readable(pwd, pwd_len), pwd_len,
+        proved_argon2_readable(salt, salt_len), salt_len,
+        proved_argon2_readable(secret, secret_len), secret_len,
+        proved_argon2_readable(ad, ad_len), ad_len,
+        settings,
+        proved_argon2_writable(text, text_len, &spare), text_len);
+}
+
+PROVED_ARGON2_CHECKED
+static inline uint32_t proved_argon2_nullable_verify_raw(
+    const uint8_t *pwd, size_t pwd_len,
+    const uint8_t *salt, size_t salt_len,
+    const uint8_t *secret, size_t secret_len,
+    const uint8_t *ad, size_t ad_len,
+    const proved_argon2_settings *settings,
+    const uint8_t *hash, size_t hash_len)
+{
+    return proved_argon2_verify_raw(
+        proved_argon2_readable(pwd, pwd_len), pwd_len,
+        proved_argon2_readable(salt, salt_len), salt_len,
+        proved_argon2_readable(secret, secret_len), secret_len,
+        proved_argon2_readable(ad, ad_len), ad_len,
+        settings,
+        proved_argon2_readable(hash, hash_len), hash_len);
+}
+
+PROVED_ARGON2_CHECKED
+static inline uint32_t proved_argon2_nullable_verify_encoded(
+    const uint8_t *text, size_t text_len,
+    const uint8_t *pwd, size_t pwd_len,
+    const uint8_t *secret, size_t secret_len,
+    const uint8_t *ad, size_t ad_len)
+{
+    return proved_argon2_verify_encoded(
+        proved_argon2_readable(text, text_len), text_len,
+        proved_argon2_readable(pwd, pwd_len), pwd_len,
+        proved_argon2_readable(secret, secret_len), secret_len,
+        proved_argon2_readable(ad, ad_len), ad_len);
+}
+
+PROVED_ARGON2_CHECKED
+static inline uint32_t proved_argon2_nullable_read(
+    const uint8_t *text, size_t text_len, proved_argon2_stored *stored)
+{
+    return proved_argon2_read(proved_argon2_readable(text, text_len), text_len, stored);
+}
+
+PROVED_ARGON2_CHECKED
+static inline uint32_t proved_argon2_nullable_needs_rehash(
+    const uint8_t *text, size_t text_len, const proved_argon2_settings *settings)
+{
+    return proved_argon2_needs_rehash(proved_argon2_readable(text, text_len), text_len, settings);
+}
+
+PROVED_ARGON2_CHECKED
+static inline uint32_t proved_argon2_nullable_message(uint32_t number, uint8_t *text, size_t text_len)
+{
+    uint8_t spare;
+    return proved_argon2_message(number, proved_argon2_writable(text, text_len, &spare), text_len);
+}
+
+#define proved_argon2_hash_raw proved_argon2_nullable_hash_raw
+#define proved_argon2_hash_encoded proved_argon2_nullable_hash_encoded
+#define proved_argon2_verify_raw proved_argon2_nullable_verify_raw
+#define proved_argon2_verify_encoded proved_argon2_nullable_verify_encoded
+#define proved_argon2_read proved_argon2_nullable_read
+#define proved_argon2_needs_rehash proved_argon2_nullable_needs_rehash
+#define proved_argon2_message proved_argon2_nullable_message
+
+#endif

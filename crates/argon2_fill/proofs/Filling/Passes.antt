@@ -1,0 +1,104 @@
+-- From one slice to the next, and what the slices write.
+use Rattle.std.proofs.Common.{◌≡◌, ℕ, zero, suc, ◌+◌, ◌-◌, ◌*◌, ◌/◌, ◌%◌, ◌^◌, ◌<◌, ◌≤◌, ◌⊎◌, false, List, [], refl, arith, cond, inl, inr, ◌∙◌, ap}
+use Rattle.std.specs.Prelude.{◌==◌, ◌&&◌}
+use Rattle.std.proofs.lemmas.Bool.Decides.{eqb_tells}
+use Rattle.std.proofs.lemmas.Bool.{cases_lt}
+use Rattle.argon2_settings.specs.Standard.Setting.{Setting, lane_length, memory_blocks}
+use Rattle.argon2_settings.specs.Views.Jobs.{IsSetting}
+use Rattle.argon2_fill.specs.Laws.Schedule.{blocks_in_slice}
+use Rattle.argon2_fill.specs.Views.Segments.{SegmentValue, IsReady, segment_at, segment_block}
+use Rattle.argon2_fill.specs.Views.Memories.{MemoryValue, HasShape, block_of, last_blocks_of, segment_in, IsFilledBelow, blocks_written}
+use Rattle.argon2_fill.specs.Laws.Matrix.{HoldsLastPass}
+use Rattle.argon2_fill.proofs.Filling.Slices.{slice_fits}
+use Rattle.argon2_fill.proofs.Schedules.AnyOrder.{IsNext, is_next, other_eqb}
+use Rattle.std.proofs.lemmas.List.FromFn.{get_or-map-range_with_len, length-map-range_with_len, fill_by_all}
+use Rattle.std.proofs.Math.Nat.{div-add-mod, mod-lt, mul-le-mul_right}
+use Rattle.argon2_settings.specs.Standard.Recurrence.{block_at}
+use Rattle.argon2_settings.specs.Standard.Tag.{last_blocks}
+
+-- slices filled up to the end of one are filled below the next, of the same pass or the next
+next-below : (s : Setting) (pass slice pass' slice' : ℕ) (m : List (List SegmentValue)) → IsNext pass slice pass' slice' →
+    IsFilledBelow s pass (slice + 1) m → IsFilledBelow s pass' slice' m
+next-below s pass slice pass' slice' m (inl w) filled = record {
+  below = λ k lane h fits. filled.below k lane (omega (arith, w.0)) fits ∙ ap (λ p. segment_at s p k lane) w.1;
+  above = λ k lane low high fits. rw w.1 at (filled.above k lane (omega (arith, w.0)) high fits);
+}
+next-below s pass slice pass' slice' m (inr w) filled = record {
+  below = λ k lane h fits. absurd (omega (arith, w.1));
+  above = λ k lane low high fits. let e : suc pass ≡ pass' = omega (arith, w.2) in rw (← e) (filled.below k lane (omega (arith, w.0)) fits);
+}
+
+-- slices filled up to the end of number n, over all passes, are filled below number n + 1
+pub next_slice : (s : Setting) (n : ℕ) (m : List (List SegmentValue)) → IsFilledBelow s (n / 4) (n % 4 + 1) m →
+    IsFilledBelow s ((n + 1) / 4) ((n + 1) % 4) m
+next_slice s n m filled =
+    let e : suc n ≡ n + 1 = omega arith in next-below s (n / 4) (n % 4) ((n + 1) / 4) ((n + 1) % 4) m (rw e at (is_next n)) filled
+
+-- a factor times a sum of two is the sum of its products with both
+dist : (p a b c : ℕ) → c ≡ a + b → p * c ≡ p * a + p * b
+dist p a b c e = rw e (omega arith)
+
+-- where one of two numbers is above 0, the test that both are 0 is false
+neither : (a b : ℕ) → (0 < a ⊎ 0 < b) → ((a == 0) && (b == 0)) ≡ false
+neither a b h = elim (eqb_tells a 0) [
+  | inl w ↦ rw (w.0, other_eqb b 0 (λ e. absurd (elim h [ inl l ↦ omega (arith, l, w.1) | inr l ↦ omega (arith, l, e) ]))) refl
+  | inr w ↦ rw w.0 refl
+]
+
+-- in p lanes the first n + 1 slices write what the first n do, and the blocks of slice number n
+written_after : (p len n : ℕ) → 2 ≤ len → p * ((n + 1) * len - cond (n + 1 == 0) 0 2) ≡ p * (n * len - cond (n == 0) 0 2) + p * cond ((n / 4 == 0) &&
+    (n % 4 == 0)) (len - 2) len
+written_after p len zero h = dist p (0 * len - 0) (len - 2) _ (omega arith)
+written_after p len (suc m) h =
+    let a : (suc m + 1 == 0) ≡ false = other_eqb (suc m + 1) 0 (λ e. absurd (omega (arith, e))) in
+    let b : (suc m == 0) ≡ false = other_eqb (suc m) 0 (λ e. absurd (omega (arith, e))) in
+    let c : ((suc m / 4 == 0) && (suc m % 4 == 0)) ≡ false = neither (suc m / 4) (suc m % 4) (elim (cases_lt 0
+    (suc m / 4)) [ inl l ↦ inl l | inr l ↦ inr (omega (arith, l)) ]) in
+    rw (a, b, c) (dist p (suc m * len - 2) len _ (let k : len ≤ suc m * len = omega arith in omega (arith, k, h)))
+
+-- two additions modulo 2 ^ 64, one after the other, are one addition of both
+pub add_written : (w b d x y : ℕ) → x ≡ (w + b) % 2 ^ 64 → y ≡ (x + d) % 2 ^ 64 → y ≡ (w + (b + d)) % 2 ^ 64
+add_written w b d x y e f = omega (arith, e, f)
+
+-- one slice more writes the blocks of that slice in each lane
+pub blocks_more : (s : Setting) (n : ℕ) → IsSetting s → blocks_written s (n + 1) ≡ blocks_written s n + s.lanes * blocks_in_slice s (n / 4) (n % 4)
+blocks_more s n good = written_after s.lanes s.segment_length n good.long_segments
+
+-- all slices together write each block once a pass, but for the first two of each lane
+pub all_written : (s : Setting) → IsSetting s → blocks_written s (4 * s.passes) ≡ s.passes * memory_blocks s - 2 * s.lanes
+all_written s good =
+    let some : (4 * s.passes == 0) ≡ false = other_eqb (4 * s.passes) 0 (λ e. absurd (omega (arith, good.some_pass, e))) in
+    let most : 2 ≤ 4 * s.passes * s.segment_length = let m = mul-le-mul_right s.segment_length good.some_pass in omega (arith, m, good.long_segments) in
+    let split = dist s.lanes (4 * s.passes * s.segment_length - 2) 2 (4 * s.passes * s.segment_length) (omega (arith, most)) in
+    rw some (omega (arith, split))
+
+-- ---- the end
+
+-- a segment that is ready for a pass after the first holds the blocks of the pass before
+last_in : (pass : ℕ) (s : Setting) (slice lane : ℕ) (blocks : List (List ℕ)) → 0 < pass → IsReady s pass slice lane blocks
+    → blocks ≡ segment_at s (pass - 1) slice lane
+last_in zero s slice lane blocks h ready = absurd (omega arith)
+last_in (suc last) s slice lane blocks h ready = ready ∙ ap (λ p. segment_at s p slice lane) (omega arith)
+
+-- a memory that is filled through all passes holds at each place the block of the last pass
+pub holds_last_pass : (s : Setting) → IsSetting s → (m : MemoryValue) → HasShape s m → IsFilledBelow s s.passes 0 m.slices → HoldsLastPass s (block_of m)
+holds_last_pass s good m shape filled = λ lane column fits inside.
+    let some : 0 < s.segment_length = omega (arith, good.long_segments) in
+    let few : column / s.segment_length < 4 = slice_fits column s.segment_length inside in
+    let e = last_in s.passes s (column / s.segment_length) lane (segment_in m.slices (column / s.segment_length) lane).blocks good.some_pass
+    (filled.above (column / s.segment_length) lane (omega arith) few fits) in
+    let d : column / s.segment_length * s.segment_length + column % s.segment_length ≡ column = let d = div-add-mod column s.segment_length in
+    omega (arith, d) in
+    rw (shape.segment_length, e)
+    (get_or-map-range_with_len (segment_block s (s.passes - 1) (column / s.segment_length) lane) 0 s.segment_length
+    (column % s.segment_length) (column % s.segment_length) [] (mod-lt column some) (omega arith)
+    ∙ ap (λ c. block_at s (record { pass = s.passes - 1; lane = lane; column = c })) d)
+
+-- where a memory holds the last pass, the last blocks of its lanes are the setting's
+pub last_blocks-are : (s : Setting) → IsSetting s → (m : MemoryValue) → HasShape s m → HoldsLastPass s (block_of m) → last_blocks_of m ≡ last_blocks s
+last_blocks-are s good m shape holds =
+    fill_by_all (λ lane. block_at s (record { pass = s.passes - 1; lane = lane; column = lane_length s - 1 })) (last_blocks_of m) s.lanes []
+    (length-map-range_with_len (λ lane. block_of m lane (4 * m.segment_length - 1)) 0 m.lanes ∙ shape.lanes)
+    (λ k h. get_or-map-range_with_len (λ lane. block_of m lane (4 * m.segment_length - 1)) 0 m.lanes k k [] (omega (arith, shape.lanes)) (omega arith)
+    ∙ ap (λ n. block_of m k (4 * n - 1)) shape.segment_length
+    ∙ holds k (lane_length s - 1) h (omega (arith, good.long_segments)))

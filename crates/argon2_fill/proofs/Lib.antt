@@ -1,0 +1,4 @@
+pub mod Recurrence
+pub mod Schedules
+pub mod Filling
+pub mod BoardFacts

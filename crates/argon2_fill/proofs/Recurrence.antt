@@ -1,0 +1,4 @@
+-- The recurrence, and what a block may refer to.
+pub mod References
+pub mod Recurrences
+pub mod Allowed

@@ -1,0 +1,5 @@
+-- Every order of single writes, and references that rest on no block.
+pub mod AnyOrder
+pub mod Entries
+pub mod IndependentEntries
+pub mod IndependentPositions

@@ -1,0 +1,20 @@
+use Rattle.std.proofs.Common.{ℕ, ◌+◌, ◌*◌, ◌/◌, ◌%◌, ◌^◌, sym, ◌∙◌, ap}
+use Rattle.argon2_fill.proofs.Filling.Passes.{next_slice, blocks_more, add_written}
+use Rattle.argon2_fill.specs.Views.Memories.{blocks_written, writes_in}
+use Rattle.argon2_fill.specs.Laws.Schedule.{blocks_in_slice}
+use Rattle.argon2_fill.specs.Views.SliceLists.{segments_of}
+use Rattle.argon2_fill.proofs.fill.fill_slices.Goals as goal
+
+pub loop-n-preserved : goal.loop-n-preserved
+loop-n-preserved c =
+    let s = c.args.job.now.setting in
+    let n = c.loop-n.n in
+    let before = writes_in (segments_of c.args.slices.now) in
+    let now = writes_in (segments_of c.fill_slice_in_turn.new.slices) in
+    record {
+      slices = rw c.numbered_slice.ensures at c.fill_slice_in_turn.ensures.slices;
+      filled = next_slice s n (segments_of c.fill_slice_in_turn.new.slices) (rw c.numbered_slice.ensures at c.fill_slice_in_turn.ensures.filled);
+      writes = add_written before (blocks_written s n) (s.lanes * blocks_in_slice s (n / 4) (n % 4)) (writes_in (segments_of c.loop-n.slices)) now
+          c.loop-n.invariant.writes (rw c.numbered_slice.ensures at c.fill_slice_in_turn.ensures.writes)
+          ∙ ap (λ (b : ℕ). (before + b) % 2 ^ 64) (sym (blocks_more s n c.known_job.ensures.setting));
+    }

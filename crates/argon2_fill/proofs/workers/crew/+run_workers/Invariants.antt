@@ -1,0 +1,9 @@
+use Rattle.std.proofs.Common.{◌≤◌}
+use Rattle.argon2_fill.proofs.workers.crew.+run_workers.Given as goal
+
+abbrev pub decreases-run_workers : goal.decreases-run_workers
+decreases-run_workers g l = l.count
+
+-- each handle is of a number of its own
+abbrev pub invariant-loop-k : goal.invariant-loop-k
+invariant-loop-k g l = l.handles.used ≤ l.k

@@ -1,0 +1,42 @@
+-- What a contract sees of a board, and what its segments hold.
+use Rattle.std.specs.Prelude.{◌≡◌, ◌≢◌, ℕ, zero, suc, ◌<◌, List, Some, length, slice_get, slice_index_or}
+use Rattle.std.specs.Coded.{Coded-set, coded_list, coded_ℕ, ×_prop}
+use Rattle.argon2_fill.specs.declared.workers.event.Place.{Place}
+use Rattle.argon2_fill.specs.declared.workers.event.Place.TheVariants.{Done, Out}
+use Rattle.argon2_fill.specs.declared.workers.event.Event.{Event}
+use Rattle.argon2_settings.specs.Standard.Setting.{Setting}
+use Rattle.argon2_settings.specs.Views.Jobs.{Job}
+use Rattle.argon2_fill.specs.Views.Segments.{SegmentValue, IsReady, segment_at}
+use Rattle.argon2_fill.specs.Views.Filling.{no_segment}
+
+-- the job, where each lane stands, and the events so far
+pub record BoardValue : Type 0 where
+  pub job : Job
+  pub places : List Place
+  pub log : List Event
+
+-- a segment for each lane, in order, as a fill of the job asks for it
+pub record AreReady (job : Job) (segments : List SegmentValue) : Type 0 where
+  pub lanes : length segments ≡ job.setting.lanes
+  pub each : (lane : ℕ) → lane < job.setting.lanes →
+      IsReady job.setting job.pass job.slice lane (slice_index_or segments lane no_segment).blocks
+
+-- a segment for each lane, in order, with the blocks of the job's pass
+pub record HoldSlice (job : Job) (segments : List SegmentValue) : Type 0 where
+  pub lanes : length segments ≡ job.setting.lanes
+  pub each : (lane : ℕ) → lane < job.setting.lanes →
+      (slice_index_or segments lane no_segment).blocks ≡ segment_at job.setting job.pass job.slice lane
+
+-- every lane is done
+abbrev pub AllDone : List Place → Type 0
+AllDone places = (lane : ℕ) → lane < length places → slice_get places lane ≡ Some Done
+
+-- no lane is out
+abbrev pub NoneOut : List Place → Type 0
+NoneOut places = (lane : ℕ) → slice_get places lane ≢ Some Out
+
+-- there is one proof at most that a segment is ready
+pub IsReady-prop : (s : Setting) (pass slice lane : ℕ) (blocks : List (List ℕ)) → IsProp (IsReady s pass slice lane blocks)
+IsReady-prop s zero zero lane blocks = ×_prop (Coded-set coded_ℕ _ _) (Coded-set (coded_list (coded_list coded_ℕ)) _ _)
+IsReady-prop s zero (suc slice) lane blocks = Coded-set coded_ℕ _ _
+IsReady-prop s (suc last) slice lane blocks = Coded-set (coded_list (coded_list coded_ℕ)) _ _

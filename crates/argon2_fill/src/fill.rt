@@ -1,0 +1,234 @@
+//! The first blocks of a memory, the fill of its slices, and the tag.
+
+ghost use Rattle.std.specs.Prelude.{◌≡◌, ℕ, ◌+◌, ◌-◌, ◌*◌, ◌%◌, ◌^◌, ◌<◌, ◌≤◌, [], IfErr, IfOk, IsOk, OnErr, OnOk, length, slice_index_or, true, vec_len};
+ghost use Rattle.std.specs.List.{fold};
+ghost use Rattle.argon2_blocks.specs.Standard.Block.{xor, zero_block};
+ghost use Rattle.argon2_settings.specs.Standard.Outcome.{IsShortage};
+ghost use Rattle.argon2_settings.specs.Standard.ThreadModes.{may_lack_workers, uses_sequential};
+ghost use Rattle.argon2_settings.specs.Views.Contexts.{setting_of_context};
+ghost use Rattle.argon2_fill.specs.Views.Filling.{IsSnapshot, no_segment};
+ghost use Rattle.argon2_fill.specs.Laws.Matrix.{HoldsLastPass, IsBegun, matrix_with};
+ghost use Rattle.argon2_fill.specs.Views.Memories.{AreSlices, HasShape, IsFilledBelow, block_of, blocks_written, last_blocks_of, no_memory, slice_writes, writes, writes_in};
+ghost use Rattle.argon2_settings.specs.Standard.Recurrence.{first_block};
+ghost use Rattle.argon2_fill.specs.Laws.Schedule.{blocks_in_slice};
+ghost use Rattle.argon2_fill.specs.Views.Segments.{IsReady, segment_at};
+ghost use Rattle.argon2_settings.specs.Standard.Setting.{memory_blocks};
+ghost use Rattle.argon2_fill.specs.Views.SliceLists.{segments_of};
+ghost use Rattle.argon2_settings.specs.Standard.Tag.{tag_from, tag_of};
+
+use crate::memory::{Memory, Segment, Slices, others, take_slice};
+use crate::segment::{Snapshot, fill_segment};
+use crate::walk::{numbered_slice, slice_count};
+use crate::workers::{NoGate, fill_parallel};
+use argon2_blocks::blake2b::hprime;
+use argon2_blocks::block::Block;
+use argon2_settings::context::{Context, Job, known_context, known_job};
+use argon2_settings::error::Error;
+use argon2_settings::result::Result;
+use std::alloc::Global;
+use std::marker::Sync;
+use std::sync::Wait;
+use std::thread::Threads;
+
+/// Gives a memory the context's lanes and lane length. One that has them stays as it is; else all its
+/// blocks are given back, and it is made anew, of zeros. Where memory is refused, it has no lanes:
+/// `OutOfMemory`.
+pub fn prepare_memory(alloc: Global, context: &Context<'_>, memory: &mut Memory) -> Result<()>
+    ensures shape { OnOk result (HasShape (setting_of_context context.now) memory.new) }
+    ensures kept { HasShape (setting_of_context context.now) memory.old
+        → IsOk result × (memory.new ≡ memory.old) }
+    ensures left { OnErr result (memory.new ≡ no_memory) }
+    ensures refused { IfErr result (λ e. e ≡ Error.OutOfMemory) }
+{
+    known_context(context);
+    let lanes = context.config.lanes;
+    if memory.lanes() == lanes && memory.lane_length() == context.lane_length {
+        return Ok(());
+    }
+    *memory = Memory::empty(alloc);
+    *memory = Memory::new(alloc, lanes, context.lane_length)?;
+    Ok(())
+}
+
+/// Writes the first two blocks of each lane (RFC 9106, 3.2, steps 3 and 4), and no others. The
+/// memory has the context's lanes and lane length.
+pub fn initialize(context: &Context<'_>, memory: &mut Memory)
+    requires shape { HasShape (setting_of_context context.now) memory.old }
+    ensures shape { HasShape (setting_of_context context.now) memory.new }
+    ensures begun { IsBegun (setting_of_context context.now) (block_of memory.new) }
+    ensures others { (lane column : ℕ) → 2 ≤ column
+        → block_of memory.new lane column ≡ block_of memory.old lane column }
+    ensures writes { writes memory.new ≡ (writes memory.old + 2 * context.now.config.lanes) % 2 ^ 64 }
+{
+    known_context(context);
+    let job = Job::new(context);
+    for lane in 0..job.lanes() {
+        write_first(&job, lane, 0, memory);
+        write_first(&job, lane, 1, memory);
+    }
+}
+
+/// Writes one of a lane's first two blocks.
+fn write_first(job: &Job, lane: u32, column: u32, memory: &mut Memory)
+    requires shape { HasShape job.now.setting memory.old }
+    requires lane_fits { lane < job.now.setting.lanes }
+    requires column_fits { column < 2 }
+    ensures shape { HasShape job.now.setting memory.new }
+    ensures blocks { let block = first_block job.now.setting
+        (record { pass = 0; lane = lane; column = column }) in
+        (l c : ℕ) → block_of memory.new l c ≡ matrix_with
+        (block_of memory.old) lane column block l c }
+    ensures writes { writes memory.new ≡ (writes memory.old + 1) % 2 ^ 64 }
+{
+    known_job(job);
+    let _lanes = memory.lanes();
+    let mut block = Block::zero();
+    job.first_block(lane, column, &mut block);
+    memory.set(lane, column, &block);
+}
+
+/// Fills all slices of all passes in the caller's thread, lane after lane. The memory has the
+/// context's lanes and lane length, and the first two blocks of each lane as `initialize` leaves
+/// them. It takes no memory and always succeeds.
+pub fn fill_sequential(context: &Context<'_>, memory: &mut Memory)
+    requires shape { HasShape (setting_of_context context.now) memory.old }
+    requires begun { IsBegun (setting_of_context context.now) (block_of memory.old) }
+    ensures shape { HasShape (setting_of_context context.now) memory.new }
+    ensures filled { HoldsLastPass (setting_of_context context.now) (block_of memory.new) }
+    ensures writes { let c = context.now in
+        writes memory.new ≡ (writes memory.old +
+        (c.config.time_cost * c.memory_blocks - 2 * c.config.lanes)) % 2 ^ 64 }
+{
+    known_context(context);
+    let job = Job::new(context);
+    let mut slices = memory.take_slices();
+    fill_slices(&job, &mut slices);
+    *memory = Memory::from_slices(job.lanes(), job.segment_length(), slices);
+}
+
+/// Fills all slices of all passes, one after another.
+fn fill_slices(job: &Job, slices: &mut Slices)
+    requires slices { AreSlices job.now.setting.lanes job.now.setting.segment_length
+        (segments_of slices.old) }
+    requires begun { IsFilledBelow job.now.setting 0 0 (segments_of slices.old) }
+    ensures slices { AreSlices job.now.setting.lanes job.now.setting.segment_length
+        (segments_of slices.new) }
+    ensures filled { IsFilledBelow job.now.setting job.now.setting.passes 0
+        (segments_of slices.new) }
+    ensures writes { writes_in (segments_of slices.new)
+        ≡ (writes_in (segments_of slices.old) + blocks_written job.now.setting
+        (4 * job.now.setting.passes)) % 2 ^ 64 }
+{
+    known_job(job);
+    for n in 0..slice_count(job) {
+        fill_slice_in_turn(&numbered_slice(job, n), slices);
+    }
+}
+
+/// Fills the job's slice: it moves out beside the others, and back.
+pub(crate) fn fill_slice_in_turn(job: &Job, slices: &mut Slices)
+    requires slices { AreSlices job.now.setting.lanes job.now.setting.segment_length
+        (segments_of slices.old) }
+    requires ready { IsFilledBelow job.now.setting job.now.pass job.now.slice
+        (segments_of slices.old) }
+    ensures slices { AreSlices job.now.setting.lanes job.now.setting.segment_length
+        (segments_of slices.new) }
+    ensures filled { IsFilledBelow job.now.setting job.now.pass (job.now.slice + 1)
+        (segments_of slices.new) }
+    ensures writes { writes_in (segments_of slices.new)
+        ≡ (writes_in (segments_of slices.old)
+        + job.now.setting.lanes * blocks_in_slice job.now.setting job.now.pass job.now.slice) % 2 ^
+        64 }
+{
+    known_job(job);
+    let slice = job.slice();
+    let mut segments = take_slice(slices, slice);
+    let snapshot = Snapshot::new(*job, others(slices, slice));
+    fill_lanes(&snapshot, &mut segments);
+    slices[slice as usize] = segments;
+}
+
+/// Fills the segments of a slice, lane after lane.
+fn fill_lanes(snapshot: &Snapshot<'_>, segments: &mut [Segment])
+    requires lanes { length segments.old ≡ snapshot.now.job.setting.lanes }
+    requires ready { let j = snapshot.now.job in (lane : ℕ) → lane < j.setting.lanes
+        → IsReady j.setting j.pass j.slice lane
+        (slice_index_or segments.old lane no_segment).blocks }
+    ensures filled { let j = snapshot.now.job in (lane : ℕ) → lane < j.setting.lanes
+        → (slice_index_or segments.new lane no_segment).blocks
+        ≡ segment_at j.setting j.pass j.slice lane }
+    ensures writes { let j = snapshot.now.job in slice_writes segments.new % 2 ^ 64
+        ≡ (slice_writes segments.old + j.setting.lanes * blocks_in_slice j.setting j.pass j.slice) %
+        2 ^ 64 }
+{
+    known_job(snapshot.job());
+    for lane in 0..segments.len() {
+        fill_segment(snapshot, lane as u32, &mut segments[lane]);
+    }
+}
+
+/// Fills all slices of all passes in the context's thread mode: in the caller's thread where
+/// `uses_sequential` says so, and else by workers. The memory has the context's lanes and lane
+/// length, and the first two blocks of each lane as `initialize` leaves them.
+///
+/// With workers, memory or the start of a worker can be refused: `OutOfMemory` or `WorkerRefused`.
+/// The memory then has no lanes.
+pub fn fill_memory_blocks<R: Threads + Wait + Sync>(
+    rt: &R,
+    alloc: Global,
+    context: &Context<'_>,
+    memory: &mut Memory,
+) -> Result<()>
+    requires shape { HasShape (setting_of_context context.now) memory.old }
+    requires begun { IsBegun (setting_of_context context.now) (block_of memory.old) }
+    ensures shape { OnOk result (HasShape (setting_of_context context.now) memory.new) }
+    ensures filled { OnOk result (HoldsLastPass (setting_of_context context.now)
+        (block_of memory.new)) }
+    ensures left { OnErr result (memory.new ≡ no_memory) }
+    ensures alone { uses_sequential context.now.config ≡ true → IsOk result }
+    ensures refused { IfErr result (IsShortage (may_lack_workers context.now.config)) }
+{
+    if context.config.uses_sequential() {
+        fill_sequential(context, memory);
+        return Ok(());
+    }
+    fill_parallel(rt, alloc, context, memory, &NoGate)
+}
+
+/// The exclusive or of the last blocks of all lanes.
+fn combine_last_blocks(memory: &Memory, lanes: u32, column: u32, out: &mut Block)
+    requires zero { out.old ≡ zero_block }
+    requires lanes_fit { lanes ≡ memory.now.lanes }
+    requires last { column + 1 ≡ 4 * memory.now.segment_length }
+    ensures { out.new ≡ fold xor zero_block (last_blocks_of memory.now) }
+{
+    for lane in 0..lanes {
+        *out ^= &memory[(lane, column)];
+    }
+}
+
+/// The hash of the last blocks of all lanes, combined (RFC 9106, 3.2, steps 7 and 8): the tag, where
+/// the memory is filled. The memory has the context's lanes and lane length. Where memory is
+/// refused: `OutOfMemory`.
+#[tactic(auto, unfolding(argon2_settings::specs::Standard::SettingsTable::refusal_of))]
+pub fn finalize(alloc: Global, context: &Context<'_>, memory: &Memory) -> Result<Vec<u8>>
+    requires shape { HasShape (setting_of_context context.now) memory.now }
+    ensures hash { IfOk result (λ tag. tag.items
+        ≡ tag_from (last_blocks_of memory.now) context.now.config.hash_length) }
+    ensures tag { let c = context.now in HoldsLastPass (setting_of_context c) (block_of memory.now)
+        → IfOk result (λ tag. tag.items ≡ tag_of c.pwd.now c.salt.now c.config c.config.hash_length) }
+    ensures length { IfOk result (λ tag. vec_len tag ≡ context.now.config.hash_length) }
+    ensures refused { IfErr result (λ e. e ≡ Error.OutOfMemory) }
+{
+    known_context(context);
+    let mut block = Block::zero();
+    combine_last_blocks(
+        memory,
+        context.config.lanes,
+        context.lane_length - 1,
+        &mut block,
+    );
+    let mut tag = vec![in alloc; 0u8; context.config.hash_length as usize]?;
+    hprime(&mut tag[..], &block.as_u8());
+    Ok(tag)
+}

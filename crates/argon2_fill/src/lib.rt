@@ -1,0 +1,8 @@
+//! The matrix, the blocks that fill it, in one thread or by workers, and the tag.
+#![tactic(auto)]
+
+pub mod fill;
+pub mod memory;
+pub mod segment;
+mod walk;
+pub mod workers;

@@ -1,0 +1,23 @@
+//! Workers: the lanes of a slice, which they claim and give back under one lock and fill outside it,
+//! and the way over all slices.
+
+mod board;
+mod claim;
+mod crew;
+mod event;
+mod gate;
+mod handles;
+mod passes;
+mod permit;
+mod slice;
+mod slot;
+#[cfg(test)]
+mod tests;
+
+pub use board::Board;
+pub use claim::{Claim, Filled};
+pub use event::{Event, Place};
+pub use gate::{Gate, NoGate};
+pub use passes::{fill_parallel, fill_parallel_with};
+pub use permit::{AllPermitted, Permit};
+pub use slice::{fill_slice, fill_slice_with};

@@ -1,0 +1,185 @@
+//! The lanes of one slice, which workers claim and give back. Each lane stands in exactly one place:
+//! it waits, is out, or is done.
+
+ghost use Rattle.std.specs.Prelude.{◌≡◌, ℕ, ◌+◌, ◌*◌, ◌^◌, ◌<◌, ◌≤◌, ◌↔◌, ◌++◌, ◌∷◌, [], IfErr, IfNone, IfOk, IfSome, IsOk, IsTrue, None, OnErr, OnOk, Some, length, map, replicate, slice_get, slice_set};
+ghost use Rattle.argon2_fill.specs.Views.Boards.{AllDone, AreReady, HoldSlice, NoneOut};
+ghost use Rattle.argon2_fill.specs.Views.Replay.{least_waiting, replay};
+
+use crate::memory::Segment;
+use crate::workers::slot::Slot;
+use crate::workers::{Claim, Event, Filled, Place};
+use argon2_settings::context::Job;
+use argon2_settings::error::Error;
+use argon2_settings::result::Result;
+use std::alloc::{AllocError, Global};
+use std::marker::Model;
+use std::mem;
+
+/// The lanes of a job's slice, and the log of what happened to them. A lane that waits is ready to
+/// be filled, and one that is done holds the blocks of the board's own job.
+#[derive(Drop)]
+pub struct Board {
+    job: Job,
+    next: u32,
+    slots: Vec<Slot>,
+    log: Vec<Event>,
+    finished: Vec<Segment>,
+}
+
+impl Model for Board {
+    ghost use Rattle.argon2_fill.specs.Views.Boards.{BoardValue};
+
+    ghost Value = { BoardValue };
+
+    ghost use Rattle.argon2_fill.specs.Views.Slots.{IsBoard, board_of};
+
+    ghost view = { board_of };
+
+    ghost invariant = { IsBoard };
+}
+
+/// A slot for each segment, which waits.
+fn waiting_slots(alloc: Global, segments: Vec<Segment>) -> std::result::Result<Vec<Slot>, AllocError>
+    ensures { IfOk result (λ slots. slots.items ≡ map Slot.Waiting segments.items) }
+{
+    let mut slots = Vec::with_capacity(alloc, segments.len())?;
+    slots.extend(segments.into_iter().map(|segment| Slot::Waiting(segment)))?;
+    Ok(slots)
+}
+
+impl Board {
+    /// A board on which all lanes of the job wait, with a segment for each. All memory that the
+    /// board ever needs is taken here: where it is refused, the segments are dropped, and the answer
+    /// is `OutOfMemory`.
+    pub fn new(alloc: Global, job: Job, segments: Vec<Segment>) -> Result<Board>
+        requires ready { AreReady job segments.items }
+        ensures board { IfOk result (λ board. board
+            ≡ record { job = job; places = replicate job.setting.lanes Place.Waiting; log = [] }) }
+        ensures none_out { IfOk result (λ board. NoneOut board.places) }
+        ensures refused { IfErr result (λ e. e ≡ Error.OutOfMemory) }
+    {
+        let lanes = segments.len();
+        let log = Vec::with_capacity(alloc, 2 * lanes)?;
+        let finished = Vec::with_capacity(alloc, lanes)?;
+        let slots = waiting_slots(alloc, segments)?;
+        Ok(Board {
+            job,
+            next: 0,
+            slots,
+            log,
+            finished,
+        })
+    }
+
+    /// The job, whose lanes stand on the board.
+    pub fn job(&self) -> &Job
+        ensures job { result.now ≡ self.now.job }
+        ensures lanes { length self.now.places ≡ self.now.job.setting.lanes }
+    {
+        &self.job
+    }
+
+    /// Where a lane of the job stands.
+    pub fn place(&self, lane: u32) -> Place
+        requires { lane < self.now.job.setting.lanes }
+        ensures { slice_get self.now.places lane ≡ Some result }
+    {
+        match &self.slots[lane as usize] {
+            Slot::Waiting(_) => Place::Waiting,
+            Slot::Out => Place::Out,
+            Slot::Done(_) => Place::Done,
+        }
+    }
+
+    /// What happened so far: an event for each take that gave a claim and each put that was
+    /// accepted. The lanes stand where these events put them.
+    pub fn log(&self) -> &[Event]
+        ensures log { result.now ≡ self.now.log }
+        ensures legal { replay self.now.job.setting.lanes self.now.log ≡ Some self.now.places }
+    {
+        self.log.as_slice()
+    }
+
+    /// Hands out the waiting lane of least number. `None` exactly where no lane waits.
+    pub fn take(&mut self) -> Option<Claim>
+        ensures lane { IfSome result (λ claim. least_waiting self.old.places ≡ Some claim.lane) }
+        ensures job { IfSome result (λ claim. claim.job ≡ self.old.job) }
+        ensures board { IfSome result (λ claim. self.new ≡ record self.old {
+          places = slice_set self.old.places claim.lane Place.Out;
+          log = self.old.log ++ Event.Take claim.lane ∷ [];
+        }) }
+        ensures none { IfNone result (least_waiting self.old.places ≡ None) }
+        ensures unchanged { IfNone result (self.new ≡ self.old) }
+    {
+        if self.next == self.job.lanes() {
+            return None;
+        }
+        let lane = self.next;
+        match mem::replace(&mut self.slots[lane as usize], Slot::Out) {
+            Slot::Waiting(segment) => {
+                self.next = lane + 1;
+                self.log.push_reserved(Event::Take(lane));
+                Some(Claim {
+                    job: self.job,
+                    lane,
+                    segment,
+                })
+            }
+            Slot::Out | Slot::Done(_) => unreachable!(),
+        }
+    }
+
+    /// Takes a filled lane back, which is then done. It is handed back, and the board stays as it
+    /// was, exactly where it is of another job or its lane is not out.
+    pub fn put(&mut self, filled: Filled) -> std::result::Result<(), Filled>
+        ensures exact { IsOk result
+            ↔ ((filled.job ≡ self.old.job) × (slice_get self.old.places filled.lane
+            ≡ Some Place.Out)) }
+        ensures board { OnOk result (self.new ≡ record self.old {
+          places = slice_set self.old.places filled.lane Place.Done;
+          log = self.old.log ++ Event.Put filled.lane ∷ [];
+        }) }
+        ensures handed_back { IfErr result (λ back. back ≡ filled) }
+        ensures unchanged { OnErr result (self.new ≡ self.old) }
+    {
+        if filled.job != self.job {
+            return Err(filled);
+        }
+        let lane = filled.lane;
+        let Slot::Out = self.slots[lane as usize] else {
+            return Err(filled);
+        };
+        self.slots[lane as usize] = Slot::Done(filled.segment);
+        self.log.push_reserved(Event::Put(lane));
+        Ok(())
+    }
+
+    /// Whether all lanes are done.
+    pub(super) fn is_done(&self) -> bool
+        ensures { IsTrue result ↔ AllDone self.now.places }
+    {
+        for lane in 0..self.job.lanes() {
+            let Place::Done = self.place(lane) else {
+                return false;
+            };
+        }
+        true
+    }
+
+    /// The filled segments of the slice, in order of lanes. `WorkerRefused` exactly where a lane is
+    /// not done.
+    pub fn finish(self) -> Result<Vec<Segment>>
+        ensures exact { IsOk result ↔ AllDone self.places }
+        ensures filled { IfOk result (λ segments. HoldSlice self.job segments.items) }
+        ensures refused { IfErr result (λ e. e ≡ Error.WorkerRefused) }
+    {
+        let mut finished = self.finished;
+        for slot in self.slots {
+            match slot {
+                Slot::Done(segment) => finished.push_reserved(segment),
+                Slot::Waiting(_) | Slot::Out => return Err(Error::WorkerRefused),
+            }
+        }
+        Ok(finished)
+    }
+}

@@ -1,0 +1,11 @@
+//! What a board keeps of a lane.
+
+use crate::memory::Segment;
+
+/// A lane's place, with its segment where the board has it.
+#[derive(Drop)]
+pub(crate) enum Slot {
+    Waiting(Segment),
+    Out,
+    Done(Segment),
+}

@@ -1,0 +1,140 @@
+-- Settings that are not refused make a setting.
+use Rattle.std.proofs.Common.{◌≡◌, ℕ, ◌*◌, ◌/◌, ◌^◌, ◌<◌, ◌≤◌, Bool, true, false, List, [], length, Option, Some, refl, arith, cond, inl, inr, ◌∙◌}
+use Rattle.std.proofs.Common.{ap, ◌++◌, append_assoc, append-nil}
+use Rattle.std.specs.Prelude.{◌==◌, ◌||◌, nat_lt, IsNone, min}
+use Rattle.std.proofs.lemmas.Bool.{ltb-false, cases_lt, le-leb, lt-leb}
+use Rattle.std.proofs.Math.Nat.{div-lt_iff_lt-mul, le-min, min-le_left}
+use Rattle.std.proofs.lemmas.Bool.Decides.{eqb_tells}
+use Rattle.argon2_settings.specs.declared.config.Config.{Config}
+use Rattle.argon2_settings.specs.declared.thread_mode.ThreadMode.{ThreadMode}
+use Rattle.argon2_settings.specs.declared.thread_mode.ThreadMode.TheVariants.{Sequential, Parallel, AtMost}
+use Rattle.argon2_settings.specs.Standard.ThreadModes.{fills_alone}
+use Rattle.argon2_settings.specs.Views.Presets.{worker_count, workers_of}
+use Rattle.argon2_settings.specs.declared.error.Error.{Error}
+use Rattle.argon2_settings.specs.declared.context.Context.{Context}
+use Rattle.argon2_settings.specs.Views.Contexts.{setting_of_context}
+use Rattle.argon2_settings.specs.Views.Jobs.{IsSetting}
+use Rattle.argon2_settings.proofs.Settings.HashLengths.{length-blake2b}
+use Rattle.argon2_settings.specs.Standard.Prehash.{le32, hashed_inputs, prehash_of, setting_of}
+use Rattle.argon2_settings.specs.Standard.Variant.{variant_number}
+use Rattle.argon2_settings.specs.Standard.Version.{version_number}
+use Rattle.argon2_settings.specs.Standard.SettingsTable.{refusal_of, max_lanes, max_length}
+
+-- where a table refuses nothing, its first row does not apply and the rest refuses nothing
+none_next : (b : Bool) (r : Error) (rest : Option Error) → IsNone (cond b (Some r) rest) → (b ≡ false) × IsNone rest
+none_next true r rest h = absurd (let e : true ≡ false = h in cc)
+none_next false r rest h = (refl, h)
+
+-- where the `or` of two truth values is false, each of them is false
+neither : (a b : Bool) → (a || b) ≡ false → (a ≡ false) × (b ≡ false)
+neither true b h = absurd (cc)
+neither false b h = (refl, h)
+
+-- a number that is told not to be 0 is greater than 0
+some : (n : ℕ) → (n == 0) ≡ false → 0 < n
+some n h = elim (eqb_tells n 0) [ inl w ↦ absurd (cc (w.0)) | inr w ↦ omega (arith, w.1) ]
+
+pub record AreAccepted (config : Config) : Type 0 where
+  pub some_lane : 0 < config.lanes
+  pub few_lanes : config.lanes ≤ 16777215
+  pub much : 8 * config.lanes ≤ config.mem_cost
+  pub some_pass : 0 < config.time_cost
+
+-- a configuration that is not refused has its lanes, its memory and its passes within bounds
+pub accepted : (config : Config) (p s h : ℕ) → IsNone (refusal_of config p s h) → AreAccepted config
+unfolding refusal_of
+accepted config p s h none =
+    let a = none_next (config.lanes == 0) _ _ none in
+    let b = none_next (nat_lt max_lanes config.lanes) _ _ a.1 in
+    let c = none_next (nat_lt config.mem_cost 8 || nat_lt config.mem_cost (8 * config.lanes)) _ _ b.1 in
+    let d = none_next (config.time_cost == 0) _ _ c.1 in
+    record {
+      some_lane = some config.lanes a.0;
+      few_lanes = ltb-false max_lanes config.lanes b.0;
+      much = ltb-false config.mem_cost (8 * config.lanes) (neither _ _ c.0).1;
+      some_pass = some config.time_cost d.0;
+    }
+
+-- the hash of an accepted call is short enough for the field that holds its length
+pub hash_fits : (config : Config) (p s h : ℕ) → IsNone (refusal_of config p s h) → h ≤ max_length
+unfolding refusal_of
+hash_fits config p s h none =
+    let a = none_next (config.lanes == 0) _ _ none in
+    let b = none_next (nat_lt max_lanes config.lanes) _ _ a.1 in
+    let c = none_next (nat_lt config.mem_cost 8 || nat_lt config.mem_cost (8 * config.lanes)) _ _ b.1 in
+    let d = none_next (config.time_cost == 0) _ _ c.1 in
+    let e = none_next (nat_lt max_length p) _ _ d.1 in
+    let f = none_next (nat_lt s 8) _ _ e.1 in
+    let g = none_next (nat_lt max_length s) _ _ f.1 in
+    let i = none_next (nat_lt max_length (length config.secret.now)) _ _ g.1 in
+    let j = none_next (nat_lt max_length (length config.ad.now)) _ _ i.1 in
+    let k = none_next (nat_lt h 4) _ _ j.1 in
+    let l = none_next (nat_lt max_length h) _ _ k.1 in
+    ltb-false max_length h l.0
+
+-- where each lane has 8 blocks of memory, a segment has two blocks at least
+pub long_segment : (mem lanes : ℕ) → 0 < lanes → 8 * lanes ≤ mem → 2 ≤ mem / (4 * lanes)
+long_segment mem lanes some h = elim (cases_lt (mem / (4 * lanes)) 2) [
+  | inl w ↦ absurd (let b = (div-lt_iff_lt-mul (let k : 0 < 4 * lanes = omega arith in k)).0 w in omega (arith, b, h))
+  | inr w ↦ w
+]
+
+-- where four segments for each lane are fewer than 2^32 blocks, so are all lanes together
+pub lanes_fit : (lanes mem segment length : ℕ) → length ≡ 4 * segment → segment ≡ mem / (4 * lanes) → 4 * lanes * (mem / (4 * lanes)) < 2 ^ 32
+    → lanes * length < 2 ^ 32
+lanes_fit lanes mem segment length l s h = let a = ap (λ x. lanes * x) l in let b = ap (λ x. 4 * lanes * x) s in omega (arith, a, b, h)
+
+-- fourteen lists, joined, are the same with the last eight joined in pairs first
+pub joined : (a b c d e f g h i j k l m n : List ℕ) →
+    a ++ (b ++ (c ++ (d ++ (e ++ (f ++ (g ++ (h ++ (i ++ (j ++ (k ++ (l ++ (m ++ (n ++ [])))))))))))))
+    ≡ a ++ b ++ c ++ d ++ e ++ f ++ (g ++ h) ++ (i ++ j) ++ (k ++ l) ++ (m ++ n)
+joined a b c d e f g h i j k l m n = simp (append_assoc, append-nil)
+
+-- the numbers in four bytes each, and each input behind its length, are what H0 is the hash of
+pub inputs_joined : (pwd salt : List ℕ) (config : Config) (len : ℕ) (a b c d e f g i k m : List ℕ) →
+    a ≡ le32 config.lanes → b ≡ le32 len → c ≡ le32 config.mem_cost → d ≡ le32 config.time_cost →
+    e ≡ le32 (version_number config.version) → f ≡ le32 (variant_number config.variant) →
+    g ≡ le32 (length pwd) → i ≡ le32 (length salt) → k ≡ le32 (length config.secret.now) → m ≡ le32 (length config.ad.now) →
+    a ++ (b ++ (c ++ (d ++ (e ++ (f ++ (g ++ (pwd ++ (i ++ (salt ++ (k ++ (config.secret.now ++ (m ++ (config.ad.now ++ [])))))))))))))
+    ≡ hashed_inputs pwd salt config len
+inputs_joined pwd salt config len a b c d e f g i k m pa pb pc pd pe pf pg pi pk pm =
+    joined a b c d e f g pwd i salt k config.secret.now m config.ad.now
+    ∙ rw (pa, pb, pc, pd, pe, pf, pg, pi, pk, pm) refl
+
+-- the setting of an accepted call, whose passes and blocks fit 32 bits
+setting_that_fits : (pwd salt : List ℕ) (config : Config) → IsNone (refusal_of config (length pwd) (length salt) config.hash_length) →
+    config.time_cost < 2 ^ 32 → 4 * config.lanes * (config.mem_cost / (4 * config.lanes)) < 2 ^ 32 → IsSetting (setting_of pwd salt config config.hash_length)
+unfolding setting_of prehash_of
+setting_that_fits pwd salt config none few fits =
+    let a = accepted config (length pwd) (length salt) config.hash_length none in
+    record {
+      prehash_length = length-blake2b 64 (hashed_inputs pwd salt config config.hash_length) (omega arith);
+      some_lane = a.some_lane;
+      few_lanes = a.few_lanes;
+      long_segments = long_segment config.mem_cost config.lanes a.some_lane a.much;
+      some_pass = a.some_pass;
+      few_passes = few;
+      fits = fits;
+    }
+
+-- the setting of a context; that its numbers fit is known of the code's types
+pub context_setting : (x : Context) → x.config.time_cost < 2 ^ 32 → x.memory_blocks < 2 ^ 32 → IsSetting (setting_of_context x)
+context_setting x few fits =
+    setting_that_fits x.pwd.now x.salt.now x.config x.accepted few (rw (← x.segment) (omega (arith, x.memory, fits)))
+
+-- how many workers an accepted configuration asks for
+workers_fit_in : (mode : ThreadMode) (lanes : ℕ) → 0 < lanes → lanes ≤ 16777215 →
+    (0 < cond (fills_alone mode lanes) 1 (worker_count mode lanes)) × (cond (fills_alone mode lanes) 1 (worker_count mode lanes) < 2 ^ 24)
+workers_fit_in Sequential lanes h k = (omega arith, omega arith)
+workers_fit_in Parallel lanes h k = elim (eqb_tells lanes 1) [ inl w ↦ rw w.0 (omega arith, omega arith) | inr w ↦ rw w.0 (omega arith, omega arith) ]
+workers_fit_in (AtMost most) lanes h k = elim (cases_lt 1 most) [
+  | inl w ↦ rw (lt-leb most 1 w) (elim (eqb_tells lanes 1) [
+    | inl v ↦ rw v.0 (omega arith, omega arith)
+    | inr v ↦ rw v.0 (let low : 1 ≤ min lanes most = le-min h (omega arith) in low, let high = min-le_left lanes most in omega (arith, high, k))
+  ])
+  | inr w ↦ rw (le-leb most 1 w) (omega arith, omega arith)
+]
+
+-- with its lanes within bounds, a configuration asks for 1 worker at least and fewer than 2^24
+pub workers_fit : (config : Config) → 0 < config.lanes → config.lanes ≤ 16777215 → (0 < workers_of config) × (workers_of config < 2 ^ 24)
+workers_fit config h k = workers_fit_in config.thread_mode config.lanes h k

@@ -1,0 +1,17 @@
+use Rattle.std.proofs.Common.{arith}
+use Rattle.argon2_settings.specs.Standard.Prehash.{setting_of}
+use Rattle.argon2_settings.proofs.context.job.Job.new.Goals as goal
+
+pub invariant_of-result : goal.invariant_of-result
+unfolding setting_of
+invariant_of-result c =
+    let x = c.args.context.now in
+    let good = c.known_context.ensures.setting in
+    record {
+      setting = rw (x.hashed, x.segment) good;
+      pass_fits = good.some_pass;
+      slice_fits = omega arith;
+    }
+
+pub returns-clause-job : goal.returns-clause-job
+returns-clause-job c = invariant_of-result c

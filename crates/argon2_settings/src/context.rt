@@ -1,0 +1,140 @@
+//! The settings table, the inputs of an accepted call, and its job.
+
+ghost use Rattle.std.specs.Prelude.{◌≡◌, ◌*◌, ◌/◌, ◌^◌, ◌<◌, length, IsNone, IsOkAnd, MatchOption};
+ghost use Rattle.argon2_settings.specs.Views.Presets.{workers_of};
+ghost use Rattle.argon2_settings.specs.Standard.Prehash.{prehash_of};
+ghost use Rattle.argon2_settings.specs.Standard.SettingsTable.{refusal_of};
+
+mod inputs;
+mod job;
+mod known;
+
+use crate::config::Config;
+use crate::error::Error;
+use crate::result::Result;
+use argon2_blocks::common::{
+    MAX_AD_LENGTH, MAX_HASH_LENGTH, MAX_LANES, MAX_PWD_LENGTH, MAX_SALT_LENGTH, MAX_SECRET_LENGTH,
+    MIN_HASH_LENGTH, MIN_LANES, MIN_MEMORY, MIN_SALT_LENGTH, MIN_TIME, PREHASH_DIGEST_LENGTH,
+    SYNC_POINTS,
+};
+use inputs::prehash;
+pub use job::{Job, known_job};
+pub use known::known_context;
+use std::fmt;
+
+/// The first refusal of the settings table for a password, a salt and a hash of these lengths.
+#[tactic(auto, unfolding(crate::specs::Standard::SettingsTable::refusal_of))]
+pub fn first_refusal(config: &Config, pwd_len: u64, salt_len: u64, hash_len: u64) -> Option<Error>
+    ensures { result ≡ refusal_of config.now pwd_len salt_len hash_len }
+{
+    if config.lanes < MIN_LANES {
+        Some(Error::LanesTooFew)
+    } else if config.lanes > MAX_LANES {
+        Some(Error::LanesTooMany)
+    } else if config.mem_cost < MIN_MEMORY
+        || u64::from(config.mem_cost) < u64::from(MIN_MEMORY) * u64::from(config.lanes)
+    {
+        Some(Error::MemoryTooLittle)
+    } else if config.time_cost < MIN_TIME {
+        Some(Error::TimeTooSmall)
+    } else if pwd_len > u64::from(MAX_PWD_LENGTH) {
+        Some(Error::PwdTooLong)
+    } else if salt_len < u64::from(MIN_SALT_LENGTH) {
+        Some(Error::SaltTooShort)
+    } else if salt_len > u64::from(MAX_SALT_LENGTH) {
+        Some(Error::SaltTooLong)
+    } else if config.secret.len() > MAX_SECRET_LENGTH as usize {
+        Some(Error::SecretTooLong)
+    } else if config.ad.len() > MAX_AD_LENGTH as usize {
+        Some(Error::AdTooLong)
+    } else if hash_len < u64::from(MIN_HASH_LENGTH) {
+        Some(Error::OutputTooShort)
+    } else if hash_len > u64::from(MAX_HASH_LENGTH) {
+        Some(Error::OutputTooLong)
+    } else {
+        None
+    }
+}
+
+/// A call's inputs, whose settings are accepted, the lengths that follow from them, and H0, the hash
+/// of all inputs, which each job of the call has.
+#[derive(Drop, PartialEq)]
+pub struct Context<'a> {
+    pub config: Config<'a>,
+    pub lane_length: u32,
+    pub memory_blocks: u32,
+    pub pwd: &'a [u8],
+    pub salt: &'a [u8],
+    pub segment_length: u32,
+    prehash: [u8; PREHASH_DIGEST_LENGTH],
+    ghost accepted: { IsNone (refusal_of config (length pwd.now)
+        (length salt.now) config.hash_length) },
+    ghost segment: { segment_length ≡ config.mem_cost / (4 * config.lanes) },
+    ghost lane: { lane_length ≡ 4 * segment_length },
+    ghost memory: { memory_blocks ≡ 4 * config.lanes * segment_length },
+    ghost hashed: { prehash ≡ prehash_of pwd.now salt.now config config.hash_length },
+}
+
+impl<'a> Context<'a> {
+    /// The context of a hash of `config.hash_length` bytes. It refuses what the settings table
+    /// refuses, and nothing else.
+    pub fn new(config: Config<'a>, pwd: &'a [u8], salt: &'a [u8]) -> Result<Context<'a>>
+        ensures { MatchOption (refusal_of config.entry (length pwd.entry.now)
+            (length salt.entry.now) config.entry.hash_length)
+            (IsOkAnd result (λ c. (c.config ≡ config.entry) × (c.pwd.now ≡ pwd.entry.now)
+            × (c.salt.now ≡ salt.entry.now)))
+            (λ refusal. result ≡ Err refusal) }
+    {
+        let hash_len = u64::from(config.hash_length);
+        match first_refusal(&config, pwd.len() as u64, salt.len() as u64, hash_len) {
+            None => Ok(accepted_context(config, pwd, salt)),
+            Some(refusal) => Err(refusal),
+        }
+    }
+}
+
+/// The context of settings that were judged before and not refused.
+#[tactic(auto, unfolding(crate::specs::Standard::SettingsTable::refusal_of))]
+pub fn accepted_context<'a>(config: Config<'a>, pwd: &'a [u8], salt: &'a [u8]) -> Context<'a>
+    requires { IsNone (refusal_of config (length pwd.now) (length salt.now) config.hash_length) }
+    ensures config { result.config ≡ config.entry }
+    ensures pwd { result.pwd.now ≡ pwd.entry.now }
+    ensures salt { result.salt.now ≡ salt.entry.now }
+{
+    let segment_length = config.mem_cost / (SYNC_POINTS * config.lanes);
+    let lane_length = SYNC_POINTS * segment_length;
+    let memory_blocks = SYNC_POINTS * config.lanes * segment_length;
+    let prehash = prehash(&config, pwd, salt);
+    Context {
+        config,
+        lane_length,
+        memory_blocks,
+        pwd,
+        salt,
+        segment_length,
+        prehash,
+    }
+}
+
+/// How many workers fill a slice: at least one, and fewer than 2^24.
+pub fn worker_count(context: &Context<'_>) -> u32
+    ensures value { result ≡ workers_of context.now.config }
+    ensures some { 0 < result }
+    ensures few { result < 2 ^ 24 }
+{
+    context.config.workers()
+}
+
+/// Shows the fields that a caller sees, the password and the secret among them.
+impl fmt::Debug for Context<'_> {
+    fn fmt<W: fmt::Write>(&self, f: &mut fmt::Formatter<W>) -> fmt::Result {
+        f.debug_struct("Context")
+            .field("config", &self.config)
+            .field("lane_length", &self.lane_length)
+            .field("memory_blocks", &self.memory_blocks)
+            .field("pwd", &self.pwd)
+            .field("salt", &self.salt)
+            .field("segment_length", &self.segment_length)
+            .finish()
+    }
+}

@@ -1,0 +1,6 @@
+//! Tests of public calls, over `argon2` alone, and the calls that `.ci/refusals` runs with each
+//! request for memory and each start of a worker refused in turn.
+#![tactic(auto)]
+
+#[cfg(test)]
+mod tests;

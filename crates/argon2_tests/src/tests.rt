@@ -1,0 +1,8 @@
+mod context;
+mod encoding;
+mod fill;
+mod permits;
+mod refused;
+mod rehash;
+mod settings;
+mod types;

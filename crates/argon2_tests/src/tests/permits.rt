@@ -1,0 +1,126 @@
+//! Fills by workers, some of which are not permitted.
+
+ghost use Rattle.std.specs.Prelude.{◌==◌, not, true};
+
+use argon2::parts::board::{NoGate, Permit};
+use argon2::parts::context::Context;
+use argon2::parts::fill::{fill_parallel_with, finalize, initialize, prepare_memory};
+use argon2::parts::memory::Memory;
+use argon2::{Config, Error, ThreadMode, Variant, Version};
+use std::sync::atomic::{AtomicU64, Ordering};
+use std::test::Fail;
+
+/// All numbers but one.
+#[derive(Clone, Copy)]
+struct AllBut(u64);
+
+impl Permit for AllBut {
+    ghost permits = { λ all number. not (number == all.0) };
+
+    fn may_start(&self, number: u64) -> bool {
+        number != self.0
+    }
+}
+
+/// All numbers; it keeps those below 128 that it was asked for, and whether it was asked for another.
+#[derive(Drop)]
+struct Asked {
+    low: AtomicU64,
+    high: AtomicU64,
+    other: AtomicU64,
+}
+
+impl Permit for Asked {
+    ghost permits = { λ _ number. true };
+
+    fn may_start(&self, number: u64) -> bool {
+        if number < 64 {
+            self.low.fetch_or(1 << number, Ordering::SeqCst);
+        } else if number < 128 {
+            self.high.fetch_or(1 << (number - 64), Ordering::SeqCst);
+        } else {
+            self.other.store(1, Ordering::SeqCst);
+        }
+        true
+    }
+}
+
+/// The settings of RFC 9106, section 5, for Argon2d: 4 lanes, 3 passes.
+fn config(thread_mode: ThreadMode) -> Config<'static> {
+    Config {
+        ad: &[4; 12],
+        hash_length: 32,
+        lanes: 4,
+        mem_cost: 32,
+        secret: &[3; 8],
+        thread_mode,
+        time_cost: 3,
+        variant: Variant::Argon2d,
+        version: Version::Version13,
+    }
+}
+
+// Each start of a fill is refused alone: 12 slices with 4 workers, or with 2.
+#[test]
+fn refuses_a_fill_with_any_start_missing(rt: HostRuntime) -> std::result::Result<(), Fail> {
+    let alloc = rt.alloc();
+    for (thread_mode, starts) in [(ThreadMode::Parallel, 48), (ThreadMode::AtMost(2), 24)] {
+        let Ok(context) = Context::new(config(thread_mode), &[1; 32], &[2; 16]) else {
+            return Err(Fail::from("the settings are accepted"));
+        };
+        for number in 0..starts {
+            let mut memory = Memory::empty(alloc);
+            prepare_memory(alloc, &context, &mut memory)?;
+            initialize(&context, &mut memory);
+            let permit = AllBut(number);
+            let fill = fill_parallel_with(&rt, alloc, &context, &mut memory, &NoGate, &permit);
+            assert_eq!(rt; fill.err(), Some(Error::WorkerRefused), "start {number}");
+            let text = format!(in alloc; "{memory:?}")?;
+            assert_eq!(rt; text.as_str(), "Memory { rows: 0, cols: 0 }");
+        }
+        let mut memory = Memory::empty(alloc);
+        prepare_memory(alloc, &context, &mut memory)?;
+        initialize(&context, &mut memory);
+        let permit = AllBut(starts);
+        fill_parallel_with(&rt, alloc, &context, &mut memory, &NoGate, &permit)?;
+        let tag = finalize(alloc, &context, &memory)?;
+        assert_eq!(rt;
+            hex::encode(alloc, tag)?.as_str(),
+            "512b391b6f1162975371d30919734294f868e3be3984f3c1a13a4db9fabe4acb"
+        );
+    }
+    Ok(())
+}
+
+// 2 passes of 4 slices with 16 workers for 20 lanes.
+#[test]
+fn asks_for_each_start_of_at_most_16(rt: HostRuntime) -> std::result::Result<(), Fail> {
+    let alloc = rt.alloc();
+    let config = Config {
+        ad: b"",
+        hash_length: 32,
+        lanes: 20,
+        mem_cost: 256,
+        secret: b"",
+        thread_mode: ThreadMode::AtMost(16),
+        time_cost: 2,
+        variant: Variant::Argon2id,
+        version: Version::Version13,
+    };
+    let Ok(context) = Context::new(config, b"password", b"somesalt") else {
+        return Err(Fail::from("the settings are accepted"));
+    };
+    let mut memory = Memory::empty(alloc);
+    prepare_memory(alloc, &context, &mut memory)?;
+    initialize(&context, &mut memory);
+    let permit = Asked {
+        low: AtomicU64::new(0),
+        high: AtomicU64::new(0),
+        other: AtomicU64::new(0),
+    };
+    fill_parallel_with(&rt, alloc, &context, &mut memory, &NoGate, &permit)?;
+    assert_eq!(rt; permit.low.load(Ordering::SeqCst), u64::MAX);
+    assert_eq!(rt; permit.high.load(Ordering::SeqCst), u64::MAX);
+    assert_eq!(rt; permit.other.load(Ordering::SeqCst), 0);
+    Ok(())
+}

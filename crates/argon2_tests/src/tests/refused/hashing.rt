@@ -1,0 +1,189 @@
+//! Hashing, to a tag and to a text.
+
+use super::{ARGON2D, ARGON2I, ARGON2ID, PASSWORD, SALT, TEXT, in_mode, tell};
+use argon2::{
+    ThreadMode, Variant, hash_encoded, hash_encoded_sequential, hash_raw, hash_raw_sequential,
+};
+use std::alloc::Global;
+use std::marker::Sync;
+use std::sync::Wait;
+use std::test::Fail;
+use std::thread::Threads;
+
+/// Whether the tag of RFC 9106 comes.
+fn hash<R: Threads + Wait + Sync>(
+    rt: &R,
+    alloc: Global,
+    variant: Variant,
+    mode: ThreadMode,
+    tag: &[u8],
+) -> argon2::Result<bool> {
+    let raw = hash_raw(rt, alloc, &PASSWORD, &SALT, &in_mode(variant, mode))?;
+    Ok(raw.as_slice() == tag)
+}
+
+/// Whether the tag of RFC 9106 comes from the call that does not look at the thread mode.
+fn hash_sequential(alloc: Global, variant: Variant, tag: &[u8]) -> argon2::Result<bool> {
+    let config = in_mode(variant, ThreadMode::Parallel);
+    let raw = hash_raw_sequential(alloc, &PASSWORD, &SALT, &config)?;
+    Ok(raw.as_slice() == tag)
+}
+
+/// Whether the text of RFC 9106's tag comes.
+fn encode<R: Threads + Wait + Sync>(
+    rt: &R,
+    alloc: Global,
+    mode: ThreadMode,
+) -> argon2::Result<bool> {
+    let config = in_mode(Variant::Argon2id, mode);
+    let text = hash_encoded(rt, alloc, &PASSWORD, &SALT, &config)?;
+    Ok(text.as_str() == TEXT)
+}
+
+#[test]
+fn hash_raw_by_workers_argon2d_refused_in_turn(rt: HostRuntime) -> Result<(), Fail> {
+    let answer = hash(
+        &rt,
+        rt.alloc(),
+        Variant::Argon2d,
+        ThreadMode::Parallel,
+        &ARGON2D,
+    );
+    tell(&rt, answer)
+}
+
+#[test]
+fn hash_raw_by_two_workers_argon2d_refused_in_turn(rt: HostRuntime) -> Result<(), Fail> {
+    let answer = hash(
+        &rt,
+        rt.alloc(),
+        Variant::Argon2d,
+        ThreadMode::AtMost(2),
+        &ARGON2D,
+    );
+    tell(&rt, answer)
+}
+
+#[test]
+fn hash_raw_in_one_thread_argon2d_refused_in_turn(rt: HostRuntime) -> Result<(), Fail> {
+    let answer = hash(
+        &rt,
+        rt.alloc(),
+        Variant::Argon2d,
+        ThreadMode::Sequential,
+        &ARGON2D,
+    );
+    tell(&rt, answer)
+}
+
+#[test]
+fn hash_raw_sequential_argon2d_refused_in_turn(rt: HostRuntime) -> Result<(), Fail> {
+    tell(&rt, hash_sequential(rt.alloc(), Variant::Argon2d, &ARGON2D))
+}
+
+#[test]
+fn hash_raw_by_workers_argon2i_refused_in_turn(rt: HostRuntime) -> Result<(), Fail> {
+    let answer = hash(
+        &rt,
+        rt.alloc(),
+        Variant::Argon2i,
+        ThreadMode::Parallel,
+        &ARGON2I,
+    );
+    tell(&rt, answer)
+}
+
+#[test]
+fn hash_raw_by_two_workers_argon2i_refused_in_turn(rt: HostRuntime) -> Result<(), Fail> {
+    let answer = hash(
+        &rt,
+        rt.alloc(),
+        Variant::Argon2i,
+        ThreadMode::AtMost(2),
+        &ARGON2I,
+    );
+    tell(&rt, answer)
+}
+
+#[test]
+fn hash_raw_in_one_thread_argon2i_refused_in_turn(rt: HostRuntime) -> Result<(), Fail> {
+    let answer = hash(
+        &rt,
+        rt.alloc(),
+        Variant::Argon2i,
+        ThreadMode::Sequential,
+        &ARGON2I,
+    );
+    tell(&rt, answer)
+}
+
+#[test]
+fn hash_raw_sequential_argon2i_refused_in_turn(rt: HostRuntime) -> Result<(), Fail> {
+    tell(&rt, hash_sequential(rt.alloc(), Variant::Argon2i, &ARGON2I))
+}
+
+#[test]
+fn hash_raw_by_workers_argon2id_refused_in_turn(rt: HostRuntime) -> Result<(), Fail> {
+    let answer = hash(
+        &rt,
+        rt.alloc(),
+        Variant::Argon2id,
+        ThreadMode::Parallel,
+        &ARGON2ID,
+    );
+    tell(&rt, answer)
+}
+
+#[test]
+fn hash_raw_by_two_workers_argon2id_refused_in_turn(rt: HostRuntime) -> Result<(), Fail> {
+    let answer = hash(
+        &rt,
+        rt.alloc(),
+        Variant::Argon2id,
+        ThreadMode::AtMost(2),
+        &ARGON2ID,
+    );
+    tell(&rt, answer)
+}
+
+#[test]
+fn hash_raw_in_one_thread_argon2id_refused_in_turn(rt: HostRuntime) -> Result<(), Fail> {
+    let answer = hash(
+        &rt,
+        rt.alloc(),
+        Variant::Argon2id,
+        ThreadMode::Sequential,
+        &ARGON2ID,
+    );
+    tell(&rt, answer)
+}
+
+#[test]
+fn hash_raw_sequential_argon2id_refused_in_turn(rt: HostRuntime) -> Result<(), Fail> {
+    tell(
+        &rt,
+        hash_sequential(rt.alloc(), Variant::Argon2id, &ARGON2ID),
+    )
+}
+
+#[test]
+fn hash_encoded_by_workers_refused_in_turn(rt: HostRuntime) -> Result<(), Fail> {
+    tell(&rt, encode(&rt, rt.alloc(), ThreadMode::Parallel))
+}
+
+#[test]
+fn hash_encoded_by_two_workers_refused_in_turn(rt: HostRuntime) -> Result<(), Fail> {
+    tell(&rt, encode(&rt, rt.alloc(), ThreadMode::AtMost(2)))
+}
+
+#[test]
+fn hash_encoded_in_one_thread_refused_in_turn(rt: HostRuntime) -> Result<(), Fail> {
+    tell(&rt, encode(&rt, rt.alloc(), ThreadMode::Sequential))
+}
+
+#[test]
+fn hash_encoded_sequential_refused_in_turn(rt: HostRuntime) -> Result<(), Fail> {
+    let config = in_mode(Variant::Argon2id, ThreadMode::Parallel);
+    let answer = hash_encoded_sequential(rt.alloc(), &PASSWORD, &SALT, &config);
+    tell(&rt, answer.map(|text| text.as_str() == TEXT))
+}

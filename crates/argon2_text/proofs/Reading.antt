@@ -1,0 +1,7 @@
+-- Reading a text, from cutting it to its value.
+pub mod TextCuts
+pub mod TextHeads
+pub mod TextItems
+pub mod TextNumbers
+pub mod TextPieces
+pub mod TextSteps

@@ -1,0 +1,150 @@
+-- Cutting at a byte and behind a front, both ways, and what std's methods give in these words.
+use Rattle.std.proofs.Common.{◌≡◌, ◌≢◌, ℕ, zero, suc, ◌+◌, ◌<◌, ◌≤◌, ◌==◌, Bool, true, false, List, [], ◌∷◌, ◌++◌, length, get_or, drop, Option, Some}
+use Rattle.std.proofs.Common.{None, refl, sym, ap, ◌∙◌, arith, inl, inr, eq-eqb}
+use Rattle.std.specs.Prelude.{option_map, MatchOption, MatchBool}
+use Rattle.std.specs.List.{list_any}
+use Rattle.std.specs.Borrow.{Bor}
+use Rattle.std.specs.Str.Pattern.{FindsChar, FindsTextPrefix}
+use Rattle.std.proofs.lemmas.Bool.{ne_eqb, cases_eq, or_right}
+use Rattle.std.proofs.lemmas.Option.{some_pair_parts}
+use Rattle.std.proofs.lemmas.Str.Pattern.{IsSplitOnceResult, split_parts, contains_char}
+use Rattle.argon2_text.specs.Standard.Grammar.{Lacks}
+use Rattle.argon2_text.specs.Views.Cutting.{strip, cut}
+use Rattle.argon2_text.specs.Views.Texts.{two_texts}
+
+-- ---- Lacks, by places
+
+-- a list that has c at none of its places lacks c
+pub Lacks-from_places : (c : ℕ) (bs : List ℕ) → ((i : ℕ) → i < length bs → get_or bs i 0 ≢ c) → Lacks c bs
+Lacks-from_places c [] h = tt
+Lacks-from_places c (b ∷ bs) h = (h 0 (omega arith), Lacks-from_places c bs (λ i lt. h (suc i) (omega arith)))
+
+-- ---- strip
+
+-- stripping a front from that front and a rest gives the rest
+pub strip-again : (front rest : List ℕ) → strip front (front ++ rest) ≡ Some rest
+strip-again [] rest = refl
+strip-again (x ∷ front) rest = rw (eq-eqb x x refl) (strip-again front rest)
+
+-- where stripping finds a rest, the text is the front and that rest
+pub strip_found : (front text rest : List ℕ) → strip front text ≡ Some rest → text ≡ front ++ rest
+strip_found [] text rest e = cc
+strip_found (x ∷ front) [] rest e = absurd cc
+strip_found (x ∷ front) (y ∷ text) rest e = elim (cases_eq x y) [
+  | inl same ↦
+      let e2 : strip front text ≡ Some rest = rw (eq-eqb x y same) at e in
+      rw (same, strip_found front text rest e2) refl
+  | inr other ↦
+      let e2 : None ≡ Some rest = rw (ne_eqb x y other) at e in
+      absurd cc
+]
+
+-- stripping finds nothing in a text that does not begin with the front
+pub strip_none : (front text : List ℕ) → ((rest : List ℕ) → text ≢ front ++ rest) → strip front text ≡ None
+strip_none front text h = elim (strip front text) as (λ o. strip front text ≡ o → o ≡ None) [
+  | None ↦ λ e. refl
+  | Some rest ↦ λ e. absurd (h rest (strip_found front text rest e))
+] refl
+
+-- ---- cut
+
+-- a part without c, then c, then a rest is cut into that part and that rest
+pub cut-again : (c : ℕ) (a rest : List ℕ) → Lacks c a → cut c (a ++ c ∷ rest) ≡ Some (a, rest)
+cut-again c [] rest lacks = rw (eq-eqb c c refl) refl
+cut-again c (x ∷ a) rest lacks = rw (ne_eqb x c lacks.0, cut-again c a rest lacks.1) refl
+
+-- a text without c is not cut
+pub cut_none : (c : ℕ) (bs : List ℕ) → Lacks c bs → cut c bs ≡ None
+cut_none c [] lacks = refl
+cut_none c (x ∷ bs) lacks = rw (ne_eqb x c lacks.0, cut_none c bs lacks.1) refl
+
+-- ---- what std's methods give
+
+-- an answer that meets the contract of `strip_prefix` is what strip gives
+pub strip_gives : (front text : List ℕ) (r : Option (Bor (List ℕ)))
+    → MatchOption r (FindsTextPrefix front text None) (λ x. (n : ℕ) × FindsTextPrefix front text (Some n) × (x.now ≡ drop n text)
+    × (length x.now + n ≡ length text))
+    → option_map (λ x. x.now) r ≡ strip front text
+strip_gives front text None h = sym (strip_none front text h)
+strip_gives front text (Some x) h =
+    let whole : text ≡ front ++ x.now = rw h.2 h.1.1 in
+    sym (ap (strip front) whole ∙ strip-again front x.now)
+
+-- at an ASCII mark, an answer that meets the contract of `split_once` is what cut gives
+pub cut_gives : (mark : ℕ) (text : List ℕ) (r : Option (Bor (List ℕ) × Bor (List ℕ))) → IsSplitOnceResult mark text r → mark < 128
+    → option_map two_texts r ≡ cut mark text
+cut_gives mark text None h small = sym (cut_none mark text (Lacks-from_places mark text (split_parts mark text None h small)))
+cut_gives mark text (Some x) h small =
+    let parts = split_parts mark text (Some x) h small in
+    sym (ap (cut mark) parts.0 ∙ cut-again mark x.0.now x.1.now (Lacks-from_places mark x.0.now parts.1))
+
+-- a list with c at one of its places is told to hold c
+any_at : (c : ℕ) (bs : List ℕ) (i : ℕ) → i < length bs → get_or bs i 0 ≡ c → list_any (λ b. b == c) bs ≡ true
+any_at c [] i lt e = absurd (omega arith)
+any_at c (b ∷ bs) zero lt e = rw (eq-eqb b c e) refl
+any_at c (b ∷ bs) (suc i) lt e = or_right (b == c) (list_any (λ b. b == c) bs) (any_at c bs i (omega arith) e)
+
+-- a list that is told to hold no c lacks c
+pub any_lacks : (c : ℕ) (bs : List ℕ) → list_any (λ b. b == c) bs ≡ false → Lacks c bs
+any_lacks c bs h = Lacks-from_places c bs (λ i lt e. let yes = any_at c bs i lt e in absurd (cc))
+
+-- a list that lacks c is told to hold no c
+pub lacks_any : (c : ℕ) (bs : List ℕ) → Lacks c bs → list_any (λ b. b == c) bs ≡ false
+lacks_any c [] h = refl
+lacks_any c (b ∷ bs) h = rw (ne_eqb b c h.0) (lacks_any c bs h.1)
+
+-- an answer that meets the contract of `contains` tells whether an ASCII mark is in the text
+pub holds_gives : (mark : ℕ) (text : List ℕ) (r : Bool)
+    → MatchBool r ((i : ℕ) × (j : ℕ) × FindsChar mark text (Some (i, j)) × (i ≤ j) × (j ≤ length text)) (FindsChar mark text None) → mark < 128
+    → r ≡ list_any (λ b. b == mark) text
+holds_gives mark text true h small =
+    let found = (contains_char mark text true h small).0 refl in
+    sym (any_at mark text found.0 found.1 found.2)
+holds_gives mark text false h small =
+    let none = (contains_char mark text false h small).1 in
+    sym (lacks_any mark text (Lacks-from_places mark text (λ i lt e. let bad = none i lt e in absurd (cc))))
+
+abbrev Two : Type 0
+Two = List ℕ × List ℕ
+
+-- where bs is two parts around c, x before bs is those parts around c, with x before the first
+cut_found_at : (c x : ℕ) (bs a rest : List ℕ) (o : Option Two) → ((y : Two) → o ≡ Some y → bs ≡ y.0 ++ c ∷ y.1)
+    → option_map {U = Two} (λ y. (x ∷ y.0, y.1)) o ≡ Some (a, rest) → x ∷ bs ≡ a ++ c ∷ rest
+cut_found_at c x bs a rest None ih e = absurd cc
+cut_found_at c x bs a rest (Some y) ih e =
+    let same : (x ∷ y.0 ≡ a) × (y.1 ≡ rest) = some_pair_parts (x ∷ y.0) a y.1 rest e in
+    rw (← same.0, ← same.1) (ap (λ (t : List ℕ). x ∷ t) (ih y refl))
+
+-- where a cut is found, the text is the first part, the mark and the rest
+pub cut_found : (c : ℕ) (bs a rest : List ℕ) → cut c bs ≡ Some (a, rest) → bs ≡ a ++ c ∷ rest
+cut_found c [] a rest e = absurd cc
+cut_found c (x ∷ bs) a rest e = elim (cases_eq x c) [
+  | inl same ↦
+      let e2 : Some ([], bs) ≡ Some (a, rest) = rw (eq-eqb x c same) at e in
+      let parts = some_pair_parts [] a bs rest e2 in
+      rw (same, ← parts.0, ← parts.1) refl
+  | inr other ↦
+      let e2 : option_map {U = Two} (λ y. (x ∷ y.0, y.1)) (cut c bs) ≡ Some (a, rest) = rw (ne_eqb x c other) at e in
+      cut_found_at c x bs a rest (cut c bs) (λ y is. cut_found c bs y.0 y.1 is) e2
+]
+
+-- a first part that lacks c still lacks it with another byte before it
+cut_lacks_at : (c x : ℕ) (a rest : List ℕ) (o : Option Two) → x ≢ c → ((y : Two) → o ≡ Some y → Lacks c y.0)
+    → option_map {U = Two} (λ y. (x ∷ y.0, y.1)) o ≡ Some (a, rest) → Lacks c a
+cut_lacks_at c x a rest None other ih e = absurd cc
+cut_lacks_at c x a rest (Some y) other ih e =
+    let same : (x ∷ y.0 ≡ a) × (y.1 ≡ rest) = some_pair_parts (x ∷ y.0) a y.1 rest e in
+    rw (← same.0) (other, ih y refl)
+
+-- the part before the cut lacks the mark
+pub cut_lacks : (c : ℕ) (bs a rest : List ℕ) → cut c bs ≡ Some (a, rest) → Lacks c a
+cut_lacks c [] a rest e = absurd cc
+cut_lacks c (x ∷ bs) a rest e = elim (cases_eq x c) [
+  | inl same ↦
+      let e2 : Some ([], bs) ≡ Some (a, rest) = rw (eq-eqb x c same) at e in
+      let parts = some_pair_parts [] a bs rest e2 in
+      rw (← parts.0) tt
+  | inr other ↦
+      let e2 : option_map {U = Two} (λ y. (x ∷ y.0, y.1)) (cut c bs) ≡ Some (a, rest) = rw (ne_eqb x c other) at e in
+      cut_lacks_at c x a rest (cut c bs) other (λ y is. cut_lacks c bs y.0 y.1 is) e2
+]

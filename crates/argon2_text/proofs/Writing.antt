@@ -1,0 +1,2 @@
+-- How long a written text is.
+pub mod TextLengths

@@ -1,0 +1,25 @@
+use Rattle.std.proofs.Common.{refl, arith}
+use Rattle.argon2_text.proofs.Writing.TextLengths.{length-name, length-text_of}
+use Rattle.argon2_text.proofs.encoding.lengths.encoded_len.Goals as goal
+
+pub overflow_add-result-3 : goal.overflow_add-result-3
+overflow_add-result-3 c = rw c.as_lowercase_str.ensures (omega (arith, length-name c.args.variant, c.base64_len.ensures.value))
+
+pub overflow_add-result-4 : goal.overflow_add-result-4
+overflow_add-result-4 c = rw c.as_lowercase_str.ensures
+    (omega (arith, length-name c.args.variant, c.base64_len.ensures.value, c.base64_len-2.ensures.value))
+
+pub returns : goal.returns
+returns c version salt hash salt_is hash_is =
+    rw (
+      length-text_of _,
+      c.as_lowercase_str.ensures,
+      c.from.ensures,
+      c.from-2.ensures,
+      c.from-3.ensures,
+      c.num_len.ensures,
+      c.num_len-2.ensures,
+      c.num_len-3.ensures,
+      c.base64_len.ensures.exact salt salt_is,
+      c.base64_len-2.ensures.exact hash hash_is,
+    ) refl

@@ -1,0 +1,52 @@
+-- Cutting a text into its pieces from left to right, as the reader does it.
+use Rattle.std.specs.Prelude.{ℕ, ◌==◌, if◌then◌else◌, List, [], ◌∷◌, codes, Option, Some, None, option_map}
+use Rattle.std.specs.List.{list_any}
+use Rattle.argon2_text.specs.Standard.Grammar.{Pieces, dollar}
+use Rattle.argon2_text.specs.Views.Faults.{comma}
+
+infixl 10 ◌>>=◌
+abbrev pub ◌>>=◌ : {A B : Type 0} → Option A → (A → Option B) → Option B
+None >>= f = None
+(Some x) >>= f = f x
+
+-- what stands behind a front
+abbrev pub strip : List ℕ → List ℕ → Option (List ℕ)
+strip [] text = Some text
+strip (x ∷ front) [] = None
+strip (x ∷ front) (y ∷ text) = if x == y then strip front text else None
+
+-- what stands before the first mark, and what stands after it
+abbrev pub cut : ℕ → List ℕ → Option (List ℕ × List ℕ)
+cut mark [] = None
+cut mark (b ∷ text) = if b == mark then Some ([], text) else option_map (λ x. (b ∷ x.0, x.1)) (cut mark text)
+
+-- behind a front, the piece that a mark ends, and what stands after the mark
+unfoldable pub piece : List ℕ → ℕ → List ℕ → Option (List ℕ × List ℕ)
+piece front mark text = strip front text >>= cut mark
+
+-- `v=` and the version up to a `$`, or nothing
+abbrev pub version_behind : List ℕ → Option (List ℕ) → Option (Option (List ℕ) × List ℕ)
+version_behind text None = Some (None, text)
+version_behind text (Some rest) = cut dollar rest >>= λ x. Some (Some x.0, x.1)
+
+unfoldable pub version_piece : List ℕ → Option (Option (List ℕ) × List ℕ)
+version_piece text = version_behind text (strip (codes "v=") text)
+
+-- all pieces, where the text has them and no further `$`
+unfoldable pub pieces_of : List ℕ → Option Pieces
+pieces_of text = do
+  name ← piece (codes "$") dollar text
+  version ← version_piece name.1
+  memory ← piece (codes "m=") comma version.1
+  time ← piece (codes "t=") comma memory.1
+  lanes ← piece (codes "p=") dollar time.1
+  items ← cut dollar lanes.1
+  if list_any (λ b. b == dollar) items.1 then None else Some (record {
+    name = name.0;
+    version = version.0;
+    memory = memory.0;
+    time = time.0;
+    lanes = lanes.0;
+    salt = items.0;
+    hash = items.1;
+  })

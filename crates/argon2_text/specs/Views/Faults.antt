@@ -1,0 +1,31 @@
+-- What a text lacks that spells nothing.
+use Rattle.std.specs.Prelude.{◌≡◌, ◌⊎◌, ℕ, List, Option}
+use Rattle.argon2_settings.specs.declared.version.Version.{Version}
+use Rattle.argon2_settings.specs.declared.error.Error.{Error}
+use Rattle.argon2_settings.specs.declared.error.Error.TheVariants.{DecodingFail, OutOfMemory}
+use Rattle.argon2_text.specs.Standard.Text.{Spelled}
+use Rattle.argon2_text.specs.Standard.Grammar.{Pieces, IsVersion, IsNumber, IsItem, IsCut, IsHead, Spells, SpellsNothing}
+
+-- the mark `,` between the costs of a text
+abbrev pub comma : ℕ
+comma = 44
+
+abbrev pub IsNoVersion : Option (List ℕ) → Type 0
+IsNoVersion piece = (version : Version) → IsVersion piece version → ⊥
+
+abbrev pub IsNoNumber : List ℕ → Type 0
+IsNoNumber text = (n : ℕ) → IsNumber text n → ⊥
+
+abbrev pub IsSomeItem : List ℕ → Type 0
+IsSomeItem text = (bytes : List ℕ) × IsItem text bytes
+
+abbrev pub SpellsSome : List ℕ → Type 0
+SpellsSome text = (d : Spelled) × Spells text d
+
+-- whatever stands for the salt and the hash, the text is cut and what stands before them is spelled
+abbrev pub HasHead : List ℕ → Type 0
+HasHead text = (pieces : Pieces) × (d : Spelled) × IsCut text pieces × IsHead pieces d
+
+-- what a refusal says: the text spells nothing, or it spells a value and memory was refused
+abbrev pub Refuses : List ℕ → Error → Type 0
+Refuses text e = ((e ≡ DecodingFail) × SpellsNothing text) ⊎ ((e ≡ OutOfMemory) × SpellsSome text)

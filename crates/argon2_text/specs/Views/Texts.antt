@@ -1,0 +1,75 @@
+-- What the contracts of the text see of the code's values.
+use Rattle.std.specs.Prelude.{◌≡◌, ℕ, List, [], Option, option_map}
+use Rattle.std.specs.Borrow.{Bor}
+use Rattle.argon2_text.specs.declared.encoding.reading.Pieces.{Pieces as PiecesInText}
+use Rattle.argon2_text.specs.declared.encoding.reading.Head.{Head}
+use Rattle.argon2_text.specs.declared.decoded.Decoded.{Decoded}
+use Rattle.argon2_text.specs.Standard.Grammar.{Pieces, IsCut, IsHead, IsItem, Spells}
+use Rattle.argon2_text.specs.Standard.Text.{Spelled}
+
+-- a decoded value without where it lies in memory
+abbrev pub spelled_by : Decoded → Spelled
+spelled_by d = record {
+  variant = d.variant;
+  version = d.version;
+  mem_cost = d.mem_cost;
+  time_cost = d.time_cost;
+  parallelism = d.parallelism;
+  salt = d.salt.items;
+  hash = d.hash.items;
+}
+
+-- two parts of a text
+abbrev pub two_texts : Bor (List ℕ) × Bor (List ℕ) → List ℕ × List ℕ
+two_texts x = (x.0.now, x.1.now)
+
+-- the version, which may be missing
+abbrev pub version_text_of : Option (Bor (List ℕ)) → Option (List ℕ)
+version_text_of version = option_map (λ x. x.now) version
+
+abbrev pub version_and_rest : Option (Bor (List ℕ)) × Bor (List ℕ) → Option (List ℕ) × List ℕ
+version_and_rest x = (version_text_of x.0, x.1.now)
+
+abbrev pub pieces_view : PiecesInText → Pieces
+pieces_view p = record {
+  name = p.name.now;
+  version = version_text_of p.version;
+  memory = p.memory.now;
+  time = p.time.now;
+  lanes = p.lanes.now;
+  salt = p.salt.now;
+  hash = p.hash.now;
+}
+
+-- what the head of a text spells with this salt and this hash
+abbrev pub spelled_with : Head → List ℕ → List ℕ → Spelled
+spelled_with h salt hash = record {
+  variant = h.variant;
+  version = h.version;
+  mem_cost = h.mem_cost;
+  time_cost = h.time_cost;
+  parallelism = h.parallelism;
+  salt = salt;
+  hash = hash;
+}
+
+-- and with none yet
+abbrev pub settings_of : Head → Spelled
+settings_of h = spelled_with h [] []
+
+-- h is the head of the text, with the salt and the hash as they stand there
+pub record IsHeadOf (text : List ℕ) (h : Head) : Type 0 where
+  pub pieces : Pieces
+  pub cut : IsCut text pieces
+  pub head : IsHead pieces (settings_of h)
+  pub salt : pieces.salt ≡ h.salt.now
+  pub hash : pieces.hash ≡ h.hash.now
+
+-- h is the head of a text that spells a value with this salt and this hash
+pub record IsSpelledBy (text : List ℕ) (h : Head) (salt hash : List ℕ) : Type 0 where
+  pub spells : Spells text (spelled_with h salt hash)
+  pub salt_item : IsItem h.salt.now salt
+  pub hash_item : IsItem h.hash.now hash
+
+abbrev pub IsSpellingOf : List ℕ → Head → Type 0
+IsSpellingOf text h = (salt : List ℕ) × (hash : List ℕ) × IsSpelledBy text h salt hash

@@ -1,0 +1,88 @@
+//! The encoded text of a hash, written and read:
+//! `$argon2id$v=19$m=256,t=2,p=1$salt$hash`, with salt and hash in unpadded base64 (RFC 4648).
+
+ghost use Rattle.std.specs.Prelude.{◌≡◌, IfErr, IfOk};
+ghost use Rattle.std.specs.String.{string_bytes};
+ghost use Rattle.argon2_text.specs.Standard.Grammar.{IsItem, Spells};
+ghost use Rattle.argon2_text.specs.Views.Faults.{IsSomeItem, Refuses};
+ghost use Rattle.argon2_text.specs.Standard.Text.{spelled_of, text_of};
+ghost use Rattle.argon2_text.specs.Views.Texts.{spelled_by, spelled_with};
+
+mod items;
+mod lengths;
+mod reading;
+
+use crate::decoded::Decoded;
+use argon2_settings::config::Config;
+use argon2_settings::context::Context;
+use argon2_settings::error::Error;
+use argon2_settings::result::Result;
+use base64::engine::general_purpose::STANDARD_NO_PAD;
+use items::bytes_of;
+pub use items::item_len;
+pub use lengths::{base64_len, encoded_len, num_len};
+pub use reading::{Head, spelling_of};
+use std::alloc::Global;
+
+/// The text of a hash: the variant in lower case, the version, the costs and lanes as plain decimals,
+/// the memory cost as it was given, and the salt and the hash in unpadded base64. Neither the secret
+/// nor the associated data stand in it. Where memory is refused: `OutOfMemory`.
+pub fn encode_string(alloc: Global, context: &Context<'_>, hash: &[u8]) -> Result<String>
+    ensures text { let c = context.now in
+        IfOk result (λ text. string_bytes text
+        ≡ text_of (spelled_of c.config c.salt.now hash.now)) }
+    ensures refused { IfErr result (λ e. e ≡ Error.OutOfMemory) }
+{
+    let Config {
+        variant,
+        version,
+        mem_cost,
+        time_cost,
+        lanes,
+        ..
+    } = context.config;
+    let mut text = format!(in alloc;
+        "${variant}$v={version}$m={mem_cost},t={time_cost},p={lanes}$"
+    )?;
+    STANDARD_NO_PAD.encode_string(context.salt, &mut text)?;
+    text.push_str("$")?;
+    STANDARD_NO_PAD.encode_string(hash, &mut text)?;
+    Ok(text)
+}
+
+/// What `encoded` spells.
+///
+/// A text that spells nothing is `DecodingFail`, also where memory is refused: so is each text whose
+/// `$` do not stand where they should or whose variant, version, costs or lanes are not spelled.
+/// Memory is asked for only behind a text that spells a value; where it is refused: `OutOfMemory`.
+pub fn decode_string(alloc: Global, encoded: &str) -> Result<Decoded>
+    ensures spelled { IfOk result (λ decoded. Spells encoded.now (spelled_by decoded)) }
+    ensures refused { IfErr result (Refuses encoded.now) }
+{
+    let head = spelling_of(encoded).ok_or(Error::DecodingFail)?;
+    decode(alloc, &head)
+}
+
+/// What the text of a head spells, where its salt and its hash are items. Where memory is refused:
+/// `OutOfMemory`.
+pub fn decode(alloc: Global, head: &Head<'_>) -> Result<Decoded>
+    requires salt { IsSomeItem head.now.salt.now }
+    requires hash { IsSomeItem head.now.hash.now }
+    ensures settings { IfOk result (λ d. spelled_by d
+        ≡ spelled_with head.now d.salt.items d.hash.items) }
+    ensures items { IfOk result (λ d. IsItem head.now.salt.now d.salt.items
+        × IsItem head.now.hash.now d.hash.items) }
+    ensures refused { IfErr result (λ e. e ≡ Error.OutOfMemory) }
+{
+    let salt = bytes_of(alloc, head.salt)?;
+    let hash = bytes_of(alloc, head.hash)?;
+    Ok(Decoded {
+        variant: head.variant,
+        version: head.version,
+        mem_cost: head.mem_cost,
+        time_cost: head.time_cost,
+        parallelism: head.parallelism,
+        salt,
+        hash,
+    })
+}

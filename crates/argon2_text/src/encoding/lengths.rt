@@ -1,0 +1,62 @@
+//! The length of an encoded text and of its pieces, in bytes.
+
+ghost use Rattle.std.specs.Prelude.{◌≡◌, ℕ, List, length};
+ghost use Rattle.std.specs.Fmt.{decimal};
+ghost use Rattle.base64.specs.Rfc4648.{unpadded_len};
+ghost use Rattle.argon2_text.specs.Standard.Text.{base64, text_of};
+ghost use Rattle.argon2_settings.specs.declared.version.Version.{Version};
+
+use argon2_settings::variant::Variant;
+
+/// The length of what stands in every text: its marks and the two digits of its version.
+const FIXED_LEN: u64 = "$$v=19$m=,t=,p=$$".len() as u64;
+
+/// The length of the unpadded base64 (RFC 4648) of `len` bytes.
+pub fn base64_len(len: u32) -> u64
+    ensures value { result ≡ unpadded_len len }
+    ensures exact { (bytes : List ℕ) → length bytes ≡ len → result ≡ length (base64 bytes) }
+{
+    (4 * u64::from(len) + 2) / 3
+}
+
+/// The number of digits of the plain decimal of `number`.
+pub fn num_len(number: u32) -> u32
+    ensures { result ≡ length (decimal number) }
+{
+    let mut len = 1;
+    let mut rest = number;
+    while rest >= 10 {
+        len += 1;
+        rest /= 10;
+    }
+    len
+}
+
+/// The length of the text that `encode_string` writes for a salt and a hash of these many bytes,
+/// whatever the version, with no terminator. It takes no memory and always succeeds.
+pub fn encoded_len(
+    variant: Variant,
+    mem_cost: u32,
+    time_cost: u32,
+    parallelism: u32,
+    salt_len: u32,
+    hash_len: u32,
+) -> u64
+    ensures { (version : Version) (salt hash : List ℕ) → length salt ≡ salt_len
+        → length hash ≡ hash_len
+        → result ≡ length (text_of (record {
+          variant = variant;
+          version = version;
+          mem_cost = mem_cost;
+          time_cost = time_cost;
+          parallelism = parallelism;
+          salt = salt;
+          hash = hash;
+        })) }
+{
+    let name = variant.as_lowercase_str().len() as u64;
+    let costs = u64::from(num_len(mem_cost))
+        + u64::from(num_len(time_cost))
+        + u64::from(num_len(parallelism));
+    FIXED_LEN + name + costs + base64_len(salt_len) + base64_len(hash_len)
+}

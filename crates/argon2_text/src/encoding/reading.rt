@@ -1,0 +1,160 @@
+//! The pieces of an encoded text, cut and read from left to right, with nothing taken from memory.
+
+ghost use Rattle.std.specs.Prelude.{◌≡◌, ◌<◌, ◌==◌, MatchOption, option_map};
+ghost use Rattle.std.specs.List.{list_any};
+ghost use Rattle.argon2_text.specs.Views.Cutting.{cut, piece, pieces_of, strip, version_piece};
+ghost use Rattle.argon2_text.specs.Views.Faults.{HasHead, IsNoNumber, IsNoVersion};
+ghost use Rattle.argon2_text.specs.Standard.Grammar.{IsNumber, IsVersion, SpellsNothing};
+ghost use Rattle.argon2_text.specs.Views.Texts.{IsHeadOf, IsSpellingOf, pieces_view, two_texts, version_and_rest, version_text_of};
+ghost use Rattle.argon2_settings.specs.Standard.Variant.{IsName};
+ghost use Rattle.argon2_settings.specs.Views.Names.{IsNoName};
+
+use super::items::is_item;
+use argon2_settings::variant::Variant;
+use argon2_settings::version::Version;
+
+/// The pieces of a text, as they stand in it.
+#[derive(Clone, Copy)]
+struct Pieces<'a> {
+    name: &'a str,
+    version: Option<&'a str>,
+    memory: &'a str,
+    time: &'a str,
+    lanes: &'a str,
+    salt: &'a str,
+    hash: &'a str,
+}
+
+/// What a text spells before its salt and its hash, and these two as they stand in it.
+#[derive(Clone, Copy)]
+pub struct Head<'a> {
+    pub variant: Variant,
+    pub version: Version,
+    pub mem_cost: u32,
+    pub time_cost: u32,
+    pub parallelism: u32,
+    pub salt: &'a str,
+    pub hash: &'a str,
+}
+
+/// The head of a text that spells a value. It takes no memory.
+pub fn spelling_of(text: &str) -> Option<Head<'_>>
+    ensures { MatchOption result (SpellsNothing text.now) (IsSpellingOf text.now) }
+{
+    let head = head_of(text)?;
+    if is_item(head.salt) && is_item(head.hash) {
+        Some(head)
+    } else {
+        None
+    }
+}
+
+/// The head of a text, where its pieces stand as they should and those before the salt are spelled.
+fn head_of(text: &str) -> Option<Head<'_>>
+    ensures { MatchOption result (HasHead text.now → ⊥) (IsHeadOf text.now) }
+{
+    let pieces = pieces_of(text)?;
+    Some(Head {
+        variant: variant_of(pieces.name)?,
+        version: version_of(pieces.version)?,
+        mem_cost: number(pieces.memory)?,
+        time_cost: number(pieces.time)?,
+        parallelism: number(pieces.lanes)?,
+        salt: pieces.salt,
+        hash: pieces.hash,
+    })
+}
+
+/// The pieces of a text, where it has all of them but the version, and no further `$`.
+#[tactic(auto, unfolding(crate::specs::Views::Cutting::pieces_of))]
+fn pieces_of(text: &str) -> Option<Pieces<'_>>
+    ensures { option_map pieces_view result ≡ pieces_of text.now }
+{
+    let (name, rest) = piece(text, "$", '$')?;
+    let (version, rest) = version_piece(rest)?;
+    let (memory, rest) = piece(rest, "m=", ',')?;
+    let (time, rest) = piece(rest, "t=", ',')?;
+    let (lanes, rest) = piece(rest, "p=", '$')?;
+    let (salt, hash) = cut(rest, '$')?;
+    if holds(hash, '$') {
+        return None;
+    }
+    Some(Pieces {
+        name,
+        version,
+        memory,
+        time,
+        lanes,
+        salt,
+        hash,
+    })
+}
+
+/// Behind `front`, the piece that the first `mark` ends, and what stands after it.
+#[tactic(auto, unfolding(crate::specs::Views::Cutting::piece))]
+fn piece<'a>(text: &'a str, front: &str, mark: char) -> Option<(&'a str, &'a str)>
+    requires { mark < 128 }
+    ensures { option_map two_texts result ≡ piece front.now mark text.now }
+{
+    cut(strip(text, front)?, mark)
+}
+
+/// The version up to its `$`, where the text begins with one, and what stands after it.
+#[tactic(auto, unfolding(crate::specs::Views::Cutting::version_piece))]
+fn version_piece(text: &str) -> Option<(Option<&str>, &str)>
+    ensures { option_map version_and_rest result ≡ version_piece text.now }
+{
+    let Some(rest) = strip(text, "v=") else {
+        return Some((None, text));
+    };
+    let (version, rest) = cut(rest, '$')?;
+    Some((Some(version), rest))
+}
+
+/// What stands after `front`.
+fn strip<'a>(text: &'a str, front: &str) -> Option<&'a str>
+    ensures { option_map (λ x. x.now) result ≡ strip front.now text.now }
+{
+    text.strip_prefix(front)
+}
+
+/// What stands before the first `mark`, and what stands after it.
+fn cut(text: &str, mark: char) -> Option<(&str, &str)>
+    requires { mark < 128 }
+    ensures { option_map two_texts result ≡ cut mark text.now }
+{
+    text.split_once(mark)
+}
+
+/// Whether `mark` stands in the text.
+fn holds(text: &str, mark: char) -> bool
+    requires { mark < 128 }
+    ensures { result ≡ list_any (λ b. b == mark) text.now }
+{
+    text.contains(mark)
+}
+
+/// The variant of a name, in lower case or with a capital.
+fn variant_of(name: &str) -> Option<Variant>
+    ensures { MatchOption result (IsNoName name.now) (IsName name.now) }
+{
+    Variant::from_str(name).ok()
+}
+
+/// The version of its text; where none stands, version 0x10.
+fn version_of(piece: Option<&str>) -> Option<Version>
+    ensures { let text = version_text_of piece.entry in
+        MatchOption result (IsNoVersion text) (IsVersion text) }
+{
+    match piece {
+        None => Some(Version::Version10),
+        Some(text) => Version::from_str(text).ok(),
+    }
+}
+
+/// The number of its text: a plus or nothing, and decimal digits.
+fn number(text: &str) -> Option<u32>
+    ensures { MatchOption result (IsNoNumber text.now) (IsNumber text.now) }
+{
+    text.parse().ok()
+}

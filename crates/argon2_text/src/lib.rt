@@ -1,0 +1,5 @@
+//! The encoded text, written and read.
+#![tactic(auto)]
+
+pub mod decoded;
+pub mod encoding;
