@@ -39,7 +39,10 @@ impl Model for Board {
 }
 
 /// A slot for each segment, which waits.
-fn waiting_slots(alloc: Global, segments: Vec<Segment>) -> std::result::Result<Vec<Slot>, AllocError>
+fn waiting_slots(
+    alloc: Global,
+    segments: Vec<Segment>,
+) -> std::result::Result<Vec<Slot>, AllocError>
     ensures { IfOk result (λ slots. slots.items ≡ map Slot.Waiting segments.items) }
 {
     let mut slots = Vec::with_capacity(alloc, segments.len())?;
