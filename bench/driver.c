@@ -3,7 +3,7 @@
  * Each round runs every implementation once, so that a slow moment of the machine falls on all of
  * them; the least time of all rounds counts. Every tag is compared before it is timed.
  *
- * usage: driver OURS.so OURS-V3.so COMPRESS.so COMPRESS-V3.so [SECONDS [PROGRAM PROGRAM-V3]]
+ * usage: driver OURS.so OURS-V3.so COMPRESS.so COMPRESS-V3.so [SECONDS [PROGRAM PROGRAM-V3 [RUST-ARGON2.so]]]
  *
  * SECONDS is how long each case runs. The programs are `argon2_program` in its two builds: only a
  * program has threads, so the cases with threads time whole processes, the peers' too. */
@@ -254,6 +254,8 @@ int main(int argc, char **argv)
         programs[i] = argv[6 + i];
     if (argc < 5 || load_ours(argv + 1) || sodium_init() < 0 || gcry_check_version(NULL) == NULL)
         return 1;
+    if (argc > 8)
+        load_rust_argon2(argv[8]);
     gcry_control(GCRYCTL_DISABLE_SECMEM, 0);
     gcry_control(GCRYCTL_INITIALIZATION_FINISHED, 0);
     name_hashers();

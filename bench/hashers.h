@@ -37,6 +37,9 @@ extern const struct hasher peers[];
 int load_ours(char *const paths[4]);
 hash_function ours_default, ours_v3;
 
+/* rust-argon2 by a library of its own; where there is none, its column stays empty. */
+void load_rust_argon2(const char *path);
+
 /* Compresses 2 * count blocks that stay in the cache, by each build. */
 typedef uint64_t compress_function(uint32_t count, uint64_t seed);
 extern compress_function *compress_default, *compress_v3;

@@ -1,5 +1,6 @@
 //! Tags from outside: the vectors of RFC 9106, section 5, and those of rust-argon2's own tests.
 
+mod documentation;
 mod texts;
 
 use crate::{Config, Error, ThreadMode, Variant, Version, hash_raw, hash_raw_sequential};

@@ -1,63 +1,50 @@
-//! An example of each call of the root of `argon2`, which the README shows.
+//! A login service in small: it registers a user, lets her in, and renews what it keeps of her password.
 #![tactic(auto)]
 
 mod keys;
-mod logins;
+mod peppers;
+mod service;
 
-use argon2::{Config, ThreadMode, Variant, Version};
+use argon2::{Config, Variant};
 
-const TEXT: &str =
-    "$argon2i$v=19$m=256,t=2,p=1$c29tZXNhbHQ$iekCn0Y3spW+sCcFanM2xBT63UP2sghkUoHLIUpWRS8";
+/// A text of Argon2i in 3 passes over 4 MiB, as it was kept years ago.
+const OLD: &str =
+    "$argon2i$v=19$m=4096,t=3,p=1$c29tZXNhbHQ$iWh06vD8Fy27wf9npn6FXWiCX4K6pW6Ue1Bnzz07Z8A";
 
+/// The same as somebody changed it who wants the service to spend 4 TiB.
+const COSTLY: &str =
+    "$argon2i$v=19$m=4294967295,t=3,p=1$c29tZXNhbHQ$iWh06vD8Fy27wf9npn6FXWiCX4K6pW6Ue1Bnzz07Z8A";
+
+/// A text of Argon2i that was made with the secret `secret` and the associated data `ad`.
 const PEPPERED: &str =
     "$argon2i$v=19$m=4096,t=3,p=1$c29tZXNhbHQ$OlcSvlN20Lz43sK3jhCJ9K04oejhiY0AmI+ck6nuETo";
 
-/// Small settings, so that the examples take no time. They are no recommendation.
-fn small(variant: Variant, lanes: u32) -> Config<'static> {
-    Config {
-        hash_length: 32,
-        lanes,
-        mem_cost: 256,
-        thread_mode: ThreadMode::from_threads(lanes),
-        time_cost: 2,
-        variant,
-        version: Version::Version13,
-        ad: b"",
-        secret: b"",
-    }
-}
-
 fn main(rt: HostRuntime) -> anyhow::Result<()> {
     let alloc = rt.alloc();
-    let fast = small(Variant::Argon2i, 1);
-    let two_lanes = small(Variant::Argon2d, 2);
-
-    let key = keys::derive(&rt, alloc, b"password", b"somesalt", &two_lanes)?;
-    println!(rt; "derive: {}", hex::encode(alloc, key)?)?;
-    let key = keys::derive_alone(alloc, b"password", b"somesalt", &fast)?;
-    println!(rt; "derive_alone: {}", hex::encode(alloc, key.as_slice())?)?;
-    let same = keys::is_key_of(&rt, alloc, b"password", b"somesalt", &key, &fast)?;
+    let today = Config::owasp2();
+    let kept = service::register(&rt, alloc, b"correct horse", &today)?;
+    println!(rt; "kept: {} bytes", kept.len())?;
+    for password in ["correct horse", "wrong horse"] {
+        let let_in = service::log_in(&rt, alloc, &kept, password.as_bytes())?;
+        println!(rt; "{password}: {let_in}")?;
+    }
+    println!(rt; "old: {}", service::log_in(&rt, alloc, OLD, b"password")?)?;
+    println!(rt;
+        "costly: {}",
+        service::log_in(&rt, alloc, COSTLY, b"password")?
+    )?;
+    let renewed = service::renew(&rt, alloc, OLD, b"password", &today)?;
+    println!(rt; "renewed: {}", renewed.is_some())?;
+    let let_in = peppers::log_in_with_pepper(&rt, alloc, PEPPERED, b"password", b"secret", b"ad")?;
+    println!(rt; "peppered: {let_in}")?;
+    let deriving = Config {
+        variant: Variant::Argon2i,
+        mem_cost: 256,
+        ..Config::owasp2()
+    };
+    let key = keys::derive(alloc, b"password", b"somesalt", &deriving)?;
+    println!(rt; "key: {}", hex::encode(alloc, key.as_slice())?)?;
+    let same = keys::is_key_of(alloc, b"password", b"somesalt", &key, &deriving)?;
     println!(rt; "is_key_of: {same}")?;
-    let same = keys::is_key_of_alone(alloc, b"passphrase", b"somesalt", &key, &fast)?;
-    println!(rt; "is_key_of_alone: {same}")?;
-
-    let text = logins::register(&rt, alloc, b"password", b"somesalt", &two_lanes)?;
-    println!(rt; "register: {text}")?;
-    let text = logins::register_alone(alloc, b"password", b"somesalt", &fast)?;
-    println!(rt; "register_alone: {text}")?;
-    println!(rt;
-        "log_in: {}",
-        logins::log_in(&rt, alloc, TEXT, b"password")?
-    )?;
-    let peppered = logins::log_in_with_pepper(&rt, alloc, PEPPERED, b"password", b"secret", b"ad")?;
-    println!(rt; "log_in_with_pepper: {peppered}")?;
-    let peppered = logins::log_in_alone(alloc, PEPPERED, b"password", b"pepper", b"ad")?;
-    println!(rt; "log_in_alone: {peppered}")?;
-    println!(rt;
-        "is_outdated: {}",
-        logins::is_outdated(alloc, TEXT, &two_lanes)?
-    )?;
-
-    println!(rt; "text_length: {}", logins::text_length(&two_lanes, 8))?;
     Ok(())
 }

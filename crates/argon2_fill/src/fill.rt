@@ -16,13 +16,13 @@ ghost use Rattle.argon2_settings.specs.Standard.Setting.{memory_blocks};
 ghost use Rattle.argon2_fill.specs.Views.SliceLists.{segments_of};
 ghost use Rattle.argon2_settings.specs.Standard.Tag.{tag_from, tag_of};
 
-use crate::memory::{Memory, Segment, Slices, others, take_slice};
+use crate::memory::{Memory, Segment, Slices, others, recall_memory, take_slice};
 use crate::segment::{Snapshot, fill_segment};
 use crate::walk::{numbered_slice, slice_count};
 use crate::workers::{NoGate, fill_parallel};
 use argon2_blocks::blake2b::hprime;
 use argon2_blocks::block::Block;
-use argon2_settings::context::{Context, Job, known_context, known_job};
+use argon2_settings::context::{Context, Job, recall_context, recall_job};
 use argon2_settings::error::Error;
 use argon2_settings::result::Result;
 use std::alloc::Global;
@@ -40,7 +40,7 @@ pub fn prepare_memory(alloc: Global, context: &Context<'_>, memory: &mut Memory)
     ensures left { OnErr result (memory.new ≡ no_memory) }
     ensures refused { IfErr result (λ e. e ≡ Error.OutOfMemory) }
 {
-    known_context(context);
+    recall_context(context);
     let lanes = context.config.lanes;
     if memory.lanes() == lanes && memory.lane_length() == context.lane_length {
         return Ok(());
@@ -60,7 +60,7 @@ pub fn initialize(context: &Context<'_>, memory: &mut Memory)
         → block_of memory.new lane column ≡ block_of memory.old lane column }
     ensures writes { writes memory.new ≡ (writes memory.old + 2 * context.now.config.lanes) % 2 ^ 64 }
 {
-    known_context(context);
+    recall_context(context);
     let job = Job::new(context);
     for lane in 0..job.lanes() {
         write_first(&job, lane, 0, memory);
@@ -80,8 +80,8 @@ fn write_first(job: &Job, lane: u32, column: u32, memory: &mut Memory)
         (block_of memory.old) lane column block l c }
     ensures writes { writes memory.new ≡ (writes memory.old + 1) % 2 ^ 64 }
 {
-    known_job(job);
-    let _lanes = memory.lanes();
+    recall_job(job);
+    recall_memory(memory);
     let mut block = Block::zero();
     job.first_block(lane, column, &mut block);
     memory.set(lane, column, &block);
@@ -99,7 +99,7 @@ pub fn fill_sequential(context: &Context<'_>, memory: &mut Memory)
         writes memory.new ≡ (writes memory.old +
         (c.config.time_cost * c.memory_blocks - 2 * c.config.lanes)) % 2 ^ 64 }
 {
-    known_context(context);
+    recall_context(context);
     let job = Job::new(context);
     let mut slices = memory.take_slices();
     fill_slices(&job, &mut slices);
@@ -119,7 +119,7 @@ fn fill_slices(job: &Job, slices: &mut Slices)
         ≡ (writes_in (segments_of slices.old) + blocks_written job.now.setting
         (4 * job.now.setting.passes)) % 2 ^ 64 }
 {
-    known_job(job);
+    recall_job(job);
     for n in 0..slice_count(job) {
         fill_slice_in_turn(&numbered_slice(job, n), slices);
     }
@@ -140,7 +140,7 @@ pub(crate) fn fill_slice_in_turn(job: &Job, slices: &mut Slices)
         + job.now.setting.lanes * blocks_in_slice job.now.setting job.now.pass job.now.slice) % 2 ^
         64 }
 {
-    known_job(job);
+    recall_job(job);
     let slice = job.slice();
     let mut segments = take_slice(slices, slice);
     let snapshot = Snapshot::new(*job, others(slices, slice));
@@ -161,7 +161,7 @@ fn fill_lanes(snapshot: &Snapshot<'_>, segments: &mut [Segment])
         ≡ (slice_writes segments.old + j.setting.lanes * blocks_in_slice j.setting j.pass j.slice) %
         2 ^ 64 }
 {
-    known_job(snapshot.job());
+    recall_job(snapshot.job());
     for lane in 0..segments.len() {
         fill_segment(snapshot, lane as u32, &mut segments[lane]);
     }
@@ -220,7 +220,7 @@ pub fn finalize(alloc: Global, context: &Context<'_>, memory: &Memory) -> Result
     ensures length { IfOk result (λ tag. vec_len tag ≡ context.now.config.hash_length) }
     ensures refused { IfErr result (λ e. e ≡ Error.OutOfMemory) }
 {
-    known_context(context);
+    recall_context(context);
     let mut block = Block::zero();
     combine_last_blocks(
         memory,

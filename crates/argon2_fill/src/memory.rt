@@ -10,6 +10,7 @@ use argon2_blocks::block::Block;
 use argon2_blocks::common::SYNC_POINTS;
 use argon2_settings::error::Error;
 use argon2_settings::result::Result;
+pub(crate) use segment::recall_segment;
 pub use segment::{Segment, Source};
 pub(crate) use slices::{Slices, others, take_slice};
 use slices::{ask_for_room, empty_slices, tally, zero_slice};
@@ -42,6 +43,13 @@ impl Model for Memory {
       segment_length = m.segment_length;
       slices = map (λ v. v.items) m.slices;
     }) };
+}
+
+/// Tells the prover the bounds that each memory keeps, as `recall_job` does for a job.
+pub(crate) fn recall_memory(memory: &Memory)
+    ensures { IsMemory memory.now }
+{
+    let _lanes = memory.lanes();
 }
 
 /// Writes a block into one segment of the four slices.

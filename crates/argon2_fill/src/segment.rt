@@ -13,9 +13,9 @@ ghost use Rattle.argon2_fill.specs.Views.Sources.{IsBefore, source_block};
 mod positions;
 mod snapshot;
 
-use crate::memory::{Segment, Source};
+use crate::memory::{Segment, Source, recall_segment};
 use argon2_blocks::common::{ADDRESSES_IN_BLOCK, QWORDS_IN_BLOCK, SYNC_POINTS};
-use argon2_settings::context::Job;
+use argon2_settings::context::{Job, recall_job};
 use positions::pick;
 pub use positions::reference_positions;
 pub use snapshot::Snapshot;
@@ -106,7 +106,7 @@ fn fill_dependent(snapshot: &Snapshot<'_>, lane: u32, segment: &mut Segment)
         snapshot.now.job)) % 2 ^ 64 }
 {
     let job = snapshot.job();
-    let _tally = segment.tally();
+    recall_segment(segment);
     for index in job.first_index()..job.segment_length() {
         let word = dependent_word(snapshot, lane, index, segment);
         write_block(snapshot, lane, index, pick(job, lane, index, word), segment);
@@ -131,8 +131,8 @@ fn write_blocks(
         (first + length references.now) segment.new.blocks }
     ensures tally { segment.new.tally ≡ (segment.old.tally + length references.now) % 2 ^ 64 }
 {
-    let _length = snapshot.job().segment_length();
-    let _tally = segment.tally();
+    recall_job(snapshot.job());
+    recall_segment(segment);
     for (k, reference) in references.iter().enumerate() {
         write_block(snapshot, lane, first + k as u32, *reference, segment);
     }
@@ -152,7 +152,7 @@ fn fill_independent(snapshot: &Snapshot<'_>, lane: u32, segment: &mut Segment)
         snapshot.now.job)) % 2 ^ 64 }
 {
     let job = snapshot.job();
-    let _tally = segment.tally();
+    recall_segment(segment);
     let mut references = [(0, 0); QWORDS_IN_BLOCK];
     let mut index = job.first_index();
     while index < job.segment_length() {

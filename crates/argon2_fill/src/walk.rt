@@ -3,7 +3,7 @@
 ghost use Rattle.std.specs.Prelude.{◌≡◌, ◌*◌, ◌/◌, ◌%◌, ◌<◌};
 
 use argon2_blocks::common::SYNC_POINTS;
-use argon2_settings::context::Job;
+use argon2_settings::context::{Job, recall_job};
 
 /// How many slices a fill goes through: those of all passes.
 pub(crate) fn slice_count(job: &Job) -> u64
@@ -18,6 +18,6 @@ pub(crate) fn numbered_slice(job: &Job, number: u64) -> Job
     ensures { result ≡ record job.now { pass = number / 4; slice = number % 4 } }
 {
     let slices = u64::from(SYNC_POINTS);
-    let _passes = job.passes();
+    recall_job(job);
     job.at((number / slices) as u32, (number % slices) as u32)
 }

@@ -1,20 +1,34 @@
--- Refusals that are passed on, and what holds where the input's bytes are known.
-use Rattle.std.proofs.Common.{◌≡◌, ℕ, List, Option, None, Some, IfSome, MatchOption, Result, Ok, Err, IfErr, sym, subst}
+-- Refusals that are passed on, and what is known of accepted values.
+use Rattle.std.proofs.Common.{ap, inl, inr, refl, ◌⊎◌, ◌≡◌, ℕ, List, Option, None, Some, MatchOption, Result, Ok, Err, IfErr, sym, subst}
 use Rattle.std.specs.Result.{IsErr, IsErrAnd}
 use Rattle.argon2.specs.ErrorType.{Error}
 use Rattle.argon2_program.specs.declared.fault.Fault.{Fault}
-use Rattle.argon2_program.specs.declared.fault.Fault.TheVariants.{Refused}
+use Rattle.argon2_program.specs.declared.fault.Fault.TheVariants.{Input, Refused}
+use Rattle.std.specs.Io.KnownBytes.{Keeps}
+use Rattle.argon2_program.specs.Answer.{MayRefuse}
+use Rattle.argon2_program.specs.Fault.{fault_status}
+use Rattle.argon2_program.specs.Run.{IsShortOrRefused}
+use Rattle.argon2_program.specs.Words.{IsCommand}
+use Rattle.argon2_program.specs.declared.command.Command.{Command}
 
--- a refusal that is passed on is the fault
-pub passed_on : {A : Type 0} (result : Result A Fault) (refusal : Error) (P : Fault → Type 0) →
-    IsErr result × IsErrAnd result (λ fault. fault ≡ Refused refusal) → P (Refused refusal) → IfErr result P
-passed_on (Ok _) refusal P h p = tt
-passed_on (Err fault) refusal P h p = subst P (sym h.1) p
+-- what holds of a fault that is passed on
+pub passed_on : {A : Type 0} (result : Result A Fault) (fault : Fault) (P : Fault → Type 0) →
+    IsErr result × IsErrAnd result (λ other. other ≡ fault) → P fault → IfErr result P
+passed_on (Ok _) fault P h p = tt
+passed_on (Err other) fault P h p = subst P (sym h.1) p
 
--- what follows for the bytes that were read holds for the input's bytes
-pub for_known : (input : Option (List ℕ)) (read : List ℕ) (P : List ℕ → Type 0) → IfSome input (λ bytes. read ≡ bytes) → P read → IfSome input P
-for_known None read P h p = tt
-for_known (Some bytes) read P h p = subst P h p
+-- known bytes that nothing was written to are kept
+keeps : (known : Option (List ℕ)) → Keeps known known
+keeps None = tt
+keeps (Some bytes) = refl
+
+-- a fault of a command's answer with status 2 is the command's refusal
+pub is_refused : (words : List (List ℕ)) (input before : Option (List ℕ)) (command : Command) (fault : Fault) → IsCommand words command →
+    (fault ≡ Input) ⊎ ((refusal : Error) × (fault ≡ Refused refusal) × MayRefuse command input refusal) → fault_status fault ≡ 2 →
+    IsShortOrRefused words input before before
+is_refused words input before command fault is (inl other) two = absurd (cc (ap fault_status other, two))
+is_refused words input before command fault is (inr (refusal, same, may)) two =
+    inl (record { command = command; refusal = refusal; is_command = is; may_refuse = may }, keeps before)
 
 -- what is known of an accepted value, where a refusal would have been an error
 pub at_accepted : {A : Type 0} (refusal : Option Error) (P : Type 0) (value : A) →

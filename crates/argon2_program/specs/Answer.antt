@@ -1,6 +1,6 @@
 -- What a command answers.
 use Rattle.std.specs.Prelude.{◌≡◌, ◌↔◌, ◌⊎◌, ℕ, true, false, List, [], ◌++◌, codes, length, nat_lt, string_bytes, Bool, IsTrue, Option, IfSome}
-use Rattle.std.specs.Prelude.{MatchOption, MatchResult, Result, Ok, Err, ⊤}
+use Rattle.std.specs.Prelude.{IsNone, MatchOption, MatchResult, Result, Ok, Err, ⊤}
 use Rattle.hex.specs.Hex.{encode_lower}
 use Rattle.argon2.specs.Outcome.{IsShortage}
 use Rattle.argon2.specs.ThreadModes.{may_lack_workers}
@@ -51,13 +51,24 @@ pub record RehashAnswers (encoded : List ℕ) (config : Config) (result : Result
   pub spelled : (d : Spelled) → Spells encoded d →
       MatchResult result (λ differs. IsTrue differs ↔ Differs d config) (λ e. e ≡ OutOfMemory)
 
--- the answer fits the command: of `hash` the lines for the password, where the input's bytes are known;
--- of the others the verdict
+-- the password is what the input held, where its bytes are known
+abbrev pub IsPassword : Option (List ℕ) → List ℕ → Type 0
+IsPassword input password = IfSome input (λ bytes. password ≡ bytes)
+
+-- the settings were accepted for the password, and the lines are those of its tag
+pub record HashAnswers (config : Config) (salt password lines : List ℕ) : Type 0 where
+  pub accepted : IsNone (refusal_of config (length password) (length salt) config.hash_length)
+  pub written : lines ≡ hash_lines config salt password
+
+-- the answer fits the command: of `hash` the lines for the password that was read, whose settings were
+-- accepted; of the others the verdict
 abbrev pub IsAnswer : Command → Option (List ℕ) → Answer → Type 0
-IsAnswer (Hash config salt) input (Hashed lines) = IfSome input (λ password. string_bytes lines ≡ hash_lines config salt.now password)
+IsAnswer (Hash config salt) input (Hashed lines) =
+    (password : List ℕ) × IsPassword input password × HashAnswers config salt.now password (string_bytes lines)
 IsAnswer (Hash config salt) input (Verdict verdict) = ⊥
 IsAnswer (Verify encoded) input (Hashed lines) = ⊥
-IsAnswer (Verify encoded) input (Verdict verdict) = IfSome input (λ password. VerifyAnswers encoded.now password (Ok verdict))
+IsAnswer (Verify encoded) input (Verdict verdict) =
+    (password : List ℕ) × IsPassword input password × VerifyAnswers encoded.now password (Ok verdict)
 IsAnswer (Rehash config encoded) input (Hashed lines) = ⊥
 IsAnswer (Rehash config encoded) input (Verdict verdict) = RehashAnswers encoded.now config (Ok verdict)
 
@@ -68,11 +79,13 @@ IsRefusal config salt password refusal =
     (IsShortage (may_lack_workers config) refusal)
     (λ first. refusal ≡ first)
 
--- the refusal may be that of the command: that of the password, where the input's bytes are known, or
--- that of the memory to read it; `rehash` reads none
+-- the refusal may be that of the command: that of the password that was read, or that of the memory to
+-- read it; `rehash` reads none
 abbrev pub MayRefuse : Command → Option (List ℕ) → Error → Type 0
-MayRefuse (Hash config salt) input refusal = (refusal ≡ OutOfMemory) ⊎ IfSome input (λ password. IsRefusal config salt.now password refusal)
-MayRefuse (Verify encoded) input refusal = (refusal ≡ OutOfMemory) ⊎ IfSome input (λ password. VerifyAnswers encoded.now password (Err refusal))
+MayRefuse (Hash config salt) input refusal = (refusal ≡ OutOfMemory)
+    ⊎ ((password : List ℕ) × IsPassword input password × IsRefusal config salt.now password refusal)
+MayRefuse (Verify encoded) input refusal = (refusal ≡ OutOfMemory)
+    ⊎ ((password : List ℕ) × IsPassword input password × VerifyAnswers encoded.now password (Err refusal))
 MayRefuse (Rehash config encoded) input refusal = RehashAnswers encoded.now config (Err refusal)
 
 -- the command needs no input

@@ -1,4 +1,5 @@
 pub mod Answer
+pub mod CommandLine
 pub mod Fault
 pub mod Run
 pub mod Words

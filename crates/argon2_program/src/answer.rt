@@ -8,7 +8,7 @@ ghost use Rattle.argon2.specs.SettingsTable.{refusal_of};
 ghost use Rattle.argon2.specs.Tag.{tag_of};
 ghost use Rattle.argon2.specs.ErrorType.{Error};
 ghost use Rattle.argon2.specs.ErrorType.TheVariants.{OutOfMemory};
-ghost use Rattle.argon2_program.specs.Answer.{IsAnswer, IsRefusal, MayRefuse, NeedsNoInput, answer_status, hash_lines, lines_of};
+ghost use Rattle.argon2_program.specs.Answer.{IsAnswer, IsPassword, IsRefusal, MayRefuse, NeedsNoInput, answer_status, hash_lines, lines_of};
 
 use crate::command::Command;
 use crate::fault::Fault;
@@ -16,9 +16,9 @@ use argon2::parts::context::Context;
 use argon2::parts::encoding::encode_string;
 use argon2::parts::fill::{fill_memory_blocks, finalize, initialize, prepare_memory};
 use argon2::parts::memory::Memory;
-use argon2::{Config, Error, needs_rehash, verify_encoded};
+use argon2::{Config, needs_rehash, verify_encoded};
 use std::alloc::Global;
-use std::io::{ErrorKind, Read};
+use std::io::Read;
 use std::marker::Sync;
 use std::sync::Wait;
 use std::thread::Threads;
@@ -89,18 +89,14 @@ impl Answer {
 
 /// All bytes of the input.
 fn read_password<I: Read>(alloc: Global, input: &mut I) -> Result<Vec<u8>, Fault>
-    ensures bytes { IfOk result (λ password. IfSome (I.remaining input.old)
-        (λ bytes. password.items ≡ bytes)) }
+    ensures bytes { IfOk result (λ password. IsPassword (I.remaining input.old) password.items) }
     ensures fault { IfErr result (λ fault. (fault ≡ Fault.Input)
         ⊎ (fault ≡ Fault.Refused OutOfMemory)) }
 {
     let mut password = Vec::new(alloc);
     match input.read_to_end(&mut password) {
         Ok(_) => Ok(password),
-        Err(error) if error.kind() == ErrorKind::OutOfMemory => {
-            Err(Fault::Refused(Error::OutOfMemory))
-        }
-        Err(_) => Err(Fault::Input),
+        Err(error) => Err(Fault::of_stream(&error, Fault::Input)),
     }
 }
 

@@ -1,6 +1,7 @@
 //! What may go wrong, and how the program ends then.
 
-ghost use Rattle.std.specs.Prelude.{◌≡◌, OnOk};
+ghost use Rattle.std.specs.Prelude.{◌≡◌, ◌≢◌, OnOk};
+ghost use Rattle.std.specs.IoError.{error_kind};
 ghost use Rattle.std.specs.Io.KnownBytes.{Appends};
 ghost use Rattle.argon2.specs.ErrorType.TheVariants.{OutOfMemory};
 ghost use Rattle.argon2_program.specs.Fault.{fault_status, line_of};
@@ -9,7 +10,7 @@ ghost use Rattle.argon2_program.specs.declared.fault.Fault.TheVariants.{Refused}
 use argon2::Error;
 use std::alloc::{AllocError, AllocFailed};
 use std::io;
-use std::io::Write;
+use std::io::{ErrorKind, Write};
 
 /// Why the program has no answer, or could not write it.
 #[derive(Debug, Drop, PartialEq)]
@@ -28,6 +29,17 @@ pub enum Fault {
 }
 
 impl Fault {
+    /// The fault of a stream that failed: want of memory is a refusal, anything else what is given.
+    pub fn of_stream(error: &io::Error, other: Fault) -> Fault
+        ensures short { error_kind error.now ≡ ErrorKind.OutOfMemory → result ≡ Refused OutOfMemory }
+        ensures other { error_kind error.now ≢ ErrorKind.OutOfMemory → result ≡ other }
+    {
+        match error.kind() {
+            ErrorKind::OutOfMemory => Fault::Refused(Error::OutOfMemory),
+            _ => other,
+        }
+    }
+
     /// The exit status: 2 for a refusal, 3 for wrong words, 4 where a stream failed.
     pub fn status(&self) -> u8
         ensures { result ≡ fault_status self.now }

@@ -8,28 +8,22 @@ mod fault;
 mod program;
 
 pub use answer::Answer;
-use arguments::arguments;
+pub use arguments::{CommandLine, OfProcess};
 pub use command::Command;
 pub use fault::Fault;
-pub use program::run;
+pub use program::{run, start};
 use std::process::ExitCode;
 
-/// Runs the program on its arguments and the three standard streams.
+/// Runs the program on the process's arguments and its three standard streams.
 fn main(rt: HostRuntime) -> ExitCode {
-    let alloc = rt.alloc();
-    let mut errors = rt.stderr();
-    let status = match arguments(&rt, alloc) {
-        Ok(words) => run(
-            &rt,
-            alloc,
-            words.as_slice(),
-            &mut rt.stdin(),
-            &mut rt.stdout(),
-            &mut errors,
-        ),
-        Err(fault) => fault.report(&mut errors),
-    };
-    ExitCode::from(status)
+    start(
+        &rt,
+        rt.alloc(),
+        &OfProcess(&rt),
+        &mut rt.stdin(),
+        &mut rt.stdout(),
+        &mut rt.stderr(),
+    )
 }
 
 #[cfg(test)]

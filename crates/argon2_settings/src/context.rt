@@ -7,7 +7,7 @@ ghost use Rattle.argon2_settings.specs.Standard.SettingsTable.{refusal_of};
 
 mod inputs;
 mod job;
-mod known;
+mod recall;
 
 use crate::config::Config;
 use crate::error::Error;
@@ -18,8 +18,8 @@ use argon2_blocks::common::{
     SYNC_POINTS,
 };
 use inputs::prehash;
-pub use job::{Job, known_job};
-pub use known::known_context;
+pub use job::{Job, recall_job};
+pub use recall::recall_context;
 use std::fmt;
 
 /// The first refusal of the settings table for a password, a salt and a hash of these lengths.

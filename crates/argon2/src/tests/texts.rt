@@ -1,9 +1,9 @@
-//! Stored texts: those of rust-argon2's own tests and documentation, each freedom and fault of the
+//! Stored texts: those of rust-argon2's own tests, each freedom and fault of the
 //! format, and the order of the refusals.
 
 use super::{MODES, config};
 use crate::{
-    Config, Error, ThreadMode, Variant, Version, encoded_len, hash_encoded,
+    Config, Error, Variant, Version, encoded_len, hash_encoded,
     hash_encoded_sequential, verify_encoded, verify_encoded_ext, verify_encoded_sequential,
     verify_raw, verify_raw_sequential,
 };
@@ -241,40 +241,5 @@ fn verifies_more_lanes_than_workers(rt: HostRuntime) -> Result<(), Fail> {
     let config = config(Variant::Argon2id, Version::Version13, 20);
     let text = hash_encoded_sequential(alloc, b"password", b"somesalt", &config)?;
     assert!(rt; verify_encoded(&rt, alloc, text.as_str(), b"password")?);
-    Ok(())
-}
-
-// The three examples of the original's documentation.
-#[test]
-fn verifies_by_the_default_settings(rt: HostRuntime) -> Result<(), Fail> {
-    let alloc = rt.alloc();
-    let text = hash_encoded(&rt, alloc, b"password", b"randomsalt", &Config::default())?;
-    assert!(rt; verify_encoded(&rt, alloc, text.as_str(), b"password")?);
-    Ok(())
-}
-
-#[test]
-fn verifies_by_own_settings(rt: HostRuntime) -> Result<(), Fail> {
-    let alloc = rt.alloc();
-    let config = Config {
-        mem_cost: 65536,
-        thread_mode: ThreadMode::Parallel,
-        time_cost: 10,
-        ..config(Variant::Argon2i, Version::Version13, 4)
-    };
-    let text = hash_encoded(&rt, alloc, b"password", b"othersalt", &config)?;
-    assert!(rt; verify_encoded(&rt, alloc, text.as_str(), b"password")?);
-    Ok(())
-}
-
-#[test]
-fn verifies_a_raw_hash_by_a_preset(rt: HostRuntime) -> Result<(), Fail> {
-    let alloc = rt.alloc();
-    let tag = hex::decode(
-        alloc,
-        "9e8789c8b42834220afc00085ac73acc308651216994abbfddd69b2592032efd",
-    )?;
-    let config = Config::rfc9106_low_mem();
-    assert!(rt; verify_raw(&rt, alloc, b"password", b"somesalt", &tag, &config)?);
     Ok(())
 }

@@ -6,7 +6,7 @@ ghost use Rattle.argon2_blocks.specs.Standard.Compression.{permute_p};
 ghost use Rattle.argon2_blocks.specs.Views.Lane.{column, vector_pair};
 ghost use Rattle.argon2_blocks.specs.Views.Spread.{diagonals, four_and_four, nth_vector, spread_row, undo_diagonals};
 
-use super::lanes::{known, mix_two};
+use super::lanes::{mix_two, recall_vector};
 use super::shuffles::{high_halves, low_halves, odd_and_even};
 use std::simd::prelude::*;
 
@@ -71,10 +71,10 @@ fn restore_diagonals(v: [u64x8; 8]) -> [u64x8; 8]
         ≡ undo_diagonals (column (nth_vector v) k) }
     ensures long { Each1 (λ a. length a ≡ 8) result }
 {
-    known(v[2]);
-    known(v[3]);
-    known(v[6]);
-    known(v[7]);
+    recall_vector(v[2]);
+    recall_vector(v[3]);
+    recall_vector(v[6]);
+    recall_vector(v[7]);
     [
         odd_and_even(v[0], v[1]),
         odd_and_even(v[1], v[0]),

@@ -10,7 +10,7 @@ ghost use Rattle.argon2_blocks.specs.Standard.Block.{xor};
 ghost use Rattle.argon2_blocks.specs.Standard.Compression.{block_of_registers, compress_g, permute_rows, registers_of, transpose};
 
 use super::columns::{join_halves, left_halves, permute_four_columns, right_halves};
-use super::lanes::known;
+use super::lanes::recall_vector;
 use super::rows::permute_four_rows;
 use crate::common::QWORDS_IN_BLOCK;
 use std::simd::prelude::*;
@@ -28,8 +28,8 @@ fn xor_lanes(x: u64x8, y: u64x8) -> u64x8
     ensures left { length x ≡ 8 }
     ensures right { length y ≡ 8 }
 {
-    known(x);
-    known(y);
+    recall_vector(x);
+    recall_vector(y);
     x ^ y
 }
 

@@ -11,7 +11,7 @@ use std::simd::prelude::*;
 
 // What the type says of a vector. A proof knows it after a shift, which the compiler drops.
 #[inline(always)]
-pub(super) fn known(x: u64x8)
+pub(super) fn recall_vector(x: u64x8)
     ensures long { length x ≡ 8 }
     ensures fits { Each1 (λ a. a < 2 ^ 64) x }
 {
@@ -26,8 +26,8 @@ fn add_product(x: u64x8, y: u64x8) -> u64x8
     ensures left { length x ≡ 8 }
     ensures right { length y ≡ 8 }
 {
-    known(x);
-    known(y);
+    recall_vector(x);
+    recall_vector(y);
     let mask = u64x8::splat(0xffff_ffff);
     let low = (x & mask) * (y & mask);
     x + y + (low + low)
@@ -38,7 +38,7 @@ fn add_product(x: u64x8, y: u64x8) -> u64x8
 fn rotate_by_63(x: u64x8) -> u64x8
     ensures { result ≡ map (λ a. rotate_right w64 a 63) x }
 {
-    known(x);
+    recall_vector(x);
     (x >> u64x8::splat(63)) | (x + x)
 }
 
@@ -47,7 +47,7 @@ fn rotate_by_63(x: u64x8) -> u64x8
 fn rotate_by_32(x: u64x8) -> u64x8
     ensures { result ≡ map (λ a. rotate_right w64 a 32) x }
 {
-    known(x);
+    recall_vector(x);
     u64x8::from_le_bytes(
         x.to_le_bytes().swizzle([
             4, 5, 6, 7, 0, 1, 2, 3, 12, 13, 14, 15, 8, 9, 10, 11, 20, 21, 22, 23, 16, 17, 18, 19,
@@ -62,7 +62,7 @@ fn rotate_by_32(x: u64x8) -> u64x8
 fn rotate_by_24(x: u64x8) -> u64x8
     ensures { result ≡ map (λ a. rotate_right w64 a 24) x }
 {
-    known(x);
+    recall_vector(x);
     u64x8::from_le_bytes(
         x.to_le_bytes().swizzle([
             3, 4, 5, 6, 7, 0, 1, 2, 11, 12, 13, 14, 15, 8, 9, 10, 19, 20, 21, 22, 23, 16, 17, 18,
@@ -77,7 +77,7 @@ fn rotate_by_24(x: u64x8) -> u64x8
 fn rotate_by_16(x: u64x8) -> u64x8
     ensures { result ≡ map (λ a. rotate_right w64 a 16) x }
 {
-    known(x);
+    recall_vector(x);
     u64x8::from_le_bytes(
         x.to_le_bytes().swizzle([
             2, 3, 4, 5, 6, 7, 0, 1, 10, 11, 12, 13, 14, 15, 8, 9, 18, 19, 20, 21, 22, 23, 16, 17,

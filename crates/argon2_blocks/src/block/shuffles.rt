@@ -4,7 +4,7 @@ ghost use Rattle.std.specs.Prelude.{◌≡◌, length};
 ghost use Rattle.argon2_blocks.specs.Views.Shuffles.{high_halves, low_halves};
 ghost use Rattle.argon2_blocks.specs.Views.Spread.{odd_and_even, turned_halves};
 
-use super::lanes::known;
+use super::lanes::recall_vector;
 use std::simd::prelude::*;
 
 // The first four lanes of each vector.
@@ -14,8 +14,8 @@ pub(super) fn low_halves(a: u64x8, b: u64x8) -> u64x8
     ensures left { length a ≡ 8 }
     ensures right { length b ≡ 8 }
 {
-    known(a);
-    known(b);
+    recall_vector(a);
+    recall_vector(b);
     a.shuffle(b, [0, 1, 2, 3, 8, 9, 10, 11])
 }
 
@@ -26,8 +26,8 @@ pub(super) fn high_halves(a: u64x8, b: u64x8) -> u64x8
     ensures left { length a ≡ 8 }
     ensures right { length b ≡ 8 }
 {
-    known(a);
-    known(b);
+    recall_vector(a);
+    recall_vector(b);
     a.shuffle(b, [4, 5, 6, 7, 12, 13, 14, 15])
 }
 
@@ -36,7 +36,7 @@ pub(super) fn high_halves(a: u64x8, b: u64x8) -> u64x8
 pub(super) fn odd_and_even(a: u64x8, b: u64x8) -> u64x8
     ensures { result ≡ odd_and_even a b }
 {
-    known(a);
+    recall_vector(a);
     a.shuffle(b, [1, 8, 3, 10, 5, 12, 7, 14])
 }
 
@@ -45,7 +45,7 @@ pub(super) fn odd_and_even(a: u64x8, b: u64x8) -> u64x8
 pub(super) fn turn_by_one(a: u64x8) -> u64x8
     ensures { result ≡ turned_halves 1 a }
 {
-    known(a);
+    recall_vector(a);
     a.swizzle([1, 2, 3, 0, 5, 6, 7, 4])
 }
 
@@ -54,7 +54,7 @@ pub(super) fn turn_by_one(a: u64x8) -> u64x8
 pub(super) fn turn_by_two(a: u64x8) -> u64x8
     ensures { result ≡ turned_halves 2 a }
 {
-    known(a);
+    recall_vector(a);
     a.swizzle([2, 3, 0, 1, 6, 7, 4, 5])
 }
 
@@ -63,6 +63,6 @@ pub(super) fn turn_by_two(a: u64x8) -> u64x8
 pub(super) fn turn_by_three(a: u64x8) -> u64x8
     ensures { result ≡ turned_halves 3 a }
 {
-    known(a);
+    recall_vector(a);
     a.swizzle([3, 0, 1, 2, 7, 4, 5, 6])
 }

@@ -6,7 +6,7 @@ ghost use Rattle.argon2_blocks.specs.Views.Lane.{column, lane, vector_pair};
 ghost use Rattle.argon2_blocks.specs.Views.Shuffles.{even_lanes, even_pairs, interleave_high, interleave_low, odd_lanes, odd_pairs};
 ghost use Rattle.std.specs.Simd.Lanes.{Each1};
 
-use super::lanes::known;
+use super::lanes::recall_vector;
 use super::shuffles::{high_halves, low_halves};
 use std::simd::prelude::*;
 
@@ -17,8 +17,8 @@ fn even(a: u64x8, b: u64x8) -> u64x8
     ensures left { length a ≡ 8 }
     ensures right { length b ≡ 8 }
 {
-    known(a);
-    known(b);
+    recall_vector(a);
+    recall_vector(b);
     a.shuffle(b, [0, 8, 2, 10, 4, 12, 6, 14])
 }
 
@@ -29,8 +29,8 @@ fn odd(a: u64x8, b: u64x8) -> u64x8
     ensures left { length a ≡ 8 }
     ensures right { length b ≡ 8 }
 {
-    known(a);
-    known(b);
+    recall_vector(a);
+    recall_vector(b);
     a.shuffle(b, [1, 9, 3, 11, 5, 13, 7, 15])
 }
 
@@ -41,8 +41,8 @@ fn even_pairs(a: u64x8, b: u64x8) -> u64x8
     ensures left { length a ≡ 8 }
     ensures right { length b ≡ 8 }
 {
-    known(a);
-    known(b);
+    recall_vector(a);
+    recall_vector(b);
     a.shuffle(b, [0, 1, 8, 9, 4, 5, 12, 13])
 }
 
@@ -53,8 +53,8 @@ fn odd_pairs(a: u64x8, b: u64x8) -> u64x8
     ensures left { length a ≡ 8 }
     ensures right { length b ≡ 8 }
 {
-    known(a);
-    known(b);
+    recall_vector(a);
+    recall_vector(b);
     a.shuffle(b, [2, 3, 10, 11, 6, 7, 14, 15])
 }
 
@@ -65,8 +65,8 @@ fn interleave_low(a: u64x8, b: u64x8) -> u64x8
     ensures left { length a ≡ 8 }
     ensures right { length b ≡ 8 }
 {
-    known(a);
-    known(b);
+    recall_vector(a);
+    recall_vector(b);
     a.shuffle(b, [0, 8, 1, 9, 2, 10, 3, 11])
 }
 
@@ -77,8 +77,8 @@ fn interleave_high(a: u64x8, b: u64x8) -> u64x8
     ensures left { length a ≡ 8 }
     ensures right { length b ≡ 8 }
 {
-    known(a);
-    known(b);
+    recall_vector(a);
+    recall_vector(b);
     a.shuffle(b, [4, 12, 5, 13, 6, 14, 7, 15])
 }
 

@@ -1,6 +1,6 @@
 //! A segment: the blocks of one lane in one slice.
 
-ghost use Rattle.std.specs.Prelude.{◌≡◌, ◌+◌, ◌<◌, [], IfOk, length, slice_index_or, vec_capacity, vec_len};
+ghost use Rattle.std.specs.Prelude.{◌≡◌, ◌+◌, ◌^◌, ◌<◌, [], IfOk, length, slice_index_or, vec_capacity, vec_len};
 ghost use Rattle.argon2_fill.specs.Views.Memories.{zero_segment};
 ghost use Rattle.argon2_settings.specs.Standard.Recurrence.{made_block};
 ghost use Rattle.argon2_fill.specs.Views.Sources.{IsBefore, source_block, with_block};
@@ -60,6 +60,13 @@ fn make_up_to(blocks: &mut Vec<Block>, zeros: &mut usize, index: usize)
         blocks.push_reserved(Block::zero());
         *zeros -= 1;
     }
+}
+
+/// Tells the prover the range of a segment's tally, as `recall_job` does for a job.
+pub(crate) fn recall_segment(segment: &Segment)
+    ensures { segment.now.tally < 2 ^ 64 }
+{
+    let _tally = segment.tally();
 }
 
 fn named_among<'a>(before: &'a [Block], source: Source<'a>) -> &'a Block

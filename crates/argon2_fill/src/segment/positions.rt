@@ -10,7 +10,7 @@ ghost use Rattle.argon2_settings.specs.Standard.Setting.{lane_length};
 
 use argon2_blocks::block::{Block, fill_block};
 use argon2_blocks::common::{ADDRESSES_IN_BLOCK, QWORDS_IN_BLOCK, SYNC_POINTS};
-use argon2_settings::context::Job;
+use argon2_settings::context::{Job, recall_job};
 
 /// A word has two halves of 32 bits.
 const HALF: u64 = 1 << 32;
@@ -141,7 +141,7 @@ pub fn reference_positions(job: &Job, lane: u32, first: u32, out: &mut [(u32, u3
         (reference_positions_of s.variant s.lanes s.segment_length s.passes job.now.pass
         job.now.slice lane)) }
 {
-    let _length = job.segment_length();
+    recall_job(job);
     let mut words = Block::zero();
     for k in 0..out.len() {
         let index = first + k as u32;

@@ -16,7 +16,7 @@ use crate::memory::{Memory, Slices, others, take_slice};
 use crate::segment::Snapshot;
 use crate::walk::{numbered_slice, slice_count};
 use crate::workers::{AllPermitted, Board, Gate, Permit, Place, fill_slice_with};
-use argon2_settings::context::{Context, Job, known_context, known_job, worker_count};
+use argon2_settings::context::{Context, Job, recall_context, recall_job, worker_count};
 use argon2_settings::error::Error;
 use argon2_settings::result::Result;
 use std::alloc::Global;
@@ -45,7 +45,7 @@ pub(crate) fn board_of(alloc: Global, job: &Job, slices: &mut Slices) -> Result<
     }) }
     ensures refused { IfErr result (λ e. e ≡ Error.OutOfMemory) }
 {
-    known_job(job);
+    recall_job(job);
     let segments = take_slice(slices, job.slice());
     Board::new(alloc, *job, segments)
 }
@@ -129,7 +129,7 @@ pub fn fill_parallel_with<R: Threads + Wait + Sync, G: Gate, P: Permit>(
     ensures left { OnErr result (memory.new ≡ no_memory) }
     ensures refused { IfErr result (IsShortage true) }
 {
-    known_context(context);
+    recall_context(context);
     let workers = worker_count(context);
     let job = Job::new(context);
     let mut slices = memory.take_slices();

@@ -15,7 +15,7 @@ use crate::fill::{fill_slice_in_turn, initialize, prepare_memory};
 use crate::memory::{Memory, Segment, Slices, others};
 use crate::segment::Snapshot;
 use argon2_settings::config::Config;
-use argon2_settings::context::{Context, Job, known_context, known_job};
+use argon2_settings::context::{Context, Job, recall_context, recall_job};
 use argon2_settings::error::Error;
 use argon2_settings::result::Result;
 use argon2_settings::thread_mode::ThreadMode;
@@ -72,8 +72,8 @@ fn begin<'a>(
         Err(refusal) => return Err(refusal),
     };
     let job = Job::new(&context);
-    known_job(&job);
-    known_context(&context);
+    recall_job(&job);
+    recall_context(&context);
     let mut memory = Memory::empty(alloc);
     prepare_memory(alloc, &context, &mut memory)?;
     initialize(&context, &mut memory);

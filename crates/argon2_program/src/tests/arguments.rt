@@ -1,7 +1,7 @@
 //! Arguments that a runtime gives.
 
 use crate::arguments::arguments;
-use crate::fault::Fault;
+use crate::{Fault, OfProcess, start};
 use std::env::{Env, FillError};
 use std::test::Fail;
 
@@ -40,7 +40,7 @@ fn are_those_after_the_name(rt: HostRuntime) -> Result<(), Fail> {
         b"".as_slice(),
         long.as_slice(),
     ];
-    let words = arguments(&Started(&given), alloc).map_err(|_| "refused")?;
+    let words = arguments(&OfProcess(&Started(&given)), alloc).map_err(|_| "refused")?;
     assert_eq!(rt; words.len(), 3);
     assert_eq!(rt; words[0].as_str(), "verify");
     assert_eq!(rt; words[1].as_str(), "");
@@ -55,14 +55,36 @@ fn that_are_not_utf8_are_no_words(rt: HostRuntime) {
         b"verify".as_slice(),
         b"\xc3(".as_slice(),
     ];
-    let fault = arguments(&Started(&given), rt.alloc()).err();
+    let fault = arguments(&OfProcess(&Started(&given)), rt.alloc()).err();
     assert!(rt; fault == Some(Fault::Usage));
+}
+
+#[test]
+fn are_all_that_were_given(rt: HostRuntime) -> Result<(), Fail> {
+    let alloc = rt.alloc();
+    let given = [b"word".as_slice(); 5000];
+    let words = arguments(&OfProcess(&Started(&given)), alloc).map_err(|_| "refused")?;
+    assert_eq!(rt; words.len(), 4999);
+    assert!(rt; words.iter().all(|word| word.as_str() == "word"));
+    Ok(())
+}
+
+#[test]
+fn start_a_command(rt: HostRuntime) {
+    let mut written = Vec::new(rt.alloc());
+    let mut told = Vec::new(rt.alloc());
+    let given = [b"argon2".as_slice(), b"verify".as_slice(), b"x".as_slice()];
+    let started = Started(&given);
+    let line = OfProcess(&started);
+    let mut input = b"password".as_slice();
+    start(&rt, rt.alloc(), &line, &mut input, &mut written, &mut told);
+    assert_eq!(rt; told.as_slice(), b"Decoding failed\n".as_slice());
 }
 
 #[test]
 fn may_be_none(rt: HostRuntime) {
     for given in [[].as_slice(), [b"argon2".as_slice()].as_slice()] {
-        let words = arguments(&Started(given), rt.alloc());
+        let words = arguments(&OfProcess(&Started(given)), rt.alloc());
         assert!(rt; words.is_ok_and(|words| words.is_empty()));
     }
 }

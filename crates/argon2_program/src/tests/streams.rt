@@ -62,6 +62,40 @@ impl Write for Full {
     }
 }
 
+/// A writer that has no memory for what it is given.
+#[derive(Drop)]
+struct WithoutMemory;
+
+impl Write for WithoutMemory {
+    fn write(&mut self, _buf: &[u8]) -> io::Result<usize> {
+        Err(Error::from(ErrorKind::OutOfMemory))
+    }
+
+    fn flush(&mut self) -> io::Result<()> {
+        Ok(())
+    }
+}
+
+#[test]
+fn an_output_lacks_memory(rt: HostRuntime) -> Result<(), Fail> {
+    let alloc = rt.alloc();
+    let line = format!(in alloc; "verify {ARGON2I}")?;
+    let words = words_of(alloc, line.as_str())?;
+    let mut input = b"password".as_slice();
+    let mut told = Vec::new(alloc);
+    let ended = run(
+        &rt,
+        alloc,
+        words.as_slice(),
+        &mut input,
+        &mut WithoutMemory,
+        &mut told,
+    );
+    assert_eq!(rt; ended, 2);
+    assert_eq!(rt; told.as_slice(), b"Out of memory\n".as_slice());
+    Ok(())
+}
+
 #[test]
 fn an_input_fails(rt: HostRuntime) -> Result<(), Fail> {
     let hash = "hash argon2d 19 2 256 2 32 par somesalt";

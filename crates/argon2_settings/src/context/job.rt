@@ -8,7 +8,7 @@ ghost use Rattle.argon2_settings.specs.Standard.Reference.{is_data_independent};
 ghost use Rattle.argon2_settings.specs.Standard.Setting.{Setting, lane_length, memory_blocks};
 ghost use Rattle.argon2_settings.specs.Standard.Variant.{variant_number};
 
-use crate::context::{Context, known_context};
+use crate::context::{Context, recall_context};
 use crate::variant::Variant;
 use crate::version::Version;
 use argon2_blocks::blake2b::hprime;
@@ -84,7 +84,7 @@ fn first_input(prehash: &[u8; PREHASH_DIGEST_LENGTH], lane: u32, column: u32, ou
 
 /// Tells the prover the bounds that each job keeps by its type. The prover knows them only where a
 /// field is read, so that this reads one; it does nothing else.
-pub fn known_job(job: &Job)
+pub fn recall_job(job: &Job)
     ensures { IsJob job.now }
 {
     let _lanes = job.lanes;
@@ -97,7 +97,7 @@ impl Job {
         ensures job { IsJob result }
         ensures value { let c = context.now in result ≡ first_job_of c.pwd.now c.salt.now c.config }
     {
-        known_context(context);
+        recall_context(context);
         Job {
             prehash: context.prehash,
             variant: context.config.variant,

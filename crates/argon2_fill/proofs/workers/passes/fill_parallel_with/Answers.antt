@@ -24,7 +24,7 @@ loop-n-init g c =
     record {
       slices = rw (c.new-job.ensures.value, c.take_slices-slices.ensures.slices) old;
       filled = rw (c.new-job.ensures.value, c.take_slices-slices.ensures.slices)
-          (filled_begun s c.known_context.ensures.setting c.args.memory.now shape old c.requires.begun);
+          (filled_begun s c.recall_context.ensures.setting c.args.memory.now shape old c.requires.begun);
       permitted = λ k h. absurd (omega arith);
     }
 
@@ -53,4 +53,4 @@ returns-clause-filled g c =
           q,
       let r : c.loop-n.n % 4 ≡ 0 = omega (arith, whole) in r,
     ) at c.loop-n.invariant.filled in
-    holds_last_pass s c.known_context.ensures.setting c.from_slices.result shape (rw c.from_slices.ensures (rw same at filled))
+    holds_last_pass s c.recall_context.ensures.setting c.from_slices.result shape (rw c.from_slices.ensures (rw same at filled))

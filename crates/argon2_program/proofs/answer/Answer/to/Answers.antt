@@ -1,6 +1,6 @@
 use Rattle.std.proofs.Common.{Err, inr, refl, subst}
 use Rattle.argon2_program.specs.Answer.{VerifyAnswers}
-use Rattle.argon2_program.proofs.Refusals.{for_known, passed_on}
+use Rattle.argon2_program.proofs.Refusals.{passed_on}
 use Rattle.argon2_program.proofs.answer.Answer.to.Goals as goal
 
 -- src/answer.rt:52:31
@@ -10,10 +10,12 @@ returns-in_err-verdict-in-Verify-clause-fault g c = rw c.in-Verify.is
     (passed_on _ _ _ c.from_residual-in_err-verdict-in-Verify.ensures (inr (
       _,
       refl,
-      inr
-          (for_known _ _ _ c.in_ok-password-in-Verify.ensures.bytes
-          (subst (λ read. VerifyAnswers c.in-Verify.encoded.now read (Err c.in_err-verdict-in-Verify.field-0.0)) c.as_slice-in-Verify.ensures.value
-          (record { unspelled = c.in_err-verdict-in-Verify.ensures.unspelled; spelled = c.in_err-verdict-in-Verify.ensures.spelled }))),
+      inr (
+        _,
+        c.in_ok-password-in-Verify.ensures.bytes,
+        subst (λ read. VerifyAnswers c.in-Verify.encoded.now read (Err c.in_err-verdict-in-Verify.field-0.0)) c.as_slice-in-Verify.ensures.value
+            (record { unspelled = c.in_err-verdict-in-Verify.ensures.unspelled; spelled = c.in_err-verdict-in-Verify.ensures.spelled }),
+      ),
     )))
 
 -- src/answer.rt:56:36

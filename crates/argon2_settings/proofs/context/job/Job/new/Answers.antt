@@ -6,7 +6,7 @@ pub invariant_of-result : goal.invariant_of-result
 unfolding setting_of
 invariant_of-result c =
     let x = c.args.context.now in
-    let good = c.known_context.ensures.setting in
+    let good = c.recall_context.ensures.setting in
     record {
       setting = rw (x.hashed, x.segment) good;
       pass_fits = good.some_pass;

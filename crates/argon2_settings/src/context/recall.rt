@@ -10,7 +10,7 @@ use crate::context::Context;
 /// Tells the prover the setting of a context, in the context's own numbers, and the bounds of both. The
 /// prover knows a number's range only where it is read, so that this reads two; it does nothing else.
 #[tactic(auto, unfolding(crate::specs::Standard::Prehash::setting_of))]
-pub fn known_context(context: &Context<'_>)
+pub fn recall_context(context: &Context<'_>)
     ensures setting { IsSetting (setting_of_context context.now) }
     ensures lanes { (setting_of_context context.now).lanes ≡ context.now.config.lanes }
     ensures passes { (setting_of_context context.now).passes ≡ context.now.config.time_cost }

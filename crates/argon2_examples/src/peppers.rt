@@ -1,0 +1,31 @@
+//! Passwords that are hashed with a key of the service.
+
+ghost use Rattle.std.specs.Prelude.{◌≡◌, nat_lt};
+ghost use Rattle.argon2.specs.ConfigType.{Config};
+ghost use Rattle.argon2.specs.Grammar.{Spells, SpellsNothing};
+ghost use Rattle.argon2.specs.Standard.Stored.{IsStoredConfig};
+ghost use Rattle.argon2.specs.Standard.Verdict.{IsVerdict};
+ghost use Rattle.argon2.specs.Text.{Spelled};
+
+use argon2::{Error, Result, verify_encoded_ext};
+use std::alloc::Global;
+use std::marker::Sync;
+use std::sync::Wait;
+use std::thread::Threads;
+
+/// Whether the password is the one whose text was made with this pepper and for this user.
+pub fn log_in_with_pepper<R: Threads + Wait + Sync>(
+    rt: &R,
+    alloc: Global,
+    kept: &str,
+    password: &[u8],
+    pepper: &[u8],
+    user: &[u8],
+) -> Result<bool>
+    ensures unspelled { SpellsNothing kept.now → result ≡ Err Error.DecodingFail }
+    ensures spelled { (d : Spelled) (config : Config) → Spells kept.now d
+        → IsStoredConfig d pepper.now user.now config
+        → IsVerdict password.now d.salt d.hash config (nat_lt 1 d.parallelism) result }
+{
+    verify_encoded_ext(rt, alloc, kept, password, pepper, user)
+}
