@@ -32,7 +32,7 @@ library_number DecodingFail = 19
 library_number OutOfMemory = 20
 library_number WorkerRefused = 21
 
--- those and the refusals that come here alone, from 64
+-- those, and from 64 on the refusals of the C calls alone
 abbrev pub number_of : Refusal → ℕ
 number_of (Library e) = library_number e
 number_of Mismatch = 64

@@ -1,5 +1,5 @@
-//! The lanes of one slice, which workers claim and give back. Each lane stands in exactly one place:
-//! it waits, is out, or is done.
+//! The lanes of one slice, which workers claim and give back. Each lane stands in exactly one
+//! place: it waits, is out, or is done.
 
 ghost use Rattle.std.specs.Prelude.{◌≡◌, ℕ, ◌+◌, ◌*◌, ◌^◌, ◌<◌, ◌≤◌, ◌↔◌, ◌++◌, ◌∷◌, [], IfErr, IfNone, IfOk, IfSome, IsOk, IsTrue, None, OnErr, OnOk, Some, length, map, replicate, slice_get, slice_set};
 ghost use Rattle.argon2_fill.specs.Views.Boards.{AllDone, AreReady, HoldSlice, NoneOut};
@@ -52,8 +52,8 @@ fn waiting_slots(
 
 impl Board {
     /// A board on which all lanes of the job wait, with a segment for each. All memory that the
-    /// board ever needs is taken here: where it is refused, the segments are dropped, and the answer
-    /// is `OutOfMemory`.
+    /// board ever needs is taken here: where it is refused, the segments are dropped, and the
+    /// answer is `OutOfMemory`.
     pub fn new(alloc: Global, job: Job, segments: Vec<Segment>) -> Result<Board>
         requires ready { AreReady job segments.items }
         ensures board { IfOk result (λ board. board

@@ -39,7 +39,7 @@ text_of_pieces pieces =
 abbrev pub Lacks : ℕ → List ℕ → Type 0
 Lacks c text = AllByRecursion (λ b. b ≢ c) text
 
--- 16 or 19; where no version stands, the older one is meant
+-- 16 or 19; a text without a version means the older one
 abbrev pub IsVersion : Option (List ℕ) → Version → Type 0
 IsVersion None version = version ≡ Version10
 IsVersion (Some number) version = number ≡ version_text version

@@ -1,4 +1,4 @@
--- Cutting a text into its pieces from left to right, as the reader does it.
+-- Cutting a text into its pieces from left to right, as the code does.
 use Rattle.std.specs.Prelude.{ℕ, ◌==◌, if◌then◌else◌, List, [], ◌∷◌, codes, Option, Some, None, option_map}
 use Rattle.std.specs.List.{list_any}
 use Rattle.argon2_text.specs.Standard.Grammar.{Pieces, dollar}

@@ -7,7 +7,7 @@ use Rattle.argon2_text.specs.declared.decoded.Decoded.{Decoded}
 use Rattle.argon2_text.specs.Standard.Grammar.{Pieces, IsCut, IsHead, IsItem, Spells}
 use Rattle.argon2_text.specs.Standard.Text.{Spelled}
 
--- a decoded value without where it lies in memory
+-- a decoded value, without its place in memory
 abbrev pub spelled_by : Decoded → Spelled
 spelled_by d = record {
   variant = d.variant;

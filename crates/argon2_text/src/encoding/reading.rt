@@ -1,4 +1,4 @@
-//! The pieces of an encoded text, cut and read from left to right, with nothing taken from memory.
+//! The pieces of an encoded text, cut and read from left to right. Nothing here takes memory.
 
 ghost use Rattle.std.specs.Prelude.{◌≡◌, ◌<◌, ◌==◌, MatchOption, option_map};
 ghost use Rattle.std.specs.List.{list_any};
@@ -49,7 +49,7 @@ pub fn spelling_of(text: &str) -> Option<Head<'_>>
     }
 }
 
-/// The head of a text, where its pieces stand as they should and those before the salt are spelled.
+/// The head of a text that has all its pieces, where those before the salt spell what they should.
 fn head_of(text: &str) -> Option<Head<'_>>
     ensures { MatchOption result (HasHead text.now → ⊥) (IsHeadOf text.now) }
 {
@@ -134,14 +134,14 @@ fn holds(text: &str, mark: char) -> bool
     text.contains(mark)
 }
 
-/// The variant of a name, in lower case or with a capital.
+/// The variant that a piece names, in lower case or with a capital.
 fn variant_of(name: &str) -> Option<Variant>
     ensures { MatchOption result (IsNoName name.now) (IsName name.now) }
 {
     Variant::from_str(name).ok()
 }
 
-/// The version of its text; where none stands, version 0x10.
+/// The version that a piece spells; where there is no piece, version 0x10.
 fn version_of(piece: Option<&str>) -> Option<Version>
     ensures { let text = version_text_of piece.entry in
         MatchOption result (IsNoVersion text) (IsVersion text) }
@@ -152,7 +152,7 @@ fn version_of(piece: Option<&str>) -> Option<Version>
     }
 }
 
-/// The number of its text: a plus or nothing, and decimal digits.
+/// The number that a piece spells: a plus or nothing, and decimal digits.
 fn number(text: &str) -> Option<u32>
     ensures { MatchOption result (IsNoNumber text.now) (IsNumber text.now) }
 {
