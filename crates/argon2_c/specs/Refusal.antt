@@ -57,6 +57,6 @@ abbrev pub code_of : Result (Unit {0}) Refusal → ℕ
 code_of (Ok _) = 0
 code_of (Err refusal) = number_of refusal
 
--- the code is that of an answer of which P holds
+-- the code is that of an answer for which P holds
 abbrev pub IsCodeOf : (Result (Unit {0}) Refusal → Type 0) → ℕ → Type 0
 IsCodeOf P code = (answer : Result (Unit {0}) Refusal) × (code ≡ code_of answer) × P answer

@@ -1,4 +1,4 @@
--- The configuration that settings in numbers stand for.
+-- The configuration of settings in numbers.
 use Rattle.std.specs.Prelude.{ℕ, ◌==◌, if◌then◌else◌, List, Option, Some, None, Result, Ok, Err}
 use Rattle.std.specs.Borrow.{Bor}
 use Rattle.argon2.specs.ConfigType.{Config}

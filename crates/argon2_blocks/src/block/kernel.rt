@@ -74,7 +74,7 @@ pub(super) fn store(x: &[u64x8; VECTORS], y: &[u64x8; VECTORS], w: &mut [u64; QW
     }
 }
 
-// Writes the exclusive or of two lists of vectors and of what stood there.
+// Writes the exclusive or of two lists of vectors and of the old words.
 #[inline(always)]
 pub(super) fn store_onto(x: &[u64x8; VECTORS], y: &[u64x8; VECTORS], w: &mut [u64; QWORDS_IN_BLOCK])
     requires left { Each1 (λ a. length a ≡ 8) x.now }

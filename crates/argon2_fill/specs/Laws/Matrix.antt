@@ -10,7 +10,7 @@ Matrix = ℕ → ℕ → List ℕ
 abbrev pub matrix_with : Matrix → ℕ → ℕ → List ℕ → Matrix
 matrix_with matrix lane column block = λ l c. if (l == lane) && (c == column) then block else matrix l c
 
--- the first two blocks of each lane stand in the matrix
+-- the first two blocks of each lane are in the matrix
 abbrev pub IsBegun : Setting → Matrix → Type 0
 IsBegun s matrix = (lane column : ℕ) → lane < s.lanes → column < 2 →
     matrix lane column ≡ first_block s (record { pass = 0; lane = lane; column = column })

@@ -1,4 +1,4 @@
-//! The four slices of a memory, of which one is filled beside the others.
+//! The four slices of a memory. One is filled beside the others.
 
 ghost use Rattle.std.specs.Prelude.{◌≡◌, ◌*◌, ◌%◌, ◌^◌, ◌<◌, [], IfOk, map, replicate, slice_index_or, slice_set};
 ghost use Rattle.std.specs.List.{remove};

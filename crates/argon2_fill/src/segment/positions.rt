@@ -27,7 +27,7 @@ fn drawn_place(count: u32, word: u64) -> u32
     count - 1 - back as u32
 }
 
-/// How many columns of a lane stand as the last pass left them.
+/// How many columns of a lane are still as the last pass left them.
 fn left_columns(job: &Job) -> u32
     ensures value { result ≡ left_columns job.now }
     ensures fits { result + job.now.slice * job.now.setting.segment_length +

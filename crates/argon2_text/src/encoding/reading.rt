@@ -13,7 +13,7 @@ use super::items::is_item;
 use argon2_settings::variant::Variant;
 use argon2_settings::version::Version;
 
-/// The pieces of a text, as they stand in it.
+/// The pieces of a text, as they are written there.
 #[derive(Clone, Copy)]
 struct Pieces<'a> {
     name: &'a str,
@@ -25,7 +25,7 @@ struct Pieces<'a> {
     hash: &'a str,
 }
 
-/// What a text spells before its salt and its hash, and these two as they stand in it.
+/// What a text spells before its salt and its hash, and these two as they are written there.
 #[derive(Clone, Copy)]
 pub struct Head<'a> {
     pub variant: Variant,
@@ -90,7 +90,7 @@ fn pieces_of(text: &str) -> Option<Pieces<'_>>
     })
 }
 
-/// Behind `front`, the piece that the first `mark` ends, and what stands after it.
+/// Behind `front`, the piece up to the first `mark`, and what is after the mark.
 #[tactic(auto, unfolding(crate::specs::Views::Cutting::piece))]
 fn piece<'a>(text: &'a str, front: &str, mark: char) -> Option<(&'a str, &'a str)>
     requires { mark < 128 }
@@ -99,7 +99,7 @@ fn piece<'a>(text: &'a str, front: &str, mark: char) -> Option<(&'a str, &'a str
     cut(strip(text, front)?, mark)
 }
 
-/// The version up to its `$`, where the text begins with one, and what stands after it.
+/// The version up to its `$`, where the text begins with one, and what is after it.
 #[tactic(auto, unfolding(crate::specs::Views::Cutting::version_piece))]
 fn version_piece(text: &str) -> Option<(Option<&str>, &str)>
     ensures { option_map version_and_rest result ≡ version_piece text.now }
@@ -111,14 +111,14 @@ fn version_piece(text: &str) -> Option<(Option<&str>, &str)>
     Some((Some(version), rest))
 }
 
-/// What stands after `front`.
+/// What is after `front`.
 fn strip<'a>(text: &'a str, front: &str) -> Option<&'a str>
     ensures { option_map (λ x. x.now) result ≡ strip front.now text.now }
 {
     text.strip_prefix(front)
 }
 
-/// What stands before the first `mark`, and what stands after it.
+/// What is before the first `mark`, and what is after it.
 fn cut(text: &str, mark: char) -> Option<(&str, &str)>
     requires { mark < 128 }
     ensures { option_map two_texts result ≡ cut mark text.now }
@@ -126,7 +126,7 @@ fn cut(text: &str, mark: char) -> Option<(&str, &str)>
     text.split_once(mark)
 }
 
-/// Whether `mark` stands in the text.
+/// Whether the text has a `mark`.
 fn holds(text: &str, mark: char) -> bool
     requires { mark < 128 }
     ensures { result ≡ list_any (λ b. b == mark) text.now }
