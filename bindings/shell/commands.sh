@@ -1,10 +1,10 @@
-# What stands around the program in a shell, for the script `argon2` and the installed `proved-argon2`,
-# which read this file. They set these and then call `main "$@"`:
+# The shell's part around the program, for the script `argon2` and the installed `proved-argon2`, which read
+# this file. They set these and then call `main "$@"`:
 #
 #     program     the file of the program
 #     name        what the user calls it
 #     version     the version
-#     help        the file help.txt, where NAME stands for what the user calls it
+#     help        the file help.txt, in which NAME is replaced by that name
 #     prepare     a function that makes the program ready, or fails
 #
 # The words `--help`, `--version`, `new`, `check` and `tune` are answered here. All others go to the program
@@ -17,10 +17,10 @@ newline='
 # OWASP's settings for passwords: 2 passes over 19 MiB in one lane, and a tag of 32 bytes.
 owasp_settings='argon2id 19 2 19456 1 32 seq'
 
-# The memory that `tune` measures where no other is named: RFC 9106's second recommendation, in KiB.
+# The memory that `tune` measures if none is named, in KiB: RFC 9106's second recommendation.
 tuned_memory=65536
 
-# The bytes of a line that a terminal gives at most. It drops the rest without a word.
+# How many bytes of a line a terminal gives at most. It drops the rest silently.
 terminal_line=4095
 
 main() {
@@ -59,7 +59,7 @@ run_program() {
     exit "$status"
 }
 
-# Whether words look like a command of the program, which alone decides it.
+# Whether words look like a command of the program. Only the program decides whether they are one.
 looks_right() {
     case $#:${1-} in
     9:hash) looks_like_settings "$@" && looks_like_mode "$8" ;;
@@ -89,12 +89,12 @@ looks_like_mode() {
 
 # ---- passwords
 
-# Reads a line from the terminal into `answer`, without echo: `ask PROMPT`. Where a signal ends it, the echo
-# is there again, and it cannot be stopped while there is none.
+# Reads a line from the terminal into `answer`, without echo: `ask PROMPT`. If a signal ends it, the echo is
+# switched on again. It cannot be suspended while there is no echo.
 ask() {
     terminal=$(stty -g) || fail 4 'the terminal cannot be asked for its settings'
     for signal in HUP INT QUIT TERM; do
-        # The names are those of this moment.
+        # The variables are expanded now, and not when the signal comes.
         # shellcheck disable=SC2064
         trap "stty '$terminal'; trap - $signal; kill -$signal $$" "$signal"
     done
@@ -111,8 +111,8 @@ ask() {
         || fail 4 'the password is too long for a terminal: pass it by a pipe'
 }
 
-# 16 random bytes as 22 letters of base64. The salt is a word, and so it has to be text: no random byte
-# string is UTF-8, or without zero bytes, for sure.
+# 16 random bytes as 22 letters of base64. The salt is a word, and so it has to be UTF-8 without zero bytes,
+# which random bytes need not be.
 new_salt() {
     salt=$(head -c 16 /dev/urandom | base64) && salt=${salt%==}
     [ "${#salt}" = 22 ] || fail 4 'there are no random bytes'
@@ -137,8 +137,8 @@ new_text() {
     printf '%s\n' "$text" || exit 4
 }
 
-# Ends where a text is that of the empty password. It comes from a command that failed, as in
-# `failing | proved-argon2 new`, and would let in whoever types nothing.
+# Ends if a text is that of the empty password. That password comes from a command that failed, as in
+# `failing | proved-argon2 new`, and would let in anyone who types nothing.
 refuse_empty_password() {
     "$program" verify "$1" </dev/null >/dev/null
     case $? in
@@ -174,7 +174,7 @@ least_passes() {
     fi
 }
 
-# Whether a word is a number from 1 on, of at most nine digits, without a zero in front.
+# Whether a word is a positive number of at most nine digits, without a zero in front.
 is_number() {
     case $1 in
     '' | 0* | *[!0-9]* | ??????????*) return 1 ;;
@@ -208,7 +208,7 @@ is_clock() {
     [ "${#1}" -ge 19 ]
 }
 
-# Prints the settings whose hash takes no longer than this here, with as many passes as that allows:
+# Prints settings whose hash took no longer than this, with as many passes as were found to fit:
 # `tune MILLISECONDS KIB`.
 tune() {
     is_number "$1" || run_program tune "$@"
@@ -228,7 +228,8 @@ tune() {
     printf 'argon2id 19 %s %s 1 32 seq\n' "$passes" "$2" || exit 4
 }
 
-# Raises `passes`, which `took` its time, while the hash takes no longer: `add_passes MILLISECONDS KIB`.
+# Raises `passes`, which were measured as `took`, as far as the hash takes no longer:
+# `add_passes MILLISECONDS KIB`.
 add_passes() {
     fitting=$passes
     fitting_took=$took

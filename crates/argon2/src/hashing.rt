@@ -57,9 +57,9 @@ pub(crate) fn tag_sequential(
 
 /// The tag of a password: `config.hash_length` bytes (RFC 9106, 3.2).
 ///
-/// The first refusal of the settings is the only answer where there is one, before any memory is
-/// asked for. Else the answer is the tag or, where memory was refused, `OutOfMemory` or, where the
-/// start of a worker was, `WorkerRefused`.
+/// Where the settings table refuses something, the first refusal is the only answer, before any
+/// memory is asked for. Else the answer is the tag, or `OutOfMemory` where memory was refused, or
+/// `WorkerRefused` where the start of a worker was.
 pub fn hash_raw<R: Threads + Wait + Sync>(
     rt: &R,
     alloc: Global,
@@ -73,12 +73,12 @@ pub fn hash_raw<R: Threads + Wait + Sync>(
     hash_raw_in(rt, alloc, &mut Memory::empty(alloc), pwd, salt, config)
 }
 
-/// The tag of a password, as `hash_raw` gives it, computed over a memory that the caller keeps. One
-/// that has the lanes and the lane length of the call is used as it is, whatever stands in it, and
-/// asks for no blocks; another is given back first, and made anew in its place.
+/// The tag of a password, as `hash_raw` gives it, computed over a memory that the caller keeps. A
+/// memory with the lanes and the lane length of the call is used as it is, whatever it holds, and
+/// no blocks are asked for. Any other gives its blocks back first and is made anew.
 ///
-/// After the call the memory holds what the password was hashed with. It is not wiped. Where memory
-/// or a worker was refused, it may have no lanes.
+/// After the call the memory holds the blocks of this computation. It is not wiped. Where memory or
+/// a worker was refused, it may have no lanes.
 pub fn hash_raw_in<'a, R: Threads + Wait + Sync>(
     rt: &R,
     alloc: Global,
@@ -110,8 +110,8 @@ pub fn hash_raw_sequential(
     hash_raw_in_sequential(alloc, &mut Memory::empty(alloc), pwd, salt, config)
 }
 
-/// The tag of a password, computed in the caller's thread over a memory that the caller keeps, of
-/// which `hash_raw_in` says more.
+/// The tag of a password, computed in the caller's thread over a memory that the caller keeps: see
+/// `hash_raw_in`.
 pub fn hash_raw_in_sequential<'a>(
     alloc: Global,
     memory: &mut Memory,
@@ -129,7 +129,7 @@ pub fn hash_raw_in_sequential<'a>(
 }
 
 /// The encoded text (PHC string) of a password's hash, as `encode_string` writes it. It answers as
-/// `hash_raw`, with the text in place of the tag.
+/// `hash_raw` does, with the text in place of the tag.
 pub fn hash_encoded<R: Threads + Wait + Sync>(
     rt: &R,
     alloc: Global,
@@ -143,8 +143,8 @@ pub fn hash_encoded<R: Threads + Wait + Sync>(
     hash_encoded_in(rt, alloc, &mut Memory::empty(alloc), pwd, salt, config)
 }
 
-/// The encoded text of a password's hash, computed over a memory that the caller keeps, of which
-/// `hash_raw_in` says more.
+/// The encoded text of a password's hash, computed over a memory that the caller keeps: see
+/// `hash_raw_in`.
 pub fn hash_encoded_in<'a, R: Threads + Wait + Sync>(
     rt: &R,
     alloc: Global,
@@ -165,8 +165,8 @@ pub fn hash_encoded_in<'a, R: Threads + Wait + Sync>(
     }
 }
 
-/// The encoded text of a password's hash, as `hash_encoded` gives it, computed in the caller's thread
-/// whatever the thread mode is.
+/// The encoded text of a password's hash, as `hash_encoded` gives it, computed in the caller's
+/// thread whatever the thread mode is.
 pub fn hash_encoded_sequential(
     alloc: Global,
     pwd: &[u8],
@@ -180,7 +180,7 @@ pub fn hash_encoded_sequential(
 }
 
 /// The encoded text of a password's hash, computed in the caller's thread over a memory that the
-/// caller keeps, of which `hash_raw_in` says more.
+/// caller keeps: see `hash_raw_in`.
 pub fn hash_encoded_in_sequential<'a>(
     alloc: Global,
     memory: &mut Memory,

@@ -1,5 +1,5 @@
-//! Argon2 password hashing (RFC 9106), proved: the tag of every call is the one that the
-//! standard's recurrence defines, and every refusal is the one that a table names.
+//! Argon2 password hashing (RFC 9106), proved: a tag that is answered is the one that the
+//! recurrence defines, and settings are refused as a table says.
 #![tactic(auto)]
 
 mod hashing;

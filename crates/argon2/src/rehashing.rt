@@ -16,9 +16,8 @@ use std::alloc::Global;
 /// Whether a stored text was made with another variant, version, memory cost, time cost, number of
 /// lanes or length of the hash than the configuration has.
 ///
-/// Two texts that spell one value are answered alike. Neither the settings table nor the salt, the
-/// secret, the associated data or the thread mode is looked at. A text that spells nothing is
-/// `DecodingFail`; where memory is refused: `OutOfMemory`.
+/// The settings table, the salt, the secret, the associated data and the thread mode are not looked
+/// at. A text that spells nothing is `DecodingFail`; where memory is refused: `OutOfMemory`.
 pub fn needs_rehash(alloc: Global, encoded: &str, config: &Config) -> Result<bool>
     ensures unspelled { SpellsNothing encoded.now → result ≡ Err Error.DecodingFail }
     ensures spelled { (d : Spelled) → Spells encoded.now d
@@ -29,7 +28,7 @@ pub fn needs_rehash(alloc: Global, encoded: &str, config: &Config) -> Result<boo
     Ok(!agrees(&stored, config))
 }
 
-/// Whether all that a rehash looks at is as in the configuration.
+/// Whether all that `needs_rehash` looks at is as in the configuration.
 fn agrees(stored: &Decoded, config: &Config) -> bool
     ensures { IsTrue result ↔ Agrees (spelled_by stored.now) config.now }
 {

@@ -21,7 +21,7 @@ const MODES: [ThreadMode; 7] = [
     ThreadMode::AtMost(u32::MAX),
 ];
 
-/// One settings' worth of the original's tests: `password`, `somesalt`, 2 passes, 256 KiB.
+/// Settings of the original's tests, with `password` and `somesalt`: 2 passes, 256 KiB.
 fn config(variant: Variant, version: Version, lanes: u32) -> Config<'static> {
     Config {
         ad: b"",

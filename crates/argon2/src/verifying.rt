@@ -31,7 +31,8 @@ fn difference(one: &[u8], other: &[u8]) -> u8
         .fold(0, |difference, (a, b)| difference | (a ^ b))
 }
 
-/// Whether two hashes of one length are equal. It looks at every byte of both.
+/// Whether two hashes of one length are equal. It goes on to the last byte, where `==` may stop at
+/// the first difference.
 fn are_equal(one: &[u8], other: &[u8]) -> bool
     requires { length one.now ≡ length other.now }
     ensures { IsTrue result ↔ (one.now ≡ other.now) }
@@ -70,8 +71,8 @@ fn context_of_hash<'a>(
     }
 }
 
-/// Whether a hash is the tag of an accepted call of its length, computed over a memory in the thread
-/// mode of the configuration.
+/// Whether a hash is the tag of an accepted call of its length, computed over a memory in the
+/// thread mode of the configuration.
 fn is_tag<R: Threads + Wait + Sync>(
     rt: &R,
     alloc: Global,
@@ -87,8 +88,8 @@ fn is_tag<R: Threads + Wait + Sync>(
     Ok(are_equal(&tag, hash))
 }
 
-/// Whether a hash is the tag of an accepted call of its length, computed over a memory in the caller's
-/// thread.
+/// Whether a hash is the tag of an accepted call of its length, computed over a memory in the
+/// caller's thread.
 fn is_tag_sequential(
     alloc: Global,
     memory: &mut Memory,
@@ -105,10 +106,11 @@ fn is_tag_sequential(
 
 /// Whether a hash is the tag of its own length.
 ///
-/// The settings are judged with the length of the hash; `config.hash_length` is not looked at. The
-/// first refusal is the only answer where there is one, before any memory is asked for: a hash of
-/// more than 2^32 - 1 bytes is `OutputTooLong`. Else the answer is whether the hash is the tag or,
-/// where memory or the start of a worker was refused, `OutOfMemory` or `WorkerRefused`.
+/// The settings are judged with the length of the hash; `config.hash_length` is not looked at.
+/// Where the settings table refuses something, the first refusal is the only answer, before any
+/// memory is asked for: a hash of more than 2^32 - 1 bytes is `OutputTooLong`. Else the answer is
+/// whether the hash is the tag, or `OutOfMemory` or `WorkerRefused` where memory or the start of a
+/// worker was refused.
 pub fn verify_raw<R: Threads + Wait + Sync>(
     rt: &R,
     alloc: Global,
@@ -130,8 +132,8 @@ pub fn verify_raw<R: Threads + Wait + Sync>(
     )
 }
 
-/// Whether a hash is the tag of its own length, as `verify_raw` says, computed over a memory that the
-/// caller keeps, of which `hash_raw_in` says more.
+/// Whether a hash is the tag of its own length, as `verify_raw` says, computed over a memory that
+/// the caller keeps: see `hash_raw_in`.
 pub fn verify_raw_in<'a, R: Threads + Wait + Sync>(
     rt: &R,
     alloc: Global,
@@ -163,8 +165,8 @@ pub fn verify_raw_sequential(
     verify_raw_in_sequential(alloc, &mut Memory::empty(alloc), pwd, salt, hash, config)
 }
 
-/// Whether a hash is the tag of its own length, computed in the caller's thread over a memory that the
-/// caller keeps, of which `hash_raw_in` says more.
+/// Whether a hash is the tag of its own length, computed in the caller's thread over a memory that
+/// the caller keeps: see `hash_raw_in`.
 pub fn verify_raw_in_sequential<'a>(
     alloc: Global,
     memory: &mut Memory,

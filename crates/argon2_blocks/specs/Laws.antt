@@ -1,2 +1,2 @@
--- Statements on the definitions, which calls without arguments carry.
+-- Statements about the definitions. The contracts of calls without arguments make them.
 pub mod KnownAnswers

@@ -1,5 +1,5 @@
--- The definitions of RFC 7693 and RFC 9106, in the order to read them in. What the contracts of
--- public calls say of hashes and blocks rests on them. They name no code, no loop and no memory.
+-- The definitions of RFC 7693 and RFC 9106, in the order in which to read them. The contracts of
+-- public calls on hashes and blocks use them. They have no code, no loop and no memory matrix.
 pub mod Word
 pub mod Blake2b
 pub mod Hprime

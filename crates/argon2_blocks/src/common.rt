@@ -15,7 +15,7 @@ pub const MIN_HASH_LENGTH: u32 = 4;
 /// The greatest length of a hash, in bytes.
 pub const MAX_HASH_LENGTH: u32 = 0xFFFF_FFFF;
 
-/// The least memory cost, in blocks of 1 KiB.
+/// The least memory cost of a lane, in blocks of 1 KiB.
 pub const MIN_MEMORY: u32 = 8;
 
 /// The greatest memory cost, in blocks of 1 KiB.

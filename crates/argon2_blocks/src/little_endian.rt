@@ -1,4 +1,4 @@
-//! Words and the bytes that they stand for, the lowest byte first.
+//! Words and their bytes, the lowest byte first.
 
 ghost use Rattle.std.specs.Prelude.{◌≡◌, ◌+◌, ◌*◌, ◌≤◌, length, slice_range};
 ghost use Rattle.std.specs.Int.{w64, from_le_bytes};

@@ -1,4 +1,4 @@
-//! What holds of the definitions that the contracts speak of.
+//! What holds of the definitions that contracts cite.
 
 ghost use Rattle.argon2_blocks.specs.Laws.KnownAnswers.{CompressesOneBit, CompressesZeros, HashesAbc, HashesNothing, HashesTo100Bytes, HashesTo16Bytes, HashesTwoBlocks};
 
@@ -6,7 +6,7 @@ ghost use Rattle.argon2_blocks.specs.Laws.KnownAnswers.{CompressesOneBit, Compre
 /// empty message and of two blocks, H' of a short and of a long length (RFC 9106, 3.3), and the
 /// compression G of zeros and of one bit (RFC 9106, 3.5).
 ///
-/// It does nothing: its contract is the point, and the checker works the values out.
+/// It does nothing when it runs. Its contract states the values, and the checker computes them.
 pub fn known_answers()
     ensures abc { HashesAbc }
     ensures nothing { HashesNothing }

@@ -12,7 +12,7 @@
  * on a refusal what it would have written to is as it was, byte for byte. What is refused first is the
  * only answer: the variant's number, the version's number, the settings in the order in which the limits
  * stand below, the length of the buffer, and only then memory. No call prints, waits, ends the process or
- * reads anything beside what it is passed.
+ * reads anything but what it is passed.
  *
  * Memory. A call that hashes asks for at most the settings' mem_cost KiB for its blocks, and for a few
  * words a lane, the tag and the text; one that reads a text asks for less than its length. All of it is
@@ -102,15 +102,15 @@ enum proved_argon2_code {
     PROVED_ARGON2_MEMORY_TOO_MUCH = 14, /* never returned */
     PROVED_ARGON2_LANES_TOO_FEW = 15,
     PROVED_ARGON2_LANES_TOO_MANY = 16,
-    PROVED_ARGON2_INCORRECT_TYPE = 17,    /* the number is none of a variant */
-    PROVED_ARGON2_INCORRECT_VERSION = 18, /* the number is none of a version */
+    PROVED_ARGON2_INCORRECT_TYPE = 17,    /* no variant has this number */
+    PROVED_ARGON2_INCORRECT_VERSION = 18, /* no version has this number */
     PROVED_ARGON2_DECODING_FAIL = 19,     /* the text spells no hash */
     PROVED_ARGON2_OUT_OF_MEMORY = 20,
     PROVED_ARGON2_WORKER_REFUSED = 21,    /* never returned: no worker is started */
     PROVED_ARGON2_MISMATCH = 64,       /* a verifying call: the password is not the hash's */
     PROVED_ARGON2_WRONG_LENGTH = 65,   /* the buffer does not fit */
     PROVED_ARGON2_NOT_UTF8 = 66,       /* the text is not UTF-8 */
-    PROVED_ARGON2_UNKNOWN_NUMBER = 67, /* proved_argon2_message: the number is that of no refusal */
+    PROVED_ARGON2_UNKNOWN_NUMBER = 67, /* proved_argon2_message: no refusal has this number */
     PROVED_ARGON2_NEEDS_REHASH = 68    /* proved_argon2_needs_rehash: the text has other settings */
 };
 
@@ -166,8 +166,8 @@ uint32_t proved_argon2_hash_raw(
  * the tag in unpadded base64 (RFC 4648), and then zeros up to text_len.
  *
  * text_len is greater than proved_argon2_encoded_len(settings, salt_len), so that one zero at least ends
- * the text: any other length is PROVED_ARGON2_WRONG_LENGTH. Neither the secret nor the associated data
- * stand in the text.
+ * the text: any other length is PROVED_ARGON2_WRONG_LENGTH. The secret and the associated data are not in
+ * the text.
  */
 PROVED_ARGON2_CHECKED PROVED_ARGON2_NONNULL
 uint32_t proved_argon2_hash_encoded(
@@ -182,8 +182,8 @@ uint32_t proved_argon2_hash_encoded(
  * Whether hash is the tag of hash_len bytes: PROVED_ARGON2_OK only where it is, PROVED_ARGON2_MISMATCH
  * only where it is not, and any other number says that nothing was compared.
  *
- * Compare the answer with PROVED_ARGON2_OK and accept nothing else: there is no second answer to look
- * at. settings->hash_length is not looked at, and a hash of fewer than 4 bytes is
+ * Compare the answer with PROVED_ARGON2_OK and accept nothing else: there is no second answer.
+ * settings->hash_length is not looked at, and a hash of fewer than 4 bytes is
  * PROVED_ARGON2_OUTPUT_TOO_SHORT.
  */
 PROVED_ARGON2_CHECKED PROVED_ARGON2_NONNULL
@@ -202,7 +202,7 @@ uint32_t proved_argon2_verify_raw(
  * text_len is the length of the text alone, without a zero behind it. A text that is not UTF-8 is
  * PROVED_ARGON2_NOT_UTF8, and one that spells no hash is PROVED_ARGON2_DECODING_FAIL. Else its settings
  * are judged before any memory is taken. The memory and the passes are those that the text names, up to
- * 4 TiB and 2^32 - 1: look at a text from outside by proved_argon2_read before it is verified.
+ * 4 TiB and 2^32 - 1: check a text from outside with proved_argon2_read before you verify it.
  */
 PROVED_ARGON2_CHECKED PROVED_ARGON2_NONNULL
 uint32_t proved_argon2_verify_encoded(
@@ -213,7 +213,7 @@ uint32_t proved_argon2_verify_encoded(
 
 /*
  * Writes what a stored text spells to stored, and verifies nothing: settings that no hash is made with
- * are read too. What is no text is refused as above. A length above 2^32 - 1 is read as 2^32 - 1.
+ * are read too. What spells no hash is refused as above. A length above 2^32 - 1 is read as 2^32 - 1.
  */
 PROVED_ARGON2_CHECKED PROVED_ARGON2_NONNULL
 uint32_t proved_argon2_read(const uint8_t *text, size_t text_len, proved_argon2_stored *stored);
@@ -221,8 +221,8 @@ uint32_t proved_argon2_read(const uint8_t *text, size_t text_len, proved_argon2_
 /*
  * Whether a stored text has these settings: PROVED_ARGON2_OK only where its variant, version, memory
  * cost, passes, lanes and length of the hash are the given ones, and PROVED_ARGON2_NEEDS_REHASH only
- * where one is not. The numbers of variant and version are judged first, then the text as above, and no
- * other setting. Call it once the password has matched.
+ * where one is not. The numbers of variant and version are judged first, then the text as above; no other
+ * setting is judged. Call it once the password has matched.
  */
 PROVED_ARGON2_CHECKED PROVED_ARGON2_NONNULL
 uint32_t proved_argon2_needs_rehash(
@@ -230,14 +230,14 @@ uint32_t proved_argon2_needs_rehash(
 
 /*
  * The length in bytes of the text that proved_argon2_hash_encoded writes for a salt of salt_len bytes,
- * without the zero behind it. 0 where the variant's or the version's number is none. It takes no memory.
+ * without the zero behind it. 0 where no variant or no version has the given number. It takes no memory.
  */
 PROVED_ARGON2_CHECKED PROVED_ARGON2_NONNULL
 uint64_t proved_argon2_encoded_len(const proved_argon2_settings *settings, uint32_t salt_len);
 
 /*
  * Writes the text of the refusal with this number, and then zeros up to text_len. A buffer without room
- * for the text and one zero is PROVED_ARGON2_WRONG_LENGTH, and a number that is none of a refusal's, as
+ * for the text and one zero is PROVED_ARGON2_WRONG_LENGTH, and a number that no refusal has, such as
  * PROVED_ARGON2_OK, is PROVED_ARGON2_UNKNOWN_NUMBER. It takes no memory.
  */
 PROVED_ARGON2_CHECKED PROVED_ARGON2_NONNULL

@@ -1,5 +1,5 @@
--- What the calls answer. Each takes the configuration that its settings stand for, or the refusal of
--- their numbers, and each goes on from the words of the library's own contract.
+-- What the calls answer. Each definition takes the configuration of the settings, or the refusal of
+-- their numbers, and is made of the words of the library's own contract.
 use Rattle.std.specs.Prelude.{◌≡◌, ℕ, ◌==◌, Bool, true, false, nat_lt, if◌then◌else◌, List, length, Option, Some, None, Result, Ok, Err, IsUtf8}
 use Rattle.argon2.specs.ConfigType.{Config}
 use Rattle.argon2.specs.ErrorType.{Error}
@@ -47,7 +47,7 @@ WritesHashText (Ok config) pwd salt old new answer =
 
 -- ---- verifying
 
--- a verdict without a truth value: Ok where there is a match
+-- a verdict as one answer: Ok where there is a match
 abbrev pub judgement_of : Result Bool Error → Result (Unit {0}) Refusal
 judgement_of (Ok true) = Ok tt
 judgement_of (Ok false) = Err Mismatch
@@ -70,7 +70,7 @@ abbrev pub JudgesRaw : Result Config Error → List ℕ → List ℕ → List �
 JudgesRaw (Err e) pwd salt hash answer = answer ≡ Err (Library e)
 JudgesRaw (Ok config) pwd salt hash answer = JudgesHash config pwd salt hash answer
 
--- a text that is no UTF-8 or spells nothing is refused; else its hash is judged, with what it spells,
+-- a text that is not UTF-8 or spells nothing is refused; else its hash is judged, with what it spells,
 -- the secret and the associated data
 pub record JudgesText (text pwd secret ad : List ℕ) (answer : Result (Unit {0}) Refusal) : Type 0 where
   pub not_utf8 : (IsUtf8 text → ⊥) → answer ≡ Err NotUtf8
@@ -88,7 +88,7 @@ IsTextLength (Ok config) salt_len len = (salt hash : List ℕ) → length salt �
 
 -- ---- messages
 
--- the text of the refusal with this number; a number that is none of a refusal's is refused
+-- the text of the refusal with this number; a number that no refusal has is refused
 pub record WritesMessage (number : ℕ) (old new : List ℕ) (answer : Result (Unit {0}) Refusal) : Type 0 where
   pub known : (refusal : Refusal) → number_of refusal ≡ number → WritesText (message_of refusal) old new answer
   pub unknown : IsNoNumber number → (answer ≡ Err UnknownNumber) × (new ≡ old)

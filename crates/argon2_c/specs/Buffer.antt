@@ -7,7 +7,7 @@ use Rattle.argon2_c.specs.declared.refusal.Refusal.TheVariants.{WrongLength}
 abbrev pub padded : ℕ → List ℕ → List ℕ
 padded len text = text ++ replicate (len - length text) 0
 
--- the text stands in the buffer where a zero behind it has room too; else the buffer is as it was
+-- the buffer has the text, where there is room for it and a zero; else the buffer is as it was
 pub record WritesText (text old new : List ℕ) (answer : Result (Unit {0}) Refusal) : Type 0 where
   pub fits : length text < length old → (answer ≡ Ok tt) × (new ≡ padded (length old) text)
   pub wrong_length : length old ≤ length text → (answer ≡ Err WrongLength) × (new ≡ old)

@@ -33,12 +33,12 @@ stored_of d = record {
   salt_length = held (length d.salt);
 }
 
--- the numbers stand there, or memory was refused and those from before do
+-- the new numbers are there, or memory was refused and the old ones are
 abbrev pub Reads : Stored → Stored → Stored → Result (Unit {0}) Refusal → Type 0
 Reads spelled old new (Ok _) = new ≡ spelled
 Reads spelled old new (Err refusal) = (refusal ≡ Library OutOfMemory) × (new ≡ old)
 
--- a text that is no UTF-8 or spells nothing is refused, and nothing is written
+-- a text that is not UTF-8 or spells nothing is refused, and nothing is written
 pub record ReadsText (text : List ℕ) (old new : Stored) (answer : Result (Unit {0}) Refusal) : Type 0 where
   pub not_utf8 : (IsUtf8 text → ⊥) → (answer ≡ Err NotUtf8) × (new ≡ old)
   pub unspelled : IsUtf8 text → SpellsNothing text → (answer ≡ Err (Library DecodingFail)) × (new ≡ old)
@@ -46,7 +46,7 @@ pub record ReadsText (text : List ℕ) (old new : Stored) (answer : Result (Unit
 
 -- ---- comparing
 
--- whether settings differ, without a truth value: Ok where they do not
+-- whether settings differ, as one answer: Ok where they do not
 abbrev pub comparison_of : Result Bool Error → Result (Unit {0}) Refusal
 comparison_of (Ok true) = Err NeedsRehash
 comparison_of (Ok false) = Ok tt
@@ -58,7 +58,7 @@ Compares Same (Ok _) = Same
 Compares Same (Err NeedsRehash) = Same → ⊥
 Compares Same (Err refusal) = refusal ≡ Library OutOfMemory
 
--- a text that is no UTF-8 or spells nothing is refused; else what it spells is compared
+-- a text that is not UTF-8 or spells nothing is refused; else what it spells is compared
 pub record ComparesText (config : Config) (text : List ℕ) (answer : Result (Unit {0}) Refusal) : Type 0 where
   pub not_utf8 : (IsUtf8 text → ⊥) → answer ≡ Err NotUtf8
   pub unspelled : IsUtf8 text → SpellsNothing text → answer ≡ Err (Library DecodingFail)

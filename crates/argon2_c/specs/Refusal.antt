@@ -32,7 +32,7 @@ library_number DecodingFail = 19
 library_number OutOfMemory = 20
 library_number WorkerRefused = 21
 
--- those and the refusals that come here alone, from 64
+-- those, and from 64 on the refusals of the C calls alone
 abbrev pub number_of : Refusal → ℕ
 number_of (Library e) = library_number e
 number_of Mismatch = 64
@@ -57,6 +57,6 @@ abbrev pub code_of : Result (Unit {0}) Refusal → ℕ
 code_of (Ok _) = 0
 code_of (Err refusal) = number_of refusal
 
--- the code is that of an answer of which P holds
+-- the code is that of an answer for which P holds
 abbrev pub IsCodeOf : (Result (Unit {0}) Refusal → Type 0) → ℕ → Type 0
 IsCodeOf P code = (answer : Result (Unit {0}) Refusal) × (code ≡ code_of answer) × P answer

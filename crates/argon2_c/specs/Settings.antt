@@ -1,4 +1,4 @@
--- The configuration that settings in numbers stand for.
+-- The configuration of settings in numbers.
 use Rattle.std.specs.Prelude.{ℕ, ◌==◌, if◌then◌else◌, List, Option, Some, None, Result, Ok, Err}
 use Rattle.std.specs.Borrow.{Bor}
 use Rattle.argon2.specs.ConfigType.{Config}
@@ -34,7 +34,7 @@ config_with settings secret ad variant version = record {
   version = version;
 }
 
--- that, where the numbers are those of a variant and of a version; the variant is looked at first
+-- the same for the numbers of a variant and of a version, if there are such; the variant is looked at first
 abbrev pub config_at : Settings → Bor (List ℕ) → Bor (List ℕ) → Option Variant → Option Version → Result Config Error
 config_at settings secret ad None version = Err IncorrectType
 config_at settings secret ad (Some variant) None = Err IncorrectVersion

@@ -4,8 +4,8 @@ ghost use Rattle.argon2_c.specs.Buffer.{WritesText};
 
 use crate::refusal::Refusal;
 
-/// Writes a text to a buffer, and zeros from there to its end. A buffer with no room for one zero is
-/// `WrongLength`, and as it was.
+/// Writes a text to a buffer, and zeros behind it to the end. A buffer without room for the text
+/// and one zero is `WrongLength`, and stays as it was.
 pub fn write_text(text: &str, buffer: &mut [u8]) -> Result<(), Refusal>
     ensures { WritesText text.now buffer.old buffer.new result }
 {

@@ -14,9 +14,9 @@ use std::alloc::Global;
 
 /// Writes the tag of a password to a buffer of `settings.hash_length` bytes.
 ///
-/// The numbers of the settings are looked at first, then the settings table, then the buffer, and the
-/// first refusal is the only answer, before any memory is asked for. On a refusal the buffer is as it
-/// was.
+/// The numbers of the settings are looked at first, then the settings table, then the length of the
+/// buffer, all before any memory is asked for. The first refusal is the only answer. On a refusal
+/// the buffer is as it was.
 pub fn hash_raw(
     alloc: Global,
     pwd: &[u8],
@@ -42,7 +42,7 @@ pub fn hash_raw(
 }
 
 /// Writes the text of a password's hash, and zeros behind it, to a buffer with more bytes than the
-/// text. It refuses as `hash_raw`.
+/// text. It refuses as `hash_raw` does.
 pub fn hash_encoded(
     alloc: Global,
     pwd: &[u8],

@@ -1,8 +1,8 @@
 //! A C face of `argon2`: the calls that hash and verify in the caller's thread, for C.
 //!
-//! Each export calls the function of its name below and returns the number of what that one answers:
-//! 0, or a refusal's. `include/proved_argon2.h` is the header, and docs/C.md says how to build and to link.
-//! A slice is a pointer and then a length; `alloc` takes no argument of the C call.
+//! A call that may refuse returns one number: 0, or that of the refusal. `include/proved_argon2.h`
+//! is the header, and docs/C.md says how to build and link. In C a slice is a pointer and then a
+//! length, and `alloc` is no argument.
 #![tactic(auto)]
 
 ghost use Rattle.std.specs.Prelude.{◌≡◌, ℕ, List};
@@ -32,8 +32,8 @@ use std::alloc::Global;
 #[cfg(test)]
 mod tests;
 
-/// Writes the tag of a password (RFC 9106, 3.2) to `out`, which has `settings.hash_length` bytes. On a
-/// refusal `out` is as it was.
+/// Writes the tag of a password (RFC 9106, 3.2) to `out`, which has `settings.hash_length` bytes.
+/// On a refusal `out` is as it was.
 #[unsafe(no_mangle)]
 pub extern "C" fn proved_argon2_hash_raw(
     alloc: Global,
@@ -50,8 +50,8 @@ pub extern "C" fn proved_argon2_hash_raw(
     code_of(&hashing::hash_raw(alloc, pwd, salt, secret, ad, settings, out))
 }
 
-/// Writes the text of a password's hash and then zeros to `text`, which has more bytes than the text.
-/// On a refusal `text` is as it was.
+/// Writes the text of a password's hash and then zeros to `text`, which has more bytes than the
+/// text. On a refusal `text` is as it was.
 #[unsafe(no_mangle)]
 pub extern "C" fn proved_argon2_hash_encoded(
     alloc: Global,
@@ -86,8 +86,8 @@ pub extern "C" fn proved_argon2_verify_raw(
     code_of(&verifying::verify_raw(alloc, pwd, salt, secret, ad, settings, hash))
 }
 
-/// Returns 0 only where a stored text is the hash of a password with this secret and this associated
-/// data, and 64 only where it is not.
+/// Returns 0 only where a stored text is the hash of a password with this secret and this
+/// associated data, and 64 only where it is not.
 #[unsafe(no_mangle)]
 pub extern "C" fn proved_argon2_verify_encoded(
     alloc: Global,
@@ -101,8 +101,8 @@ pub extern "C" fn proved_argon2_verify_encoded(
     code_of(&verifying::verify_encoded(alloc, text, pwd, secret, ad))
 }
 
-/// Writes what a stored text spells to `stored`, and verifies nothing. On a refusal `stored` is as it
-/// was.
+/// Writes what a stored text spells to `stored`, and verifies nothing. On a refusal `stored` is as
+/// it was.
 #[unsafe(no_mangle)]
 pub extern "C" fn proved_argon2_read(alloc: Global, text: &[u8], stored: &mut Stored) -> u32
     ensures { IsCodeOf (ReadsText text.now stored.old stored.new) result }
@@ -110,8 +110,8 @@ pub extern "C" fn proved_argon2_read(alloc: Global, text: &[u8], stored: &mut St
     code_of(&reading::read(alloc, text, stored))
 }
 
-/// Returns 0 only where a stored text was made with these settings, whatever its salt is, and 68 only
-/// where it was made with others.
+/// Returns 0 only where a stored text was made with these settings, whatever its salt is, and 68
+/// only where it was made with others.
 #[unsafe(no_mangle)]
 pub extern "C" fn proved_argon2_needs_rehash(alloc: Global, text: &[u8], settings: &Settings) -> u32
     ensures { (secret ad : Bor (List ℕ))
@@ -120,8 +120,8 @@ pub extern "C" fn proved_argon2_needs_rehash(alloc: Global, text: &[u8], setting
     code_of(&reading::needs_rehash(alloc, text, settings))
 }
 
-/// The length of the text that `proved_argon2_hash_encoded` writes, without the zero behind it, or 0
-/// where the variant's or the version's number is none.
+/// The length of the text that `proved_argon2_hash_encoded` writes, without the zero behind it, or
+/// 0 where no variant or no version has the given number.
 #[unsafe(no_mangle)]
 pub extern "C" fn proved_argon2_encoded_len(settings: &Settings, salt_len: u32) -> u64
     ensures { (secret ad : Bor (List ℕ)) → IsTextLength
@@ -130,8 +130,8 @@ pub extern "C" fn proved_argon2_encoded_len(settings: &Settings, salt_len: u32) 
     settings.encoded_len(salt_len)
 }
 
-/// Writes the text of the refusal of a number and then zeros to `text`, which has more bytes than the
-/// text: 64 are enough for each. On a refusal `text` is as it was.
+/// Writes the text of the refusal of a number and then zeros to `text`, which has more bytes than
+/// the text: 64 are enough for each. On a refusal `text` is as it was.
 #[unsafe(no_mangle)]
 pub extern "C" fn proved_argon2_message(number: u32, text: &mut [u8]) -> u32
     ensures { IsCodeOf (WritesMessage number text.old text.new) result }
@@ -139,8 +139,8 @@ pub extern "C" fn proved_argon2_message(number: u32, text: &mut [u8]) -> u32
     code_of(&refusal::write_message(number, text))
 }
 
-/// The version of the library as a number: 1,000,000 times the major one, 1,000 times the minor one and
-/// the patch.
+/// The version of the library as a number: 1,000,000 times the major one, 1,000 times the minor one
+/// and the patch.
 #[unsafe(no_mangle)]
 pub extern "C" fn proved_argon2_library_version() -> u32
     ensures { result ≡ 1000000 }

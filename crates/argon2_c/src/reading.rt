@@ -63,8 +63,8 @@ pub fn read(alloc: Global, text: &[u8], stored: &mut Stored) -> Result<(), Refus
     }
 }
 
-/// Whether a stored text was made with these settings: `Ok` where it was, `NeedsRehash` where it was
-/// not. The numbers of the settings are looked at first; then it refuses as `read`.
+/// Whether a stored text was made with these settings: `Ok` where it was, `NeedsRehash` where it
+/// was not. The numbers of the settings are looked at first; then it refuses as `read` does.
 pub fn needs_rehash(alloc: Global, text: &[u8], settings: &Settings) -> Result<(), Refusal>
     ensures { (secret ad : Bor (List ℕ))
         → ComparesSettings (config_of settings.now secret ad) text.now result }
@@ -76,7 +76,7 @@ pub fn needs_rehash(alloc: Global, text: &[u8], settings: &Settings) -> Result<(
     }
 }
 
-/// Whether settings differ, without a truth value.
+/// Whether settings differ, as one answer with no truth value beside it.
 fn comparison(differs: argon2::Result<bool>) -> Result<(), Refusal>
     ensures { result ≡ comparison_of differs }
 {

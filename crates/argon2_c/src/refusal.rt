@@ -25,7 +25,7 @@ pub enum Refusal {
     /// The text is not UTF-8.
     NotUtf8,
 
-    /// The number is that of no refusal.
+    /// No refusal has this number.
     UnknownNumber,
 
     /// The text was made with other settings.

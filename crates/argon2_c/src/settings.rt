@@ -7,8 +7,8 @@ ghost use Rattle.argon2_c.specs.Settings.{config_of};
 
 use argon2::{Config, ThreadMode, Variant, Version};
 
-/// The settings of a hash: all that a tag depends on beside the password, the salt, the secret and the
-/// associated data.
+/// The settings of a hash: all that a tag depends on except the password, the salt, the secret and
+/// the associated data.
 #[repr(C)]
 #[derive(Clone, Copy, Debug)]
 pub struct Settings {
@@ -32,8 +32,8 @@ pub struct Settings {
 }
 
 impl Settings {
-    /// The configuration of these settings, filled in the caller's thread. A number that is none of a
-    /// variant is `IncorrectType`, and then one that is none of a version `IncorrectVersion`.
+    /// The configuration of these settings, filled in the caller's thread. A number that no variant
+    /// has is `IncorrectType`, and then one that no version has is `IncorrectVersion`.
     pub fn config<'a>(&self, secret: &'a [u8], ad: &'a [u8]) -> argon2::Result<Config<'a>>
         ensures { result ≡ config_of self.now secret.entry ad.entry }
     {
@@ -52,8 +52,8 @@ impl Settings {
         })
     }
 
-    /// The length of the text that is hashed to with a salt of this length, or 0 where the settings
-    /// have no configuration.
+    /// The length of the text of a hash with a salt of this length, or 0 where the settings have no
+    /// configuration.
     pub fn encoded_len(&self, salt_len: u32) -> u64
         ensures { (secret ad : Bor (List ℕ)) → IsTextLength
             (config_of self.now secret ad) salt_len result }
@@ -65,7 +65,7 @@ impl Settings {
     }
 }
 
-/// The length of the text that is hashed to in a configuration, with a salt of this length.
+/// The length of the text of a hash by a configuration, with a salt of this length.
 pub fn text_len(config: &Config<'_>, salt_len: u32) -> u64
     ensures { IsTextLength (Ok config.now) salt_len result }
 {

@@ -10,8 +10,8 @@ use argon2::{verify_encoded_sequential, verify_raw_sequential};
 use std::alloc::Global;
 
 /// Whether a hash is the tag of its own length: `Ok` where it is, `Mismatch` where it is not. The
-/// numbers of the settings and then the settings table are looked at before any memory is asked for;
-/// `settings.hash_length` is not looked at.
+/// numbers of the settings and then the settings table are looked at before any memory is asked
+/// for; `settings.hash_length` is not looked at.
 pub fn verify_raw(
     alloc: Global,
     pwd: &[u8],
@@ -46,7 +46,7 @@ pub fn verify_encoded(
     }
 }
 
-/// A verdict without a truth value, which nobody can forget to look at.
+/// A verdict as one answer, with no truth value beside it to look at.
 fn judgement(verdict: argon2::Result<bool>) -> Result<(), Refusal>
     ensures { result ≡ judgement_of verdict }
 {

@@ -1,4 +1,4 @@
--- Statements on the definitions, which calls without arguments carry.
+-- Statements about the definitions. The contracts of calls without arguments make them.
 pub mod Matrix
 pub mod Schedule
 pub mod AnyOrder

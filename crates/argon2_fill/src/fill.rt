@@ -30,9 +30,9 @@ use std::marker::Sync;
 use std::sync::Wait;
 use std::thread::Threads;
 
-/// Gives a memory the context's lanes and lane length. One that has them stays as it is; else all its
-/// blocks are given back, and it is made anew, of zeros. Where memory is refused, it has no lanes:
-/// `OutOfMemory`.
+/// Gives a memory the context's lanes and lane length. One that has them stays as it is. Any other
+/// gives its blocks back and is made anew, of zeros. Where memory is refused, the answer is
+/// `OutOfMemory`, and the memory has no lanes.
 pub fn prepare_memory(alloc: Global, context: &Context<'_>, memory: &mut Memory) -> Result<()>
     ensures shape { OnOk result (HasShape (setting_of_context context.now) memory.new) }
     ensures kept { HasShape (setting_of_context context.now) memory.old
@@ -207,8 +207,8 @@ fn combine_last_blocks(memory: &Memory, lanes: u32, column: u32, out: &mut Block
     }
 }
 
-/// The hash of the last blocks of all lanes, combined (RFC 9106, 3.2, steps 7 and 8): the tag, where
-/// the memory is filled. The memory has the context's lanes and lane length. Where memory is
+/// The hash of the last blocks of all lanes, combined (RFC 9106, 3.2, steps 7 and 8): the tag,
+/// where the memory is filled. The memory has the context's lanes and lane length. Where memory is
 /// refused: `OutOfMemory`.
 #[tactic(auto, unfolding(argon2_settings::specs::Standard::SettingsTable::refusal_of))]
 pub fn finalize(alloc: Global, context: &Context<'_>, memory: &Memory) -> Result<Vec<u8>>

@@ -19,8 +19,8 @@ use std::marker::Model;
 use std::ops::Index;
 use std::{fmt, mem};
 
-/// The matrix of blocks of 1 KiB: a row for each lane. Column c of a lane of 4 L columns is the block
-/// at index c mod L of the lane's segment in slice c / L (RFC 9106, 3.4).
+/// The matrix of blocks of 1 KiB: a row for each lane. Column c of a lane of 4 L columns is the
+/// block at index c mod L of the lane's segment in slice c / L (RFC 9106, 3.4).
 #[derive(Drop)]
 pub struct Memory {
     lanes: u32,
@@ -66,7 +66,7 @@ fn put_among(slices: &mut [Vec<Segment>], slice: usize, lane: usize, index: usiz
 }
 
 impl Memory {
-    /// A memory of zeros, for so many lanes of so many blocks. Where memory is refused:
+    /// A memory of zeros, with `lanes` lanes of `lane_length` blocks each. Where memory is refused:
     /// `OutOfMemory`.
     pub fn new(alloc: Global, lanes: u32, lane_length: u32) -> Result<Memory>
         requires some_lane { 0 < lanes }

@@ -78,7 +78,7 @@ fn write_block(
     segment.write(index as usize, prev, reference, snapshot.job().combines());
 }
 
-/// The word that the block at an index draws, in a segment whose references rest on the blocks.
+/// The word that the block at an index draws, in a segment whose references depend on the blocks.
 fn dependent_word(snapshot: &Snapshot<'_>, lane: u32, index: u32, segment: &Segment) -> u64
     requires dependent { is_data_independent snapshot.now.job.setting.variant snapshot.now.job.pass
         snapshot.now.job.slice ≡ false }
@@ -92,7 +92,7 @@ fn dependent_word(snapshot: &Snapshot<'_>, lane: u32, index: u32, segment: &Segm
     segment.named(source_before(snapshot, lane, index))[0]
 }
 
-/// Fills a segment whose references rest on the blocks, one after another.
+/// Fills a segment whose references depend on the blocks, block after block.
 fn fill_dependent(snapshot: &Snapshot<'_>, lane: u32, segment: &mut Segment)
     requires dependent { is_data_independent snapshot.now.job.setting.variant snapshot.now.job.pass
         snapshot.now.job.slice ≡ false }
@@ -138,7 +138,7 @@ fn write_blocks(
     }
 }
 
-/// Fills a segment whose references rest on no block, up to each multiple of 128 of them at a time.
+/// Fills a segment whose references depend on no block, in stretches up to each multiple of 128.
 fn fill_independent(snapshot: &Snapshot<'_>, lane: u32, segment: &mut Segment)
     requires independent { is_data_independent snapshot.now.job.setting.variant
         snapshot.now.job.pass snapshot.now.job.slice ≡ true }

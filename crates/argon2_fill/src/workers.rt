@@ -1,5 +1,5 @@
-//! Workers: the lanes of a slice, which they claim and give back under one lock and fill outside it,
-//! and the way over all slices.
+//! Workers: they claim the lanes of a slice and give them back under one lock, and fill them
+//! outside it, slice after slice.
 
 mod board;
 mod claim;

@@ -1,4 +1,4 @@
--- What the clauses of the root calls rest on: these definitions are to be read, in this order.
+-- The definitions that the clauses of the root calls use, in the order in which to read them.
 pub mod Variant
 pub mod Version
 pub mod ThreadModes

@@ -9,7 +9,7 @@ use crate::thread_mode::ThreadMode;
 use crate::variant::Variant;
 use crate::version::Version;
 
-/// The settings of a hash: all that a tag depends on beside the password and the salt, and how many
+/// The settings of a hash: all that a tag depends on except the password and the salt, and how many
 /// threads compute it.
 #[derive(Clone, Copy, Debug, PartialEq)]
 pub struct Config<'a> {
@@ -22,8 +22,8 @@ pub struct Config<'a> {
     /// The number of lanes, 1 to 2^24 - 1.
     pub lanes: u32,
 
-    /// The memory in KiB, at least 8 a lane. It is filled in whole segments: the greatest multiple
-    /// of 4 KiB a lane that is not above it.
+    /// The memory in KiB, at least 8 a lane. What is filled is rounded down to a multiple of 4 KiB
+    /// a lane.
     pub mem_cost: u32,
 
     /// The secret, up to 2^32 - 1 bytes.
@@ -60,7 +60,7 @@ fn preset<'a>(variant: Variant, mem_cost: u32, time_cost: u32) -> Config<'a>
 }
 
 impl<'a> Config<'a> {
-    /// What the original C implementation hashes with by default: Argon2i, 4 MiB, 3 passes.
+    /// The defaults of the original C program: Argon2i, 4 MiB, 3 passes.
     pub fn original() -> Config<'a>
         ensures { IsPreset Argon2i 4096 3 result }
     {
@@ -130,8 +130,8 @@ impl<'a> Config<'a> {
         }
     }
 
-    /// How many workers fill a slice: as many as there are lanes for `Parallel`, at most so many for
-    /// `AtMost`, and 1 where the caller's thread fills all lanes.
+    /// How many workers fill a slice: one for each lane with `Parallel`, no more than the given
+    /// number with `AtMost`, and 1 where the caller's thread fills all lanes.
     pub fn workers(&self) -> u32
         ensures { result ≡ workers_of self.now }
     {

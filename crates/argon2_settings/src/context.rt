@@ -56,8 +56,8 @@ pub fn first_refusal(config: &Config, pwd_len: u64, salt_len: u64, hash_len: u64
     }
 }
 
-/// A call's inputs, whose settings are accepted, the lengths that follow from them, and H0, the hash
-/// of all inputs, which each job of the call has.
+/// The accepted inputs of a call, the lengths that follow from them, and H0, the hash of all
+/// inputs.
 #[derive(Drop, PartialEq)]
 pub struct Context<'a> {
     pub config: Config<'a>,

@@ -13,10 +13,10 @@ use std::fmt;
 #[derive(Clone, Debug, Drop, PartialEq, Serialize, Deserialize)]
 #[serde(rename_all = "snake_case")]
 pub enum Error {
-    /// The hash is to be shorter than 4 bytes.
+    /// The length of the hash is below 4 bytes.
     OutputTooShort,
 
-    /// The hash is longer than 2^32 - 1 bytes.
+    /// The length of the hash is above 2^32 - 1 bytes.
     OutputTooLong,
 
     /// Never answered: a password may be empty.
@@ -43,7 +43,7 @@ pub enum Error {
     /// The secret is longer than 2^32 - 1 bytes.
     SecretTooLong,
 
-    /// There is to be no pass.
+    /// The number of passes is 0.
     TimeTooSmall,
 
     /// Never answered: each number of passes that a `u32` holds is allowed.
@@ -55,19 +55,19 @@ pub enum Error {
     /// Never answered: each memory cost that a `u32` holds is allowed.
     MemoryTooMuch,
 
-    /// There is to be no lane.
+    /// The number of lanes is 0.
     LanesTooFew,
 
-    /// There are to be more than 2^24 - 1 lanes.
+    /// The number of lanes is above 2^24 - 1.
     LanesTooMany,
 
-    /// The number is none of a variant.
+    /// No variant has this number.
     IncorrectType,
 
-    /// The number is none of a version.
+    /// No version has this number.
     IncorrectVersion,
 
-    /// The text is none of a hash, a variant or a version.
+    /// The text is not that of a hash, a variant or a version.
     DecodingFail,
 
     /// Memory was refused.

@@ -17,19 +17,19 @@ use std::fmt;
 /// The variant of Argon2 (RFC 9106, 1 and 3.2): where a block's reference is drawn from.
 #[derive(Clone, Copy, Debug, Eq, PartialEq)]
 pub enum Variant {
-    /// References are drawn from the blocks. Fast to fill, for where no side channel can be watched.
+    /// References are drawn from the blocks: for uses that side channels do not threaten.
     Argon2d = 0,
 
     /// References are drawn from no block.
     Argon2i = 1,
 
-    /// References are drawn from no block in the first half of the first pass, and else from the
-    /// blocks. The one to choose for passwords.
+    /// References are drawn from no block in the first half of the first pass, and from the blocks
+    /// after it. The one to choose for passwords.
     Argon2id = 2,
 }
 
 impl Variant {
-    /// The name in lower case, as an encoded text is written with it.
+    /// The name in lower case, as it is written in an encoded text.
     pub fn as_lowercase_str(&self) -> &'static str
         ensures { result.now ≡ lowercase_name self.now }
     {

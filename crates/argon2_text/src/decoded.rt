@@ -3,7 +3,7 @@
 use argon2_settings::variant::Variant;
 use argon2_settings::version::Version;
 
-/// What an encoded text spells: all that a hash is verified with, but for the password, the secret
+/// What an encoded text spells: all that a hash is verified with, except the password, the secret
 /// and the associated data.
 #[derive(Debug, Drop, Eq, PartialEq)]
 pub struct Decoded {

@@ -24,9 +24,9 @@ pub use lengths::{base64_len, encoded_len, num_len};
 pub use reading::{Head, spelling_of};
 use std::alloc::Global;
 
-/// The text of a hash: the variant in lower case, the version, the costs and lanes as plain decimals,
-/// the memory cost as it was given, and the salt and the hash in unpadded base64. Neither the secret
-/// nor the associated data stand in it. Where memory is refused: `OutOfMemory`.
+/// The text of a hash: the variant in lower case, the version, the costs and lanes as plain
+/// decimals, the memory cost as it was given, and the salt and the hash in unpadded base64. The
+/// secret and the associated data are not in it. Where memory is refused: `OutOfMemory`.
 pub fn encode_string(alloc: Global, context: &Context<'_>, hash: &[u8]) -> Result<String>
     ensures text { let c = context.now in
         IfOk result (λ text. string_bytes text
@@ -52,9 +52,8 @@ pub fn encode_string(alloc: Global, context: &Context<'_>, hash: &[u8]) -> Resul
 
 /// What `encoded` spells.
 ///
-/// A text that spells nothing is `DecodingFail`, also where memory is refused: so is each text whose
-/// `$` do not stand where they should or whose variant, version, costs or lanes are not spelled.
-/// Memory is asked for only behind a text that spells a value; where it is refused: `OutOfMemory`.
+/// A text that spells nothing is `DecodingFail`, even where memory is refused. Memory is asked for
+/// only once the whole text was found to spell a value; where it is refused: `OutOfMemory`.
 pub fn decode_string(alloc: Global, encoded: &str) -> Result<Decoded>
     ensures spelled { IfOk result (λ decoded. Spells encoded.now (spelled_by decoded)) }
     ensures refused { IfErr result (Refuses encoded.now) }

@@ -1,4 +1,5 @@
-//! Replays outside vectors: reads a question from each line of standard input and prints its answer.
+//! Replays outside vectors: reads a question from each line of standard input and prints its
+//! answer.
 //!
 //! | Line | Answer |
 //! |---|---|
@@ -15,7 +16,8 @@ use question::answer;
 use std::io;
 use std::io::{BufRead, BufReader, BufWriter, Write};
 
-/// Answers line by line. A line that is no question ends the run with an error that names its number.
+/// Answers line by line. A line that is no question ends the run with an error that names its
+/// number.
 fn main(rt: HostRuntime) -> Result<()> {
     let alloc = rt.alloc();
     let mut output = BufWriter::new(alloc, io::writer(&rt))?;

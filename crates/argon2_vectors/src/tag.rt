@@ -24,8 +24,8 @@ pub struct TagQuestion {
 }
 
 impl TagQuestion {
-    /// Reads `VARIANT VERSION T M P LEN PASSWORD SALT SECRET DATA`, single blanks between them, the last
-    /// four in hexadecimal, or `-` where they are empty.
+    /// Reads `VARIANT VERSION T M P LEN PASSWORD SALT SECRET DATA`, single blanks between them, the
+    /// last four in hexadecimal, or `-` where they are empty.
     pub fn from_fields(alloc: Global, fields: &str) -> Result<TagQuestion> {
         let fields: Vec<&str> = fields.split(' ').collect(alloc)?;
         let [

@@ -1,4 +1,4 @@
--- Laws of the definitions, which calls without arguments carry.
+-- Laws of the blocks, the tag and the verdict.
 use Rattle.std.specs.Prelude.{◌≡◌, ℕ, List, length, None, Result, Bool, IsTrue, MatchResult}
 use Rattle.argon2_settings.specs.declared.config.Config.{Config}
 use Rattle.argon2_settings.specs.declared.error.Error.{Error}
@@ -15,7 +15,7 @@ use Rattle.argon2.specs.Standard.Verdict.{IsVerdict}
 abbrev pub MeetsRecurrence : Type 0
 MeetsRecurrence = (s : Setting) → IsSetting s → (at : Position) → IsPosition s at → block_at s at ≡ recurrence s (block_at s) at
 
--- and are all that does
+-- and nothing else does
 abbrev pub IsOnlySolution : Type 0
 IsOnlySolution = (s : Setting) → IsSetting s → (f : Blocks) →
     ((at : Position) → IsPosition s at → f at ≡ recurrence s f at) → (at : Position) → IsPosition s at → f at ≡ block_at s at

@@ -15,7 +15,7 @@ IsAccepted d pwd_len secret ad = (config : Config) → IsStoredConfig d secret a
 abbrev pub max_workers : ℕ
 max_workers = 16
 
--- the one that is verified with: few workers, and the length of the hash as far as the field holds it
+-- the configuration in use: few workers, and the length of the hash as far as the field holds it
 pub record IsConfigOf (d : Spelled) (secret ad : List ℕ) (config : Config) : Type 0 where
   pub stored : IsStoredConfig d secret ad config
   pub thread_mode : config.thread_mode ≡ (if nat_lt 1 d.parallelism then AtMost max_workers else Sequential)

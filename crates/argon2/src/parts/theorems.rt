@@ -1,5 +1,5 @@
-//! What holds of the definitions: each law is the contract of a call without arguments, which does
-//! nothing.
+//! What holds of the definitions: each law is a clause of a call without arguments, which does
+//! nothing when it runs.
 
 ghost use Rattle.argon2_fill.specs.Laws.AnyOrder.{EveryOrderAgrees, NoEntryReadsOthers, PicksHoldTheirBlocks};
 ghost use Rattle.argon2.specs.Laws.Definitions.{IsOnlySolution, LengthIsTheHash, MeetsRecurrence, OwnTagVerifies, TagForgetsMode};
@@ -12,19 +12,20 @@ pub fn recurrence_law()
     ensures only { IsOnlySolution }
 {}
 
-/// Whatever the order of the single block writes within each slice, over one shared memory: it ends
-/// with the blocks of the recurrence, no write reads a place that another lane writes in that slice,
-/// and the block that is read by a reference is the recurrence's (RFC 9106, 3.4).
+/// Whatever the order of the single block writes within each slice of one shared memory: the memory
+/// ends with the blocks of the recurrence, no write reads a place that another lane writes in that
+/// slice, and each reference reads the recurrence's block (RFC 9106, 3.4).
 pub fn any_order()
     ensures agrees { EveryOrderAgrees }
     ensures apart { NoEntryReadsOthers }
     ensures picks { PicksHoldTheirBlocks }
 {}
 
-/// The laws of tags, verdicts and texts: the tag does not depend on the thread mode; a verdict goes
-/// by the hash's own length; the tag of any length verifies with the same inputs; a text spells at most
-/// one value; a written text spells its own value, and verifies with the same inputs; and what the
-/// `$` of a written text and of one that spells a head divide. Two texts show the format.
+/// The laws of tags, verdicts and texts. The tag does not depend on the thread mode. A verdict goes
+/// by the hash's own length. A text spells at most one value, and a written text spells its own.
+/// Where the settings are accepted, a tag and a written text verify with the same inputs, unless
+/// memory or a worker is refused. The layout of a text is stated once more by its `$`, and by two
+/// whole texts.
 pub fn laws()
     ensures mode { TagForgetsMode }
     ensures length { LengthIsTheHash }

@@ -3,9 +3,9 @@
 
 use super::{MODES, config};
 use crate::{
-    Config, Error, Variant, Version, encoded_len, hash_encoded,
-    hash_encoded_sequential, verify_encoded, verify_encoded_ext, verify_encoded_sequential,
-    verify_raw, verify_raw_sequential,
+    Config, Error, Variant, Version, encoded_len, hash_encoded, hash_encoded_sequential,
+    verify_encoded, verify_encoded_ext, verify_encoded_sequential, verify_raw,
+    verify_raw_sequential,
 };
 use std::test::Fail;
 

@@ -28,7 +28,7 @@ use std::thread::Threads;
 const MAX_WORKERS: u32 = 16;
 
 /// Whether a stored text is the hash of a password, with no secret and no associated data. It
-/// answers as `verify_encoded_ext`.
+/// answers as `verify_encoded_ext` does.
 pub fn verify_encoded<R: Threads + Wait + Sync>(
     rt: &R,
     alloc: Global,
@@ -45,11 +45,11 @@ pub fn verify_encoded<R: Threads + Wait + Sync>(
 
 /// Whether a stored text is the hash of a password with this secret and this associated data.
 ///
-/// A text that spells nothing is `DecodingFail`. Else the settings that it spells are judged, with the
-/// length of its hash, before any memory or worker is asked for, and the first refusal is the only
-/// answer where there is one. Else the answer is whether the text's hash is the tag or, where memory
-/// was refused, `OutOfMemory`. A text of more than one lane is verified by at most 16 workers; where
-/// one was refused: `WorkerRefused`.
+/// A text that spells nothing is `DecodingFail`. Else the settings that it spells are judged, with
+/// the length of its hash, before any memory or worker is asked for. Where the settings table
+/// refuses something, the first refusal is the only answer. Else the answer is whether the text's
+/// hash is the tag, or `OutOfMemory` where memory was refused. A text of more than one lane is
+/// verified by at most 16 workers; where the start of one was refused: `WorkerRefused`.
 pub fn verify_encoded_ext<R: Threads + Wait + Sync>(
     rt: &R,
     alloc: Global,
@@ -68,7 +68,7 @@ pub fn verify_encoded_ext<R: Threads + Wait + Sync>(
 }
 
 /// Whether a stored text is the hash of a password, as `verify_encoded_ext` says, computed over a
-/// memory that the caller keeps, of which `hash_raw_in` says more.
+/// memory that the caller keeps: see `hash_raw_in`.
 pub fn verify_encoded_in<R: Threads + Wait + Sync>(
     rt: &R,
     alloc: Global,
@@ -106,8 +106,8 @@ pub fn verify_encoded_sequential(
     verify_encoded_in_sequential(alloc, &mut Memory::empty(alloc), encoded, pwd, secret, ad)
 }
 
-/// Whether a stored text is the hash of a password, computed in the caller's thread over a memory that
-/// the caller keeps, of which `hash_raw_in` says more.
+/// Whether a stored text is the hash of a password, computed in the caller's thread over a memory
+/// that the caller keeps: see `hash_raw_in`.
 pub fn verify_encoded_in_sequential(
     alloc: Global,
     memory: &mut Memory,
@@ -150,7 +150,7 @@ fn accepted_text(
     }
 }
 
-/// The first refusal of the settings of a text with this head, which takes no memory.
+/// The first refusal of the settings of a text with this head. It takes no memory.
 fn refusal(head: &Head<'_>, pwd_len: u64, secret: &[u8], ad: &[u8]) -> Option<Error>
     ensures { (config : Config) (salt hash : List ℕ) → IsItem head.now.salt.now salt
         → IsItem head.now.hash.now hash

@@ -1,5 +1,5 @@
 -- What the definitions give for inputs whose answers are known from outside. The contract of
--- `known_answers` says these equations, and the checker computes both sides.
+-- `known_answers` states these equations, and the checker computes both sides.
 use Rattle.std.specs.Prelude.{◌≡◌, [], ◌∷◌, codes, replicate}
 use Rattle.std.specs.List.{range_with_len}
 use Rattle.argon2_blocks.specs.Standard.Blake2b.{blake2b}

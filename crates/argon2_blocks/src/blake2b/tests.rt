@@ -7,7 +7,7 @@ use super::variable_length::chain_length;
 use super::{blake2b, hprime};
 use std::process::Abort;
 
-// A hash of 64 bytes, as its hexadecimal digits are read.
+// A hash of 64 bytes as four numbers, each in the order of its hexadecimal digits.
 fn digits_of(hash: &[u8; 64]) -> [u128; 4] {
     let mut digits = [0; 4];
     for i in 0..64 {
@@ -57,7 +57,7 @@ fn hashes_the_published_messages(rt: HostRuntime) {
     assert_eq!(rt; hash_of(&[b"a", b"", b"bc"]), of_abc, "three pieces");
 }
 
-// In one piece, and cut in two at each of some places.
+// Hashes the message in one piece, and cut in two at several places.
 fn check_cuts(rt: &impl Abort, message: &[u8], hash: [u128; 4]) {
     let len = message.len();
     assert_eq!(rt; hash_of(&[message]), hash, "{len} bytes");
@@ -184,7 +184,7 @@ fn short_hash_of_hprime(message: &[u8], len: usize) -> u128
     short_hash_of(&out[..len])
 }
 
-// Of each hash of variable length, the BLAKE2b hash of 16 bytes.
+// Each hash of variable length is compared by its BLAKE2b hash of 16 bytes.
 #[test]
 fn hashes_to_each_length(rt: HostRuntime) {
     let message = message();

@@ -7,7 +7,7 @@ ghost use Rattle.argon2_blocks.specs.Standard.Hprime.{chain_length, hash_chain, 
 use crate::blake2b::blake2b;
 use crate::common::BLAKE2B_OUT_LENGTH;
 
-/// How many bytes of each V go into the hash: its first half, W.
+/// How many bytes of each V but the last go into the hash: its first half, W.
 const HALF_LENGTH: usize = 32;
 
 /// r: how many V a hash of `len` bytes, more than 64, has before the last.

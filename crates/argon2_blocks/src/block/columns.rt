@@ -87,7 +87,7 @@ fn restore_diagonals(v: [u64x8; 8]) -> [u64x8; 8]
     ]
 }
 
-/// Permutes four columns, of which each vector holds two words each.
+/// Permutes four columns. Each vector holds two words of each of them.
 #[inline(always)]
 pub(super) fn permute_four_columns(v: [u64x8; 8]) -> [u64x8; 8]
     ensures value { (k : ℕ) → k < 4 → column (nth_vector result) k
@@ -99,7 +99,7 @@ pub(super) fn permute_four_columns(v: [u64x8; 8]) -> [u64x8; 8]
     restore_diagonals(mixed_twice)
 }
 
-/// The block whose rows have these halves, half after half.
+/// The block whose rows are made of these halves.
 #[inline(always)]
 pub(super) fn join_halves(left: &[u64x8; 8], right: &[u64x8; 8]) -> [u64x8; 16]
     requires left_is_long { Each1 (λ a. length a ≡ 8) left.now }

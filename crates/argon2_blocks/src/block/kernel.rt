@@ -1,7 +1,7 @@
 //! The compression over sixteen vectors of eight words.
 //!
-//! Four rows, and then four columns, are permuted at a time. Between the two steps whole halves of
-//! vectors change their places: no block is transposed.
+//! Four rows, and then four columns, are permuted at a time. Between the two steps only halves of
+//! vectors change places, and no block is transposed.
 
 ghost use Rattle.std.specs.Prelude.{◌≡◌, ◌<◌, ◌≤◌, ◌+◌, ◌*◌, length, take, if◌then◌else◌, bit_xor};
 ghost use Rattle.std.specs.Simd.Lanes.{zip2, Each1};
@@ -35,8 +35,8 @@ fn xor_lanes(x: u64x8, y: u64x8) -> u64x8
 
 // The exclusive or of the first vectors of two blocks.
 //
-// It stays a call that leaves a vector in memory: so the compiler aligns the caller's frame to
-// whole vectors, and none that it keeps there lies across two cache lines.
+// It is not inlined and leaves a vector in memory, so that the compiler aligns the caller's frame
+// to whole vectors. Then no vector that it keeps there lies across two cache lines.
 #[inline(never)]
 fn first_sum(x: &[u64; QWORDS_IN_BLOCK], y: &[u64; QWORDS_IN_BLOCK]) -> u64x8
     ensures { result ≡ zip2 bit_xor (take 8 x.now) (take 8 y.now) }
@@ -74,7 +74,7 @@ pub(super) fn store(x: &[u64x8; VECTORS], y: &[u64x8; VECTORS], w: &mut [u64; QW
     }
 }
 
-// Writes the exclusive or of two lists of vectors and of what stood there.
+// Writes the exclusive or of two lists of vectors and of the old words.
 #[inline(always)]
 pub(super) fn store_onto(x: &[u64x8; VECTORS], y: &[u64x8; VECTORS], w: &mut [u64; QWORDS_IN_BLOCK])
     requires left { Each1 (λ a. length a ≡ 8) x.now }
@@ -110,7 +110,7 @@ fn permute_block(words: &[u64x8; VECTORS]) -> [u64x8; VECTORS]
 /// Makes `next` the compression of two blocks, or with `with_xor` the exclusive or of that and the
 /// old `next`.
 ///
-/// It stays a call, since a copy of so much code at each caller costs more.
+/// It is not inlined: a copy of this much code at each caller costs more.
 #[inline(never)]
 pub(super) fn fill_words(
     prev: &[u64; QWORDS_IN_BLOCK],

@@ -9,7 +9,7 @@ ghost use Rattle.argon2_blocks.specs.Views.Spread.{two_mixes};
 
 use std::simd::prelude::*;
 
-// What the type says of a vector. A proof knows it after a shift, which the compiler drops.
+// What the type says of a vector. The prover learns it from the shift, which the compiler drops.
 #[inline(always)]
 pub(super) fn recall_vector(x: u64x8)
     ensures long { length x ≡ 8 }
@@ -18,8 +18,8 @@ pub(super) fn recall_vector(x: u64x8)
     let _lanes = x >> u64x8::splat(0);
 }
 
-// The sum and twice the product of the lower halves, in each lane. The masks let the compiler take
-// one multiplication of halves.
+// The sum and twice the product of the lower halves, in each lane. The masks let the compiler use
+// one multiplication of 32-bit halves.
 #[inline(always)]
 fn add_product(x: u64x8, y: u64x8) -> u64x8
     ensures value { result ≡ zip2 add_product x y }
@@ -33,7 +33,7 @@ fn add_product(x: u64x8, y: u64x8) -> u64x8
     x + y + (low + low)
 }
 
-// Each lane turned to the right by 63 bits, which is one to the left.
+// Each lane rotated right by 63 bits, which is left by one.
 #[inline(always)]
 fn rotate_by_63(x: u64x8) -> u64x8
     ensures { result ≡ map (λ a. rotate_right w64 a 63) x }
@@ -42,7 +42,7 @@ fn rotate_by_63(x: u64x8) -> u64x8
     (x >> u64x8::splat(63)) | (x + x)
 }
 
-// Each lane turned to the right by 32 bits, which is 4 bytes.
+// Each lane rotated right by 32 bits, which is 4 bytes.
 #[inline(always)]
 fn rotate_by_32(x: u64x8) -> u64x8
     ensures { result ≡ map (λ a. rotate_right w64 a 32) x }
@@ -57,7 +57,7 @@ fn rotate_by_32(x: u64x8) -> u64x8
     )
 }
 
-// Each lane turned to the right by 24 bits, which is 3 bytes.
+// Each lane rotated right by 24 bits, which is 3 bytes.
 #[inline(always)]
 fn rotate_by_24(x: u64x8) -> u64x8
     ensures { result ≡ map (λ a. rotate_right w64 a 24) x }
@@ -72,7 +72,7 @@ fn rotate_by_24(x: u64x8) -> u64x8
     )
 }
 
-// Each lane turned to the right by 16 bits, which is 2 bytes.
+// Each lane rotated right by 16 bits, which is 2 bytes.
 #[inline(always)]
 fn rotate_by_16(x: u64x8) -> u64x8
     ensures { result ≡ map (λ a. rotate_right w64 a 16) x }
@@ -90,7 +90,7 @@ fn rotate_by_16(x: u64x8) -> u64x8
 // Two mixes in each lane: of the vectors 0, 2, 4 and 6, and of the others.
 //
 // They go side by side, since each step of one waits for the step before. More than two at a time
-// don't fit into the registers.
+// do not fit into the registers.
 #[inline(always)]
 pub(super) fn mix_two(v: [u64x8; 8]) -> [u64x8; 8]
     ensures { (i : ℕ) → i < 8 → lane i result ≡ two_mixes (lane i v) }
@@ -139,8 +139,8 @@ fn round(v: [u64x8; 16]) -> [u64x8; 16]
     ]
 }
 
-/// Runs the permutation P (RFC 9106, 3.6) in each of the eight lanes: the sixteen words that stand
-/// in a lane of the vectors become P of them. Sums and products wrap. It takes no memory.
+/// Runs the permutation P (RFC 9106, 3.6) in each of the eight lanes, on the sixteen words that the
+/// vectors have there. Sums and products wrap. It takes no memory.
 #[inline(always)]
 pub fn permute_lanes(v: &mut [u64x8; 16])
     ensures { (i : ℕ) → i < 8 → lane i v.new ≡ permute_p (lane i v.old) }

@@ -9,7 +9,7 @@ use super::lanes::mix_two;
 use super::shuffles::{high_halves, low_halves, turn_by_one, turn_by_three, turn_by_two};
 use std::simd::prelude::*;
 
-// Four rows that stood in two vectors each.
+// Spreads four rows, of two vectors each, over all eight vectors.
 #[inline(always)]
 fn spread_rows(v: [u64x8; 8]) -> [u64x8; 8]
     ensures { (j : ℕ) → j < 4 → spread_row result j ≡ vector_pair v j }
@@ -60,7 +60,7 @@ fn restore_diagonals(v: [u64x8; 8]) -> [u64x8; 8]
     ]
 }
 
-/// Permutes four rows that stand in two vectors each, and leaves them spread.
+/// Permutes four rows, of two vectors each, and leaves them spread.
 #[inline(always)]
 pub(super) fn permute_four_rows(v: [u64x8; 8]) -> [u64x8; 8]
     ensures { (j : ℕ) → j < 4 → spread_row result j ≡ permute_p (vector_pair v j) }

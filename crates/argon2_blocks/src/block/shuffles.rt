@@ -40,7 +40,7 @@ pub(super) fn odd_and_even(a: u64x8, b: u64x8) -> u64x8
     a.shuffle(b, [1, 8, 3, 10, 5, 12, 7, 14])
 }
 
-// Each half of the vector turned by one lane.
+// Each half of the vector rotated by one lane.
 #[inline(always)]
 pub(super) fn turn_by_one(a: u64x8) -> u64x8
     ensures { result ≡ turned_halves 1 a }
@@ -49,7 +49,7 @@ pub(super) fn turn_by_one(a: u64x8) -> u64x8
     a.swizzle([1, 2, 3, 0, 5, 6, 7, 4])
 }
 
-// Each half of the vector turned by two lanes.
+// Each half of the vector rotated by two lanes.
 #[inline(always)]
 pub(super) fn turn_by_two(a: u64x8) -> u64x8
     ensures { result ≡ turned_halves 2 a }
@@ -58,7 +58,7 @@ pub(super) fn turn_by_two(a: u64x8) -> u64x8
     a.swizzle([2, 3, 0, 1, 6, 7, 4, 5])
 }
 
-// Each half of the vector turned by three lanes.
+// Each half of the vector rotated by three lanes.
 #[inline(always)]
 pub(super) fn turn_by_three(a: u64x8) -> u64x8
     ensures { result ≡ turned_halves 3 a }

@@ -1,4 +1,5 @@
-//! The recommended settings (OWASP's Password Storage Cheat Sheet; RFC 9106, section 4), and the version.
+//! The recommended settings (OWASP's Password Storage Cheat Sheet; RFC 9106, section 4), and the
+//! version.
 
 use crate::{
     Settings, proved_argon2_library_version, proved_argon2_owasp1, proved_argon2_owasp2,

@@ -1,4 +1,4 @@
--- What a memory holds at each lane and column, with no word on the pass.
+-- What a memory holds at each lane and column, whatever the pass.
 use Rattle.std.specs.Prelude.{◌≡◌, ℕ, ◌-◌, ◌<◌, ◌==◌, ◌&&◌, if◌then◌else◌, List}
 use Rattle.argon2_settings.specs.Standard.Setting.{Setting, lane_length}
 use Rattle.argon2_settings.specs.Standard.Recurrence.{block_at, first_block}
@@ -6,11 +6,11 @@ use Rattle.argon2_settings.specs.Standard.Recurrence.{block_at, first_block}
 abbrev pub Matrix : Type 0
 Matrix = ℕ → ℕ → List ℕ
 
--- the matrix with one block matrix_with
+-- the matrix with one block written
 abbrev pub matrix_with : Matrix → ℕ → ℕ → List ℕ → Matrix
 matrix_with matrix lane column block = λ l c. if (l == lane) && (c == column) then block else matrix l c
 
--- the first two blocks of each lane stand in the matrix
+-- the first two blocks of each lane are in the matrix
 abbrev pub IsBegun : Setting → Matrix → Type 0
 IsBegun s matrix = (lane column : ℕ) → lane < s.lanes → column < 2 →
     matrix lane column ≡ first_block s (record { pass = 0; lane = lane; column = column })

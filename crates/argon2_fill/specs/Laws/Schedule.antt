@@ -26,7 +26,7 @@ word_from s matrix at =
 abbrev pub pick_from : Setting → Matrix → Position → Position
 pick_from s matrix at = pick s (word_from s matrix at) at
 
--- the block that is matrix_with at a place, from what the matrix holds
+-- the block that is written at a place, from what the matrix holds
 abbrev pub block_from : Setting → Matrix → Position → List ℕ
 block_from s matrix at =
     let chosen = pick_from s matrix at in
@@ -41,7 +41,7 @@ reads_from s matrix at =
     let chosen = pick_from s matrix at in
     (before.lane, before.column) ∷ (chosen.lane, chosen.column) ∷ (at.lane, at.column) ∷ []
 
--- a matrix, and how many blocks each lane has matrix_with in the slice
+-- a matrix, and how many blocks each lane has written in the slice
 pub record Progress : Type 0 where
   pub matrix : Matrix
   pub done : ℕ → ℕ

@@ -9,7 +9,7 @@ use Rattle.argon2_settings.specs.Views.Jobs.{Job}
 use Rattle.argon2_fill.specs.Views.Segments.{SegmentValue, IsReady, segment_at}
 use Rattle.argon2_fill.specs.Views.Filling.{no_segment}
 
--- the job, where each lane stands, and the events so far
+-- the job, the state of each lane, and the events so far
 pub record BoardValue : Type 0 where
   pub job : Job
   pub places : List Place

@@ -19,7 +19,7 @@ pub record SnapshotValue : Type 0 where
 abbrev pub no_segment : SegmentValue
 no_segment = record { blocks = []; tally = 0 }
 
--- where a slice stands among the three that are not the job's
+-- the place of a slice among the three that are not the job's
 abbrev pub rank_among : Job → ℕ → ℕ
 rank_among j slice = if nat_lt slice j.slice then slice else slice - 1
 
@@ -46,7 +46,7 @@ block_seen v blocks lane column =
     let index = column % v.job.setting.segment_length in
     if slice == v.job.slice then slice_index_or blocks index [] else slice_index_or (other_blocks v slice lane) index []
 
--- a segment that is filled up to an index: below it stand this pass's blocks, and from there on
+-- a segment that is filled up to an index: below it are this pass's blocks, and from there on
 -- those of the last pass
 pub record IsFilledTo (j : Job) (lane index : ℕ) (blocks : List (List ℕ)) : Type 0 where
   pub count : length blocks ≡ j.setting.segment_length
@@ -73,7 +73,7 @@ window_length j is_own index =
     let elsewhere = left_columns j + j.slice * j.setting.segment_length in
     if is_own then elsewhere + index - 1 else if index == 0 then elsewhere - 1 else elsewhere
 
--- the column that stands at a place among the blocks that one may refer to
+-- the column at a place among the blocks that one may refer to
 abbrev pub window_column : Job → ℕ → ℕ
 window_column j place =
     if nat_lt place (left_columns j) then j.slice * j.setting.segment_length + j.setting.segment_length + place

@@ -2,7 +2,7 @@
 use Rattle.std.specs.Prelude.{◌≡◌, ℕ, ◌+◌, ◌-◌, ◌<◌, ◌≤◌, List, [], ◌++◌, replicate, slice_index_or}
 use Rattle.argon2_blocks.specs.Standard.Block.{zero_block}
 
--- the blocks that are made, and so many zeros behind them
+-- the blocks that are made, and the zeros behind them
 abbrev pub with_zeros : List (List ℕ) → ℕ → List (List ℕ)
 with_zeros made zeros = made ++ replicate zeros zero_block
 

@@ -57,7 +57,7 @@ pub record IsFilledBelow (s : Setting) (pass slice : ℕ) (slices : List (List S
 abbrev pub blocks_written : Setting → ℕ → ℕ
 blocks_written s n = s.lanes * (n * s.segment_length - (if n == 0 then 0 else 2))
 
--- a memory of zeros, in which nothing was written yet
+-- a segment, and a memory, of zeros in which nothing was written yet
 abbrev pub zero_segment : ℕ → SegmentValue
 zero_segment length = record { blocks = replicate length zero_block; tally = 0 }
 

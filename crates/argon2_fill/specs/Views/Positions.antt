@@ -1,5 +1,5 @@
--- The references of a data-independent segment. They rest on the variant, the shape of the memory
--- and the number of passes alone: no password, salt or block decides them (RFC 9106, 3.4.1.2).
+-- The references of a data-independent segment. They depend on its place, the variant, the shape of the
+-- memory and the number of passes alone, and on no password, salt or block (RFC 9106, 3.4.1.2).
 use Rattle.std.specs.Prelude.{ℕ, ◌+◌, ◌-◌, ◌*◌, List, [], map}
 use Rattle.std.specs.List.{range_with_len}
 use Rattle.argon2_settings.specs.declared.variant.Variant.{Variant}
@@ -18,7 +18,7 @@ positions_in s pass slice lane =
     let chosen = pick s (address_word s at) at in
     (chosen.lane, chosen.column)) (range_with_len first (s.segment_length - first))
 
--- the same of a setting with no prehash and some version, for neither is looked at
+-- the same for a setting with no prehash and any version, since neither is looked at
 abbrev pub reference_positions_of : Variant → ℕ → ℕ → ℕ → ℕ → ℕ → ℕ → List (ℕ × ℕ)
 reference_positions_of variant lanes segment_length passes pass slice lane =
     let s : Setting = record {

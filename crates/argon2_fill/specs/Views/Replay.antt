@@ -1,4 +1,4 @@
--- The places of a slice's lanes, as the events of a board leave them.
+-- The states of a slice's lanes, as the events of a board leave them.
 use Rattle.std.specs.Prelude.{◌==◌, ℕ, Bool, true, false, List, Option, Some, None, fold, replicate, slice_get, slice_set, if◌then◌else◌}
 use Rattle.std.specs.List.{position_from}
 use Rattle.argon2_fill.specs.declared.workers.event.Place.{Place}
@@ -35,6 +35,6 @@ abbrev pub and_then : Option (List Place) → Event → Option (List Place)
 and_then None event = None
 and_then (Some places) event = after_event event places
 
--- the lanes' places after the events, which begin where every lane waits; for legal events only
+-- the states of the lanes after the events, which begin where every lane waits; for legal events only
 abbrev pub replay : ℕ → List Event → Option (List Place)
 replay lanes events = fold and_then (Some (replicate lanes Waiting)) events

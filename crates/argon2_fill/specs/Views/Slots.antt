@@ -11,7 +11,7 @@ use Rattle.argon2_fill.specs.Views.Segments.{IsReady, segment_at}
 use Rattle.argon2_fill.specs.Views.Replay.{replay}
 use Rattle.argon2_fill.specs.Views.Boards.{BoardValue}
 
--- where a lane stands, of which the board keeps this
+-- the state of a lane of which the board keeps this
 abbrev pub place_in : Slot → Place
 place_in (slot.Waiting segment) = place.Waiting
 place_in slot.Out = place.Out
@@ -26,7 +26,7 @@ IsSlot job lane (slot.Waiting segment) = IsReady job.setting job.pass job.slice 
 IsSlot job lane slot.Out = Unit {0}
 IsSlot job lane (slot.Done segment) = segment.blocks ≡ segment_at job.setting job.pass job.slice lane
 
--- a slot for each lane, of which those from `next` on wait; the places are the replay of the log
+-- a slot for each lane; the lanes from `next` on wait, and the states are the replay of the log
 pub record AreLanes (job : Job) (next : ℕ) (slots : List Slot) (log : List Event) : Type 0 where
   pub lanes : length slots ≡ job.setting.lanes
   pub in_range : next ≤ job.setting.lanes

@@ -12,8 +12,9 @@ use std::marker::Model;
 
 /// The blocks of one lane in one slice, and how many were written, modulo 2^64.
 ///
-/// A block of zeros is made just before it is written, so the thread that fills a segment is the first
-/// to touch its memory. The first of the zeros behind the written blocks is read in place of them all.
+/// Blocks of zeros are made late, one ahead of the block that is written, so that the thread that
+/// fills a segment is the first to touch most of its memory. That one is read in place of all later
+/// zeros.
 #[derive(Drop)]
 pub struct Segment {
     blocks: Vec<Block>,
@@ -34,7 +35,7 @@ impl Model for Segment {
         (vec_capacity s.blocks) s.zeros };
 }
 
-/// A block to make another of: the one at an index of the same segment, or any other.
+/// A block that another is made from: one of the same segment, by its index, or any other.
 #[derive(Clone, Copy)]
 pub enum Source<'a> {
     /// The block at this index of the segment that is written.
@@ -44,8 +45,8 @@ pub enum Source<'a> {
     Other(&'a Block),
 }
 
-/// Makes blocks of zeros up to the one at an index and, where there is one, the next, which stands for
-/// those behind it.
+/// Makes blocks of zeros up to an index and, where there is one, the next, which is read in place
+/// of all zeros behind it.
 fn make_up_to(blocks: &mut Vec<Block>, zeros: &mut usize, index: usize)
     requires in_part { IsMadeInPart blocks.old.items (vec_len blocks.old)
         (vec_capacity blocks.old) zeros.old }
@@ -80,7 +81,7 @@ fn named_among<'a>(before: &'a [Block], source: Source<'a>) -> &'a Block
 }
 
 impl Segment {
-    /// A segment of so many blocks of zeros.
+    /// A segment of `length` blocks of zeros.
     pub(crate) fn new(alloc: Global, length: u32) -> Result<Segment, AllocError>
         ensures { IfOk result (λ s. s ≡ zero_segment length) }
     {
@@ -138,8 +139,8 @@ impl Segment {
     }
 
     /// Writes the block at the index from two sources, in place, and counts the write: their
-    /// compression or, with `with_xor`, that combined with the block which stood there
-    /// (RFC 9106, 3.2). An own source stands before the index.
+    /// compression or, with `with_xor`, that combined with the old block (RFC 9106, 3.2). A source
+    /// of the same segment comes before the index.
     pub fn write(&mut self, index: usize, prev: Source<'_>, reference: Source<'_>, with_xor: bool)
         requires index_fits { index < length self.old.blocks }
         requires prev_before { IsBefore index prev }

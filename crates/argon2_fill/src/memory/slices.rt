@@ -1,4 +1,4 @@
-//! The four slices of a memory, of which one is filled beside the others.
+//! The four slices of a memory. One is filled beside the others.
 
 ghost use Rattle.std.specs.Prelude.{◌≡◌, ◌*◌, ◌%◌, ◌^◌, ◌<◌, [], IfOk, map, replicate, slice_index_or, slice_set};
 ghost use Rattle.std.specs.List.{remove};
@@ -13,9 +13,9 @@ use std::mem;
 /// Four slices, each with a segment for each lane.
 pub(crate) type Slices = [Vec<Segment>; 4];
 
-/// Asks for the room of a whole matrix at once, and gives it back. A system that grants more than it
-/// has refuses one request that it can never meet, but grants the same in parts, and kills the process
-/// that comes to write there.
+/// Asks for the room of a whole matrix at once, and gives it back. A system that grants more memory
+/// than it has refuses one request that it can never meet. In parts it may grant the same amount,
+/// and kill the process that writes there.
 pub(super) fn ask_for_room(alloc: Global, lanes: u32, lane_length: u32) -> Result<(), AllocError>
     requires fits { lanes * lane_length < 2 ^ 32 }
 {

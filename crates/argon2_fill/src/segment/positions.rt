@@ -27,7 +27,7 @@ fn drawn_place(count: u32, word: u64) -> u32
     count - 1 - back as u32
 }
 
-/// How many columns of a lane stand as the last pass left them.
+/// How many columns of a lane are still as the last pass left them.
 fn left_columns(job: &Job) -> u32
     ensures value { result ≡ left_columns job.now }
     ensures fits { result + job.now.slice * job.now.setting.segment_length +
@@ -117,7 +117,8 @@ fn address_block(job: &Job, lane: u32, number: u32, out: &mut Block)
     fill_block(&zero, &once, out, false);
 }
 
-/// Turns to the words of an index, from those of the one before it where there is one.
+/// Makes `words` the address block of an index. Unless the index is the first, `words` is that of
+/// the index before.
 fn turn_to(job: &Job, lane: u32, index: u32, is_first: bool, words: &mut Block)
     requires { is_first ≡ false → words.old ≡ addresses job.now.setting job.now.pass lane
         job.now.slice ((index - 1) / 128) }
@@ -128,7 +129,8 @@ fn turn_to(job: &Job, lane: u32, index: u32, is_first: bool, words: &mut Block)
     }
 }
 
-/// The lanes and columns that the blocks from an index on refer to, in a segment whose references rest on no block.
+/// Writes the lanes and columns that the blocks from an index on refer to, in a segment whose
+/// references depend on no block.
 pub fn reference_positions(job: &Job, lane: u32, first: u32, out: &mut [(u32, u32)])
     requires lane_fits { lane < job.now.setting.lanes }
     requires independent { is_data_independent job.now.setting.variant job.now.pass job.now.slice

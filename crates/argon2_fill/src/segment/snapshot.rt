@@ -13,7 +13,7 @@ use argon2_blocks::common::SYNC_POINTS;
 use argon2_settings::context::Job;
 use std::marker::Model;
 
-/// Where a slice stands among the three that are not the job's.
+/// The place of a slice among the three that are not the job's.
 fn place_among(job: &Job, slice: u32) -> usize
     requires slice_fits { slice < 4 }
     requires other_slice { slice ≢ job.now.slice }

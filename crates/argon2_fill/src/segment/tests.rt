@@ -22,7 +22,7 @@ enum Order {
     LastLaneFirst,
 }
 
-/// The lane of each write of a slice, where each lane writes so many blocks.
+/// The lane of each write of a slice, where each lane writes `each` blocks.
 fn schedule(alloc: Global, order: Order, lanes: u32, each: u32) -> Result<Vec<u32>, AllocError> {
     let mut entries = Vec::new(alloc);
     for n in 0..u64::from(lanes) * u64::from(each) {
@@ -37,7 +37,7 @@ fn schedule(alloc: Global, order: Order, lanes: u32, each: u32) -> Result<Vec<u3
     Ok(entries)
 }
 
-/// Where a lane's column stands in one matrix for all lanes, which knows of no pass.
+/// The place of a lane's column in one matrix for all lanes and all passes.
 fn place(rt: &impl Abort, job: &Job, blocks: &[Block], lane: u32, column: u32) -> usize
     ensures { result < length blocks.now }
 {
@@ -49,7 +49,7 @@ fn place(rt: &impl Abort, job: &Job, blocks: &[Block], lane: u32, column: u32) -
     place
 }
 
-/// The lane and column that the block at an index refers to, as the matrix stands.
+/// The lane and column that the block at an index refers to, by the present matrix.
 fn reference(rt: &impl Abort, job: &Job, lane: u32, index: u32, before: &Block) -> (u32, u32) {
     assert!(rt; lane < job.lanes() && index < job.segment_length());
     assert!(rt; job.first_index() <= index);
@@ -62,7 +62,7 @@ fn reference(rt: &impl Abort, job: &Job, lane: u32, index: u32, before: &Block) 
     }
 }
 
-/// The lane's block at the index is made of the matrix as it stands.
+/// Makes the lane's block at the index from the present matrix.
 fn step(
     rt: &impl Abort,
     job: &Job,
@@ -114,7 +114,7 @@ fn run_slice(
     Ok(())
 }
 
-/// The tag that a matrix gives which is filled in the order.
+/// The tag of a matrix that is filled in the order.
 fn run<'a>(
     rt: &impl Abort,
     alloc: Global,

@@ -1,5 +1,5 @@
-//! The lanes of one slice, which workers claim and give back. Each lane stands in exactly one place:
-//! it waits, is out, or is done.
+//! The lanes of one slice, which workers claim and give back. Each lane is in exactly one state: it
+//! waits, is out, or is done.
 
 ghost use Rattle.std.specs.Prelude.{◌≡◌, ℕ, ◌+◌, ◌*◌, ◌^◌, ◌<◌, ◌≤◌, ◌↔◌, ◌++◌, ◌∷◌, [], IfErr, IfNone, IfOk, IfSome, IsOk, IsTrue, None, OnErr, OnOk, Some, length, map, replicate, slice_get, slice_set};
 ghost use Rattle.argon2_fill.specs.Views.Boards.{AllDone, AreReady, HoldSlice, NoneOut};
@@ -52,8 +52,8 @@ fn waiting_slots(
 
 impl Board {
     /// A board on which all lanes of the job wait, with a segment for each. All memory that the
-    /// board ever needs is taken here: where it is refused, the segments are dropped, and the answer
-    /// is `OutOfMemory`.
+    /// board ever needs is taken here: where it is refused, the segments are dropped, and the
+    /// answer is `OutOfMemory`.
     pub fn new(alloc: Global, job: Job, segments: Vec<Segment>) -> Result<Board>
         requires ready { AreReady job segments.items }
         ensures board { IfOk result (λ board. board
@@ -74,7 +74,7 @@ impl Board {
         })
     }
 
-    /// The job, whose lanes stand on the board.
+    /// The job whose lanes are on the board.
     pub fn job(&self) -> &Job
         ensures job { result.now ≡ self.now.job }
         ensures lanes { length self.now.places ≡ self.now.job.setting.lanes }
@@ -82,7 +82,7 @@ impl Board {
         &self.job
     }
 
-    /// Where a lane of the job stands.
+    /// The state of a lane of the job.
     pub fn place(&self, lane: u32) -> Place
         requires { lane < self.now.job.setting.lanes }
         ensures { slice_get self.now.places lane ≡ Some result }
@@ -95,7 +95,7 @@ impl Board {
     }
 
     /// What happened so far: an event for each take that gave a claim and each put that was
-    /// accepted. The lanes stand where these events put them.
+    /// accepted. The states of the lanes follow from these events.
     pub fn log(&self) -> &[Event]
         ensures log { result.now ≡ self.now.log }
         ensures legal { replay self.now.job.setting.lanes self.now.log ≡ Some self.now.places }

@@ -9,8 +9,8 @@ use std::marker::Sync;
 use std::sync::{Mutex, Wait};
 use std::thread::{Builder, JoinHandle, Scope, Threads};
 
-/// The stack of a worker, in bytes. It takes 16 KiB of it; the rest is for what else lies there, as a
-/// program's thread-locals and the calls of a gate.
+/// The stack of a worker, in bytes. At most 16 KiB of it were used when measured. The rest is for
+/// a program's thread-locals and the calls of a gate.
 const STACK: usize = 256 * 1024;
 
 /// Takes a lane, under the lock.
@@ -26,8 +26,8 @@ fn put_lane<R: Wait>(rt: &R, board: &Mutex<Option<Board>>, filled: Filled) -> bo
         .is_some_and(|board| board.put(filled).is_ok())
 }
 
-/// One worker: it takes, fills and puts lanes, as many as there are at most, until none waits or a
-/// filling or a put is refused.
+/// One worker: it takes, fills and puts one lane after another, until none waits or a filling or a
+/// put is refused.
 fn work<R: Wait, G: Gate>(rt: &R, board: &Mutex<Option<Board>>, snapshot: &Snapshot<'_>, gate: &G) {
     for _claim in 0..snapshot.job().lanes() {
         let Some(claim) = take_lane(rt, board) else {
@@ -62,9 +62,9 @@ fn start<'s, E, R: Wait + Sync, G: Gate, P: Permit>(
         .ok()
 }
 
-/// Starts the workers of so many numbers from the first on, waits for the end of each that was
-/// started, and says whether all were. One that is refused or not permitted keeps no other from its
-/// start. Where there is no room for more handles, the numbers that are left get a call of their own.
+/// Starts the workers of `count` numbers from `first` on, waits for the end of each that was
+/// started, and says whether all were. If one is refused or not permitted, the others are still
+/// started. Where there is no room for more handles, the remaining numbers get a call of their own.
 pub(super) fn run_workers<'s, E, R: Threads + Wait + Sync, G: Gate, P: Permit>(
     scope: &Scope<'s, E>,
     rt: &'s R,

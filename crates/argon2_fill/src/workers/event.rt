@@ -1,6 +1,6 @@
-//! Where a lane stands, and what moves it.
+//! The state of a lane, and what changes it.
 
-/// Where a lane of a slice stands.
+/// The state of a lane of a slice.
 #[derive(Clone, Copy, Debug, Eq, PartialEq)]
 pub enum Place {
     /// Its segment waits to be filled.

@@ -6,8 +6,8 @@ use crate::segment::Snapshot;
 use crate::workers::{Claim, Filled};
 use std::marker::Sync;
 
-/// What each worker calls around its work. It is shared between them, so it can hold one back until
-/// another has come so far.
+/// What each worker calls around its work. All workers share it, so it can hold one back until
+/// another has reached some point.
 pub trait Gate: Sync {
     /// Fills the claim, and answers as `Claim::fill` does.
     fn fill(&self, claim: Claim, snapshot: &Snapshot<'_>) -> std::result::Result<Filled, Claim>
@@ -16,7 +16,7 @@ pub trait Gate: Sync {
             × (filled.lane ≡ claim.lane)) }
         ensures unchanged { IfErr result (λ back. back ≡ claim) };
 
-    /// Is told of each lane that the board took back, after the lock was let go.
+    /// Is called for each lane that the board took back, after the lock was released.
     fn put(&self, lane: u32);
 }
 

@@ -8,7 +8,7 @@ use std::thread::{JoinHandle, Threads};
 /// How many handles there is room for.
 const ROOM: usize = 32;
 
-/// So many handles, which take no memory of the heap: none can be refused.
+/// Up to 32 handles. They take no memory from the heap, so none can be refused.
 #[derive(Drop)]
 pub(super) struct Handles {
     slots: [Option<JoinHandle<()>>; ROOM],

@@ -50,9 +50,9 @@ pub(crate) fn board_of(alloc: Global, job: &Job, slices: &mut Slices) -> Result<
     Board::new(alloc, *job, segments)
 }
 
-/// Fills the job's slice by so many workers, at least one. They have the numbers from `first` on,
-/// all of which have to be permitted. The slice moves onto a board and back, and no block is copied.
-/// After a refusal it is lost.
+/// Fills the job's slice by `workers` workers, at least one. They have the numbers from `first` on,
+/// all of which have to be permitted. The slice moves onto a board and back, and no block is
+/// copied. After a refusal the slice is lost.
 fn fill_slice_by_workers<R: Threads + Wait + Sync, G: Gate, P: Permit>(
     rt: &R,
     alloc: Global,
@@ -85,8 +85,8 @@ fn fill_slice_by_workers<R: Threads + Wait + Sync, G: Gate, P: Permit>(
 }
 
 /// Fills all slices of all passes by as many workers as the context's configuration asks for, which
-/// go through the gate. The memory has the context's lanes and lane length, and the first two blocks
-/// of each lane as `initialize` leaves them.
+/// go through the gate. The memory has the context's lanes and lane length, and the first two
+/// blocks of each lane as `initialize` leaves them.
 ///
 /// All memory of a slice is asked for before its first worker starts. Where it is refused:
 /// `OutOfMemory`; where the start of a worker is: `WorkerRefused`. The memory then has no lanes.

@@ -28,7 +28,7 @@ impl Permit for AllPermitted {
     }
 }
 
-/// Whether so many numbers from the first on are permitted.
+/// Whether the `count` numbers from `first` on are permitted.
 pub(super) fn all_permitted<P: Permit>(permit: &P, first: u64, count: u32) -> bool
     requires { first + count < 2 ^ 64 }
     ensures { IsTrue result ↔ PermitsAll (P.permits permit.now) first count }

@@ -22,11 +22,11 @@ fn is_filled(board: &Board, snapshot: &Snapshot<'_>) -> bool
     board.job() == snapshot.job() && board.is_done()
 }
 
-/// Fills the lanes of a board by so many workers, at least one, and joins them. The board and the
-/// snapshot are of one job, and no lane is out. The workers take and put lanes under one lock, which
-/// each holds for that alone, and fill them outside it. The board comes back with all lanes done.
-/// `WorkerRefused` where the start of a worker was refused, also where the others finished the slice.
-/// It takes no memory of its own.
+/// Fills the lanes of a board by `workers` workers, at least one, and joins them. The board and the
+/// snapshot are of one job, and no lane is out. The workers take and put lanes under one lock, and
+/// fill them outside it. The board comes back with all lanes done. Where the start of a worker was
+/// refused, the answer is `WorkerRefused`, even if the others finished the slice. It takes no
+/// memory of its own.
 pub fn fill_slice<R: Threads + Wait + Sync, G: Gate>(
     rt: &R,
     board: Board,

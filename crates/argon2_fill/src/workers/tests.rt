@@ -55,7 +55,8 @@ fn four_lanes() -> Config<'static> {
     }
 }
 
-/// The second slice of the first pass, with the slices of a memory in which the first one is filled.
+/// The second slice of the first pass, with the slices of a memory in which the first one is
+/// filled.
 fn begin<'a>(
     alloc: Global,
     password: &'a [u8],

@@ -8,7 +8,7 @@ abbrev pub IsShortage : Bool → Error → Type 0
 IsShortage true e = (e ≡ OutOfMemory) ⊎ (e ≡ WorkerRefused)
 IsShortage false e = e ≡ OutOfMemory
 
--- the refusal, where there is one; else a value of which P holds, or a shortage
+-- the refusal, where there is one; else a value for which P holds, or a shortage
 abbrev pub IsOutcome : {A : Type 0} → Option Error → Bool → (A → Type 0) → Result A Error → Type 0
 IsOutcome (Some refusal) workers P result = result ≡ Err refusal
 IsOutcome None workers P (Ok value) = P value

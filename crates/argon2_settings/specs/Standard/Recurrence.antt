@@ -52,13 +52,13 @@ drawn_word s block at =
     if is_data_independent s.variant at.pass (slice_of s at.column) then address_word s at
     else slice_index (block (previous s at)) 0
 
--- the block that two blocks make over the one that stood there before: their compression or, with_xor,
--- that combined with the old one (3.2, step 6)
+-- the block that two blocks make in place of an old one: their compression or, with_xor, that combined
+-- with the old one (3.2, step 6)
 abbrev pub made_block : List ℕ → List ℕ → List ℕ → Bool → List ℕ
 made_block prev reference old with_xor =
     let new = compress_g prev reference in if with_xor then xor new old else new
 
--- the recurrence: what stands at a place, where `block` says what stands at the earlier ones (3.2,
+-- the recurrence: the block at a place, where `block` gives the blocks at the earlier ones (3.2,
 -- steps 5 and 6)
 abbrev pub next_block : Setting → Blocks → Position → List ℕ
 next_block s block at =

@@ -13,18 +13,18 @@ is_data_independent Argon2d pass slice = false
 is_data_independent Argon2i pass slice = true
 is_data_independent Argon2id pass slice = (pass == 0) && nat_lt slice 2
 
--- the block before the one at a place, which is that lane's last of the pass before, for column 0;
--- a lane's first two blocks are made of none (3.2)
+-- the block before the one at a place: for column 0 it is that lane's last of the pass before. A
+-- lane's first two blocks are made from none (3.2).
 abbrev pub previous : Setting → Position → Position
 previous s at =
     if at.column == 0 then record at { pass = at.pass - 1; column = lane_length s - 1 }
     else record at { column = at.column - 1 }
 
--- the columns_between of a pass from the first up to the end, each beside the pass
+-- the columns of a pass from the first on and before the end, each beside the pass
 abbrev pub columns_between : ℕ → ℕ → ℕ → List (ℕ × ℕ)
 columns_between pass first end = map (λ column. (pass, column)) (range_with_len first (end - first))
 
--- the columns_between that stand as the pass before left them: those after the slice
+-- the columns that are as the pass before left them: those after the slice
 abbrev pub columns_of_last_pass : Setting → ℕ → ℕ → List (ℕ × ℕ)
 columns_of_last_pass s zero slice = []
 columns_of_last_pass s (suc last) slice = columns_between last ((slice + 1) * s.segment_length) (lane_length s)
@@ -33,7 +33,7 @@ columns_of_last_pass s (suc last) slice = columns_between last ((slice + 1) * s.
 abbrev pub without_last : List (ℕ × ℕ) → List (ℕ × ℕ)
 without_last xs = take (length xs - 1) xs
 
--- W: the passes and columns_between of a lane that the block at a place may refer to, in order: what the
+-- W: the passes and columns of a lane that the block at a place may refer to, in order: what the
 -- last pass left, the slices of this pass before the present one and, in the own lane, the segment
 -- so far. The last of them is left out in the own lane, and for a segment's first block (3.4.2).
 unfoldable pub reference_window : Setting → Position → ℕ → List (ℕ × ℕ)

@@ -1,4 +1,4 @@
--- The settings settings_table: the refusal of the first row that applies.
+-- The settings table: the refusal of the first row that applies.
 use Rattle.std.specs.Prelude.{ℕ, ◌*◌, Bool, ◌==◌, ◌||◌, nat_lt, if◌then◌else◌, Option, Some, None, List, [], ◌∷◌, length}
 use Rattle.argon2_settings.specs.declared.config.Config.{Config}
 use Rattle.argon2_settings.specs.declared.error.Error.{Error}

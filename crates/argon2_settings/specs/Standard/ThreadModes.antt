@@ -4,7 +4,7 @@ use Rattle.argon2_settings.specs.declared.config.Config.{Config}
 use Rattle.argon2_settings.specs.declared.thread_mode.ThreadMode.{ThreadMode}
 use Rattle.argon2_settings.specs.declared.thread_mode.ThreadMode.TheVariants.{Sequential, Parallel, AtMost}
 
--- whether the caller's thread fills so many lanes alone
+-- whether the caller's thread fills this many lanes alone
 abbrev pub fills_alone : ThreadMode → ℕ → Bool
 fills_alone Sequential lanes = true
 fills_alone Parallel lanes = lanes == 1

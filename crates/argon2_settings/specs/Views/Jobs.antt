@@ -20,7 +20,7 @@ pub record IsPosition (s : Setting) (at : Position) : Type 0 where
   pub column_fits : at.column < lane_length s
 
 -- the index from which a pass writes the segments of a slice: the first two blocks of each lane
--- stand before it begins
+-- are there before it begins
 abbrev pub first_written : ℕ → ℕ → ℕ
 first_written pass slice = if (pass == 0) && (slice == 0) then 2 else 0
 

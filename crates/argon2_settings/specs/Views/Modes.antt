@@ -1,4 +1,4 @@
--- Which mode a number of threads stands for.
+-- The mode of a number of threads.
 use Rattle.std.specs.Prelude.{ℕ, nat_lt, if◌then◌else◌}
 use Rattle.argon2_settings.specs.declared.thread_mode.ThreadMode.{ThreadMode}
 use Rattle.argon2_settings.specs.declared.thread_mode.ThreadMode.TheVariants.{Sequential, Parallel}

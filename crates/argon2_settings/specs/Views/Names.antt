@@ -1,4 +1,4 @@
--- Names, numbers and texts that stand for no variant or version.
+-- Names, numbers and texts of no variant or version.
 use Rattle.std.specs.Prelude.{◌≡◌, ℕ, List}
 use Rattle.argon2_settings.specs.declared.variant.Variant.{Variant}
 use Rattle.argon2_settings.specs.Standard.Variant.{variant_number, IsName}

@@ -70,7 +70,7 @@ impl Model for Job {
     }) };
 }
 
-/// Writes what one of a lane's first two blocks is hashed of.
+/// Writes what one of a lane's first two blocks is hashed from.
 fn first_input(prehash: &[u8; PREHASH_DIGEST_LENGTH], lane: u32, column: u32, out: &mut [u8])
     requires { length out.old ≡ 72 }
     ensures { out.new ≡ prehash.now ++ to_le_bytes w32 column ++ to_le_bytes w32 lane }
@@ -83,7 +83,7 @@ fn first_input(prehash: &[u8; PREHASH_DIGEST_LENGTH], lane: u32, column: u32, ou
 }
 
 /// Tells the prover the bounds that each job keeps by its type. The prover knows them only where a
-/// field is read, so that this reads one; it does nothing else.
+/// field is read, so this reads one. It does nothing else.
 pub fn recall_job(job: &Job)
     ensures { IsJob job.now }
 {
@@ -213,7 +213,7 @@ impl Job {
         }
     }
 
-    /// Whether the references of the slice rest on no block.
+    /// Whether the references of the slice depend on no block.
     pub fn is_independent(&self) -> bool
         ensures { result ≡ is_data_independent self.now.setting.variant self.now.pass self.now.slice }
     {

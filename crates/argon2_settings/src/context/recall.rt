@@ -7,8 +7,9 @@ ghost use Rattle.argon2_settings.specs.Standard.Setting.{lane_length, memory_blo
 
 use crate::context::Context;
 
-/// Tells the prover the setting of a context, in the context's own numbers, and the bounds of both. The
-/// prover knows a number's range only where it is read, so that this reads two; it does nothing else.
+/// Tells the prover the setting of a context, in the context's own numbers, and the bounds of both.
+/// The prover knows a number's range only where it is read, so this reads two. It does nothing
+/// else.
 #[tactic(auto, unfolding(crate::specs::Standard::Prehash::setting_of))]
 pub fn recall_context(context: &Context<'_>)
     ensures setting { IsSetting (setting_of_context context.now) }

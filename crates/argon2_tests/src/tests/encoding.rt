@@ -9,7 +9,8 @@ use argon2::parts::encoding::{base64_len, decode_string, encode_string, encoded_
 use argon2::{Config, ThreadMode, Variant, Version};
 use std::test::Fail;
 
-// The hash of `password` with the salt `somesalt`: Argon2i, version 0x13, 2 passes, 256 KiB, 1 lane.
+// The hash of `password` with the salt `somesalt`: Argon2i, version 0x13, 2 passes, 256 KiB, 1
+// lane.
 const TEXT: &str =
     "$argon2i$v=19$m=256,t=2,p=1$c29tZXNhbHQ$iekCn0Y3spW+sCcFanM2xBT63UP2sghkUoHLIUpWRS8";
 
@@ -171,7 +172,7 @@ fn reads_one_value_from_many_texts(rt: HostRuntime) -> Result<(), Fail> {
     Ok(())
 }
 
-// Settings that the table refuses are spelled all the same.
+// Settings that the table refuses are still read.
 #[test]
 fn reads_settings_that_are_refused_later(rt: HostRuntime) -> Result<(), Fail> {
     for (costs, read) in [

@@ -22,7 +22,8 @@ impl Permit for AllBut {
     }
 }
 
-/// All numbers; it keeps those below 128 that it was asked for, and whether it was asked for another.
+/// All numbers; it keeps those below 128 that it was asked for, and whether it was asked for
+/// another.
 #[derive(Drop)]
 struct Asked {
     low: AtomicU64,

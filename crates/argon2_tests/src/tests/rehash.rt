@@ -1,4 +1,4 @@
-//! Which stored texts are to be hashed again.
+//! Which stored texts need a new hash.
 
 use super::settings::small;
 use argon2::{Config, Error, ThreadMode, Variant, Version, needs_rehash};
@@ -54,7 +54,7 @@ fn tells_texts_to_hash_again(rt: HostRuntime) -> Result<(), Fail> {
     let text = "$Argon2i$m=+4096,t=03,p=1$c2FsdDEyMzQ$MTIzNDU2Nzg5MDEyMzQ1Njc4OTAxMjM0NTY3ODkwMTI";
     assert_eq!(rt; needs_rehash(alloc, text, &older), Ok(false));
     assert_eq!(rt; needs_rehash(alloc, "x", &older), Err(Error::DecodingFail));
-    // Settings that the table refuses are compared all the same.
+    // Settings that the table refuses are still compared.
     let refused = Config {
         hash_length: 0,
         lanes: 0,

@@ -17,8 +17,8 @@ pub fn small(variant: Variant, version: Version, lanes: u32) -> Config<'static> 
     }
 }
 
-/// The settings of RFC 9106, section 5, in one thread: 3 passes over 32 KiB in 4 lanes, with a secret
-/// and associated data.
+/// The settings of RFC 9106, section 5, in one thread: 3 passes over 32 KiB in 4 lanes, with a
+/// secret and associated data.
 pub fn rfc9106(variant: Variant) -> Config<'static> {
     Config {
         ad: &[4; 12],

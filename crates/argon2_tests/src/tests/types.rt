@@ -47,7 +47,7 @@ fn takes_the_defaults_of_the_default_settings(rt: HostRuntime) {
     assert_eq!(rt; Variant::Argon2id.as_uppercase_str(), "Argon2id");
 }
 
-// The limits that the table of constants of the original has, those that no code needs among them.
+// The limits of the original's table of constants, with those that no code needs.
 #[test]
 fn names_the_limits(rt: HostRuntime) {
     assert_eq!(rt; (MIN_LANES, MAX_LANES, SYNC_POINTS), (1, 0x00ff_ffff, 4));

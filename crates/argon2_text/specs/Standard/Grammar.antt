@@ -13,7 +13,7 @@ use Rattle.argon2_text.specs.Standard.Text.{Spelled, base64}
 abbrev pub dollar : ℕ
 dollar = 36
 
--- the pieces of a text, each as it stands there; the version may be missing
+-- the pieces of a text, each as it is written there; the version may be missing
 pub record Pieces : Type 0 where
   pub name : List ℕ
   pub version : Option (List ℕ)
@@ -23,12 +23,12 @@ pub record Pieces : Type 0 where
   pub salt : List ℕ
   pub hash : List ℕ
 
--- the version as it stands in a text, or nothing
+-- the version as it is written in a text, or nothing
 abbrev pub version_part : Option (List ℕ) → List ℕ
 version_part None = []
 version_part (Some number) = codes "$v=" ++ number
 
--- how the pieces stand in the text, with nothing before, between or after
+-- the text of these pieces, with nothing else before, between or after them
 unfoldable pub text_of_pieces : Pieces → List ℕ
 text_of_pieces pieces =
     codes "$" ++ pieces.name ++ version_part pieces.version
@@ -39,7 +39,7 @@ text_of_pieces pieces =
 abbrev pub Lacks : ℕ → List ℕ → Type 0
 Lacks c text = AllByRecursion (λ b. b ≢ c) text
 
--- 16 or 19; where no version stands, the older one is meant
+-- 16 or 19; a text without a version means the older one
 abbrev pub IsVersion : Option (List ℕ) → Version → Type 0
 IsVersion None version = version ≡ Version10
 IsVersion (Some number) version = number ≡ version_text version
@@ -59,7 +59,7 @@ pub record IsItem (text bytes : List ℕ) : Type 0 where
   pub encoded : text ≡ base64 bytes
   pub bytes_fit : IsBytes bytes
 
--- the text is these pieces, and a `$` stands neither in the salt nor in the hash
+-- the text is these pieces, and neither the salt nor the hash has a `$`
 pub record IsCut (text : List ℕ) (pieces : Pieces) : Type 0 where
   pub whole : text ≡ text_of_pieces pieces
   pub salt : Lacks dollar pieces.salt

@@ -9,7 +9,7 @@ use Rattle.argon2_settings.specs.declared.version.Version.{Version}
 use Rattle.argon2_settings.specs.Standard.Variant.{lowercase_name}
 use Rattle.argon2_settings.specs.Standard.Version.{version_text}
 
--- the value that a text stands for: neither secret nor associated data ever stand in it
+-- the value that a text spells. It has neither the secret nor the associated data.
 pub record Spelled : Type 0 where
   pub variant : Variant
   pub version : Version
@@ -32,7 +32,7 @@ text_of d =
     ++ codes "$" ++ base64 d.salt
     ++ codes "$" ++ base64 d.hash
 
--- what the text of a hash is to spell: the settings as they were given
+-- what the text of a hash spells: the settings as they were given, the salt and the hash
 abbrev pub spelled_of : Config → List ℕ → List ℕ → Spelled
 spelled_of config salt hash = record {
   variant = config.variant;

@@ -1,4 +1,4 @@
--- Cutting a text into its pieces from left to right, as the reader does it.
+-- Cutting a text into its pieces from left to right, as the code does.
 use Rattle.std.specs.Prelude.{ℕ, ◌==◌, if◌then◌else◌, List, [], ◌∷◌, codes, Option, Some, None, option_map}
 use Rattle.std.specs.List.{list_any}
 use Rattle.argon2_text.specs.Standard.Grammar.{Pieces, dollar}
@@ -9,18 +9,18 @@ abbrev pub ◌>>=◌ : {A B : Type 0} → Option A → (A → Option B) → Opti
 None >>= f = None
 (Some x) >>= f = f x
 
--- what stands behind a front
+-- what is behind a front
 abbrev pub strip : List ℕ → List ℕ → Option (List ℕ)
 strip [] text = Some text
 strip (x ∷ front) [] = None
 strip (x ∷ front) (y ∷ text) = if x == y then strip front text else None
 
--- what stands before the first mark, and what stands after it
+-- what is before the first mark, and what is after it
 abbrev pub cut : ℕ → List ℕ → Option (List ℕ × List ℕ)
 cut mark [] = None
 cut mark (b ∷ text) = if b == mark then Some ([], text) else option_map (λ x. (b ∷ x.0, x.1)) (cut mark text)
 
--- behind a front, the piece that a mark ends, and what stands after the mark
+-- behind a front, the piece that a mark ends, and what is after the mark
 unfoldable pub piece : List ℕ → ℕ → List ℕ → Option (List ℕ × List ℕ)
 piece front mark text = strip front text >>= cut mark
 

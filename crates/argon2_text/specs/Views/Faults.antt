@@ -22,7 +22,7 @@ IsSomeItem text = (bytes : List ℕ) × IsItem text bytes
 abbrev pub SpellsSome : List ℕ → Type 0
 SpellsSome text = (d : Spelled) × Spells text d
 
--- whatever stands for the salt and the hash, the text is cut and what stands before them is spelled
+-- the text has all its pieces, and those before the salt are spelled, whatever the salt and the hash are
 abbrev pub HasHead : List ℕ → Type 0
 HasHead text = (pieces : Pieces) × (d : Spelled) × IsCut text pieces × IsHead pieces d
 

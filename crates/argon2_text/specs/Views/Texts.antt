@@ -7,7 +7,7 @@ use Rattle.argon2_text.specs.declared.decoded.Decoded.{Decoded}
 use Rattle.argon2_text.specs.Standard.Grammar.{Pieces, IsCut, IsHead, IsItem, Spells}
 use Rattle.argon2_text.specs.Standard.Text.{Spelled}
 
--- a decoded value without where it lies in memory
+-- a decoded value, without its place in memory
 abbrev pub spelled_by : Decoded → Spelled
 spelled_by d = record {
   variant = d.variant;
@@ -57,7 +57,7 @@ spelled_with h salt hash = record {
 abbrev pub settings_of : Head → Spelled
 settings_of h = spelled_with h [] []
 
--- h is the head of the text, with the salt and the hash as they stand there
+-- h is the head of the text, with the salt and the hash as they are written there
 pub record IsHeadOf (text : List ℕ) (h : Head) : Type 0 where
   pub pieces : Pieces
   pub cut : IsCut text pieces

@@ -1,4 +1,4 @@
-//! Salt and hash as they stand in a text: looked at without memory, and decoded.
+//! The salt and the hash in a text: checked without memory, and decoded.
 
 ghost use Rattle.std.specs.Prelude.{◌≡◌, ◌↔◌, ◌≤◌, ◌*◌, ◌/◌, ℕ, IfErr, IfOk, IsTrue, List, length};
 ghost use Rattle.argon2_text.specs.Standard.Grammar.{IsItem};
@@ -10,10 +10,10 @@ use base64::decoded_len_estimate;
 use base64::engine::general_purpose::STANDARD_NO_PAD;
 use std::alloc::Global;
 
-/// How many letters are looked at together: whole groups of four, which stand for three bytes each.
+/// How many letters are checked together: whole groups of four, each of which encodes three bytes.
 const STRETCH_LEN: usize = 64;
 
-/// How many bytes they stand for.
+/// How many bytes these letters encode.
 const STRETCH_BYTES: usize = STRETCH_LEN / 4 * 3;
 
 /// Whether a text is the unpadded base64 of some bytes. It takes no memory.
@@ -31,7 +31,7 @@ pub(super) fn is_item(text: &str) -> bool
     is_stretch(rest)
 }
 
-/// The same of a text that is no longer than a stretch.
+/// The same for a text that is no longer than a stretch.
 fn is_stretch(letters: &[u8]) -> bool
     requires { length letters.now ≤ 64 }
     ensures { IsTrue result ↔ IsSomeItem letters.now }
@@ -40,7 +40,7 @@ fn is_stretch(letters: &[u8]) -> bool
     STANDARD_NO_PAD.decode_slice(letters, &mut bytes).is_ok()
 }
 
-/// How many bytes an item stands for.
+/// How many bytes an unpadded base64 text encodes.
 pub fn item_len(text: &str) -> u64
     ensures value { result ≡ 3 * length text.now / 4 }
     ensures exact { (bytes : List ℕ) → IsItem text.now bytes → result ≡ length bytes }
@@ -55,7 +55,7 @@ pub(super) fn bytes_of(alloc: Global, text: &str) -> Result<Vec<u8>>
     ensures item { IfOk result (λ bytes. IsItem text.now bytes.items) }
     ensures refused { IfErr result (λ e. e ≡ Error.OutOfMemory) }
 {
-    // Room for what any text of this length decodes to, so that no item is refused.
+    // Room for whatever a text of this length decodes to, so that no item is refused.
     let text = text.as_bytes();
     let mut bytes = vec![in alloc; 0u8; decoded_len_estimate(text.len())]?;
     let Ok(len) = STANDARD_NO_PAD.decode_slice(text, bytes.as_mut_slice()) else {

@@ -8,7 +8,7 @@ ghost use Rattle.argon2_settings.specs.declared.version.Version.{Version};
 
 use argon2_settings::variant::Variant;
 
-/// The length of what stands in every text: its marks and the two digits of its version.
+/// The length of what each written text has: its marks and the two digits of its version.
 const FIXED_LEN: u64 = "$$v=19$m=,t=,p=$$".len() as u64;
 
 /// The length of the unpadded base64 (RFC 4648) of `len` bytes.
@@ -32,8 +32,8 @@ pub fn num_len(number: u32) -> u32
     len
 }
 
-/// The length of the text that `encode_string` writes for a salt and a hash of these many bytes,
-/// whatever the version, with no terminator. It takes no memory and always succeeds.
+/// The length of the text that `encode_string` writes for a salt and a hash of these lengths in
+/// bytes, whatever the version, with no terminator. It takes no memory and always succeeds.
 pub fn encoded_len(
     variant: Variant,
     mem_cost: u32,

@@ -1,4 +1,4 @@
-//! The pieces of an encoded text, cut and read from left to right, with nothing taken from memory.
+//! The pieces of an encoded text, cut and read from left to right. Nothing here takes memory.
 
 ghost use Rattle.std.specs.Prelude.{◌≡◌, ◌<◌, ◌==◌, MatchOption, option_map};
 ghost use Rattle.std.specs.List.{list_any};
@@ -13,7 +13,7 @@ use super::items::is_item;
 use argon2_settings::variant::Variant;
 use argon2_settings::version::Version;
 
-/// The pieces of a text, as they stand in it.
+/// The pieces of a text, as they are written there.
 #[derive(Clone, Copy)]
 struct Pieces<'a> {
     name: &'a str,
@@ -25,7 +25,7 @@ struct Pieces<'a> {
     hash: &'a str,
 }
 
-/// What a text spells before its salt and its hash, and these two as they stand in it.
+/// What a text spells before its salt and its hash, and these two as they are written there.
 #[derive(Clone, Copy)]
 pub struct Head<'a> {
     pub variant: Variant,
@@ -49,7 +49,7 @@ pub fn spelling_of(text: &str) -> Option<Head<'_>>
     }
 }
 
-/// The head of a text, where its pieces stand as they should and those before the salt are spelled.
+/// The head of a text that has all its pieces, where those before the salt spell what they should.
 fn head_of(text: &str) -> Option<Head<'_>>
     ensures { MatchOption result (HasHead text.now → ⊥) (IsHeadOf text.now) }
 {
@@ -90,7 +90,7 @@ fn pieces_of(text: &str) -> Option<Pieces<'_>>
     })
 }
 
-/// Behind `front`, the piece that the first `mark` ends, and what stands after it.
+/// Behind `front`, the piece up to the first `mark`, and what is after the mark.
 #[tactic(auto, unfolding(crate::specs::Views::Cutting::piece))]
 fn piece<'a>(text: &'a str, front: &str, mark: char) -> Option<(&'a str, &'a str)>
     requires { mark < 128 }
@@ -99,7 +99,7 @@ fn piece<'a>(text: &'a str, front: &str, mark: char) -> Option<(&'a str, &'a str
     cut(strip(text, front)?, mark)
 }
 
-/// The version up to its `$`, where the text begins with one, and what stands after it.
+/// The version up to its `$`, where the text begins with one, and what is after it.
 #[tactic(auto, unfolding(crate::specs::Views::Cutting::version_piece))]
 fn version_piece(text: &str) -> Option<(Option<&str>, &str)>
     ensures { option_map version_and_rest result ≡ version_piece text.now }
@@ -111,14 +111,14 @@ fn version_piece(text: &str) -> Option<(Option<&str>, &str)>
     Some((Some(version), rest))
 }
 
-/// What stands after `front`.
+/// What is after `front`.
 fn strip<'a>(text: &'a str, front: &str) -> Option<&'a str>
     ensures { option_map (λ x. x.now) result ≡ strip front.now text.now }
 {
     text.strip_prefix(front)
 }
 
-/// What stands before the first `mark`, and what stands after it.
+/// What is before the first `mark`, and what is after it.
 fn cut(text: &str, mark: char) -> Option<(&str, &str)>
     requires { mark < 128 }
     ensures { option_map two_texts result ≡ cut mark text.now }
@@ -126,7 +126,7 @@ fn cut(text: &str, mark: char) -> Option<(&str, &str)>
     text.split_once(mark)
 }
 
-/// Whether `mark` stands in the text.
+/// Whether the text has a `mark`.
 fn holds(text: &str, mark: char) -> bool
     requires { mark < 128 }
     ensures { result ≡ list_any (λ b. b == mark) text.now }
@@ -134,14 +134,14 @@ fn holds(text: &str, mark: char) -> bool
     text.contains(mark)
 }
 
-/// The variant of a name, in lower case or with a capital.
+/// The variant that a piece names, in lower case or with a capital.
 fn variant_of(name: &str) -> Option<Variant>
     ensures { MatchOption result (IsNoName name.now) (IsName name.now) }
 {
     Variant::from_str(name).ok()
 }
 
-/// The version of its text; where none stands, version 0x10.
+/// The version that a piece spells; where there is no piece, version 0x10.
 fn version_of(piece: Option<&str>) -> Option<Version>
     ensures { let text = version_text_of piece.entry in
         MatchOption result (IsNoVersion text) (IsVersion text) }
@@ -152,7 +152,7 @@ fn version_of(piece: Option<&str>) -> Option<Version>
     }
 }
 
-/// The number of its text: a plus or nothing, and decimal digits.
+/// The number that a piece spells: a plus or nothing, and decimal digits.
 fn number(text: &str) -> Option<u32>
     ensures { MatchOption result (IsNoNumber text.now) (IsNumber text.now) }
 {

@@ -19,11 +19,13 @@ pub returns-then-stored-gt65536-clause-spelled : goal.returns-then-stored-gt6553
 returns-then-stored-gt65536-clause-spelled g c d config spells stored =
     let same = spells_one c.args.kept.now d (spelled_by c.in_ok-stored.stored) spells c.in_ok-stored.ensures.spelled in
     let memory = ap (λ s. s.mem_cost) same in
-    let passes = ap (λ s. s.time_cost) same in
-    (λ never. absurd (cc (never)), λ lets. elim c.then-stored-gt65536.branch [
-      then-stored-gt65536-via-then-stored-gt65536 w ↦ absurd (omega (arith, memory, lets.memory, w.if-stored-gt65536.true))
-    | then-stored-gt65536-via-else-stored-gt65536+then-stored-gt10 w ↦ absurd (omega (arith, passes, lets.passes, w.if-stored-gt10.true))
-    ])
+    let passes = ap (λ s. s.time_cost) same in (
+      λ never. absurd (cc (never)),
+      λ lets. elim c.then-stored-gt65536.branch [
+        | then-stored-gt65536-via-then-stored-gt65536 w ↦ absurd (omega (arith, memory, lets.memory, w.if-stored-gt65536.true))
+        | then-stored-gt65536-via-else-stored-gt65536+then-stored-gt10 w ↦ absurd (omega (arith, passes, lets.passes, w.if-stored-gt10.true))
+      ],
+    )
 
 -- src/service.rt:35:1
 pub returns-clause-spelled : goal.returns-clause-spelled

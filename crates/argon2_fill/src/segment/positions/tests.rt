@@ -46,8 +46,8 @@ fn positions(rt: &impl Abort, job: &Job, lane: u32, first: u32, out: &mut [(u32,
     reference_positions(job, lane, first, out);
 }
 
-// Two blocks a segment. The first block of the third slice, in the second pass, may refer in another
-// lane to the columns 6 and 7 of the first pass and to 0, 1 and 2 of its own.
+// Two blocks a segment. The first block of the third slice, in the second pass, may refer in
+// another lane to the columns 6 and 7 of the first pass and to 0, 1 and 2 of its own.
 #[test]
 fn picks_among_the_blocks_of_another_lane(rt: HostRuntime) -> Result<(), Fail> {
     let job = job(

@@ -68,7 +68,8 @@ impl Gate for EachSlice {
     }
 }
 
-/// Fills eight slices of two lanes by one of the two calls, and checks what the gate saw, and the tag.
+/// Fills eight slices of two lanes by one of the two calls, and checks what the gate saw, and the
+/// tag.
 fn check_every_slice<'a, R: Threads + Wait + Sync + Abort>(
     rt: &R,
     alloc: Global,

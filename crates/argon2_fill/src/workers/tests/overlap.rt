@@ -17,8 +17,8 @@ use std::thread::Threads;
 /// How often a gate looks before it gives up.
 const LOOKS: u32 = 1_000_000_000;
 
-/// Looks at a word until it is a number or more, and says whether it came so far before the looks were
-/// used up.
+/// Looks at a word until it is a number or more, and says whether it came so far before the looks
+/// were used up.
 pub(super) fn reaches(word: &AtomicU64, number: u64) -> bool {
     for _look in 0..LOOKS {
         if word.load(Ordering::SeqCst) >= number {
@@ -28,8 +28,8 @@ pub(super) fn reaches(word: &AtomicU64, number: u64) -> bool {
     false
 }
 
-/// Keeps lane 0 in its filling until the last lane was put, and lane 1 in its own until lane 0's was
-/// called.
+/// Keeps lane 0 in its filling until the last lane was put, and lane 1 in its own until lane 0's
+/// was called.
 #[derive(Drop)]
 struct Hold {
     last: u32,

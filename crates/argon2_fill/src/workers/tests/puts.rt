@@ -10,8 +10,8 @@ use std::marker::Sync;
 use std::sync::atomic::{AtomicU64, Ordering};
 use std::test::Fail;
 
-/// Keeps lane 0 in its filling until lane 1's put is told, and the worker that is told of it until lane
-/// 2 is filled, which the other one takes once it has put lane 0.
+/// Keeps lane 0 in its filling until lane 1's put is told, and the worker that is told of it until
+/// lane 2 is filled, which the other one takes once it has put lane 0.
 #[derive(Drop)]
 struct Told {
     begun: AtomicU64,

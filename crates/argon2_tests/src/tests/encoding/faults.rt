@@ -6,7 +6,8 @@ use argon2::parts::encoding::decode_string;
 use base64::DecodeError;
 use std::test::Fail;
 
-// Every fault before the salt, the missing or added `$` among them. For these no memory is asked for.
+// Every fault before the salt, the missing or added `$` among them. For these no memory is asked
+// for.
 const HEAD_FAULTS: [&str; 34] = [
     "",
     "$$$$$",
@@ -55,7 +56,7 @@ fn is_refused(rt: &HostRuntime, text: &str) -> bool {
     decode_string(rt.alloc(), text) == Err(Error::DecodingFail)
 }
 
-// Whatever allocation is refused: that nothing is spelled, and not that memory ran out.
+// Whatever request is refused, the answer is `DecodingFail` and not `OutOfMemory`.
 #[test]
 fn head_faults_refused_in_turn(rt: HostRuntime) -> Result<(), Fail> {
     for text in HEAD_FAULTS {

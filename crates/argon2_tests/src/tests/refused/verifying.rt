@@ -80,7 +80,7 @@ fn verify_encoded_ext_refused_in_turn(rt: HostRuntime) -> Result<(), Fail> {
     tell(&rt, answer)
 }
 
-// By no more than 16 workers.
+// 16 workers at most.
 #[test]
 fn verify_encoded_ext_of_20_lanes_refused_in_turn(rt: HostRuntime) -> Result<(), Fail> {
     let (password, secret) = (&PASSWORD_OF_20_LANES, &SECRET_OF_20_LANES);
@@ -94,7 +94,7 @@ fn verify_encoded_sequential_refused_in_turn(rt: HostRuntime) -> Result<(), Fail
     tell(&rt, answer)
 }
 
-// A password that is not the text's: no refused request makes it right.
+// Another password than the text's: no refused request turns the answer into `true`.
 #[test]
 fn verify_encoded_of_another_password_refused_in_turn(rt: HostRuntime) -> Result<(), Fail> {
     let answer = verify_encoded(&rt, rt.alloc(), OF_16_LANES, b"passwore");
