@@ -64,23 +64,28 @@ impl KeptMemory {
         Some(unsafe { Box::from_raw(alloc, at as *mut Memory) })
     }
 
-    /// Takes what is kept out, or an empty memory where nothing is.
-    pub fn take(&mut self, alloc: Global) -> Memory
-        ensures { KeepsNothing self.new }
-    {
-        match mem::replace(self, KeptMemory::empty()).into_box(alloc) {
+    /// What is kept, or an empty memory where nothing is.
+    pub fn into_memory(self, alloc: Global) -> Memory {
+        match self.into_box(alloc) {
             Some(memory) => Box::into_inner(memory),
             None => Memory::empty(alloc),
         }
     }
 
+    /// Takes what is kept out, or an empty memory where nothing is.
+    pub fn take(&mut self, alloc: Global) -> Memory
+        ensures { KeepsNothing self.new }
+    {
+        mem::replace(self, KeptMemory::empty()).into_memory(alloc)
+    }
+
     /// Keeps a memory in place of what was kept. Where its box is refused, nothing is kept.
     pub fn keep(&mut self, alloc: Global, memory: Memory) {
-        self.free(alloc);
-        if let Ok(memory) = Box::new(alloc, memory) {
-            let nothing = mem::replace(self, KeptMemory::of(Loose::of(memory)));
-            drop(nothing.into_box(alloc));
-        }
+        let kept = match Box::new(alloc, memory) {
+            Ok(memory) => KeptMemory::of(Loose::of(memory)),
+            Err(_) => KeptMemory::empty(),
+        };
+        drop(mem::replace(self, kept).into_memory(alloc));
     }
 
     /// Gives back what is kept.
