@@ -15,6 +15,7 @@ static const proved_argon2_settings long_tag = {PROVED_ARGON2_I, PROVED_ARGON2_V
 static char text[16384];
 static uint8_t tag[8192], salt[4096];
 static uint32_t answer;
+static proved_argon2_memory memory;
 
 static void *nothing(void *unused)
 {
@@ -46,6 +47,20 @@ static void *verify_raw(void *unused)
 static void *verify_encoded(void *unused)
 {
     answer = proved_argon2_verify_encoded(bytes_of(text), strlen(text), salt, 32, NULL, 0, NULL, 0);
+    return unused;
+}
+
+static void *hash_raw_in(void *unused)
+{
+    answer = proved_argon2_hash_raw_in(&memory, salt, sizeof salt, salt, sizeof salt, salt, sizeof salt, salt, sizeof salt,
+                                       &long_tag, tag, sizeof tag);
+    return unused;
+}
+
+static void *verify_encoded_in(void *unused)
+{
+    answer = proved_argon2_verify_encoded_in(&memory, bytes_of(text), strlen(text), salt, 32, NULL, 0, NULL, 0);
+    proved_argon2_memory_free(&memory);
     return unused;
 }
 
@@ -110,6 +125,8 @@ int main(void)
     check_depth(hash_encoded, idle, "stack of hash_encoded");
     check_depth(verify_raw, idle, "stack of verify_raw");
     check_depth(verify_encoded, idle, "stack of verify_encoded");
+    check_depth(hash_raw_in, idle, "stack of hash_raw_in");
+    check_depth(verify_encoded_in, idle, "stack of verify_encoded_in");
     check_depth(read, idle, "stack of read");
     check_depth(needs_rehash, idle, "stack of needs_rehash");
     check_depth(small_calls, idle, "stack of the calls without memory");

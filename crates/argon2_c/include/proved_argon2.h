@@ -5,8 +5,8 @@
  * is computed in the caller's thread, whatever the number of lanes.
  *
  * Passing bytes. A pointer and then a length pass bytes; a null pointer with the length 0 passes none.
- * The caller owns all memory that it passes; no call keeps a pointer or gives one out. What a call
- * writes to overlaps nothing else that it is passed.
+ * The caller owns all memory that it passes; no call keeps a pointer to it. What a call writes to overlaps
+ * nothing else that it is passed. Only a proved_argon2_memory leads to memory of the library's.
  *
  * Answers. A call that may be refused returns PROVED_ARGON2_OK (0) or the number of one refusal, and
  * on a refusal what it would have written to is as it was, byte for byte. What is refused first is the
@@ -16,7 +16,8 @@
  *
  * Memory. A call that hashes asks for at most the settings' mem_cost KiB for its blocks, and for a few
  * words a lane, the tag and the text; one that reads a text asks for less than its length. All of it is
- * given back before the call returns, and not cleared first.
+ * given back before the call returns, and not cleared first; only a call over a memory that the caller
+ * keeps (.._in) leaves the blocks there.
  *
  * Threads. The library starts no thread and keeps no state. Calls may run in several threads at once,
  * as long as none writes to what another one is passed. No call may come from a signal handler, nor
@@ -131,6 +132,14 @@ typedef struct proved_argon2_stored {
 } proved_argon2_stored;
 
 /*
+ * A memory for blocks, which the caller keeps from call to call. What kept points to is the library's: a
+ * program sets it by proved_argon2_memory_new alone, and copies none to use both.
+ */
+typedef struct proved_argon2_memory {
+    void *kept; /* null where nothing is kept */
+} proved_argon2_memory;
+
+/*
  * The recommended settings: Argon2id, version 0x13, one lane and a tag of 32 bytes. OWASP's Password
  * Storage Cheat Sheet holds its five to be equal in strength; proved_argon2_owasp2 is the one to begin
  * with. RFC 9106, section 4, recommends its memory and passes with four lanes: set lanes to 4 for those.
@@ -242,6 +251,68 @@ uint64_t proved_argon2_encoded_len(const proved_argon2_settings *settings, uint3
  */
 PROVED_ARGON2_CHECKED PROVED_ARGON2_NONNULL
 uint32_t proved_argon2_message(uint32_t number, uint8_t *text, size_t text_len);
+
+/* ---- over a memory that is kept */
+
+/*
+ * The four calls below answer as those of the same name without _in. They compute over memory: blocks that
+ * an earlier call left there are used again where the settings have as many blocks in as many lanes, and
+ * the call asks for no blocks; others are given back first. It depends on nothing that stands there.
+ *
+ * After the call memory keeps the blocks, which are not cleared, until proved_argon2_memory_free gives them
+ * back. Where the library is refused the few bytes that lead to them, it keeps nothing.
+ *
+ * A memory is used by one call at a time, and by the thread that made its first call.
+ */
+
+/* A memory that keeps nothing yet. */
+static inline proved_argon2_memory proved_argon2_memory_new(void)
+{
+    const proved_argon2_memory memory = {NULL};
+    return memory;
+}
+
+/* Gives back what memory keeps. It keeps nothing then, and may be used or given back again. */
+PROVED_ARGON2_NONNULL
+void proved_argon2_memory_free(proved_argon2_memory *memory);
+
+PROVED_ARGON2_CHECKED PROVED_ARGON2_NONNULL
+uint32_t proved_argon2_hash_raw_in(
+    proved_argon2_memory *memory,
+    const uint8_t *pwd, size_t pwd_len,
+    const uint8_t *salt, size_t salt_len,
+    const uint8_t *secret, size_t secret_len,
+    const uint8_t *ad, size_t ad_len,
+    const proved_argon2_settings *settings,
+    uint8_t *out, size_t out_len);
+
+PROVED_ARGON2_CHECKED PROVED_ARGON2_NONNULL
+uint32_t proved_argon2_hash_encoded_in(
+    proved_argon2_memory *memory,
+    const uint8_t *pwd, size_t pwd_len,
+    const uint8_t *salt, size_t salt_len,
+    const uint8_t *secret, size_t secret_len,
+    const uint8_t *ad, size_t ad_len,
+    const proved_argon2_settings *settings,
+    uint8_t *text, size_t text_len);
+
+PROVED_ARGON2_CHECKED PROVED_ARGON2_NONNULL
+uint32_t proved_argon2_verify_raw_in(
+    proved_argon2_memory *memory,
+    const uint8_t *pwd, size_t pwd_len,
+    const uint8_t *salt, size_t salt_len,
+    const uint8_t *secret, size_t secret_len,
+    const uint8_t *ad, size_t ad_len,
+    const proved_argon2_settings *settings,
+    const uint8_t *hash, size_t hash_len);
+
+PROVED_ARGON2_CHECKED PROVED_ARGON2_NONNULL
+uint32_t proved_argon2_verify_encoded_in(
+    proved_argon2_memory *memory,
+    const uint8_t *text, size_t text_len,
+    const uint8_t *pwd, size_t pwd_len,
+    const uint8_t *secret, size_t secret_len,
+    const uint8_t *ad, size_t ad_len);
 
 #ifdef __cplusplus
 }

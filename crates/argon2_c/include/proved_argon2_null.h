@@ -114,6 +114,84 @@ static inline uint32_t proved_argon2_nullable_message(uint32_t number, uint8_t *
     return proved_argon2_message(number, proved_argon2_writable(text, text_len, &spare), text_len);
 }
 
+PROVED_ARGON2_CHECKED
+static inline uint32_t proved_argon2_nullable_hash_raw_in(
+    proved_argon2_memory *memory,
+    const uint8_t *pwd, size_t pwd_len,
+    const uint8_t *salt, size_t salt_len,
+    const uint8_t *secret, size_t secret_len,
+    const uint8_t *ad, size_t ad_len,
+    const proved_argon2_settings *settings,
+    uint8_t *out, size_t out_len)
+{
+    uint8_t spare;
+    return proved_argon2_hash_raw_in(
+        memory,
+        proved_argon2_readable(pwd, pwd_len), pwd_len,
+        proved_argon2_readable(salt, salt_len), salt_len,
+        proved_argon2_readable(secret, secret_len), secret_len,
+        proved_argon2_readable(ad, ad_len), ad_len,
+        settings,
+        proved_argon2_writable(out, out_len, &spare), out_len);
+}
+
+PROVED_ARGON2_CHECKED
+static inline uint32_t proved_argon2_nullable_hash_encoded_in(
+    proved_argon2_memory *memory,
+    const uint8_t *pwd, size_t pwd_len,
+    const uint8_t *salt, size_t salt_len,
+    const uint8_t *secret, size_t secret_len,
+    const uint8_t *ad, size_t ad_len,
+    const proved_argon2_settings *settings,
+    uint8_t *text, size_t text_len)
+{
+    uint8_t spare;
+    return proved_argon2_hash_encoded_in(
+        memory,
+        proved_argon2_readable(pwd, pwd_len), pwd_len,
+        proved_argon2_readable(salt, salt_len), salt_len,
+        proved_argon2_readable(secret, secret_len), secret_len,
+        proved_argon2_readable(ad, ad_len), ad_len,
+        settings,
+        proved_argon2_writable(text, text_len, &spare), text_len);
+}
+
+PROVED_ARGON2_CHECKED
+static inline uint32_t proved_argon2_nullable_verify_raw_in(
+    proved_argon2_memory *memory,
+    const uint8_t *pwd, size_t pwd_len,
+    const uint8_t *salt, size_t salt_len,
+    const uint8_t *secret, size_t secret_len,
+    const uint8_t *ad, size_t ad_len,
+    const proved_argon2_settings *settings,
+    const uint8_t *hash, size_t hash_len)
+{
+    return proved_argon2_verify_raw_in(
+        memory,
+        proved_argon2_readable(pwd, pwd_len), pwd_len,
+        proved_argon2_readable(salt, salt_len), salt_len,
+        proved_argon2_readable(secret, secret_len), secret_len,
+        proved_argon2_readable(ad, ad_len), ad_len,
+        settings,
+        proved_argon2_readable(hash, hash_len), hash_len);
+}
+
+PROVED_ARGON2_CHECKED
+static inline uint32_t proved_argon2_nullable_verify_encoded_in(
+    proved_argon2_memory *memory,
+    const uint8_t *text, size_t text_len,
+    const uint8_t *pwd, size_t pwd_len,
+    const uint8_t *secret, size_t secret_len,
+    const uint8_t *ad, size_t ad_len)
+{
+    return proved_argon2_verify_encoded_in(
+        memory,
+        proved_argon2_readable(text, text_len), text_len,
+        proved_argon2_readable(pwd, pwd_len), pwd_len,
+        proved_argon2_readable(secret, secret_len), secret_len,
+        proved_argon2_readable(ad, ad_len), ad_len);
+}
+
 #define proved_argon2_hash_raw proved_argon2_nullable_hash_raw
 #define proved_argon2_hash_encoded proved_argon2_nullable_hash_encoded
 #define proved_argon2_verify_raw proved_argon2_nullable_verify_raw
@@ -121,5 +199,9 @@ static inline uint32_t proved_argon2_nullable_message(uint32_t number, uint8_t *
 #define proved_argon2_read proved_argon2_nullable_read
 #define proved_argon2_needs_rehash proved_argon2_nullable_needs_rehash
 #define proved_argon2_message proved_argon2_nullable_message
+#define proved_argon2_hash_raw_in proved_argon2_nullable_hash_raw_in
+#define proved_argon2_hash_encoded_in proved_argon2_nullable_hash_encoded_in
+#define proved_argon2_verify_raw_in proved_argon2_nullable_verify_raw_in
+#define proved_argon2_verify_encoded_in proved_argon2_nullable_verify_encoded_in
 
 #endif

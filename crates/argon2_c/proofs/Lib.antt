@@ -3,3 +3,4 @@ pub mod Lengths
 pub mod Verdicts
 pub mod HashTexts
 pub mod Comparisons
+mod KeptValues

@@ -4,3 +4,5 @@ pub mod Recommended
 pub mod Buffer
 pub mod Answers
 pub mod Reading
+pub mod Ownership
+pub mod Kept

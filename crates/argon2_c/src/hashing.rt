@@ -9,16 +9,19 @@ use crate::buffer::write_text;
 use crate::refusal::Refusal;
 use crate::settings::{Settings, text_len};
 use argon2::parts::context::first_refusal;
-use argon2::{Config, Error, hash_encoded_sequential, hash_raw_sequential};
+use argon2::parts::memory::Memory;
+use argon2::{Config, Error, hash_encoded_in_sequential, hash_raw_in_sequential};
 use std::alloc::Global;
 
-/// Writes the tag of a password to a buffer of `settings.hash_length` bytes.
+/// Writes the tag of a password to a buffer of `settings.hash_length` bytes, computed over a memory
+/// that the caller keeps.
 ///
 /// The numbers of the settings are looked at first, then the settings table, then the length of the
-/// buffer, all before any memory is asked for. The first refusal is the only answer. On a refusal
+/// buffer, all before any blocks are asked for. The first refusal is the only answer. On a refusal
 /// the buffer is as it was.
 pub fn hash_raw(
     alloc: Global,
+    memory: &mut Memory,
     pwd: &[u8],
     salt: &[u8],
     secret: &[u8],
@@ -36,7 +39,7 @@ pub fn hash_raw(
     if out.len() != config.hash_length as usize {
         return Err(Refusal::WrongLength);
     }
-    let tag = hash_raw_sequential(alloc, pwd, salt, &config)?;
+    let tag = hash_raw_in_sequential(alloc, memory, pwd, salt, &config)?;
     out.copy_from_slice(&tag);
     Ok(())
 }
@@ -45,6 +48,7 @@ pub fn hash_raw(
 /// text. It refuses as `hash_raw` does.
 pub fn hash_encoded(
     alloc: Global,
+    memory: &mut Memory,
     pwd: &[u8],
     salt: &[u8],
     secret: &[u8],
@@ -62,7 +66,7 @@ pub fn hash_encoded(
     if text.len() as u64 <= text_len(&config, salt.len() as u32) {
         return Err(Refusal::WrongLength);
     }
-    let encoded = hash_encoded_sequential(alloc, pwd, salt, &config)?;
+    let encoded = hash_encoded_in_sequential(alloc, memory, pwd, salt, &config)?;
     write_text(encoded.as_str(), text)
 }
 

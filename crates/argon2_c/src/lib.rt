@@ -14,12 +14,20 @@ ghost use Rattle.argon2_c.specs.Settings.{config_of};
 
 mod buffer;
 mod hashing;
+mod keeping;
+mod kept;
 mod reading;
 mod recommended;
 mod refusal;
 mod settings;
 mod verifying;
 
+use argon2::parts::memory::Memory;
+pub use keeping::{
+    proved_argon2_hash_encoded_in, proved_argon2_hash_raw_in, proved_argon2_memory_free,
+    proved_argon2_verify_encoded_in, proved_argon2_verify_raw_in,
+};
+pub use kept::KeptMemory;
 pub use reading::Stored;
 pub use recommended::{
     proved_argon2_owasp1, proved_argon2_owasp2, proved_argon2_owasp3, proved_argon2_owasp4,
@@ -47,7 +55,8 @@ pub extern "C" fn proved_argon2_hash_raw(
     ensures { IsCodeOf (WritesTag (config_of settings.now secret.entry ad.entry) pwd.now salt.now
         out.old out.new) result }
 {
-    code_of(&hashing::hash_raw(alloc, pwd, salt, secret, ad, settings, out))
+    let memory = &mut Memory::empty(alloc);
+    code_of(&hashing::hash_raw(alloc, memory, pwd, salt, secret, ad, settings, out))
 }
 
 /// Writes the text of a password's hash and then zeros to `text`, which has more bytes than the
@@ -65,7 +74,8 @@ pub extern "C" fn proved_argon2_hash_encoded(
     ensures { IsCodeOf (WritesHashText (config_of settings.now secret.entry ad.entry) pwd.now
         salt.now text.old text.new) result }
 {
-    code_of(&hashing::hash_encoded(alloc, pwd, salt, secret, ad, settings, text))
+    let memory = &mut Memory::empty(alloc);
+    code_of(&hashing::hash_encoded(alloc, memory, pwd, salt, secret, ad, settings, text))
 }
 
 /// Returns 0 only where `hash` is the tag of a password, and 64 only where it is not;
@@ -83,7 +93,8 @@ pub extern "C" fn proved_argon2_verify_raw(
     ensures { IsCodeOf (JudgesRaw (config_of settings.now secret.entry ad.entry) pwd.now salt.now
         hash.now) result }
 {
-    code_of(&verifying::verify_raw(alloc, pwd, salt, secret, ad, settings, hash))
+    let memory = &mut Memory::empty(alloc);
+    code_of(&verifying::verify_raw(alloc, memory, pwd, salt, secret, ad, settings, hash))
 }
 
 /// Returns 0 only where a stored text is the hash of a password with this secret and this
@@ -98,7 +109,8 @@ pub extern "C" fn proved_argon2_verify_encoded(
 ) -> u32
     ensures { IsCodeOf (JudgesText text.now pwd.now secret.now ad.now) result }
 {
-    code_of(&verifying::verify_encoded(alloc, text, pwd, secret, ad))
+    let memory = &mut Memory::empty(alloc);
+    code_of(&verifying::verify_encoded(alloc, memory, text, pwd, secret, ad))
 }
 
 /// Writes what a stored text spells to `stored`, and verifies nothing. On a refusal `stored` is as

@@ -1,5 +1,6 @@
 //! The C calls against the vectors of RFC 9106, section 5, and rust-argon2's own texts.
 
+mod kept;
 mod messages;
 mod reading;
 mod recommended;

@@ -6,14 +6,16 @@ ghost use Rattle.argon2_c.specs.Settings.{config_of};
 
 use crate::refusal::Refusal;
 use crate::settings::Settings;
-use argon2::{verify_encoded_sequential, verify_raw_sequential};
+use argon2::parts::memory::Memory;
+use argon2::{verify_encoded_in_sequential, verify_raw_in_sequential};
 use std::alloc::Global;
 
-/// Whether a hash is the tag of its own length: `Ok` where it is, `Mismatch` where it is not. The
-/// numbers of the settings and then the settings table are looked at before any memory is asked
-/// for; `settings.hash_length` is not looked at.
+/// Whether a hash is the tag of its own length, computed over a memory that the caller keeps: `Ok`
+/// where it is, `Mismatch` where it is not. The numbers of the settings and then the settings table are
+/// looked at before any blocks are asked for; `settings.hash_length` is not looked at.
 pub fn verify_raw(
     alloc: Global,
+    memory: &mut Memory,
     pwd: &[u8],
     salt: &[u8],
     secret: &[u8],
@@ -25,7 +27,7 @@ pub fn verify_raw(
         result }
 {
     let config = settings.config(secret, ad)?;
-    judgement(verify_raw_sequential(alloc, pwd, salt, hash, &config))
+    judgement(verify_raw_in_sequential(alloc, memory, pwd, salt, hash, &config))
 }
 
 /// Whether a stored text is the hash of a password with this secret and this associated data: `Ok`
@@ -33,6 +35,7 @@ pub fn verify_raw(
 /// nothing `DecodingFail`; what it spells is judged as by `verify_raw`.
 pub fn verify_encoded(
     alloc: Global,
+    memory: &mut Memory,
     text: &[u8],
     pwd: &[u8],
     secret: &[u8],
@@ -41,7 +44,7 @@ pub fn verify_encoded(
     ensures { JudgesText text.now pwd.now secret.now ad.now result }
 {
     match std::str::from_utf8(text) {
-        Ok(text) => judgement(verify_encoded_sequential(alloc, text, pwd, secret, ad)),
+        Ok(text) => judgement(verify_encoded_in_sequential(alloc, memory, text, pwd, secret, ad)),
         Err(_) => Err(Refusal::NotUtf8),
     }
 }

@@ -6,8 +6,8 @@ use Rattle.argon2_c.proofs.verifying.verify_encoded.Goals as goal
 pub returns-in-Ok : goal.returns-in-Ok
 returns-in-Ok c =
     let text = c.in-Ok.ensures.cases in
-    let unspelled = rw text.0 at c.verify_encoded_sequential.ensures.unspelled in
-    let spelled = rw text.0 at c.verify_encoded_sequential.ensures.spelled in
+    let unspelled = rw text.0 at c.verify_encoded_in_sequential.ensures.unspelled in
+    let spelled = rw text.0 at c.verify_encoded_in_sequential.ensures.spelled in
     record {
       not_utf8 = λ no. absurd (no text.1);
       unspelled = λ _ none. rw (c.judgement.ensures, unspelled none) refl;
