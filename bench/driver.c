@@ -19,7 +19,7 @@
 #include <time.h>
 #include <unistd.h>
 
-enum { MOST_HASHERS = 8 };
+enum { MOST_HASHERS = 10 };
 
 static const struct input the_input = { "password", 8, "somesaltsomesalt" };
 
@@ -42,6 +42,8 @@ static void name_hashers(void)
     hashers[hasher_count++] = (struct hasher) { "ours-v3", ours_v3 };
     for (const struct hasher *peer = peers; peer->name != NULL; peer++)
         hashers[hasher_count++] = *peer;
+    hashers[hasher_count++] = (struct hasher) { "kept", ours_kept };
+    hashers[hasher_count++] = (struct hasher) { "kept-v3", ours_v3_kept };
 }
 
 /* How many blocks a hash writes. */

@@ -35,7 +35,7 @@ extern const struct hasher peers[];
 /* Our library and the compression alone, each as it was built for the default processor and for
  * x86-64-v3 (ours.c). Not 0 where one of the four libraries lacks. */
 int load_ours(char *const paths[4]);
-hash_function ours_default, ours_v3;
+hash_function ours_default, ours_v3, ours_kept, ours_v3_kept;
 
 /* rust-argon2 by a library of its own; where there is none, its column stays empty. */
 void load_rust_argon2(const char *path);

@@ -9,12 +9,17 @@ typedef uint32_t hash_raw(const uint8_t *pwd, size_t pwd_len, const uint8_t *sal
     const uint8_t *secret, size_t secret_len, const uint8_t *ad, size_t ad_len,
     const proved_argon2_settings *settings, uint8_t *out, size_t out_len);
 
+typedef uint32_t hash_raw_in(proved_argon2_memory *memory, const uint8_t *pwd, size_t pwd_len, const uint8_t *salt,
+    size_t salt_len, const uint8_t *secret, size_t secret_len, const uint8_t *ad, size_t ad_len,
+    const proved_argon2_settings *settings, uint8_t *out, size_t out_len);
+
 static hash_raw *hash_default, *hash_v3;
+static hash_raw_in *hash_in_default, *hash_in_v3;
 compress_function *compress_default, *compress_v3;
 
-static int call(hash_raw *hash, const struct cost *cost, const struct input *input, uint8_t *tag)
+static proved_argon2_settings settings_of(const struct cost *cost)
 {
-    const proved_argon2_settings settings = {
+    return (proved_argon2_settings) {
         .variant = PROVED_ARGON2_ID,
         .version = PROVED_ARGON2_VERSION_13,
         .mem_cost = cost->memory,
@@ -22,9 +27,24 @@ static int call(hash_raw *hash, const struct cost *cost, const struct input *inp
         .lanes = cost->lanes,
         .hash_length = TAG_LENGTH,
     };
+}
+
+static int call(hash_raw *hash, const struct cost *cost, const struct input *input, uint8_t *tag)
+{
+    const proved_argon2_settings settings = settings_of(cost);
     if (cost->threads != 1)
         return 1;
     return (int)hash((const uint8_t *)input->password, input->password_length, input->salt, SALT_LENGTH,
+        (const uint8_t *)"", 0, (const uint8_t *)"", 0, &settings, tag, TAG_LENGTH);
+}
+
+static int call_in(hash_raw_in *hash, proved_argon2_memory *memory, const struct cost *cost, const struct input *input,
+    uint8_t *tag)
+{
+    const proved_argon2_settings settings = settings_of(cost);
+    if (cost->threads != 1)
+        return 1;
+    return (int)hash(memory, (const uint8_t *)input->password, input->password_length, input->salt, SALT_LENGTH,
         (const uint8_t *)"", 0, (const uint8_t *)"", 0, &settings, tag, TAG_LENGTH);
 }
 
@@ -36,6 +56,19 @@ int ours_default(const struct cost *cost, const struct input *input, uint8_t tag
 int ours_v3(const struct cost *cost, const struct input *input, uint8_t tag[TAG_LENGTH])
 {
     return call(hash_v3, cost, input, tag);
+}
+
+/* Over a memory that is kept from call to call, one for each build. */
+int ours_kept(const struct cost *cost, const struct input *input, uint8_t tag[TAG_LENGTH])
+{
+    static proved_argon2_memory memory;
+    return call_in(hash_in_default, &memory, cost, input, tag);
+}
+
+int ours_v3_kept(const struct cost *cost, const struct input *input, uint8_t tag[TAG_LENGTH])
+{
+    static proved_argon2_memory memory;
+    return call_in(hash_in_v3, &memory, cost, input, tag);
 }
 
 /* The function of a name in a library, or NULL where there is none, which is told. */
@@ -54,5 +87,9 @@ int load_ours(char *const paths[4])
     hash_v3 = (hash_raw *)loaded(paths[1], "proved_argon2_hash_raw");
     compress_default = (compress_function *)loaded(paths[2], "bench_compress");
     compress_v3 = (compress_function *)loaded(paths[3], "bench_compress");
+    hash_in_default = (hash_raw_in *)loaded(paths[0], "proved_argon2_hash_raw_in");
+    hash_in_v3 = (hash_raw_in *)loaded(paths[1], "proved_argon2_hash_raw_in");
+    if (hash_in_default == NULL || hash_in_v3 == NULL)
+        return 1;
     return hash_default == NULL || hash_v3 == NULL || compress_default == NULL || compress_v3 == NULL;
 }
