@@ -158,5 +158,9 @@ fn compares_copies_and_prints(rt: HostRuntime) -> Result<(), Fail> {
     let text = format!(in rt.alloc(); "{:?}", Block::from_words([7; 128]))?;
     assert_eq!(rt; text.len(), 3 * 128);
     assert!(rt; text.as_str().starts_with("[7, 7, 7, "));
+    let text = format!(in rt.alloc(); "{:#?}", Block::from_words([7; 128]))?;
+    assert_eq!(rt; text.as_str().lines().count(), 2 + 128);
+    assert!(rt; text.as_str().starts_with("[\n    7,\n    7,\n"));
+    assert!(rt; text.as_str().ends_with("\n    7,\n    7,\n]"));
     Ok(())
 }

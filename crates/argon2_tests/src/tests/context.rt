@@ -1,6 +1,6 @@
 //! The settings table and the numbers that follow from accepted settings.
 
-use argon2::parts::context::{Context, first_refusal};
+use argon2::parts::context::{Context, Job, first_refusal};
 use argon2::{Config, Error, ThreadMode, Variant, Version};
 use std::test::Fail;
 
@@ -76,6 +76,14 @@ fn shows_a_context(rt: HostRuntime) -> std::result::Result<(), Fail> {
          thread_mode: Parallel, time_cost: 2, variant: Argon2d, version: Version13 }, \
          lane_length: 8, memory_blocks: 32, pwd: [112, 119], \
          salt: [115, 111, 109, 101, 115, 97, 108, 116], segment_length: 2 }"
+    );
+    let shown = format!(in rt.alloc(); "{:?}", Job::new(&context))?;
+    assert!(rt; shown.as_str().starts_with("Job { prehash: ["));
+    assert!(rt;
+        shown.as_str().ends_with(
+            "], variant: Argon2d, version: Version13, lanes: 4, segment_length: 2, passes: 2, \
+         pass: 0, slice: 0 }"
+        )
     );
     Ok(())
 }

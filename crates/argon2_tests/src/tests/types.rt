@@ -1,5 +1,6 @@
 //! The small types: their numbers and names, and what `serde` writes of a refusal.
 
+use argon2::parts::board::{Event, Place};
 use argon2::parts::common::{
     ADDRESSES_IN_BLOCK, BLAKE2B_OUT_LENGTH, BLOCK_SIZE, MAX_AD_LENGTH, MAX_HASH_LENGTH, MAX_LANES,
     MAX_MEMORY, MAX_PWD_LENGTH, MAX_SALT_LENGTH, MAX_SECRET_LENGTH, MAX_TIME, MIN_AD_LENGTH,
@@ -83,6 +84,10 @@ fn shows_the_small_types(rt: HostRuntime) -> Result<(), Fail> {
     assert_eq!(rt; shown.as_str(), "Version10 Version13");
     let shown = format!(in alloc; "{:?}", Error::SaltTooShort)?;
     assert_eq!(rt; shown.as_str(), "SaltTooShort");
+    let shown = format!(in alloc; "{:?}", [Place::Waiting, Place::Out, Place::Done])?;
+    assert_eq!(rt; shown.as_str(), "[Waiting, Out, Done]");
+    let shown = format!(in alloc; "{:?}", [Event::Take(3), Event::Put(2)])?;
+    assert_eq!(rt; shown.as_str(), "[Take(3), Put(2)]");
     Ok(())
 }
 
