@@ -82,7 +82,7 @@ looks_like_settings() {
 
 looks_like_mode() {
     case $1 in
-    seq | par | max[1-9]) ;;
+    seq | par | max[0-9]*) ;;
     *) return 1 ;;
     esac
 }

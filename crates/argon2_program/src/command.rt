@@ -7,7 +7,7 @@ ghost use Rattle.argon2_program.specs.Words.{AreSettings, IsCommand, IsMode, IsN
 
 use argon2::{Config, ThreadMode, Variant, Version};
 
-/// What the program is to do.
+/// What the program does.
 #[derive(Clone, Copy, Debug, PartialEq)]
 pub enum Command<'a> {
     /// `hash VARIANT VERSION T M P LEN MODE SALT`: the tag of the password, and its encoded text.

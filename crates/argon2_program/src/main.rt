@@ -1,4 +1,4 @@
-//! The program `argon2`: hashes a password, verifies one, or says whether a hash is to be made anew.
+//! The program `argon2`: hashes a password, verifies one, or says whether a new hash is needed.
 #![tactic(auto)]
 
 mod answer;

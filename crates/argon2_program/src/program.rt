@@ -61,7 +61,7 @@ pub fn start<R: Threads + Wait + Sync, L: CommandLine, I: Read, O: Write, E: Wri
 /// | `rehash VARIANT VERSION T M P LEN TEXT` | `true` or `false`: whether the text was made with other settings |
 ///
 /// The password is all of `input`; `rehash` does not read it. The answer is written to `output`, with
-/// status 0, or 1 for `false`. Else a line stands on `errors`: a refusal (status 2), `usage` for words
+/// status 0, or 1 for `false`. Else a line is written to `errors`: a refusal (status 2), `usage` for words
 /// that are none of these (3), `input` where the input cannot be read (4). Where the output cannot be
 /// written, the status is 4 and no line is added. A fault of an earlier kind in the order words, input,
 /// call, output is told first, and nothing is written to `output` before the answer is whole.

@@ -28,7 +28,7 @@ fn words_of(alloc: Global, line: &str) -> Result<Vec<String>, AllocError> {
         .try_collect(alloc)
 }
 
-/// What a run is to end with: the status, and what stands on the output and on the error stream.
+/// What a run has to end with: the status, and what is on the output and on the error stream.
 type Wanted<'a> = (u8, &'a str, &'a str);
 
 /// Runs the program on words and an input, and compares all that it wrote.
