@@ -127,13 +127,15 @@ static bool hashes_alike(char *line) {
   return reports_of_hash(&it, &tag) == 0 && undefined_bits(tag.at, tag.length) == 0;
 }
 
-/* Whether an answer is the wanted one, came of no report, and is undefined: no branch has looked at
-   it before the one here. */
+/* Whether an answer is the wanted one, and either came of no report and is undefined, so that no branch
+   has looked at it before the one here; or is defined and came of two reports at most: the branch on the
+   whole verdict, and the place of its number in a table. A comparison byte by byte that stops has more of
+   them for the right hash. */
 static bool is_judged_unseen(unsigned reports, uint32_t code, uint32_t wanted) {
   const bool is_open = undefined_bits(&code, sizeof code) > 0;
   show(&code, sizeof code);
   printf("%u reports, and the answer %u %s\n", reports, code, is_open ? "undefined" : "defined");
-  return reports == 0 && is_open && code == wanted;
+  return reports <= (is_open ? 0 : 2) && code == wanted;
 }
 
 static bool judges_raw_unseen(const struct vector *it, const struct bytes *hash, uint32_t wanted) {
@@ -145,7 +147,7 @@ static bool judges_raw_unseen(const struct vector *it, const struct bytes *hash,
   return is_judged_unseen(VALGRIND_COUNT_ERRORS - before, code, wanted);
 }
 
-/* No report for the right hash, and for one that differs in its first, its last or each byte. */
+/* The verdict alone is seen of the right hash, and of one that differs in its first, its last or each byte. */
 static bool verifies_alike(char *line) {
   struct vector it;
   read_hidden(line, &it);
@@ -162,7 +164,7 @@ static bool verifies_alike(char *line) {
          judges_raw_unseen(&it, &each, PROVED_ARGON2_MISMATCH);
 }
 
-/* No report, whether or not the hidden password is the text's. */
+/* The verdict alone is seen, whether or not the hidden password is the text's. */
 static bool verifies_text_alike(char *line) {
   uint8_t password[] = {'p', 'a', 's', 's', 'w', 'o', 'r', 'd'};
   const char *text = strtok(line, " ");
@@ -195,7 +197,7 @@ __attribute__((noinline)) static bool is_equal_in_haste(const uint8_t *one, cons
   return true;
 }
 
-/* More than one report, as there has to be where a comparison stops at the first difference. */
+/* More than two reports, as there have to be where a comparison stops at the first difference. */
 static bool stops_early(char *line) {
   struct vector it;
   struct bytes tag;
@@ -205,7 +207,7 @@ static bool stops_early(char *line) {
   const bool is_equal = is_equal_in_haste(tag.at, it.tag.at, tag.length);
   const unsigned reports = VALGRIND_COUNT_ERRORS - before;
   printf("%u reports\n", reports);
-  return is_equal && reports > 1;
+  return is_equal && reports > 2;
 }
 
 static const struct {
