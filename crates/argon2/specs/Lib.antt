@@ -21,16 +21,16 @@ pub use Rattle.argon2_blocks.specs.Standard.Hprime
 pub use Rattle.argon2_blocks.specs.Standard.Block
 pub use Rattle.argon2_blocks.specs.Standard.Compression
 pub use Rattle.argon2_blocks.specs.Views.Lane
-pub use Rattle.argon2_fill.specs.Laws.Matrix
-pub use Rattle.argon2_fill.specs.Laws.Schedule
-pub use Rattle.argon2_fill.specs.Views.Positions
-pub use Rattle.argon2_fill.specs.Views.Segments
-pub use Rattle.argon2_fill.specs.Views.Sources
-pub use Rattle.argon2_fill.specs.Views.Filling
-pub use Rattle.argon2_fill.specs.Views.Memories
-pub use Rattle.argon2_fill.specs.Views.SliceLists
+pub use Rattle.argon2_memory.specs.Laws.Matrix
+pub use Rattle.argon2_memory.specs.Laws.Schedule
+pub use Rattle.argon2_memory.specs.Views.Positions
+pub use Rattle.argon2_memory.specs.Views.Segments
+pub use Rattle.argon2_memory.specs.Views.Sources
+pub use Rattle.argon2_memory.specs.Views.Filling
+pub use Rattle.argon2_memory.specs.Views.Memories
+pub use Rattle.argon2_memory.specs.Views.SliceLists
 pub use Rattle.argon2_settings.specs.Standard.Outcome
-pub use Rattle.argon2_fill.specs.Laws.AnyOrder
+pub use Rattle.argon2_memory.specs.Laws.AnyOrder
 pub use Rattle.argon2_text.specs.Standard.Text
 pub use Rattle.argon2_text.specs.Standard.Grammar
 pub use Rattle.argon2_text.specs.Views.Faults
@@ -46,7 +46,7 @@ pub use Rattle.argon2_settings.specs.declared.error.Error as ErrorType
 pub use Rattle.argon2_settings.specs.declared.thread_mode.ThreadMode as ThreadModeType
 pub use Rattle.argon2_settings.specs.declared.variant.Variant as VariantType
 pub use Rattle.argon2_settings.specs.declared.version.Version as VersionType
-pub use Rattle.argon2_fill.specs.declared.memory.segment.Source as SourceType
+pub use Rattle.argon2_memory.specs.declared.memory.segment.Source as SourceType
 pub use Rattle.argon2_fill.specs.declared.workers.event.Event as EventType
 pub use Rattle.argon2_fill.specs.declared.workers.event.Place as PlaceType
 pub use Rattle.argon2_text.specs.declared.decoded.Decoded as DecodedType

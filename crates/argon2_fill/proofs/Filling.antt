@@ -1,7 +1,3 @@
--- A segment, a slice and all passes while they are filled.
-pub mod Filled
-pub mod Slices
+-- The first blocks, and all passes while they are filled.
 pub mod First
 pub mod Passes
-pub mod Written
-pub mod Made

@@ -1,4 +1,2 @@
-pub mod Recurrence
-pub mod Schedules
 pub mod Filling
 pub mod BoardFacts

@@ -1,12 +1,5 @@
 -- How the types and the steps of the code look to contracts. No clause of a root call uses them.
-pub mod Positions
-pub mod Segments
-pub mod Sources
-pub mod Filling
-pub mod Memories
-pub mod SliceLists
 pub mod Replay
 pub mod Boards
 pub mod Slots
 pub mod Permits
-pub mod Made

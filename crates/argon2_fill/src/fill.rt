@@ -6,22 +6,24 @@ ghost use Rattle.argon2_blocks.specs.Standard.Block.{xor, zero_block};
 ghost use Rattle.argon2_settings.specs.Standard.Outcome.{IsShortage};
 ghost use Rattle.argon2_settings.specs.Standard.ThreadModes.{may_lack_workers, uses_sequential};
 ghost use Rattle.argon2_settings.specs.Views.Contexts.{setting_of_context};
-ghost use Rattle.argon2_fill.specs.Views.Filling.{IsSnapshot, no_segment};
-ghost use Rattle.argon2_fill.specs.Laws.Matrix.{HoldsLastPass, IsBegun, matrix_with};
-ghost use Rattle.argon2_fill.specs.Views.Memories.{AreSlices, HasShape, IsFilledBelow, block_of, blocks_written, last_blocks_of, no_memory, slice_writes, writes, writes_in};
+ghost use Rattle.argon2_memory.specs.Views.Filling.{IsSnapshot, no_segment};
+ghost use Rattle.argon2_memory.specs.Laws.Matrix.{HoldsLastPass, IsBegun, matrix_with};
+ghost use Rattle.argon2_memory.specs.Views.Memories.{AreSlices, HasShape, IsFilledBelow, block_of, blocks_written, last_blocks_of, no_memory, slice_writes, writes, writes_in};
 ghost use Rattle.argon2_settings.specs.Standard.Recurrence.{first_block};
-ghost use Rattle.argon2_fill.specs.Laws.Schedule.{blocks_in_slice};
-ghost use Rattle.argon2_fill.specs.Views.Segments.{IsReady, segment_at};
+ghost use Rattle.argon2_memory.specs.Laws.Schedule.{blocks_in_slice};
+ghost use Rattle.argon2_memory.specs.Views.Segments.{IsReady, segment_at};
 ghost use Rattle.argon2_settings.specs.Standard.Setting.{memory_blocks};
-ghost use Rattle.argon2_fill.specs.Views.SliceLists.{segments_of};
+ghost use Rattle.argon2_memory.specs.Views.SliceLists.{segments_of};
 ghost use Rattle.argon2_settings.specs.Standard.Tag.{tag_from, tag_of};
 
-use crate::memory::{Memory, Segment, Slices, others, recall_memory, take_slice};
-use crate::segment::{Snapshot, fill_segment};
 use crate::walk::{numbered_slice, slice_count};
 use crate::workers::{NoGate, fill_parallel};
 use argon2_blocks::blake2b::hprime;
 use argon2_blocks::block::Block;
+use argon2_memory::memory::{
+    Memory, Segment, Slices, memory_of_slices, others, recall_memory, take_slice, take_slices,
+};
+use argon2_memory::segment::{Snapshot, fill_segment};
 use argon2_settings::context::{Context, Job, recall_context, recall_job};
 use argon2_settings::error::Error;
 use argon2_settings::result::Result;
@@ -101,9 +103,9 @@ pub fn fill_sequential(context: &Context<'_>, memory: &mut Memory)
 {
     recall_context(context);
     let job = Job::new(context);
-    let mut slices = memory.take_slices();
+    let mut slices = take_slices(memory);
     fill_slices(&job, &mut slices);
-    *memory = Memory::from_slices(job.lanes(), job.segment_length(), slices);
+    *memory = memory_of_slices(job.lanes(), job.segment_length(), slices);
 }
 
 /// Fills all slices of all passes, one after another.
@@ -126,7 +128,7 @@ fn fill_slices(job: &Job, slices: &mut Slices)
 }
 
 /// Fills the job's slice: it moves out beside the others, and back.
-pub(crate) fn fill_slice_in_turn(job: &Job, slices: &mut Slices)
+pub fn fill_slice_in_turn(job: &Job, slices: &mut Slices)
     requires slices { AreSlices job.now.setting.lanes job.now.setting.segment_length
         (segments_of slices.old) }
     requires ready { IsFilledBelow job.now.setting job.now.pass job.now.slice

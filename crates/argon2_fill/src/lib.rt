@@ -2,7 +2,5 @@
 #![tactic(auto)]
 
 pub mod fill;
-pub mod memory;
-pub mod segment;
 mod walk;
 pub mod workers;

@@ -11,13 +11,11 @@ mod passes;
 mod permit;
 mod slice;
 mod slot;
-#[cfg(test)]
-mod tests;
 
 pub use board::Board;
 pub use claim::{Claim, Filled};
 pub use event::{Event, Place};
 pub use gate::{Gate, NoGate};
-pub use passes::{fill_parallel, fill_parallel_with};
+pub use passes::{board_of, fill_parallel, fill_parallel_with};
 pub use permit::{AllPermitted, Permit};
 pub use slice::{fill_slice, fill_slice_with};

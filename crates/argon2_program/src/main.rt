@@ -1,17 +1,7 @@
 //! The program `argon2`: hashes a password, verifies one, or says whether a new hash is needed.
 #![tactic(auto)]
 
-mod answer;
-mod arguments;
-mod command;
-mod fault;
-mod program;
-
-pub use answer::Answer;
-pub use arguments::{CommandLine, OfProcess};
-pub use command::Command;
-pub use fault::Fault;
-pub use program::{run, start};
+pub use argon2_commands::{Answer, Command, CommandLine, Fault, OfProcess, run, start};
 use std::process::ExitCode;
 
 /// Runs the program on the process's arguments and its three standard streams.
@@ -25,6 +15,3 @@ fn main(rt: HostRuntime) -> ExitCode {
         &mut rt.stderr(),
     )
 }
-
-#[cfg(test)]
-mod tests;

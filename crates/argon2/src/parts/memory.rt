@@ -1,3 +1,3 @@
 //! The matrix of blocks, and its segments.
 
-pub use argon2_fill::memory::{Memory, Segment, Source};
+pub use argon2_memory::memory::{Memory, Segment, Source};

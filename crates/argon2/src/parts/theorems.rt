@@ -1,7 +1,7 @@
 //! What holds of the definitions: each law is a clause of a call without arguments, which does
 //! nothing when it runs.
 
-ghost use Rattle.argon2_fill.specs.Laws.AnyOrder.{EveryOrderAgrees, NoEntryReadsOthers, PicksHoldTheirBlocks};
+ghost use Rattle.argon2_memory.specs.Laws.AnyOrder.{EveryOrderAgrees, NoEntryReadsOthers, PicksHoldTheirBlocks};
 ghost use Rattle.argon2.specs.Laws.Definitions.{IsOnlySolution, LengthIsTheHash, MeetsRecurrence, OwnTagVerifies, TagForgetsMode};
 ghost use Rattle.argon2.specs.Laws.Texts.{HashedTextVerifies, HeadHasItems, IsJoinedItems, SpellsExample, SpellsOne, SpellsOwnValue, WritesExample};
 

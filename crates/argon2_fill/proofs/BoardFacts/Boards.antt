@@ -15,8 +15,8 @@ use Rattle.argon2_fill.specs.declared.workers.event.Event.{Event}
 use Rattle.argon2_fill.specs.declared.workers.event.Event.TheVariants.{Take, Put}
 use Rattle.argon2_fill.specs.declared.workers.slot.Slot.{Slot}
 use Rattle.argon2_fill.specs.declared.workers.slot.Slot.TheVariants as slot
-use Rattle.argon2_fill.specs.Views.Segments.{SegmentValue, segment_at}
-use Rattle.argon2_fill.specs.Views.Filling.{no_segment}
+use Rattle.argon2_memory.specs.Views.Segments.{SegmentValue, segment_at}
+use Rattle.argon2_memory.specs.Views.Filling.{no_segment}
 use Rattle.argon2_fill.specs.Views.Replay.{least_waiting, after_take, after_put}
 use Rattle.argon2_fill.specs.Views.Boards.{AllDone, AreReady, HoldSlice, NoneOut}
 use Rattle.argon2_fill.specs.Views.Slots.{AreLanes, IsSlot, place_in, events_left}

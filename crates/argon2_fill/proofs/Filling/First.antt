@@ -7,15 +7,15 @@ use Rattle.std.proofs.lemmas.List.FromFn.{get_or-map-range_with_len, length-map-
 use Rattle.std.proofs.Math.Nat.{div-add-mod, mod-lt, div-eq_of_lt, mod-eq_of_lt}
 use Rattle.argon2_settings.specs.Standard.Setting.{Setting}
 use Rattle.argon2_settings.specs.Views.Jobs.{IsSetting}
-use Rattle.argon2_fill.specs.Laws.Matrix.{IsBegun, matrix_with}
+use Rattle.argon2_memory.specs.Laws.Matrix.{IsBegun, matrix_with}
 use Rattle.argon2_settings.specs.Standard.Recurrence.{block_at, first_block}
-use Rattle.argon2_fill.specs.Views.Segments.{SegmentValue, IsReady, segment_at, segment_block}
-use Rattle.argon2_fill.specs.Views.Sources.{with_block}
-use Rattle.argon2_fill.specs.Views.Filling.{no_segment}
-use Rattle.argon2_fill.specs.Views.Memories.{MemoryValue, AreSlices, HasShape, IsFilledBelow, block_of, segment_in, set_in, slice_writes, writes_in}
-use Rattle.argon2_fill.proofs.Schedules.AnyOrder.{recurrence_first}
-use Rattle.argon2_fill.proofs.Recurrence.Recurrences.{block_at-recurrence}
-use Rattle.argon2_fill.proofs.Filling.Slices.{set_stays, slice_fits}
+use Rattle.argon2_memory.specs.Views.Segments.{SegmentValue, IsReady, segment_at, segment_block}
+use Rattle.argon2_memory.specs.Views.Sources.{with_block}
+use Rattle.argon2_memory.specs.Views.Filling.{no_segment}
+use Rattle.argon2_memory.specs.Views.Memories.{MemoryValue, AreSlices, HasShape, IsFilledBelow, block_of, segment_in, set_in, slice_writes, writes_in}
+use Rattle.argon2_memory.proofs.Schedules.AnyOrder.{recurrence_first}
+use Rattle.argon2_memory.proofs.Recurrence.Recurrences.{block_at-recurrence}
+use Rattle.argon2_memory.proofs.Filling.Slices.{set_stays, slice_fits}
 
 -- ---- one write
 

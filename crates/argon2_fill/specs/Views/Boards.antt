@@ -6,8 +6,8 @@ use Rattle.argon2_fill.specs.declared.workers.event.Place.TheVariants.{Done, Out
 use Rattle.argon2_fill.specs.declared.workers.event.Event.{Event}
 use Rattle.argon2_settings.specs.Standard.Setting.{Setting}
 use Rattle.argon2_settings.specs.Views.Jobs.{Job}
-use Rattle.argon2_fill.specs.Views.Segments.{SegmentValue, IsReady, segment_at}
-use Rattle.argon2_fill.specs.Views.Filling.{no_segment}
+use Rattle.argon2_memory.specs.Views.Segments.{SegmentValue, IsReady, segment_at}
+use Rattle.argon2_memory.specs.Views.Filling.{no_segment}
 
 -- the job, the state of each lane, and the events so far
 pub record BoardValue : Type 0 where

@@ -5,9 +5,9 @@ ghost use Rattle.std.specs.Prelude.{◌≡◌, ℕ, ◌+◌, ◌*◌, ◌^◌, �
 ghost use Rattle.argon2_fill.specs.Views.Boards.{AllDone, AreReady, HoldSlice, NoneOut};
 ghost use Rattle.argon2_fill.specs.Views.Replay.{least_waiting, replay};
 
-use crate::memory::Segment;
 use crate::workers::slot::Slot;
 use crate::workers::{Claim, Event, Filled, Place};
+use argon2_memory::memory::Segment;
 use argon2_settings::context::Job;
 use argon2_settings::error::Error;
 use argon2_settings::result::Result;

@@ -2,9 +2,9 @@
 
 ghost use Rattle.std.specs.Prelude.{◌≡◌, ◌+◌, ◌^◌, ◌<◌, true};
 
-use crate::segment::Snapshot;
 use crate::workers::handles::Handles;
 use crate::workers::{Board, Claim, Filled, Gate, Permit};
+use argon2_memory::segment::Snapshot;
 use std::marker::Sync;
 use std::sync::{Mutex, Wait};
 use std::thread::{Builder, JoinHandle, Scope, Threads};

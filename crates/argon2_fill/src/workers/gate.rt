@@ -2,8 +2,8 @@
 
 ghost use Rattle.std.specs.Prelude.{◌≡◌, ◌↔◌, IfErr, IfOk, IsOk};
 
-use crate::segment::Snapshot;
 use crate::workers::{Claim, Filled};
+use argon2_memory::segment::Snapshot;
 use std::marker::Sync;
 
 /// What each worker calls around its work. All workers share it, so it can hold one back until

@@ -6,16 +6,16 @@ ghost use Rattle.argon2_settings.specs.Standard.Outcome.{IsShortage};
 ghost use Rattle.argon2_settings.specs.Views.Presets.{workers_of};
 ghost use Rattle.argon2_settings.specs.Views.Contexts.{setting_of_context};
 ghost use Rattle.argon2_fill.specs.Views.Boards.{NoneOut};
-ghost use Rattle.argon2_fill.specs.Views.Filling.{IsSnapshot};
-ghost use Rattle.argon2_fill.specs.Laws.Matrix.{HoldsLastPass, IsBegun};
-ghost use Rattle.argon2_fill.specs.Views.Memories.{AreSlices, HasShape, IsFilledBelow, block_of, no_memory};
+ghost use Rattle.argon2_memory.specs.Views.Filling.{IsSnapshot};
+ghost use Rattle.argon2_memory.specs.Laws.Matrix.{HoldsLastPass, IsBegun};
+ghost use Rattle.argon2_memory.specs.Views.Memories.{AreSlices, HasShape, IsFilledBelow, block_of, no_memory};
 ghost use Rattle.argon2_fill.specs.Views.Permits.{PermitsAll};
-ghost use Rattle.argon2_fill.specs.Views.SliceLists.{segments_of};
+ghost use Rattle.argon2_memory.specs.Views.SliceLists.{segments_of};
 
-use crate::memory::{Memory, Slices, others, take_slice};
-use crate::segment::Snapshot;
 use crate::walk::{numbered_slice, slice_count};
 use crate::workers::{AllPermitted, Board, Gate, Permit, Place, fill_slice_with};
+use argon2_memory::memory::{Memory, Slices, memory_of_slices, others, take_slice, take_slices};
+use argon2_memory::segment::Snapshot;
 use argon2_settings::context::{Context, Job, recall_context, recall_job, worker_count};
 use argon2_settings::error::Error;
 use argon2_settings::result::Result;
@@ -25,7 +25,7 @@ use std::sync::Wait;
 use std::thread::Threads;
 
 /// Moves the job's slice out onto a board. The slices that stay are the job's snapshot.
-pub(crate) fn board_of(alloc: Global, job: &Job, slices: &mut Slices) -> Result<Board>
+pub fn board_of(alloc: Global, job: &Job, slices: &mut Slices) -> Result<Board>
     requires slices { AreSlices job.now.setting.lanes job.now.setting.segment_length
         (segments_of slices.old) }
     requires ready { IsFilledBelow job.now.setting job.now.pass job.now.slice
@@ -132,12 +132,12 @@ pub fn fill_parallel_with<R: Threads + Wait + Sync, G: Gate, P: Permit>(
     recall_context(context);
     let workers = worker_count(context);
     let job = Job::new(context);
-    let mut slices = memory.take_slices();
+    let mut slices = take_slices(memory);
     for n in 0..slice_count(&job) {
         let slice = numbered_slice(&job, n);
         let first = n * u64::from(workers);
         fill_slice_by_workers(rt, alloc, &slice, &mut slices, gate, permit, first, workers)?;
     }
-    *memory = Memory::from_slices(job.lanes(), job.segment_length(), slices);
+    *memory = memory_of_slices(job.lanes(), job.segment_length(), slices);
     Ok(())
 }

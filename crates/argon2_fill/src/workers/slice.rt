@@ -4,10 +4,10 @@ ghost use Rattle.std.specs.Prelude.{◌≡◌, ◌+◌, ◌^◌, ◌<◌, ◌↔
 ghost use Rattle.argon2_fill.specs.Views.Boards.{AllDone, NoneOut};
 ghost use Rattle.argon2_fill.specs.Views.Permits.{PermitsAll};
 
-use crate::segment::Snapshot;
 use crate::workers::crew::run_workers;
 use crate::workers::permit::all_permitted;
 use crate::workers::{AllPermitted, Board, Gate, Permit};
+use argon2_memory::segment::Snapshot;
 use argon2_settings::error::Error;
 use argon2_settings::result::Result;
 use std::marker::Sync;

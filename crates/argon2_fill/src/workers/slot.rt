@@ -1,6 +1,6 @@
 //! What a board keeps of a lane.
 
-use crate::memory::Segment;
+use argon2_memory::memory::Segment;
 
 /// A lane's place, with its segment where the board has it.
 #[derive(Drop)]

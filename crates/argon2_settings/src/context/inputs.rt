@@ -51,6 +51,3 @@ pub(super) fn prehash<'a>(
     );
     out
 }
-
-#[cfg(test)]
-mod tests;

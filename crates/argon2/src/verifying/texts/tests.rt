@@ -3,8 +3,8 @@
 use super::{config_of, verify_encoded};
 use crate::{Config, ThreadMode, Variant, Version, hash_encoded_sequential};
 use argon2_fill::fill::{finalize, initialize, prepare_memory};
-use argon2_fill::memory::Memory;
 use argon2_fill::workers::{NoGate, Permit, fill_parallel_with};
+use argon2_memory::memory::Memory;
 use argon2_settings::context::Context;
 use argon2_text::encoding::decode_string;
 use std::sync::atomic::{AtomicU64, Ordering};

@@ -3,7 +3,7 @@ use Rattle.std.specs.List.{fold, range_with_len}
 use Rattle.std.proofs.lemmas.List.Sums.{fold-append}
 use Rattle.std.proofs.lemmas.List.FromFn.{map-range_with_len_more}
 use Rattle.argon2_blocks.specs.Standard.Block.{xor, zero_block}
-use Rattle.argon2_fill.specs.Views.Memories.{block_of}
+use Rattle.argon2_memory.specs.Views.Memories.{block_of}
 use Rattle.argon2_fill.proofs.fill.combine_last_blocks.Goals as goal
 
 pub loop-lane-preserved : goal.loop-lane-preserved

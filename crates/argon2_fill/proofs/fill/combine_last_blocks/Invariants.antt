@@ -1,7 +1,7 @@
 use Rattle.std.proofs.Common.{◌≡◌, ◌-◌, ◌*◌, map}
 use Rattle.std.specs.List.{fold, range_with_len}
 use Rattle.argon2_blocks.specs.Standard.Block.{xor, zero_block}
-use Rattle.argon2_fill.specs.Views.Memories.{block_of}
+use Rattle.argon2_memory.specs.Views.Memories.{block_of}
 use Rattle.argon2_fill.proofs.fill.combine_last_blocks.Given as goal
 
 abbrev pub invariant-loop-lane : goal.invariant-loop-lane

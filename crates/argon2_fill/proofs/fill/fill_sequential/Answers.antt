@@ -2,8 +2,8 @@ use Rattle.std.proofs.Common.{◌≡◌, ℕ, ◌+◌, ◌-◌, ◌*◌, ◌%◌
 use Rattle.argon2_settings.specs.Views.Contexts.{setting_of_context}
 use Rattle.argon2_settings.specs.Views.Jobs.{Job}
 use Rattle.argon2_settings.specs.Standard.Setting.{memory_blocks}
-use Rattle.argon2_fill.specs.Views.Memories.{HasShape, blocks_written, writes_in}
-use Rattle.argon2_fill.specs.Views.Segments.{SegmentValue}
+use Rattle.argon2_memory.specs.Views.Memories.{HasShape, blocks_written, writes_in}
+use Rattle.argon2_memory.specs.Views.Segments.{SegmentValue}
 use Rattle.argon2_fill.proofs.Filling.First.{filled_begun}
 use Rattle.argon2_fill.proofs.Filling.Passes.{all_written, holds_last_pass}
 use Rattle.argon2_fill.proofs.fill.fill_sequential.Goals as goal
@@ -20,9 +20,9 @@ pub returns-clause-filled : goal.returns-clause-filled
 returns-clause-filled c =
     let s = setting_of_context c.args.context.now in
     let same : c.new-job.result.setting ≡ s = ap (λ (j : Job). j.setting) c.new-job.ensures.value in
-    let shape : HasShape s c.from_slices.result = rw (c.from_slices.ensures, c.lanes.ensures.value, c.segment_length.ensures.value, same)
+    let shape : HasShape s c.memory_of_slices.result = rw (c.memory_of_slices.ensures, c.lanes.ensures.value, c.segment_length.ensures.value, same)
     (record { lanes = refl; segment_length = refl }) in
-    holds_last_pass s c.recall_context.ensures.setting c.from_slices.result shape (rw c.from_slices.ensures (rw same at c.fill_slices.ensures.filled))
+    holds_last_pass s c.recall_context.ensures.setting c.memory_of_slices.result shape (rw c.memory_of_slices.ensures (rw same at c.fill_slices.ensures.filled))
 
 pub returns-clause-writes : goal.returns-clause-writes
 returns-clause-writes c =
@@ -31,7 +31,7 @@ returns-clause-writes c =
     let known = c.recall_context.ensures in
     let same : c.new-job.result.setting ≡ s = ap (λ (j : Job). j.setting) c.new-job.ensures.value in
     let before = writes_in c.args.memory.now.slices in
-    rw c.from_slices.ensures
+    rw c.memory_of_slices.ensures
     (rw same at c.fill_slices.ensures.writes
     ∙ ap (λ (l : List (List SegmentValue)). (writes_in l + blocks_written s (4 * s.passes)) % 2 ^ 64) c.take_slices-slices.ensures.slices
     ∙ ap (λ (b : ℕ). (before + b) % 2 ^ 64) (all_written s known.setting)

@@ -1,6 +1,6 @@
 use Rattle.std.proofs.Common.{◌≡◌, ◌+◌, ◌/◌, ◌%◌, ◌^◌}
-use Rattle.argon2_fill.specs.Views.Memories.{AreSlices, IsFilledBelow, blocks_written, writes_in}
-use Rattle.argon2_fill.specs.Views.SliceLists.{segments_of}
+use Rattle.argon2_memory.specs.Views.Memories.{AreSlices, IsFilledBelow, blocks_written, writes_in}
+use Rattle.argon2_memory.specs.Views.SliceLists.{segments_of}
 use Rattle.argon2_fill.proofs.fill.fill_slices.Given as goal
 
 abbrev pub invariant-loop-n : goal.invariant-loop-n

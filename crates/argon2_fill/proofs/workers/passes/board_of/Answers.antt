@@ -1,6 +1,6 @@
 use Rattle.std.proofs.Common.{◌<◌, length, arith}
-use Rattle.argon2_fill.specs.Views.SliceLists.{segments_of}
-use Rattle.argon2_fill.proofs.Filling.Slices.{is_snapshot, others-taken}
+use Rattle.argon2_memory.specs.Views.SliceLists.{segments_of}
+use Rattle.argon2_memory.proofs.Filling.Slices.{is_snapshot, others-taken}
 use Rattle.argon2_fill.proofs.workers.passes.board_of.Goals as goal
 
 pub returns-clause-snapshot : goal.returns-clause-snapshot

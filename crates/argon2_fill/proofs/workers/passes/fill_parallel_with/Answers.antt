@@ -1,10 +1,10 @@
 use Rattle.std.proofs.Common.{◌≡◌, ℕ, ◌+◌, ◌*◌, ◌/◌, ◌%◌, ◌-◌, Bool, arith, inl, inr, refl, ap}
 use Rattle.argon2_settings.specs.Views.Contexts.{setting_of_context}
 use Rattle.argon2_settings.specs.Views.Jobs.{Job}
-use Rattle.argon2_fill.specs.Views.Memories.{HasShape}
+use Rattle.argon2_memory.specs.Views.Memories.{HasShape}
 use Rattle.std.proofs.lemmas.Bool.{cases_lt}
 use Rattle.argon2_fill.specs.Views.Permits.{PermitsAll}
-use Rattle.argon2_fill.specs.Views.SliceLists.{segments_of}
+use Rattle.argon2_memory.specs.Views.SliceLists.{segments_of}
 use Rattle.argon2_fill.proofs.Filling.First.{filled_begun}
 use Rattle.argon2_fill.proofs.Filling.Passes.{holds_last_pass, next_slice}
 use Rattle.argon2_fill.proofs.workers.passes.fill_parallel_with.Goals as goal
@@ -45,7 +45,7 @@ pub returns-clause-filled : goal.returns-clause-filled
 returns-clause-filled g c =
     let s = setting_of_context c.args.context.now in
     let same : c.new-job.result.setting ≡ s = ap (λ (j : Job). j.setting) c.new-job.ensures.value in
-    let shape : HasShape s c.from_slices.result = rw (c.from_slices.ensures, c.lanes.ensures.value, c.segment_length.ensures.value, same)
+    let shape : HasShape s c.memory_of_slices.result = rw (c.memory_of_slices.ensures, c.lanes.ensures.value, c.segment_length.ensures.value, same)
     (record { lanes = refl; segment_length = refl }) in
     let whole : c.loop-n.n ≡ 4 * c.new-job.result.setting.passes = omega arith in
     let filled = rw (
@@ -53,4 +53,4 @@ returns-clause-filled g c =
           q,
       let r : c.loop-n.n % 4 ≡ 0 = omega (arith, whole) in r,
     ) at c.loop-n.invariant.filled in
-    holds_last_pass s c.recall_context.ensures.setting c.from_slices.result shape (rw c.from_slices.ensures (rw same at filled))
+    holds_last_pass s c.recall_context.ensures.setting c.memory_of_slices.result shape (rw c.memory_of_slices.ensures (rw same at filled))

@@ -1,7 +1,7 @@
 use Rattle.std.proofs.Common.{◌*◌, ◌/◌, ◌%◌}
-use Rattle.argon2_fill.specs.Views.Memories.{AreSlices, IsFilledBelow}
+use Rattle.argon2_memory.specs.Views.Memories.{AreSlices, IsFilledBelow}
 use Rattle.argon2_fill.specs.Views.Permits.{PermitsAll}
-use Rattle.argon2_fill.specs.Views.SliceLists.{segments_of}
+use Rattle.argon2_memory.specs.Views.SliceLists.{segments_of}
 use Rattle.argon2_fill.proofs.workers.passes.fill_parallel_with.Given as goal
 
 abbrev pub invariant-loop-n : goal.invariant-loop-n

@@ -4,7 +4,7 @@ use Rattle.std.specs.List.{list_all, range_with_len}
 use Rattle.std.proofs.lemmas.Iterator.{YieldsList-from_range}
 use Rattle.std.proofs.lemmas.Iterator.Search.{all_from_yields_List}
 use Rattle.argon2_fill.specs.Views.Permits.{PermitsAll}
-use Rattle.argon2_fill.proofs.Recurrence.Recurrences.{both-true}
+use Rattle.argon2_memory.proofs.Recurrence.Recurrences.{both-true}
 use Rattle.argon2_fill.proofs.workers.permit.all_permitted.Goals as goal
 
 -- where a conjunction is true, its first part is

@@ -2,7 +2,7 @@ use Rattle.std.proofs.Common.{◌≡◌, ◌∙◌, ap, refl, arith, map, rules}
 use Rattle.argon2_fill.specs.declared.workers.event.Place.TheVariants as place
 use Rattle.argon2_fill.specs.declared.workers.slot.Slot.TheVariants as slot
 use Rattle.argon2_settings.specs.Views.Jobs.{Job}
-use Rattle.argon2_fill.specs.Views.Segments.{segment_at}
+use Rattle.argon2_memory.specs.Views.Segments.{segment_at}
 use Rattle.argon2_fill.specs.Views.Slots.{place_in}
 use Rattle.argon2_fill.proofs.BoardFacts.Boards.{left-set, read-out, place_at, lanes-put}
 use Rattle.argon2_fill.proofs.BoardFacts.Replays.{left-out}

@@ -1,6 +1,6 @@
 use Rattle.std.proofs.Common.{◌≡◌, rules, ◌∙◌, sym, refl, subst, ap}
 use Rattle.argon2_settings.specs.Views.Jobs.{Job}
-use Rattle.argon2_fill.specs.Views.Segments.{IsReady, segment_at}
+use Rattle.argon2_memory.specs.Views.Segments.{IsReady, segment_at}
 use Rattle.argon2_fill.proofs.workers.claim.Claim.fill.Goals as goal
 
 pub fill_segment-requires-clause-ready : goal.fill_segment-requires-clause-ready

@@ -1,0 +1,26 @@
+-- Words by their places, and places that hold no number, name or version.
+use Rattle.std.proofs.Common.{◌≡◌, ◌<◌, ℕ, List, [], length, slice_index_or, Option, None, Result, Ok, Err, MatchOption, MatchResult, is_some, is_ok}
+use Rattle.std.proofs.Common.{arith, string_bytes, sym, ◌∙◌, ap, subst, rules}
+use Rattle.std.specs.declared.alloc.Global.{Global}
+use Rattle.std.specs.declared.string.String.{String}
+use Rattle.std.proofs.lemmas.List.{get_or-map}
+use Rattle.argon2_commands.specs.Words.{IsNumber, texts_of, word}
+
+-- the text of a word is the word at its place
+pub word-texts_of : (words : List (String Global)) (place : ℕ) (s : String Global) (text : List ℕ) → place < length words
+    → s ≡ slice_index_or words place s → text ≡ string_bytes s → word (texts_of words) place ≡ text
+word-texts_of words place s text h is e = get_or-map string_bytes words place s [] h ∙ ap string_bytes (sym is) ∙ sym e
+
+-- where no number was read from a text, none stands at its place
+pub no_number : (text other : List ℕ) (read : Option ℕ) → read ≡ None → MatchOption read ((n : ℕ) → IsNumber text n → ⊥) (IsNumber text)
+    → other ≡ text → (n : ℕ) → IsNumber other n → ⊥
+no_number text other read none answer e n h =
+    let refuses : (n : ℕ) → IsNumber text n → ⊥ =
+    subst (λ o. MatchOption o ((k : ℕ) → IsNumber text k → ⊥) (IsNumber text)) none answer in
+    refuses n (subst (λ t. IsNumber t n) e h)
+
+-- a result whose `ok()` is None holds an error
+pub refusal_of : {A E : Type 0} (P : A → Type 0) (Q : E → Type 0) (r : Result A E) (o : Option A) → o ≡ None → is_some o ≡ is_ok r → MatchResult r P Q
+    → (e : E) × Q e
+refusal_of P Q (Err e) o none same m = (e, m)
+refusal_of P Q (Ok v) o none same m = grind (arith, rules, ap is_some none, same)

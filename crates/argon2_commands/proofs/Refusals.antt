@@ -1,0 +1,37 @@
+-- Refusals that are passed on, and what is known of accepted values.
+use Rattle.std.proofs.Common.{ap, inl, inr, refl, ◌⊎◌, ◌≡◌, ℕ, List, Option, None, Some, MatchOption, Result, Ok, Err, IfErr, sym, subst}
+use Rattle.std.specs.Result.{IsErr, IsErrAnd}
+use Rattle.argon2.specs.ErrorType.{Error}
+use Rattle.argon2_commands.specs.declared.fault.Fault.{Fault}
+use Rattle.argon2_commands.specs.declared.fault.Fault.TheVariants.{Input, Refused}
+use Rattle.std.specs.Io.KnownBytes.{Keeps}
+use Rattle.argon2_commands.specs.Answer.{MayRefuse}
+use Rattle.argon2_commands.specs.Fault.{fault_status}
+use Rattle.argon2_commands.specs.Run.{IsShortOrRefused}
+use Rattle.argon2_commands.specs.Words.{IsCommand}
+use Rattle.argon2_commands.specs.declared.command.Command.{Command}
+
+-- what holds of a fault that is passed on
+pub passed_on : {A : Type 0} (result : Result A Fault) (fault : Fault) (P : Fault → Type 0) →
+    IsErr result × IsErrAnd result (λ other. other ≡ fault) → P fault → IfErr result P
+passed_on (Ok _) fault P h p = tt
+passed_on (Err other) fault P h p = subst P (sym h.1) p
+
+-- known bytes that nothing was written to are kept
+keeps : (known : Option (List ℕ)) → Keeps known known
+keeps None = tt
+keeps (Some bytes) = refl
+
+-- a fault of a command's answer with status 2 is the command's refusal
+pub is_refused : (words : List (List ℕ)) (input before : Option (List ℕ)) (command : Command) (fault : Fault) → IsCommand words command →
+    (fault ≡ Input) ⊎ ((refusal : Error) × (fault ≡ Refused refusal) × MayRefuse command input refusal) → fault_status fault ≡ 2 →
+    IsShortOrRefused words input before before
+is_refused words input before command fault is (inl other) two = absurd (cc (ap fault_status other, two))
+is_refused words input before command fault is (inr (refusal, same, may)) two =
+    inl (record { command = command; refusal = refusal; is_command = is; may_refuse = may }, keeps before)
+
+-- what is known of an accepted value, where a refusal would have been an error
+pub at_accepted : {A : Type 0} (refusal : Option Error) (P : Type 0) (value : A) →
+    MatchOption refusal P (λ (e : Error). let r : Result A Error = Ok value in r ≡ Err e) → P
+at_accepted None P value h = h
+at_accepted (Some e) P value h = absurd (cc)

@@ -1,0 +1,38 @@
+use Rattle.std.proofs.Common.{rules, arith, ◌≡◌, ◌+◌, ◌∷◌, ◌++◌, [], ◌∙◌, Vec, inl, refl, subst, sym, ap}
+use Rattle.std.proofs.lemmas.List.{map_push}
+use Rattle.std.specs.Prelude.{string_bytes}
+use Rattle.std.specs.Result.{IsOk}
+use Rattle.argon2_commands.specs.CommandLine.{IsArgument}
+use Rattle.argon2_commands.specs.Words.{texts_of}
+use Rattle.argon2_commands.proofs.Reading.{IsReadTo, all_read, no_text, one_more}
+use Rattle.argon2_commands.proofs.arguments.arguments.Goals as goal
+
+-- src/arguments.rt:56:13
+pub returns-in_default-clause-all : goal.returns-in_default-clause-all
+returns-in_default-clause-all g c =
+    all_read (g.L.CommandLine.arguments c.args.line.now) (texts_of c.loop-index.words.items) c.loop-index.index c.loop-index.invariant.0
+    (subst (λ found. IsArgument (g.L.CommandLine.arguments c.args.line.now) c.loop-index.index found) c.in_default.is c.in_ok-bytes.ensures.found)
+
+-- src/arguments.rt:59:13
+pub returns-in_default-from_utf8-clause-fault : goal.returns-in_default-from_utf8-clause-fault
+returns-in_default-from_utf8-clause-fault g c =
+    inl (
+      refl,
+      no_text (g.L.CommandLine.arguments c.args.line.now) c.loop-index.index c.in-Some.bytes (omega (arith, c.loop-index.invariant.1))
+          (subst (λ found. IsArgument (g.L.CommandLine.arguments c.args.line.now) c.loop-index.index found) c.in-Some.is c.in_ok-bytes.ensures.found)
+          (λ text. absurd (cc (subst (λ read. IsOk read) c.in_default-from_utf8.is (c.from_utf8.ensures.succeeds text)))),
+    )
+
+-- src/arguments.rt:54:5
+pub loop-index-preserved : goal.loop-index-preserved
+loop-index-preserved g c =
+    let known = g.L.CommandLine.arguments c.args.line.now in
+    let before = texts_of c.loop-index.words.items in
+    let pushed : texts_of c.push.new.self.items ≡ before ++ c.in-Some.bytes.items ∷ [] =
+    ap texts_of c.in_ok-push.ensures.items ∙ map_push string_bytes c.loop-index.words.items c.in-Ok.word
+    ∙ ap (λ (v : Vec _ _). before ++ v.items ∷ []) c.in-Ok.ensures.ok in (
+      subst (λ texts. IsReadTo known texts (c.loop-index.index + 1)) (sym pushed)
+          (one_more known before c.loop-index.index c.in-Some.bytes c.loop-index.invariant.0
+          (subst (λ found. IsArgument known c.loop-index.index found) c.in-Some.is c.in_ok-bytes.ensures.found)),
+      omega (arith, c.loop-index.invariant.1),
+    )

@@ -1,0 +1,155 @@
+//! What a command answers.
+
+ghost use Rattle.std.specs.Prelude.{◌≡◌, ◌⊎◌, IfErr, IfOk, IfSome, IsNone, OnOk, length, string_bytes, vec_len};
+ghost use Rattle.std.specs.Io.KnownBytes.{Keeps};
+ghost use Rattle.argon2.specs.Outcome.{IsShortage};
+ghost use Rattle.argon2.specs.ThreadModes.{may_lack_workers};
+ghost use Rattle.argon2.specs.SettingsTable.{refusal_of};
+ghost use Rattle.argon2.specs.Tag.{tag_of};
+ghost use Rattle.argon2.specs.ErrorType.{Error};
+ghost use Rattle.argon2.specs.ErrorType.TheVariants.{OutOfMemory};
+ghost use Rattle.argon2_commands.specs.Answer.{IsAnswer, IsPassword, IsRefusal, MayRefuse, NeedsNoInput, answer_status, hash_lines, lines_of};
+
+use crate::command::Command;
+use crate::fault::Fault;
+use argon2::parts::context::Context;
+use argon2::parts::encoding::encode_string;
+use argon2::parts::fill::{fill_memory_blocks, finalize, initialize, prepare_memory};
+use argon2::parts::memory::Memory;
+use argon2::{Config, needs_rehash, verify_encoded};
+use std::alloc::Global;
+use std::io::Read;
+use std::marker::Sync;
+use std::sync::Wait;
+use std::thread::Threads;
+
+/// What a command answers where nothing went wrong.
+#[derive(Debug, Drop)]
+pub enum Answer {
+    /// The tag in lower-case hexadecimal and the encoded text, a line each.
+    Hashed(String),
+
+    /// Whether the password is that of the text, or a new hash is needed.
+    Verdict(bool),
+}
+
+impl Answer {
+    /// The answer of a command, which reads the password from all of the input where it needs one.
+    pub fn to<R: Threads + Wait + Sync, I: Read>(
+        rt: &R,
+        alloc: Global,
+        command: &Command<'_>,
+        input: &mut I,
+    ) -> Result<Answer, Fault>
+        ensures answer { IfOk result (IsAnswer command.now (I.remaining input.old)) }
+        ensures fault { IfErr result (λ fault. (fault ≡ Fault.Input)
+            ⊎ ((refusal : Error) × (fault ≡ Fault.Refused refusal)
+            × MayRefuse command.now (I.remaining input.old) refusal)) }
+        ensures unread { NeedsNoInput command.now
+            → Keeps (I.remaining input.old) (I.remaining input.new) }
+    {
+        match *command {
+            Command::Hash { config, salt } => {
+                let password = read_password(alloc, input)?;
+                let lines = hash_lines(rt, alloc, password.as_slice(), salt, config)?;
+                Ok(Answer::Hashed(lines))
+            }
+            Command::Verify { encoded } => {
+                let password = read_password(alloc, input)?;
+                let verdict = verify_encoded(rt, alloc, encoded, password.as_slice())?;
+                Ok(Answer::Verdict(verdict))
+            }
+            Command::Rehash { config, encoded } => {
+                Ok(Answer::Verdict(needs_rehash(alloc, encoded, &config)?))
+            }
+        }
+    }
+
+    /// The lines that are written.
+    pub fn lines(&self) -> &str
+        ensures { result.now ≡ lines_of self.now }
+    {
+        match self {
+            Answer::Hashed(lines) => lines.as_str(),
+            Answer::Verdict(true) => "true\n",
+            Answer::Verdict(false) => "false\n",
+        }
+    }
+
+    /// The exit status: 1 for `false`, else 0.
+    pub fn status(&self) -> u8
+        ensures { result ≡ answer_status self.now }
+    {
+        match *self {
+            Answer::Hashed(_) | Answer::Verdict(true) => 0,
+            Answer::Verdict(false) => 1,
+        }
+    }
+}
+
+/// All bytes of the input.
+fn read_password<I: Read>(alloc: Global, input: &mut I) -> Result<Vec<u8>, Fault>
+    ensures bytes { IfOk result (λ password. IsPassword (I.remaining input.old) password.items) }
+    ensures fault { IfErr result (λ fault. (fault ≡ Fault.Input)
+        ⊎ (fault ≡ Fault.Refused OutOfMemory)) }
+{
+    let mut password = Vec::new(alloc);
+    match input.read_to_end(&mut password) {
+        Ok(_) => Ok(password),
+        Err(error) => Err(Fault::of_stream(&error, Fault::Input)),
+    }
+}
+
+/// The tag of an accepted call.
+fn tag<R: Threads + Wait + Sync>(
+    rt: &R,
+    alloc: Global,
+    context: &Context<'_>,
+) -> argon2::Result<Vec<u8>>
+    ensures tag { let c = context.now in
+        IfOk result (λ tag. tag.items ≡ tag_of c.pwd.now c.salt.now c.config c.config.hash_length) }
+    ensures length { IfOk result (λ tag. vec_len tag ≡ context.now.config.hash_length) }
+    ensures refused { IfErr result (IsShortage (may_lack_workers context.now.config)) }
+{
+    let mut memory = Memory::empty(alloc);
+    prepare_memory(alloc, context, &mut memory)?;
+    initialize(context, &mut memory);
+    fill_memory_blocks(rt, alloc, context, &mut memory)?;
+    finalize(alloc, context, &memory)
+}
+
+/// The tag of an accepted call in lower-case hexadecimal and its encoded text, a line each.
+fn tag_lines<R: Threads + Wait + Sync>(
+    rt: &R,
+    alloc: Global,
+    context: &Context<'_>,
+) -> argon2::Result<String>
+    ensures lines { let c = context.now in
+        IfOk result (λ lines. string_bytes lines ≡ hash_lines c.config c.salt.now c.pwd.now) }
+    ensures refused { IfErr result (IsShortage (may_lack_workers context.now.config)) }
+{
+    let tag = tag(rt, alloc, context)?;
+    let text = encode_string(alloc, context, tag.as_slice())?;
+    let hexadecimal = hex::encode(alloc, tag.as_slice())?;
+    Ok(format!(in alloc; "{hexadecimal}\n{text}\n")?)
+}
+
+/// The tag of a password in lower-case hexadecimal and its encoded text, a line each.
+fn hash_lines<R: Threads + Wait + Sync>(
+    rt: &R,
+    alloc: Global,
+    password: &[u8],
+    salt: &[u8],
+    config: Config<'_>,
+) -> argon2::Result<String>
+    ensures lines { IfOk result (λ lines. string_bytes lines
+        ≡ hash_lines config.entry salt.now password.now) }
+    ensures accepted { OnOk result (IsNone (refusal_of config.entry (length password.now)
+        (length salt.now) config.entry.hash_length)) }
+    ensures refused { IfErr result (IsRefusal config.entry salt.now password.now) }
+{
+    match Context::new(config, password, salt) {
+        Ok(context) => tag_lines(rt, alloc, &context),
+        Err(refusal) => Err(refusal),
+    }
+}

@@ -1,0 +1,95 @@
+//! The commands, and how they are read from the words.
+
+ghost use Rattle.std.specs.Prelude.{◌≡◌, ◌≤◌, ℕ, length, IfSome, IfNone, MatchOption};
+ghost use Rattle.argon2.specs.ConfigType.{Config};
+ghost use Rattle.argon2.specs.ThreadModeType.{ThreadMode};
+ghost use Rattle.argon2_commands.specs.Words.{AreSettings, IsCommand, IsMode, IsNoCommand, IsNumber, texts_of};
+
+use argon2::{Config, ThreadMode, Variant, Version};
+
+/// What the program does.
+#[derive(Clone, Copy, Debug, PartialEq)]
+pub enum Command<'a> {
+    /// `hash VARIANT VERSION T M P LEN MODE SALT`: the tag of the password, and its encoded text.
+    Hash {
+        config: Config<'a>,
+        salt: &'a [u8],
+    },
+
+    /// `verify TEXT`: whether the password is that of an encoded text.
+    Verify {
+        encoded: &'a str,
+    },
+
+    /// `rehash VARIANT VERSION T M P LEN TEXT`: whether an encoded text was made with other settings.
+    Rehash {
+        config: Config<'a>,
+        encoded: &'a str,
+    },
+}
+
+impl<'a> Command<'a> {
+    /// The command of these words, those after the program's name; None where they are none.
+    pub fn from_words(words: &'a [String]) -> Option<Command<'a>>
+        ensures { MatchOption result (IsNoCommand (texts_of words.now)) (IsCommand
+            (texts_of words.now)) }
+    {
+        match words {
+            [name, _, _, _, _, _, _, mode, salt] if name.as_str() == "hash" => Some(
+                Command::Hash {
+                    config: settings_of(words, mode_of(mode.as_str())?)?,
+                    salt: salt.as_bytes(),
+                },
+            ),
+            [name, encoded] if name.as_str() == "verify" => Some(Command::Verify {
+                encoded: encoded.as_str(),
+            }),
+            [name, _, _, _, _, _, _, encoded] if name.as_str() == "rehash" => Some(
+                Command::Rehash {
+                    config: settings_of(words, ThreadMode::Sequential)?,
+                    encoded: encoded.as_str(),
+                },
+            ),
+            _ => None,
+        }
+    }
+}
+
+/// The settings of the words `VARIANT VERSION T M P LEN`, which follow the command's name.
+fn settings_of<'a>(words: &[String], thread_mode: ThreadMode) -> Option<Config<'a>>
+    requires { 7 ≤ length words.now }
+    ensures settings { IfSome result (AreSettings (texts_of words.now)) }
+    ensures mode { IfSome result (λ config. config.thread_mode ≡ thread_mode) }
+    ensures none { IfNone result ((config : Config) → AreSettings (texts_of words.now) config → ⊥) }
+{
+    Some(Config {
+        ad: &[],
+        hash_length: number_of(words[6].as_str())?,
+        lanes: number_of(words[5].as_str())?,
+        mem_cost: number_of(words[4].as_str())?,
+        secret: &[],
+        thread_mode,
+        time_cost: number_of(words[3].as_str())?,
+        variant: Variant::from_str(words[1].as_str()).ok()?,
+        version: Version::from_str(words[2].as_str()).ok()?,
+    })
+}
+
+/// The mode of `seq`, `par`, or `max` followed at once by a number.
+fn mode_of(word: &str) -> Option<ThreadMode>
+    ensures { MatchOption result ((mode : ThreadMode) → IsMode word.now mode
+        → ⊥) (IsMode word.now) }
+{
+    match word {
+        "seq" => Some(ThreadMode::Sequential),
+        "par" => Some(ThreadMode::Parallel),
+        _ => Some(ThreadMode::AtMost(number_of(word.strip_prefix("max")?)?)),
+    }
+}
+
+/// The number that decimal digits write, with or without a plus in front.
+fn number_of(word: &str) -> Option<u32>
+    ensures { MatchOption result ((number : ℕ) → IsNumber word.now number → ⊥) (IsNumber word.now) }
+{
+    word.parse::<u32>().ok()
+}

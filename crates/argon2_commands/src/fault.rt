@@ -1,0 +1,100 @@
+//! What may go wrong, and how the program ends then.
+
+ghost use Rattle.std.specs.Prelude.{◌≡◌, ◌≢◌, OnOk};
+ghost use Rattle.std.specs.IoError.{error_kind};
+ghost use Rattle.std.specs.Io.KnownBytes.{Appends};
+ghost use Rattle.argon2.specs.ErrorType.TheVariants.{OutOfMemory};
+ghost use Rattle.argon2_commands.specs.Fault.{fault_status, line_of};
+ghost use Rattle.argon2_commands.specs.declared.fault.Fault.TheVariants.{Refused};
+
+use argon2::Error;
+use std::alloc::{AllocError, AllocFailed};
+use std::io;
+use std::io::{ErrorKind, Write};
+
+/// Why the program has no answer, or could not write it.
+#[derive(Debug, Drop, PartialEq)]
+pub enum Fault {
+    /// The words are those of no command.
+    Usage,
+
+    /// The password could not be read.
+    Input,
+
+    /// The call was refused, or memory was.
+    Refused(Error),
+
+    /// The answer could not be written.
+    Output,
+}
+
+impl Fault {
+    /// The fault of a stream that failed: want of memory is a refusal, anything else what is given.
+    pub fn of_stream(error: &io::Error, other: Fault) -> Fault
+        ensures short { error_kind error.now ≡ ErrorKind.OutOfMemory → result ≡ Refused OutOfMemory }
+        ensures other { error_kind error.now ≢ ErrorKind.OutOfMemory → result ≡ other }
+    {
+        match error.kind() {
+            ErrorKind::OutOfMemory => Fault::Refused(Error::OutOfMemory),
+            _ => other,
+        }
+    }
+
+    /// The exit status: 2 for a refusal, 3 for wrong words, 4 where a stream failed.
+    pub fn status(&self) -> u8
+        ensures { result ≡ fault_status self.now }
+    {
+        match *self {
+            Fault::Refused(_) => 2,
+            Fault::Usage => 3,
+            Fault::Input | Fault::Output => 4,
+        }
+    }
+
+    /// Writes the fault's line, where it has one, and gives the exit status, which does not depend on
+    /// whether the line could be written.
+    pub fn report<W: Write>(&self, errors: &mut W) -> u8
+        ensures { result ≡ fault_status self.now }
+    {
+        let _ = self.write_line(errors);
+        self.status()
+    }
+
+    /// Writes the fault's line, where it has one.
+    fn write_line<W: Write>(&self, errors: &mut W) -> io::Result<()>
+        ensures { OnOk result (Appends (W.contents errors.old) (W.contents errors.new)
+            (line_of self.now)) }
+    {
+        match self {
+            Fault::Usage => errors.write_all(b"usage\n")?,
+            Fault::Input => errors.write_all(b"input\n")?,
+            Fault::Refused(refusal) => writeln!(errors, "{refusal}")?,
+            Fault::Output => {}
+        }
+        errors.flush()
+    }
+}
+
+impl From<Error> for Fault {
+    ghost from_gives = { λ refusal fault. fault ≡ Refused refusal };
+
+    fn from(refusal: Error) -> Fault {
+        Fault::Refused(refusal)
+    }
+}
+
+impl From<AllocError> for Fault {
+    ghost from_gives = { λ _ fault. fault ≡ Refused OutOfMemory };
+
+    fn from(_error: AllocError) -> Fault {
+        Fault::Refused(Error::OutOfMemory)
+    }
+}
+
+impl<T: Drop> From<AllocFailed<T>> for Fault {
+    ghost from_gives = { λ _ fault. fault ≡ Refused OutOfMemory };
+
+    fn from(_error: AllocFailed<T>) -> Fault {
+        Fault::Refused(Error::OutOfMemory)
+    }
+}

@@ -1,0 +1,5 @@
+mod memory;
+mod orders;
+mod positions;
+mod prehash;
+mod workers;

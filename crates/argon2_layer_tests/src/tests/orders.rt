@@ -1,0 +1,199 @@
+//! The fill of one shared matrix, block by block, in several orders of each slice.
+
+ghost use Rattle.std.specs.Prelude.{◌<◌, length};
+
+use argon2_blocks::blake2b::hprime;
+use argon2_blocks::block::{Block, fill_block};
+use argon2_blocks::common::SYNC_POINTS;
+use argon2_memory::segment::{pick, reference_positions};
+use argon2_settings::config::Config;
+use argon2_settings::context::{Context, Job};
+use argon2_settings::thread_mode::ThreadMode;
+use argon2_settings::variant::Variant;
+use argon2_settings::version::Version;
+use std::alloc::{AllocError, Global};
+use std::process::Abort;
+use std::test::Fail;
+
+/// An order of the single writes of a slice.
+#[derive(Clone, Copy)]
+enum Order {
+    LaneAfterLane,
+    OneBlockOfEachLane,
+    LastLaneFirst,
+}
+
+/// The lane of each write of a slice, where each lane writes `each` blocks.
+fn schedule(alloc: Global, order: Order, lanes: u32, each: u32) -> Result<Vec<u32>, AllocError> {
+    let mut entries = Vec::new(alloc);
+    for n in 0..u64::from(lanes) * u64::from(each) {
+        let (lanes, each) = (u64::from(lanes), u64::from(each));
+        let lane = match order {
+            Order::LaneAfterLane => n / each,
+            Order::OneBlockOfEachLane => n % lanes,
+            Order::LastLaneFirst => (lanes - 1).saturating_sub(n / each),
+        };
+        entries.push((lane % 16) as u32)?;
+    }
+    Ok(entries)
+}
+
+/// The place of a lane's column in one matrix for all lanes and all passes.
+fn place(rt: &impl Abort, job: &Job, blocks: &[Block], lane: u32, column: u32) -> usize
+    ensures { result < length blocks.now }
+{
+    let lane_length = u64::from(SYNC_POINTS) * u64::from(job.segment_length());
+    let place = u64::from(lane)
+        .wrapping_mul(lane_length)
+        .wrapping_add(u64::from(column)) as usize;
+    assert!(rt; place < blocks.len());
+    place
+}
+
+/// The lane and column that the block at an index refers to, by the present matrix.
+fn reference(rt: &impl Abort, job: &Job, lane: u32, index: u32, before: &Block) -> (u32, u32) {
+    assert!(rt; lane < job.lanes() && index < job.segment_length());
+    assert!(rt; job.first_index() <= index);
+    if job.is_independent() {
+        let mut one = [(0, 0)];
+        reference_positions(job, lane, index, &mut one);
+        one[0]
+    } else {
+        pick(job, lane, index, before[0])
+    }
+}
+
+/// Makes the lane's block at the index from the present matrix.
+fn step(
+    rt: &impl Abort,
+    job: &Job,
+    blocks: &mut [Block],
+    lane: u32,
+    index: u32,
+) -> Result<(), AllocError> {
+    assert!(rt; index < job.segment_length());
+    let column = job.start() + index;
+    let before = if column == 0 {
+        SYNC_POINTS * job.segment_length() - 1
+    } else {
+        column - 1
+    };
+    let before = place(rt, job, blocks, lane, before);
+    let (other, at) = reference(rt, job, lane, index, &blocks[before]);
+    let reference = place(rt, job, blocks, other, at);
+    let own = place(rt, job, blocks, lane, column);
+    let mut block = blocks[own].clone()?;
+    fill_block(
+        &blocks[before],
+        &blocks[reference],
+        &mut block,
+        job.combines(),
+    );
+    blocks[own] = block;
+    Ok(())
+}
+
+/// Fills a slice in the order.
+fn run_slice(
+    rt: &impl Abort,
+    alloc: Global,
+    job: &Job,
+    blocks: &mut [Block],
+    order: Order,
+) -> Result<(), AllocError> {
+    let first = job.first_index();
+    assert!(rt; first <= job.segment_length());
+    let each = job.segment_length() - first;
+    let mut done = [first; 16];
+    for lane in schedule(alloc, order, job.lanes(), each)? {
+        assert!(rt; lane < 16);
+        let index = done[lane as usize];
+        step(rt, job, blocks, lane, index)?;
+        assert!(rt; index < job.segment_length());
+        done[lane as usize] = index + 1;
+    }
+    Ok(())
+}
+
+/// The tag of a matrix that is filled in the order.
+fn run<'a>(
+    rt: &impl Abort,
+    alloc: Global,
+    config: Config<'a>,
+    pwd: &'a [u8],
+    salt: &'a [u8],
+    order: Order,
+) -> Result<[u8; 32], Fail> {
+    let context = match Context::new(config, pwd, salt) {
+        Ok(context) => context,
+        Err(refusal) => return Err(Fail::from(refusal)),
+    };
+    let job = Job::new(&context);
+    let mut blocks: Vec<Block> = Vec::new(alloc);
+    for _ in 0..context.memory_blocks {
+        blocks.push(Block::zero())?;
+    }
+    for lane in 0..job.lanes() {
+        for column in 0..2 {
+            let at = place(rt, &job, &blocks, lane, column);
+            job.first_block(lane, column, &mut blocks[at]);
+        }
+    }
+    for n in 0..4 * u64::from(job.passes()) {
+        let slice = job.at((n / 4) as u32, (n % 4) as u32);
+        run_slice(rt, alloc, &slice, &mut blocks, order)?;
+    }
+    assert!(rt; 0 < context.lane_length);
+    let mut last = Block::zero();
+    for lane in 0..job.lanes() {
+        let at = place(rt, &job, &blocks, lane, context.lane_length - 1);
+        last ^= &blocks[at];
+    }
+    let mut tag = [0; 32];
+    hprime(&mut tag, &last.as_u8());
+    Ok(tag)
+}
+
+fn config(variant: Variant) -> Config<'static> {
+    Config {
+        ad: &[4; 12],
+        hash_length: 32,
+        lanes: 4,
+        mem_cost: 32,
+        secret: &[3; 8],
+        thread_mode: ThreadMode::Sequential,
+        time_cost: 3,
+        variant,
+        version: Version::Version13,
+    }
+}
+
+// The tags of RFC 9106, section 5.
+#[test]
+fn every_order_gives_the_stated_tag(rt: HostRuntime) -> Result<(), Fail> {
+    let alloc = rt.alloc();
+    for (variant, tag) in [
+        (
+            Variant::Argon2d,
+            "512b391b6f1162975371d30919734294f868e3be3984f3c1a13a4db9fabe4acb",
+        ),
+        (
+            Variant::Argon2i,
+            "c814d9d1dc7f37aa13f0d77f2494bda1c8de6b016dd388d29952a4c4672b6ce8",
+        ),
+        (
+            Variant::Argon2id,
+            "0d640df58d78766c08c037a34a8b53c9d01ef0452d75b65eb52520e96b01e659",
+        ),
+    ] {
+        for order in [
+            Order::LaneAfterLane,
+            Order::OneBlockOfEachLane,
+            Order::LastLaneFirst,
+        ] {
+            let run = run(&rt, alloc, config(variant), &[1; 32], &[2; 16], order)?;
+            assert_eq!(rt; hex::encode(alloc, run)?.as_str(), tag);
+        }
+    }
+    Ok(())
+}

@@ -1,0 +1,230 @@
+//! The board by hand, permits, and refusals.
+
+ghost use Rattle.std.specs.Prelude.{◌≡◌, IfOk};
+ghost use Rattle.argon2_memory.specs.Views.Memories.{AreSlices, IsFilledBelow};
+ghost use Rattle.argon2_memory.specs.Views.SliceLists.{segments_of};
+
+mod every_slice;
+mod overlap;
+mod puts;
+mod starts;
+
+use argon2_fill::fill::{fill_slice_in_turn, initialize, prepare_memory};
+use argon2_fill::workers::{Event, NoGate, Permit, Place, board_of, fill_slice, fill_slice_with};
+use argon2_memory::memory::{Memory, Segment, Slices, others, take_slices};
+use argon2_memory::segment::Snapshot;
+use argon2_settings::config::Config;
+use argon2_settings::context::{Context, Job, recall_context, recall_job};
+use argon2_settings::error::Error;
+use argon2_settings::result::Result;
+use argon2_settings::thread_mode::ThreadMode;
+use argon2_settings::variant::Variant;
+use argon2_settings::version::Version;
+use std::alloc::Global;
+use std::marker::Sync;
+use std::sync::Wait;
+use std::test::Fail;
+use std::thread::Threads;
+
+fn two_lanes() -> Config<'static> {
+    Config {
+        ad: b"",
+        hash_length: 32,
+        lanes: 2,
+        mem_cost: 256,
+        secret: b"",
+        thread_mode: ThreadMode::Parallel,
+        time_cost: 2,
+        variant: Variant::Argon2d,
+        version: Version::Version13,
+    }
+}
+
+fn four_lanes() -> Config<'static> {
+    Config {
+        ad: &[4; 12],
+        hash_length: 32,
+        lanes: 4,
+        mem_cost: 32,
+        secret: &[3; 8],
+        thread_mode: ThreadMode::Parallel,
+        time_cost: 3,
+        variant: Variant::Argon2d,
+        version: Version::Version13,
+    }
+}
+
+/// The second slice of the first pass, with the slices of a memory in which the first one is
+/// filled.
+fn begin<'a>(
+    alloc: Global,
+    password: &'a [u8],
+    salt: &'a [u8],
+    config: Config<'a>,
+) -> Result<(Job, Slices)>
+    ensures at { IfOk result (λ r. (r.0.pass ≡ 0) × (r.0.slice ≡ 1)) }
+    ensures slices { IfOk result (λ r. AreSlices r.0.setting.lanes r.0.setting.segment_length
+        (segments_of r.1)) }
+    ensures ready { IfOk result (λ r. IsFilledBelow r.0.setting 0 1 (segments_of r.1)) }
+{
+    let context = match Context::new(config, password, salt) {
+        Ok(context) => context,
+        Err(refusal) => return Err(refusal),
+    };
+    let job = Job::new(&context);
+    recall_job(&job);
+    recall_context(&context);
+    let mut memory = Memory::empty(alloc);
+    prepare_memory(alloc, &context, &mut memory)?;
+    initialize(&context, &mut memory);
+    let mut slices = take_slices(&mut memory);
+    fill_slice_in_turn(&job, &mut slices);
+    Ok((job.at(0, 1), slices))
+}
+
+#[test]
+fn hands_out_lanes_in_order(rt: HostRuntime) -> std::result::Result<(), Fail> {
+    let alloc = rt.alloc();
+    let (job, mut slices) = begin(alloc, b"password", b"somesalt", two_lanes())?;
+    let mut board = board_of(alloc, &job, &mut slices)?;
+    let snapshot = Snapshot::new(job, others(&slices, 1));
+    let first = board.take().ok_or("lane 0 waits")?;
+    let second = board.take().ok_or("lane 1 waits")?;
+    assert!(rt; first.lane() == 0 && second.lane() == 1);
+    assert!(rt; board.take().is_none());
+    let (Ok(first), Ok(second)) = (first.fill(&snapshot), second.fill(&snapshot)) else {
+        return Err(Fail::from("the snapshot is of the job"));
+    };
+    assert!(rt; board.put(second).is_ok());
+    assert!(rt; board.place(0) == Place::Out && board.place(1) == Place::Done);
+    assert!(rt; board.put(first).is_ok());
+    let (job, mut slices) = begin(alloc, b"password", b"somesalt", two_lanes())?;
+    let mut another = board_of(alloc, &job, &mut slices)?;
+    let claim = another.take().ok_or("lane 0 waits")?;
+    let again = claim
+        .fill(&snapshot)
+        .ok()
+        .ok_or("the snapshot is of the job")?;
+    assert!(rt; board.put(again).is_err());
+    let log = [Event::Take(0), Event::Take(1), Event::Put(1), Event::Put(0)];
+    assert_eq!(rt; board.log(), log.as_slice());
+    assert!(rt; board.finish()?.len() == 2);
+    Ok(())
+}
+
+#[test]
+fn finishes_no_slice_with_a_lane_out(rt: HostRuntime) -> std::result::Result<(), Fail> {
+    let alloc = rt.alloc();
+    let (job, mut slices) = begin(alloc, b"password", b"somesalt", two_lanes())?;
+    let mut board = board_of(alloc, &job, &mut slices)?;
+    let snapshot = Snapshot::new(job, others(&slices, 1));
+    let first = board.take().ok_or("lane 0 waits")?;
+    let second = board.take().ok_or("lane 1 waits")?;
+    let second = second
+        .fill(&snapshot)
+        .ok()
+        .ok_or("the snapshot is of the job")?;
+    assert!(rt; board.put(second).is_ok());
+    drop(first);
+    assert!(rt; board.finish().err() == Some(Error::WorkerRefused));
+    Ok(())
+}
+
+#[test]
+fn hands_strangers_back(rt: HostRuntime) -> std::result::Result<(), Fail> {
+    let alloc = rt.alloc();
+    let (our_job, mut our_slices) = begin(alloc, b"password", b"somesalt", two_lanes())?;
+    let mut ours = board_of(alloc, &our_job, &mut our_slices)?;
+    let (their_job, mut their_slices) = begin(alloc, b"passworD", b"somesalt", two_lanes())?;
+    let mut theirs = board_of(alloc, &their_job, &mut their_slices)?;
+    let snapshot = Snapshot::new(their_job, others(&their_slices, 1));
+    let claim = ours.take().ok_or("lane 0 waits")?;
+    let claim = claim.fill(&snapshot).err().ok_or("another job")?;
+    assert!(rt; claim.lane() == 0 && *claim.job() == our_job);
+    let stranger = theirs.take().ok_or("lane 0 waits")?;
+    let stranger = stranger.fill(&snapshot).ok().ok_or("its own job")?;
+    let stranger = ours.put(stranger).err().ok_or("another job")?;
+    assert!(rt; stranger.lane() == 0 && *stranger.job() == their_job);
+    assert!(rt; ours.job().lanes() == 2);
+    assert!(rt; ours.place(0) == Place::Out && ours.place(1) == Place::Waiting);
+    assert_eq!(rt; ours.log(), [Event::Take(0)].as_slice());
+    assert!(rt; ours.finish().err() == Some(Error::WorkerRefused));
+    Ok(())
+}
+
+/// Numbers of workers, but for one.
+#[derive(Clone, Copy)]
+struct AllBut(u64);
+
+impl Permit for AllBut {
+    ghost use Rattle.std.specs.Prelude.{not, ◌==◌};
+
+    ghost permits = { λ permit number. not (number == permit.0) };
+
+    fn may_start(&self, number: u64) -> bool {
+        number != self.0
+    }
+}
+
+#[test]
+fn starts_permitted_workers_alone(rt: HostRuntime) -> std::result::Result<(), Fail> {
+    let alloc = rt.alloc();
+    for refused in 6..10 {
+        let (job, mut slices) = begin(alloc, b"password", b"somesalt", two_lanes())?;
+        let board = board_of(alloc, &job, &mut slices)?;
+        let snapshot = Snapshot::new(job, others(&slices, 1));
+        let permit = AllBut(refused);
+        let board = fill_slice_with(&rt, board, &snapshot, &NoGate, &permit, 7, 2);
+        let is_refused = refused == 7 || refused == 8;
+        assert!(rt;
+            board.err() == is_refused.then_some(Error::WorkerRefused),
+            "{refused}"
+        );
+    }
+    Ok(())
+}
+
+// Whatever memory is refused, the answer is the board or that refusal.
+#[test]
+fn board_new_refused_in_turn(rt: HostRuntime) -> std::result::Result<(), Fail> {
+    let alloc = rt.alloc();
+    let board = match begin(alloc, &[1; 32], &[2; 16], four_lanes()) {
+        Ok((job, mut slices)) => board_of(alloc, &job, &mut slices),
+        Err(e) => Err(e),
+    };
+    match board {
+        Ok(board) => {
+            assert!(rt; board.log().is_empty());
+            println!(rt; "value")?;
+        }
+        Err(e) => {
+            assert!(rt; e == Error::OutOfMemory);
+            println!(rt; "OutOfMemory")?;
+        }
+    }
+    Ok(())
+}
+
+/// The second slice, filled by four workers.
+fn second_slice<R: Threads + Wait + Sync>(rt: &R, alloc: Global) -> Result<Vec<Segment>> {
+    let (job, mut slices) = begin(alloc, &[1; 32], &[2; 16], four_lanes())?;
+    let board = board_of(alloc, &job, &mut slices)?;
+    let snapshot = Snapshot::new(job, others(&slices, 1));
+    fill_slice(rt, board, &snapshot, &NoGate, 4)?.finish()
+}
+
+// Whatever memory or worker is refused, the answer is the slice or that refusal.
+#[test]
+fn fill_slice_refused_in_turn(rt: HostRuntime) -> std::result::Result<(), Fail> {
+    match second_slice(&rt, rt.alloc()) {
+        Ok(segments) => {
+            assert!(rt; segments.len() == 4);
+            println!(rt; "value")?;
+        }
+        Err(e) => {
+            assert!(rt; e == Error::OutOfMemory || e == Error::WorkerRefused);
+            println!(rt; "{e:?}")?;
+        }
+    }
+    Ok(())
+}

@@ -1,0 +1,119 @@
+//! All slices under a gate that is new for each of them.
+
+use super::overlap::reaches;
+use super::two_lanes;
+use argon2_fill::fill::{finalize, initialize, prepare_memory};
+use argon2_fill::workers::{AllPermitted, Claim, Filled, Gate, fill_parallel, fill_parallel_with};
+use argon2_memory::memory::Memory;
+use argon2_memory::segment::Snapshot;
+use argon2_settings::config::Config;
+use argon2_settings::context::Context;
+use std::alloc::Global;
+use std::marker::Sync;
+use std::process::Abort;
+use std::sync::Wait;
+use std::sync::atomic::{AtomicU64, Ordering};
+use std::test::Fail;
+use std::thread::Threads;
+
+/// Keeps lane 0 of each slice in its filling until lane 1 was put, and lane 1 in its own until lane
+/// 0's was called: so two workers are in the filling of each slice at once.
+#[derive(Drop)]
+struct EachSlice {
+    begun: AtomicU64,
+    puts: AtomicU64,
+    late: AtomicU64,
+    fills: AtomicU64,
+}
+
+impl EachSlice {
+    fn new() -> EachSlice {
+        EachSlice {
+            begun: AtomicU64::new(0),
+            puts: AtomicU64::new(0),
+            late: AtomicU64::new(0),
+            fills: AtomicU64::new(0),
+        }
+    }
+
+    /// Waits until a word is a number, and notes it where that takes too long.
+    fn wait(&self, word: &AtomicU64, number: u64) {
+        if !reaches(word, number) {
+            self.late.store(1, Ordering::SeqCst);
+        }
+    }
+}
+
+impl Gate for EachSlice {
+    fn fill(&self, claim: Claim, snapshot: &Snapshot<'_>) -> std::result::Result<Filled, Claim> {
+        let job = claim.job();
+        let slice = u64::from(job.pass() % 2 * 4 + job.slice() % 4);
+        let lane = u64::from(claim.lane() % 2);
+        // The calls for each lane of the eight slices are counted in four bits.
+        self.fills
+            .fetch_add(1 << (4 * (2 * slice + lane)), Ordering::SeqCst);
+        if lane == 0 {
+            self.begun.store(slice + 1, Ordering::SeqCst);
+            self.wait(&self.puts, slice + 1);
+        } else {
+            self.wait(&self.begun, slice + 1);
+        }
+        claim.fill(snapshot)
+    }
+
+    fn put(&self, lane: u32) {
+        if lane == 1 {
+            self.puts.fetch_add(1, Ordering::SeqCst);
+        }
+    }
+}
+
+/// Fills eight slices of two lanes by one of the two calls, and checks what the gate saw, and the
+/// tag.
+fn check_every_slice<'a, R: Threads + Wait + Sync + Abort>(
+    rt: &R,
+    alloc: Global,
+    config: Config<'a>,
+    password: &'a [u8],
+    salt: &'a [u8],
+    with_permit: bool,
+) -> std::result::Result<(), Fail> {
+    let context = match Context::new(config, password, salt) {
+        Ok(context) => context,
+        Err(refusal) => return Err(Fail::from(refusal)),
+    };
+    let mut memory = Memory::empty(alloc);
+    prepare_memory(alloc, &context, &mut memory)?;
+    initialize(&context, &mut memory);
+    let gate = EachSlice::new();
+    if with_permit {
+        fill_parallel_with(rt, alloc, &context, &mut memory, &gate, &AllPermitted)?;
+    } else {
+        fill_parallel(rt, alloc, &context, &mut memory, &gate)?;
+    }
+    assert!(rt; gate.late.load(Ordering::SeqCst) == 0, "the gate gave up");
+    assert_eq!(rt; gate.fills.load(Ordering::SeqCst), 0x1111_1111_1111_1111);
+    let tag = finalize(alloc, &context, &memory)?;
+    assert_eq!(rt;
+        hex::encode(alloc, tag)?.as_str(),
+        "7b69c92d7c3889aad1281dbc8baefc12cc37c80f1c75e33ef2c2d40c28ebc573"
+    );
+    Ok(())
+}
+
+#[test]
+fn gives_the_tag_under_a_gate(rt: HostRuntime) -> std::result::Result<(), Fail> {
+    check_every_slice(
+        &rt,
+        rt.alloc(),
+        two_lanes(),
+        b"password",
+        b"somesalt",
+        false,
+    )
+}
+
+#[test]
+fn gives_the_tag_under_a_gate_and_a_permit(rt: HostRuntime) -> std::result::Result<(), Fail> {
+    check_every_slice(&rt, rt.alloc(), two_lanes(), b"password", b"somesalt", true)
+}

@@ -1,0 +1,141 @@
+//! Workers under a gate that holds one back until another has come so far.
+
+use super::{begin, four_lanes, two_lanes};
+use argon2_fill::workers::{Claim, Event, Filled, Gate, board_of, fill_slice};
+use argon2_memory::memory::others;
+use argon2_memory::segment::Snapshot;
+use argon2_settings::config::Config;
+use std::alloc::Global;
+use std::marker::Sync;
+use std::process::Abort;
+use std::sync::Wait;
+use std::sync::atomic::{AtomicU64, Ordering};
+use std::test::Fail;
+use std::thread::Threads;
+
+/// How often a gate looks before it gives up.
+const LOOKS: u32 = 1_000_000_000;
+
+/// Looks at a word until it is a number or more, and says whether it came so far before the looks
+/// were used up.
+pub(super) fn reaches(word: &AtomicU64, number: u64) -> bool {
+    for _look in 0..LOOKS {
+        if word.load(Ordering::SeqCst) >= number {
+            return true;
+        }
+    }
+    false
+}
+
+/// Keeps lane 0 in its filling until the last lane was put, and lane 1 in its own until lane 0's
+/// was called.
+#[derive(Drop)]
+struct Hold {
+    last: u32,
+    begun: AtomicU64,
+    put: AtomicU64,
+    late: AtomicU64,
+    fills: AtomicU64,
+}
+
+impl Hold {
+    fn new(last: u32) -> Hold {
+        Hold {
+            last,
+            begun: AtomicU64::new(0),
+            put: AtomicU64::new(0),
+            late: AtomicU64::new(0),
+            fills: AtomicU64::new(0),
+        }
+    }
+
+    /// Waits until a word is set, and notes it where that takes too long.
+    fn wait(&self, word: &AtomicU64) {
+        if !reaches(word, 1) {
+            self.late.store(1, Ordering::SeqCst);
+        }
+    }
+}
+
+impl Gate for Hold {
+    fn fill(&self, claim: Claim, snapshot: &Snapshot<'_>) -> std::result::Result<Filled, Claim> {
+        // The calls for each lane are counted in 16 bits.
+        self.fills
+            .fetch_add(1 << (16 * (claim.lane() % 4)), Ordering::SeqCst);
+        match claim.lane() {
+            0 => {
+                self.begun.store(1, Ordering::SeqCst);
+                self.wait(&self.put);
+            }
+            1 => self.wait(&self.begun),
+            _ => {}
+        }
+        claim.fill(snapshot)
+    }
+
+    fn put(&self, lane: u32) {
+        if lane == self.last {
+            self.put.store(1, Ordering::SeqCst);
+        }
+    }
+}
+
+/// Fills a slice by two workers under a gate, and checks the order of what happened.
+fn check_overlap<'a, R: Threads + Wait + Sync + Abort>(
+    rt: &R,
+    alloc: Global,
+    password: &'a [u8],
+    salt: &'a [u8],
+    config: Config<'a>,
+    log: &[Event],
+) -> std::result::Result<(), Fail> {
+    let (job, mut slices) = begin(alloc, password, salt, config)?;
+    let board = board_of(alloc, &job, &mut slices)?;
+    let snapshot = Snapshot::new(job, others(&slices, 1));
+    let gate = Hold::new(config.lanes.wrapping_sub(1));
+    let board = fill_slice(rt, board, &snapshot, &gate, 2)?;
+    assert!(rt; gate.late.load(Ordering::SeqCst) == 0, "the gate gave up");
+    let fills = gate.fills.load(Ordering::SeqCst);
+    for lane in 0..4 {
+        let calls = fills >> (16 * lane) & 0xffff;
+        assert!(rt; calls == u64::from(lane < config.lanes), "lane {lane}");
+    }
+    assert_eq!(rt; board.log(), log);
+    assert!(rt; board.finish().is_ok());
+    Ok(())
+}
+
+#[test]
+fn fills_two_lanes_at_once(rt: HostRuntime) -> std::result::Result<(), Fail> {
+    let log = [Event::Take(0), Event::Take(1), Event::Put(1), Event::Put(0)];
+    check_overlap(
+        &rt,
+        rt.alloc(),
+        b"password",
+        b"somesalt",
+        two_lanes(),
+        log.as_slice(),
+    )
+}
+
+#[test]
+fn fills_four_lanes_by_two_workers(rt: HostRuntime) -> std::result::Result<(), Fail> {
+    let log = [
+        Event::Take(0),
+        Event::Take(1),
+        Event::Put(1),
+        Event::Take(2),
+        Event::Put(2),
+        Event::Take(3),
+        Event::Put(3),
+        Event::Put(0),
+    ];
+    check_overlap(
+        &rt,
+        rt.alloc(),
+        &[1; 32],
+        &[2; 16],
+        four_lanes(),
+        log.as_slice(),
+    )
+}

@@ -1,0 +1,5 @@
+-- A segment and a slice while they are filled.
+pub mod Filled
+pub mod Slices
+pub mod Written
+pub mod Made

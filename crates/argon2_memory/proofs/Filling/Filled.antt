@@ -1,0 +1,255 @@
+-- One more block of a segment: what it is made of stands where a lane sees it.
+use Rattle.std.proofs.Common.{◌≡◌, ℕ, zero, suc, ◌+◌, ◌-◌, ◌*◌, ◌/◌, ◌%◌, ◌<◌, ◌≤◌, ◌⊎◌, Bool, false, List, [], length, map, get_or, set, refl, arith}
+use Rattle.std.proofs.Common.{cond, inl, inr, sym, ◌∙◌, ap}
+use Rattle.std.specs.Prelude.{◌==◌, ◌&&◌, nat_lt, slice_index}
+use Rattle.std.proofs.lemmas.Bool.Decides.{eqb_tells}
+use Rattle.std.proofs.lemmas.Bool.{ltb-true, cases_lt}
+use Rattle.std.proofs.lemmas.List.{get_or-set_same, get_or-set_other, length-set, get_or-take, get_or-map, get_or_default, length-map}
+use Rattle.std.specs.Borrow.{Bor}
+use Rattle.std.proofs.lemmas.List.FromFn.{get_or-map-range_with_len, length-map-range_with_len, fill_by_all}
+use Rattle.std.proofs.Math.Nat.{div-add-mod, mod-lt, div-lt_iff_lt-mul}
+use Rattle.std.proofs.lemmas.Nat.{div-mul-add}
+use Rattle.argon2_blocks.specs.Standard.Block.{xor}
+use Rattle.argon2_blocks.specs.Standard.Compression.{compress_g}
+use Rattle.argon2_settings.specs.Standard.Setting.{Setting, Position, lane_length, slice_of}
+use Rattle.argon2_settings.specs.Views.Jobs.{IsSetting, IsPosition, Job, IsJob, first_index}
+use Rattle.argon2_settings.specs.Standard.Reference.{is_data_independent, previous, pick}
+use Rattle.argon2_settings.specs.Standard.Recurrence.{block_at, drawn_word, address_word, combines, made_block}
+use Rattle.argon2_memory.specs.Views.Segments.{SegmentValue, segment_at, segment_block, IsReady}
+use Rattle.argon2_memory.specs.Views.Filling.{position_of, SnapshotValue, IsSnapshot, no_segment, rank_among, other_blocks, block_seen, IsFilledTo, reference_of}
+use Rattle.argon2_settings.proofs.Settings.Jobs.{start_fits, later_index}
+use Rattle.argon2_memory.proofs.Recurrence.Recurrences.{same_choice, both-true, block_at-recurrence}
+use Rattle.argon2_memory.proofs.Schedules.AnyOrder.{pick-lane_fits, recurrence_later, slice_of_sum, no_skip}
+use Rattle.argon2_memory.proofs.Recurrence.References.{IsReadable, pick-readable}
+
+-- a quotient from a bound on the product
+div_below : (c len q : ℕ) → 0 < len → c < q * len → c / len < q
+div_below c len q h k = (div-lt_iff_lt-mul h).1 k
+
+-- a number of at least q times len has a quotient by len of at least q
+div_above : (c len q : ℕ) → 0 < len → q * len ≤ c → q ≤ c / len
+div_above c len q h k = elim (cases_lt (c / len) q) [ inl w ↦ absurd (let b = (div-lt_iff_lt-mul h).0 w in omega (arith, b)) | inr w ↦ w ]
+
+module _ (v : SnapshotValue) (snapshot : IsSnapshot v) (lane index : ℕ) (lane_fits : lane < v.job.setting.lanes)
+    (index_fits : index < v.job.setting.segment_length)
+    (later : first_index v.job ≤ index) where
+  abbrev s : Setting
+  s = v.job.setting
+
+  abbrev at : Position
+  at = position_of v.job lane index
+
+  good : IsSetting s
+  good = snapshot.job.setting
+
+  some : 0 < s.segment_length
+  some = omega (arith, good.long_segments)
+
+  pub later_place : 0 < at.pass ⊎ 1 < at.column
+  later_place = later_index v.job.pass v.job.slice s.segment_length index later good.long_segments
+
+  pub here : IsPosition s at
+  here = record { lane_fits = lane_fits; column_fits = let m = start_fits s v.job.slice good snapshot.job.slice_fits in omega (arith, m, index_fits) }
+
+  same_slice : slice_of s at.column ≡ v.job.slice
+  same_slice = slice_of_sum s.segment_length v.job.slice index some index_fits
+
+  -- what stands in another slice
+  at_other : (r l c : ℕ) (blocks : List (List ℕ)) → (c / s.segment_length == v.job.slice) ≡ false →
+      other_blocks v (c / s.segment_length) l ≡ segment_at s r (c / s.segment_length) l →
+      block_seen v blocks l c ≡ block_at s (record { pass = r; lane = l; column = c })
+  at_other r l c blocks other e =
+      let column : c / s.segment_length * s.segment_length + c % s.segment_length ≡ c = let d = div-add-mod c s.segment_length in omega (arith, d) in
+      rw (other, e) (get_or-map-range_with_len (segment_block s r (c / s.segment_length) l) 0 s.segment_length (c % s.segment_length)
+      (c % s.segment_length) [] (mod-lt c some) (omega arith)
+      ∙ ap (λ n. block_at s (record { pass = r; lane = l; column = n })) column)
+
+  seen_upper : (r l c : ℕ) (blocks : List (List ℕ)) → l < s.lanes → suc r ≡ v.job.pass → (v.job.slice + 1) * s.segment_length ≤ c → c < lane_length s →
+      block_seen v blocks l c ≡ block_at s (record { pass = r; lane = l; column = c })
+  seen_upper r l c blocks fits e above below =
+      let up = div_above c s.segment_length (v.job.slice + 1) some above in
+      let low = div_below c s.segment_length 4 some below in
+      at_other r l c blocks (elim (eqb_tells (c / s.segment_length) v.job.slice) [ inl w ↦ absurd (omega (arith, up, w.1)) | inr w ↦ w.0 ])
+      (snapshot.upper (c / s.segment_length) l r (omega (arith, up)) low fits e)
+
+  seen_lower : (l c : ℕ) (blocks : List (List ℕ)) → l < s.lanes → c < v.job.slice * s.segment_length →
+      block_seen v blocks l c ≡ block_at s (record { pass = v.job.pass; lane = l; column = c })
+  seen_lower l c blocks fits below =
+      let low = div_below c s.segment_length v.job.slice some below in
+      at_other v.job.pass l c blocks (elim (eqb_tells (c / s.segment_length) v.job.slice) [ inl w ↦ absurd (omega (arith, low, w.1)) | inr w ↦ w.0 ])
+      (snapshot.lower (c / s.segment_length) l low fits)
+
+  -- a column of the slice is its start and an index
+  own_index : (c : ℕ) → c / s.segment_length ≡ v.job.slice → v.job.slice * s.segment_length + c % s.segment_length ≡ c
+  own_index c e = let d = div-add-mod c s.segment_length in let p : c / s.segment_length * s.segment_length ≡ v.job.slice * s.segment_length = ap
+      (λ q. q * s.segment_length) e in omega (arith, d, p)
+
+  -- the block before one that isn't the first of its segment stands in the segment
+  pub seen_before : (blocks : List (List ℕ)) → 0 < index → get_or blocks (index - 1) [] ≡ block_seen v blocks lane (previous s at).column
+  seen_before blocks h =
+      let c = at.column - 1 in
+      let e : v.job.slice * s.segment_length + (index - 1) ≡ c = omega (arith, h) in
+      let q : c / s.segment_length ≡ v.job.slice = ap (λ n. n / s.segment_length) (sym e)
+      ∙ div-mul-add v.job.slice s.segment_length (index - 1) (omega (arith, index_fits)) in
+      let o = own_index c q in
+      let r : c % s.segment_length ≡ index - 1 = omega (arith, o, e) in
+      elim (eqb_tells at.column 0) [
+        | inl w ↦ absurd (omega (arith, w.1, h))
+        | inr w ↦ rw w.0 (elim (eqb_tells (c / s.segment_length) v.job.slice) [ inl z ↦ rw (z.0, r) refl | inr z ↦ absurd (omega (arith, z.1, q)) ])
+      ]
+
+  module _ (blocks : List (List ℕ)) (filled : IsFilledTo v.job lane index blocks) where
+    seen_own : (c : ℕ) → c < at.column → block_seen v blocks lane c ≡ block_at s (record { pass = v.job.pass; lane = lane; column = c })
+    seen_own c below = elim (eqb_tells (c / s.segment_length) v.job.slice) [
+      | inl w ↦ let o = own_index c w.1 in rw w.0 (filled.new (c % s.segment_length) (omega (arith, o, below))
+          ∙ ap (λ n. block_at s (record { pass = v.job.pass; lane = lane; column = n })) o)
+      | inr w ↦
+          let q : c / s.segment_length < v.job.slice + 1 = div_below c s.segment_length (v.job.slice + 1) some (omega (arith, below, index_fits)) in
+          at_other v.job.pass lane c blocks w.0 (snapshot.lower (c / s.segment_length) lane (omega (arith, q, w.1)) lane_fits)
+    ]
+
+    seen_readable : (r l c : ℕ) → l < s.lanes → IsReadable s at l (r, c) → block_seen v blocks l c ≡ block_at s (record { pass = r; lane = l; column = c })
+    seen_readable r l c fits (inl w) =
+        seen_upper r l c blocks fits w.0 (rw same_slice at w.1) w.2
+    seen_readable r l c fits (inr (inl w)) = ap (λ p. block_seen v blocks l c) w.0 ∙ seen_lower l c blocks fits (rw same_slice at w.1)
+        ∙ ap (λ p. block_at s (record { pass = p; lane = l; column = c })) (sym w.0)
+    seen_readable r l c fits (inr (inr w)) = ap (λ n. block_seen v blocks n c) w.1 ∙ seen_own c w.2
+        ∙ ap (λ p. block_at s (record { pass = p; lane = lane; column = c })) (sym w.0)
+        ∙ ap (λ n. block_at s (record { pass = r; lane = n; column = c })) (sym w.1)
+
+    previous_readable : IsReadable s at lane ((previous s at).pass, (previous s at).column)
+    previous_readable = elim (eqb_tells at.column 0) [
+      | inl w ↦ rw w.0 (inl (
+        elim later_place [ inl h ↦ omega arith | inr h ↦ absurd (omega (arith, w.1)) ],
+        (let z : v.job.slice * s.segment_length ≡ 0 = omega (arith, w.1) in rw same_slice (omega (arith, z, good.long_segments))),
+        omega (arith, good.long_segments),
+      ))
+      | inr w ↦ rw w.0 (inr (inr (refl, refl, omega (arith, w.1))))
+    ]
+
+    pub seen_previous : block_seen v blocks lane (previous s at).column ≡ block_at s (previous s at)
+    seen_previous = seen_readable (previous s at).pass lane (previous s at).column lane_fits previous_readable
+        ∙ elim (eqb_tells at.column 0) [ inl w ↦ rw w.0 refl | inr w ↦ rw w.0 refl ]
+
+    pub seen_pick : (word : ℕ) → block_seen v blocks (pick s word at).lane (pick s word at).column ≡ block_at s (pick s word at)
+    seen_pick word = seen_readable (pick s word at).pass (pick s word at).lane (pick s word at).column (pick-lane_fits s word at good here)
+        (pick-readable s word at good here later_place)
+
+    -- the block that is made of what the lane sees is the recurrence's
+    pub made_next : (chosen : ℕ × ℕ) → chosen ≡ reference_of v.job lane index →
+        made_block (block_seen v blocks lane (previous s at).column) (block_seen v blocks chosen.0 chosen.1) (get_or blocks index [])
+        (combines s.version && nat_lt 0 v.job.pass)
+        ≡ block_at s at
+    made_next chosen e =
+        let word = drawn_word s (block_at s) at in
+        let read : block_seen v blocks chosen.0 chosen.1 ≡ block_at s (pick s word at) = rw e (seen_pick word) in
+        rw (seen_previous, read)
+        (same_choice (combines s.version && nat_lt 0 v.job.pass) _ _ _ _
+        (λ h. ap (λ old. xor (compress_g (block_at s (previous s at)) (block_at s (pick s word at))) old)
+        (filled.old (v.job.pass - 1) index (let p = ltb-true 0 v.job.pass (both-true (combines s.version) _ h) in omega (arith, p)) (omega arith) index_fits))
+        (λ h. refl)
+        ∙ sym (recurrence_later s (block_at s) at later_place) ∙ sym (block_at-recurrence s good at here))
+
+    -- one more block is filled
+    pub filled_more : (block : List ℕ) → block ≡ block_at s at → IsFilledTo v.job lane (index + 1) (set blocks index block)
+    filled_more block e = record {
+      count = length-set blocks index block ∙ filled.count;
+      new = λ k h. elim (eqb_tells k index) [
+        | inl w ↦ rw w.1 (get_or-set_same blocks index block [] (omega (arith, filled.count)) ∙ e)
+        | inr w ↦ get_or-set_other blocks index k block [] w.1 ∙ filled.new k (omega (arith, w.1))
+      ];
+      old = λ last k p h fits. get_or-set_other blocks index k block [] (λ n. absurd (omega arith)) ∙ filled.old last k p (omega arith) fits;
+    }
+
+    pub write_filled : (p r : List ℕ) (x : Bool) (chosen : ℕ × ℕ) → chosen ≡ reference_of v.job lane index →
+        p ≡ block_seen v blocks lane (previous s at).column → r ≡ block_seen v blocks chosen.0 chosen.1 → x ≡ (combines s.version && nat_lt 0 v.job.pass) →
+        IsFilledTo v.job lane (index + 1) (set blocks index (made_block p r (get_or blocks index []) x))
+    write_filled p r x chosen e ps rs xs = filled_more _ (rw (ps, rs, xs) (made_next chosen e))
+
+    -- a word that is drawn from the block before
+    pub drawn_from_previous : (word : ℕ) → is_data_independent s.variant v.job.pass v.job.slice ≡ false →
+        word ≡ slice_index (block_seen v blocks lane (previous s at).column) 0 → word ≡ drawn_word s (block_at s) at
+    drawn_from_previous word e h = h ∙ ap (λ b. slice_index b 0) seen_previous
+        ∙ ap (λ (b : Bool). cond b (address_word s at) (slice_index (block_at s (previous s at)) 0)) (sym (ap (λ
+        (n : ℕ). is_data_independent s.variant v.job.pass n) same_slice ∙ e))
+
+  -- where a reference may lie
+  reference_readable : (chosen : ℕ × ℕ) → chosen ≡ reference_of v.job lane index →
+      IsReadable s at chosen.0 ((pick s (drawn_word s (block_at s) at) at).pass, chosen.1)
+  reference_readable chosen e = rw e (pick-readable s (drawn_word s (block_at s) at) at good here later_place)
+
+  pub reference_lane : (chosen : ℕ × ℕ) → chosen ≡ reference_of v.job lane index → chosen.0 < s.lanes
+  reference_lane chosen e = rw e (pick-lane_fits s (drawn_word s (block_at s) at) at good here)
+
+  column_of_readable : (l r c : ℕ) → IsReadable s at l (r, c) → c < lane_length s
+  column_of_readable l r c (inl w) = w.2
+  column_of_readable l r c (inr (inl w)) = let m = start_fits s v.job.slice good snapshot.job.slice_fits in let b = rw same_slice at w.1 in omega (arith, m, b)
+  column_of_readable l r c (inr (inr w)) = let h = here.column_fits in omega (arith, w.2, h)
+
+  pub reference_column : (chosen : ℕ × ℕ) → chosen ≡ reference_of v.job lane index → chosen.1 < lane_length s
+  reference_column chosen e = column_of_readable chosen.0 _ chosen.1 (reference_readable chosen e)
+
+  before_of_readable : (l r c : ℕ) → IsReadable s at l (r, c) → c / s.segment_length ≡ v.job.slice → c % s.segment_length < index
+  before_of_readable l r c (inl w) e = absurd (let a = div_above c s.segment_length (v.job.slice + 1) some (rw same_slice at w.1) in omega (arith, a, e))
+  before_of_readable l r c (inr (inl w)) e = absurd (let b = div_below c s.segment_length v.job.slice some (rw same_slice at w.1) in omega (arith, b, e))
+  before_of_readable l r c (inr (inr w)) e = let o = own_index c e in omega (arith, o, w.2)
+
+  pub reference_before : (chosen : ℕ × ℕ) → chosen ≡ reference_of v.job lane index → chosen.1 / s.segment_length ≡ v.job.slice
+      → chosen.1 % s.segment_length < index
+  reference_before chosen e = before_of_readable chosen.0 _ chosen.1 (reference_readable chosen e)
+
+-- ---- begin and end
+
+-- what stands before a fill
+begin_by : (j : Job) → (pass slice : ℕ) → pass ≡ j.pass → slice ≡ j.slice → IsSetting j.setting → (lane : ℕ) (blocks : List (List ℕ)) →
+    IsReady j.setting pass slice lane blocks → IsFilledTo j lane (cond ((pass == 0) && (slice == 0)) 2 0) blocks
+begin_by j zero zero p q good lane blocks ready = record {
+  count = ready.0;
+  new = λ k h. sym (get_or-take 2 blocks k [] h) ∙ ap (λ l. get_or l k []) ready.1 ∙ get_or-take 2 (segment_at j.setting 0 0 lane) k [] h
+      ∙ get_or-map-range_with_len (segment_block j.setting 0 0 lane) 0 j.setting.segment_length k k [] (omega (arith, good.long_segments)) (omega arith)
+      ∙ ap (λ n. segment_block j.setting n 0 lane k) p ∙ ap (λ n. segment_block j.setting j.pass n lane k) q;
+  old = λ last k e. absurd (omega (arith, e, p));
+}
+begin_by j zero (suc slice) p q good lane blocks ready = record {
+  count = ready;
+  new = λ k h. absurd (let h' = rw (no_skip 0 (suc slice) (inr (omega arith))) at h in omega (arith, h'));
+  old = λ last k e. absurd (omega (arith, e, p));
+}
+begin_by j (suc before) slice p q good lane blocks ready = record {
+  count = rw ready (length-map-range_with_len (segment_block j.setting before slice lane) 0 j.setting.segment_length);
+  new = λ k h. absurd (let h' = rw (no_skip (suc before) slice (inl (omega arith))) at h in omega (arith, h'));
+  old = λ last k e low fits. ap (λ l. get_or l k []) ready
+      ∙ get_or-map-range_with_len (segment_block j.setting before slice lane) 0 j.setting.segment_length k k [] fits (omega arith)
+      ∙ ap (λ n. segment_block j.setting n slice lane k) (omega (arith, e, p)) ∙ ap (λ n. segment_block j.setting last n lane k) q;
+}
+
+-- a segment that is ready for a pass is filled up to the first index that the pass writes
+pub filled_none : (j : Job) → IsJob j → (lane : ℕ) (blocks : List (List ℕ)) → IsReady j.setting j.pass j.slice lane blocks
+    → IsFilledTo j lane (first_index j) blocks
+filled_none j good lane blocks ready = begin_by j j.pass j.slice refl refl good.setting lane blocks ready
+
+-- a segment that is filled up to its length holds this pass's blocks of its slice and lane
+pub filled_all : (j : Job) (lane : ℕ) (blocks : List (List ℕ)) → IsFilledTo j lane j.setting.segment_length blocks →
+    blocks ≡ segment_at j.setting j.pass j.slice lane
+filled_all j lane blocks filled = fill_by_all (segment_block j.setting j.pass j.slice lane) blocks j.setting.segment_length [] filled.count
+    (λ k h. filled.new k h)
+
+-- ---- what a snapshot lends
+
+-- the value of the borrow that is read at a place stands there among the values of all three
+pub read_lent : (others : List (Bor (List SegmentValue))) (i : ℕ) (o : Bor (List SegmentValue))
+    → length (map (λ (b : Bor (List SegmentValue)). b.now) others) ≡ 3 → i < 3 →
+    o ≡ get_or others i o → get_or (map (λ (b : Bor (List SegmentValue)). b.now) others) i [] ≡ o.now
+read_lent others i o n h e =
+    get_or-map (λ (b : Bor (List SegmentValue)). b.now) others i o [] (let l = simp length-map at n in omega (arith, l))
+    ∙ ap (λ (b : Bor (List SegmentValue)). b.now) (sym e)
+
+-- the segment that is read is that of the slice and lane
+pub read_segment : (v : SnapshotValue) → IsSnapshot v → (slice lane at : ℕ) (segments : List SegmentValue) (segment : SegmentValue) →
+    lane < v.job.setting.lanes → at ≡ rank_among v.job slice → at < 3 → get_or v.others at [] ≡ segments → segment ≡ get_or segments lane segment →
+    segment.blocks ≡ other_blocks v slice lane
+read_segment v snapshot slice lane at segments segment fits e h es is =
+    let n : lane < length segments = let l = snapshot.lanes at h in let k = rw es at l in omega (arith, k, fits) in
+    let d : segment ≡ get_or segments lane no_segment = is ∙ get_or_default segments lane segment no_segment n in
+    let q : get_or v.others (rank_among v.job slice) [] ≡ segments = rw e at es in
+    ap (λ (x : SegmentValue). x.blocks) (d ∙ ap (λ l. get_or l lane no_segment) (sym q))

@@ -1,0 +1,3 @@
+pub mod Recurrence
+pub mod Schedules
+pub mod Filling

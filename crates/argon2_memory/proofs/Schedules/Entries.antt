@@ -1,0 +1,77 @@
+-- One entry of a run: what it reads.
+use Rattle.std.proofs.Common.{◌≡◌, ◌≢◌, ℕ, ◌+◌, ◌*◌, ◌/◌, ◌%◌, ◌<◌, ◌≤◌, List, [], ◌∷◌, ◌++◌, arith, cond, inl, inr, refl, sym, ◌∙◌, ap}
+use Rattle.std.specs.Prelude.{◌==◌}
+use Rattle.std.specs.List.{AllByRecursion, count_by}
+use Rattle.std.proofs.lemmas.List.Sums.{sum_by-cons}
+use Rattle.argon2_settings.specs.Standard.Setting.{Setting, Position, slice_of}
+use Rattle.argon2_settings.specs.Standard.Reference.{previous}
+use Rattle.std.proofs.lemmas.Bool.Decides.{eqb_tells}
+use Rattle.argon2_settings.specs.Standard.Recurrence.{block_at}
+use Rattle.argon2_memory.specs.Laws.Matrix.{Matrix}
+use Rattle.argon2_memory.specs.Laws.Schedule.{Progress, IsSchedule, IsWrittenIn, after_slices, blocks_in_slice, pick_from, reads_from, word_from}
+use Rattle.argon2_memory.specs.Laws.AnyOrder.{IsRun, IsEntry, progress_before, entry_position, NoEntryReadsOthers, PicksHoldTheirBlocks}
+use Rattle.argon2_memory.proofs.Schedules.AnyOrder.{Stands, run-stands, after-stands, count_room, read_pick, here, later, same_slice}
+use Rattle.argon2_memory.proofs.Schedules.IndependentEntries.{no_shared_read}
+
+-- what holds of all elements of a list holds of one in its middle
+all-behind : (P : ℕ → Type 0) (xs : List ℕ) (x : ℕ) (ys : List ℕ) → AllByRecursion P (xs ++ x ∷ ys) → P x
+all-behind P [] x ys h = h.0
+all-behind P (z ∷ zs) x ys h = all-behind P zs x ys h.1
+
+module _ (s : Setting) (order : ℕ → List ℕ) (matrix : Matrix) (run : IsRun s order matrix) (n : ℕ) (before : List ℕ) (lane : ℕ) (after : List ℕ)
+    (entry : IsEntry s order n before lane after) where
+  abbrev p : Progress
+  p = progress_before s order matrix n before
+
+  abbrev at : Position
+  at = entry_position s n p lane
+
+  plan : IsSchedule s (n / 4) (n % 4) (before ++ lane ∷ after)
+  plan = rw entry.stands at (run.schedules n entry.slice_fits)
+
+  so_far : Stands s (n / 4) (n % 4) p.matrix p.done
+      × ((l : ℕ) → l < s.lanes → p.done l + count_by (λ x. x == l) (lane ∷ after) ≡ blocks_in_slice s (n / 4) (n % 4))
+  so_far = run-stands s run.setting (n / 4) (n % 4) (omega arith) before (lane ∷ after) (record { matrix = after_slices s order n matrix; done = λ l. 0 })
+      (after-stands s run.setting order run.schedules matrix run.begun n (let h = entry.slice_fits in omega (arith, h)))
+      plan.lanes_fit (λ l fits. let often = plan.each_often l fits in omega (arith, often))
+
+  lane_fits : lane < s.lanes
+  lane_fits = all-behind (λ l. l < s.lanes) before lane after plan.lanes_fit
+
+  bounded : (l : ℕ) → l < s.lanes → p.done l ≤ blocks_in_slice s (n / 4) (n % 4)
+  bounded l fits = let k = so_far.1 l fits in omega (arith, k)
+
+  room : p.done lane < blocks_in_slice s (n / 4) (n % 4)
+  room = count_room lane (p.done lane) (count_by (λ x. x == lane) after) (blocks_in_slice s (n / 4) (n % 4))
+      (sym (ap (λ k. p.done lane + k) (sum_by-cons (λ x. cond (x == lane) 1 0) lane after)) ∙ so_far.1 lane lane_fits)
+
+  few : n % 4 < 4
+  few = omega arith
+
+  pub pick_holds : p.matrix (pick_from s p.matrix at).lane (pick_from s p.matrix at).column ≡ block_at s (pick_from s p.matrix at)
+  pick_holds = read_pick s run.setting (n / 4) (n % 4) few p.matrix p.done so_far.0 bounded lane lane_fits room (word_from s p.matrix at)
+
+  pick_apart : (pick_from s p.matrix at).lane ≢ lane → IsWrittenIn s (n / 4) (n % 4) (pick_from s p.matrix at).column → ⊥
+  pick_apart other w =
+      let same = same_slice s run.setting (n / 4) (n % 4) few p.matrix p.done so_far.0 bounded lane lane_fits room in
+      let start : slice_of s at.column * s.segment_length ≡ n % 4 * s.segment_length = ap (λ k. k * s.segment_length) same in
+      elim (no_shared_read s (word_from s p.matrix at) at run.setting
+      (here s run.setting (n / 4) (n % 4) few p.matrix p.done so_far.0 bounded lane lane_fits room)
+      (later s run.setting (n / 4) (n % 4) few p.matrix p.done so_far.0 bounded lane lane_fits room) other) [
+        | inl below ↦ omega (arith, below, start, w.0)
+        | inr above ↦ omega (arith, above, start, w.1)
+      ]
+
+  before-lane : (previous s at).lane ≡ lane
+  before-lane = elim (eqb_tells at.column 0) [ inl w ↦ rw w.0 refl | inr w ↦ rw w.0 refl ]
+
+  pub reads_apart : AllByRecursion (λ (l, c). l ≢ lane → IsWrittenIn s (n / 4) (n % 4) c → ⊥) (reads_from s p.matrix at)
+  reads_apart = ((λ other w. other before-lane), (pick_apart, ((λ other w. other refl), tt)))
+
+-- the block that an entry of a run reads at its pick is the recurrence's block of that place
+pub picks_hold : PicksHoldTheirBlocks
+picks_hold s order matrix run n before lane after entry = pick_holds s order matrix run n before lane after entry
+
+-- no entry of a run reads a place that another lane writes in the same slice
+pub no_entry_reads_others : NoEntryReadsOthers
+no_entry_reads_others s order matrix run n before lane after entry = reads_apart s order matrix run n before lane after entry

@@ -1,0 +1,82 @@
+-- What a contract sees of a memory.
+use Rattle.std.specs.Prelude.{◌≡◌, ℕ, ◌*◌, ◌/◌, ◌%◌, ◌^◌, ◌<◌, ◌≤◌, ◌-◌, ◌==◌, if◌then◌else◌, List, [], length, map, replicate, slice_index_or, slice_set}
+use Rattle.std.specs.List.{sum_by, range_with_len}
+use Rattle.argon2_blocks.specs.Standard.Block.{zero_block}
+use Rattle.argon2_memory.specs.Views.Sources.{with_block}
+use Rattle.argon2_settings.specs.Standard.Setting.{Setting}
+use Rattle.argon2_memory.specs.Views.Segments.{SegmentValue, IsReady, segment_at}
+use Rattle.argon2_memory.specs.Views.Filling.{no_segment}
+
+-- the number of lanes, the length of a segment, and the segments: slice by slice, and there lane by lane
+pub record MemoryValue : Type 0 where
+  pub lanes : ℕ
+  pub segment_length : ℕ
+  pub slices : List (List SegmentValue)
+
+abbrev pub segment_in : List (List SegmentValue) → ℕ → ℕ → SegmentValue
+segment_in slices slice lane = slice_index_or (slice_index_or slices slice []) lane no_segment
+
+-- four slices, each with a segment of L blocks for each of p lanes
+pub record AreSlices (p len : ℕ) (slices : List (List SegmentValue)) : Type 0 where
+  pub count : length slices ≡ 4
+  pub lanes : (slice : ℕ) → slice < 4 → length (slice_index_or slices slice []) ≡ p
+  pub blocks : (slice lane : ℕ) → slice < 4 → lane < p → length (segment_in slices slice lane).blocks ≡ len
+
+pub record IsMemory (m : MemoryValue) : Type 0 where
+  pub slices : AreSlices m.lanes m.segment_length m.slices
+  pub fits : 4 * m.lanes * m.segment_length < 2 ^ 32
+  pub lane_fits : 4 * m.segment_length < 2 ^ 32
+
+-- the block at a lane and column
+abbrev pub block_of : MemoryValue → ℕ → ℕ → List ℕ
+block_of m lane column =
+    slice_index_or (segment_in m.slices (column / m.segment_length) lane).blocks (column % m.segment_length) []
+
+-- the sum of the tallies of a slice
+abbrev pub slice_writes : List SegmentValue → ℕ
+slice_writes segments = sum_by (λ (segment : SegmentValue). segment.tally) segments
+
+-- how many blocks were written, modulo 2 ^ 64
+abbrev pub writes_in : List (List SegmentValue) → ℕ
+writes_in slices = sum_by slice_writes slices % 2 ^ 64
+
+abbrev pub writes : MemoryValue → ℕ
+writes m = writes_in m.slices
+
+-- a memory of the setting's lanes and segments
+pub record HasShape (s : Setting) (m : MemoryValue) : Type 0 where
+  pub lanes : m.lanes ≡ s.lanes
+  pub segment_length : m.segment_length ≡ s.segment_length
+
+-- in each lane the slices below the stated one hold the pass's blocks, and the others wait for it
+pub record IsFilledBelow (s : Setting) (pass slice : ℕ) (slices : List (List SegmentValue)) : Type 0 where
+  pub below : (k lane : ℕ) → k < slice → lane < s.lanes → (segment_in slices k lane).blocks ≡ segment_at s pass k lane
+  pub above : (k lane : ℕ) → slice ≤ k → k < 4 → lane < s.lanes → IsReady s pass k lane (segment_in slices k lane).blocks
+
+-- how many blocks the first n slices of a fill write: all of theirs, but for the first two of each lane
+abbrev pub blocks_written : Setting → ℕ → ℕ
+blocks_written s n = s.lanes * (n * s.segment_length - (if n == 0 then 0 else 2))
+
+-- a segment, and a memory, of zeros in which nothing was written yet
+abbrev pub zero_segment : ℕ → SegmentValue
+zero_segment length = record { blocks = replicate length zero_block; tally = 0 }
+
+abbrev pub zero_memory : ℕ → ℕ → MemoryValue
+zero_memory lanes segment_length = record {
+  lanes = lanes;
+  segment_length = segment_length;
+  slices = replicate 4 (replicate lanes (zero_segment segment_length));
+}
+
+-- a memory without lanes, which a refusal leaves
+abbrev pub no_memory : MemoryValue
+no_memory = record { lanes = 0; segment_length = 0; slices = replicate 4 [] }
+
+-- the last block of each lane
+abbrev pub last_blocks_of : MemoryValue → List (List ℕ)
+last_blocks_of m = map (λ lane. block_of m lane (4 * m.segment_length - 1)) (range_with_len 0 m.lanes)
+
+-- the slices with a block written at a lane and index
+abbrev pub set_in : List (List SegmentValue) → ℕ → ℕ → ℕ → List ℕ → List (List SegmentValue)
+set_in slices slice lane index block =
+    slice_set slices slice (slice_set (slice_index_or slices slice []) lane (with_block (segment_in slices slice lane) index block))

@@ -1,0 +1,243 @@
+//! The matrix of blocks, as four slices of segments.
+
+ghost use Rattle.std.specs.Prelude.{◌≡◌, ℕ, ◌+◌, ◌*◌, ◌/◌, ◌%◌, ◌^◌, ◌<◌, ◌≤◌, [], IfErr, IfOk, length, map, slice_index_or};
+ghost use Rattle.argon2_memory.specs.Views.Memories.{AreSlices, IsMemory, MemoryValue, block_of, no_memory, segment_in, set_in, slice_writes, writes, writes_in, zero_memory};
+
+mod segment;
+mod slices;
+
+use argon2_blocks::block::Block;
+use argon2_blocks::common::SYNC_POINTS;
+use argon2_settings::error::Error;
+use argon2_settings::result::Result;
+pub use segment::{Segment, Source, recall_segment};
+pub use slices::{Slices, others, take_slice};
+use slices::{ask_for_room, empty_slices, tally, zero_slice};
+use std::alloc::Global;
+use std::marker::Model;
+use std::ops::Index;
+use std::{fmt, mem};
+
+/// The matrix of blocks of 1 KiB: a row for each lane. Column c of a lane of 4 L columns is the
+/// block at index c mod L of the lane's segment in slice c / L (RFC 9106, 3.4).
+#[derive(Drop)]
+pub struct Memory {
+    lanes: u32,
+    segment_length: u32,
+    slices: Slices,
+}
+
+impl Model for Memory {
+    ghost Value = { MemoryValue };
+
+    ghost view = { λ m. record {
+      lanes = m.lanes;
+      segment_length = m.segment_length;
+      slices = map
+          (λ v. v.items) m.slices;
+    } };
+
+    ghost invariant = { λ m. IsMemory (record {
+      lanes = m.lanes;
+      segment_length = m.segment_length;
+      slices = map (λ v. v.items) m.slices;
+    }) };
+}
+
+/// Tells the prover the bounds that each memory keeps, as `recall_job` does for a job.
+pub fn recall_memory(memory: &Memory)
+    ensures { IsMemory memory.now }
+{
+    let _lanes = memory.lanes();
+}
+
+/// Writes a block into one segment of the four slices.
+fn put_among(slices: &mut [Vec<Segment>], slice: usize, lane: usize, index: usize, block: &Block)
+    requires slice_fits { slice < length slices.old }
+    requires lane_fits { lane < length (slice_index_or (map (λ v. v.items) slices.old) slice []) }
+    requires index_fits { index < length (segment_in (map
+        (λ v. v.items) slices.old) slice lane).blocks }
+    ensures { map (λ v. v.items) slices.new ≡ set_in (map
+        (λ v. v.items) slices.old) slice lane index block.now }
+{
+    let segments = &mut slices[slice];
+    segments[lane].put(index, block);
+}
+
+impl Memory {
+    /// A memory of zeros, with `lanes` lanes of `lane_length` blocks each. Where memory is refused:
+    /// `OutOfMemory`.
+    pub fn new(alloc: Global, lanes: u32, lane_length: u32) -> Result<Memory>
+        requires some_lane { 0 < lanes }
+        requires whole_slices { lane_length % 4 ≡ 0 }
+        requires some_blocks { 8 ≤ lane_length }
+        requires fits { lanes * lane_length < 2 ^ 32 }
+        ensures zeros { IfOk result (λ m. m ≡ zero_memory lanes (lane_length / 4)) }
+        ensures refused { IfErr result (λ e. e ≡ Error.OutOfMemory) }
+    {
+        ask_for_room(alloc, lanes, lane_length)?;
+        let segment_length = lane_length / SYNC_POINTS;
+        let slices = [
+            zero_slice(alloc, lanes, segment_length)?,
+            zero_slice(alloc, lanes, segment_length)?,
+            zero_slice(alloc, lanes, segment_length)?,
+            zero_slice(alloc, lanes, segment_length)?,
+        ];
+        Ok(Memory {
+            lanes,
+            segment_length,
+            slices,
+        })
+    }
+
+    /// A memory without lanes, which takes no memory.
+    pub fn empty(alloc: Global) -> Memory
+        ensures { result ≡ no_memory }
+    {
+        Memory {
+            lanes: 0,
+            segment_length: 0,
+            slices: empty_slices(alloc),
+        }
+    }
+
+    /// How many lanes there are.
+    pub fn lanes(&self) -> u32
+        ensures value { result ≡ self.now.lanes }
+        ensures memory { IsMemory self.now }
+    {
+        self.lanes
+    }
+
+    /// How many columns there are: the blocks of a lane.
+    pub fn lane_length(&self) -> u32
+        ensures value { result ≡ 4 * self.now.segment_length }
+        ensures memory { IsMemory self.now }
+    {
+        SYNC_POINTS * self.segment_length
+    }
+
+    /// Writes a block at a lane and column, and counts the write.
+    pub fn set(&mut self, lane: u32, column: u32, block: &Block)
+        requires lane_fits { lane < self.old.lanes }
+        requires column_fits { column < 4 * self.old.segment_length }
+        ensures { let len = self.old.segment_length in
+            self.new ≡ record self.old {
+              slices = set_in self.old.slices (column / len) lane
+                  (column % len) block.now;
+            } }
+    {
+        let slice = column / self.segment_length;
+        let index = column % self.segment_length;
+        put_among(
+            &mut self.slices,
+            slice as usize,
+            lane as usize,
+            index as usize,
+            block,
+        );
+    }
+
+    /// How many blocks were written since the memory was made, modulo 2^64.
+    pub fn writes(&self) -> u64
+        ensures { result ≡ writes self.now }
+    {
+        tally(&self.slices)
+    }
+
+    fn block(&self, lane: u32, column: u32) -> &Block
+        requires lane_fits { lane < self.now.lanes }
+        requires column_fits { column < 4 * self.now.segment_length }
+        ensures { result.now ≡ block_of self.now lane column }
+    {
+        let slices = &self.slices[..];
+        let segments = slices[(column / self.segment_length) as usize].as_slice();
+        segments[lane as usize].block((column % self.segment_length) as usize)
+    }
+}
+
+/// Moves all slices out, and leaves a memory without lanes.
+pub fn take_slices(memory: &mut Memory) -> Slices
+    ensures slices { map (λ v. v.items) result ≡ memory.old.slices }
+    ensures memory { IsMemory memory.old }
+    ensures left { memory.new ≡ no_memory }
+{
+    let alloc = *memory.slices[0].allocator();
+    memory.lanes = 0;
+    memory.segment_length = 0;
+    mem::replace(&mut memory.slices, empty_slices(alloc))
+}
+
+/// The memory of four slices.
+pub fn memory_of_slices(lanes: u32, segment_length: u32, slices: Slices) -> Memory
+    requires slices { AreSlices lanes segment_length (map (λ v. v.items) slices) }
+    requires fits { 4 * lanes * segment_length < 2 ^ 32 }
+    requires lane_fits { 4 * segment_length < 2 ^ 32 }
+    ensures { result ≡ record {
+      lanes = lanes;
+      segment_length = segment_length;
+      slices = map
+          (λ v. v.items) slices;
+    } }
+{
+    Memory {
+        lanes,
+        segment_length,
+        slices,
+    }
+}
+
+/// The block at a lane and column.
+impl Index<(u32, u32)> for Memory {
+    type Output = Block;
+
+    ghost can_index = { λ m i. (i.0 < m.lanes) × (i.1 < 4 * m.segment_length) };
+
+    ghost index_gives = { λ m i x. x ≡ block_of m i.0 i.1 };
+
+    fn index(&self, index: (u32, u32)) -> &Block {
+        self.block(index.0, index.1)
+    }
+}
+
+/// The block of a number, counted lane after lane.
+impl Index<u32> for Memory {
+    type Output = Block;
+
+    ghost can_index = { λ m n. n < 4 * m.lanes * m.segment_length };
+
+    ghost index_gives = { λ m n x. x ≡ block_of m (n / (4 * m.segment_length)) (n %
+        (4 * m.segment_length)) };
+
+    fn index(&self, index: u32) -> &Block {
+        &self[u64::from(index)]
+    }
+}
+
+/// The block of a number, counted lane after lane.
+impl Index<u64> for Memory {
+    type Output = Block;
+
+    ghost can_index = { λ m n. n < 4 * m.lanes * m.segment_length };
+
+    ghost index_gives = { λ m n x. x ≡ block_of m (n / (4 * m.segment_length)) (n %
+        (4 * m.segment_length)) };
+
+    fn index(&self, index: u64) -> &Block {
+        let length = u64::from(self.lane_length());
+        self.block((index / length) as u32, (index % length) as u32)
+    }
+}
+
+/// The numbers of lanes and of columns.
+impl fmt::Debug for Memory {
+    ghost use Rattle.std.specs.Prelude.{◌++◌, ◌*◌, Some, codes};
+    ghost use Rattle.std.specs.Fmt.{decimal};
+
+    ghost debug_output = { λ m. Some (codes "Memory { rows: " ++ decimal m.lanes ++ codes ", cols: " ++ decimal (4 * m.segment_length) ++ codes " }") };
+
+    fn fmt<W: fmt::Write>(&self, f: &mut fmt::Formatter<W>) -> fmt::Result {
+        let (rows, columns) = (self.lanes(), self.lane_length());
+        write!(f, "Memory {{ rows: {rows}, cols: {columns} }}")
+    }
+}

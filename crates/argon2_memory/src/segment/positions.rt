@@ -1,0 +1,158 @@
+//! The references of a block: the lane and column that a drawn word picks.
+
+ghost use Rattle.std.specs.Prelude.{◌≡◌, ℕ, ◌+◌, ◌-◌, ◌*◌, ◌/◌, ◌%◌, ◌^◌, ◌<◌, ◌≤◌, length, take, drop, true, false};
+ghost use Rattle.argon2_memory.specs.Views.Filling.{window_column, window_length, left_columns, pick_of, position_of};
+ghost use Rattle.argon2_settings.specs.Views.Jobs.{first_index, IsJob};
+ghost use Rattle.argon2_memory.specs.Views.Positions.{reference_positions_of};
+ghost use Rattle.argon2_settings.specs.Standard.Recurrence.{addresses};
+ghost use Rattle.argon2_settings.specs.Standard.Reference.{drawn_lane, window_index, is_data_independent};
+ghost use Rattle.argon2_settings.specs.Standard.Setting.{lane_length};
+
+use argon2_blocks::block::{Block, fill_block};
+use argon2_blocks::common::{ADDRESSES_IN_BLOCK, QWORDS_IN_BLOCK, SYNC_POINTS};
+use argon2_settings::context::{Job, recall_job};
+
+/// A word has two halves of 32 bits.
+const HALF: u64 = 1 << 32;
+
+/// The place that a word draws among some blocks.
+fn drawn_place(count: u32, word: u64) -> u32
+    requires { 0 < count }
+    ensures value { result ≡ window_index count word }
+    ensures fits { result < count }
+{
+    let low = word % HALF;
+    let square = low * low / HALF;
+    let back = u64::from(count) * square / HALF;
+    count - 1 - back as u32
+}
+
+/// How many columns of a lane are still as the last pass left them.
+fn left_columns(job: &Job) -> u32
+    ensures value { result ≡ left_columns job.now }
+    ensures fits { result + job.now.slice * job.now.setting.segment_length +
+        job.now.setting.segment_length
+        ≤ lane_length job.now.setting }
+{
+    let end = job.start() + job.segment_length();
+    if job.pass() == 0 {
+        0
+    } else {
+        SYNC_POINTS * job.segment_length() - end
+    }
+}
+
+/// How many blocks of its own lane or another the block at an index may refer to.
+pub fn allowed_count(job: &Job, is_own: bool, index: u32) -> u32
+    requires index_fits { index < job.now.setting.segment_length }
+    requires some { 0 < window_length job.now is_own index }
+    ensures value { result ≡ window_length job.now is_own index }
+    ensures fits { result ≤ lane_length job.now.setting }
+{
+    let elsewhere = left_columns(job) + job.start();
+    if is_own {
+        elsewhere + index - 1
+    } else if index == 0 {
+        elsewhere - 1
+    } else {
+        elsewhere
+    }
+}
+
+/// The column at a place among the blocks that one may refer to.
+pub fn allowed_column(job: &Job, place: u32) -> u32
+    requires { place < lane_length job.now.setting }
+    ensures { result ≡ window_column job.now place }
+{
+    let left = left_columns(job);
+    if place < left {
+        job.start() + job.segment_length() + place
+    } else {
+        place - left
+    }
+}
+
+/// The lane that a word draws for a block of a lane.
+fn drawn_lane(job: &Job, lane: u32, word: u64) -> u32
+    requires { lane < job.now.setting.lanes }
+    ensures value { (index : ℕ) → index < job.now.setting.segment_length
+        → result ≡ drawn_lane job.now.setting word (position_of job.now lane index) }
+    ensures job { IsJob job.now }
+{
+    let lanes = job.lanes();
+    if lanes == 1 || job.pass() == 0 && job.slice() == 0 {
+        lane
+    } else {
+        (word / HALF) as u32 % lanes
+    }
+}
+
+/// The lane and column that a word picks for the block at an index.
+pub fn pick(job: &Job, lane: u32, index: u32, word: u64) -> (u32, u32)
+    requires lane_fits { lane < job.now.setting.lanes }
+    requires index_fits { index < job.now.setting.segment_length }
+    requires later { first_index job.now ≤ index }
+    ensures { result ≡ pick_of job.now lane index word }
+{
+    let chosen = drawn_lane(job, lane, word);
+    let count = allowed_count(job, chosen == lane, index);
+    (chosen, allowed_column(job, drawn_place(count, word)))
+}
+
+/// Writes the words that the blocks at 128 indexes draw.
+fn address_block(job: &Job, lane: u32, number: u32, out: &mut Block)
+    ensures { out.new ≡ addresses job.now.setting job.now.pass lane job.now.slice number }
+{
+    let zero = Block::zero();
+    let mut input = [0; QWORDS_IN_BLOCK];
+    input[0] = u64::from(job.pass());
+    input[1] = u64::from(lane);
+    input[2] = u64::from(job.slice());
+    input[3] = u64::from(job.memory_blocks());
+    input[4] = u64::from(job.passes());
+    input[5] = job.variant_number();
+    input[6] = u64::from(number) + 1;
+    let mut once = Block::zero();
+    fill_block(&zero, &Block::from_words(input), &mut once, false);
+    fill_block(&zero, &once, out, false);
+}
+
+/// Makes `words` the address block of an index. Unless the index is the first, `words` is that of
+/// the index before.
+fn turn_to(job: &Job, lane: u32, index: u32, is_first: bool, words: &mut Block)
+    requires { is_first ≡ false → words.old ≡ addresses job.now.setting job.now.pass lane
+        job.now.slice ((index - 1) / 128) }
+    ensures { words.new ≡ addresses job.now.setting job.now.pass lane job.now.slice (index / 128) }
+{
+    if is_first || index % ADDRESSES_IN_BLOCK == 0 {
+        address_block(job, lane, index / ADDRESSES_IN_BLOCK, words);
+    }
+}
+
+/// Writes the lanes and columns that the blocks from an index on refer to, in a segment whose
+/// references depend on no block.
+pub fn reference_positions(job: &Job, lane: u32, first: u32, out: &mut [(u32, u32)])
+    requires lane_fits { lane < job.now.setting.lanes }
+    requires independent { is_data_independent job.now.setting.variant job.now.pass job.now.slice
+        ≡ true }
+    requires indexes_fit { first + length out.old ≤ job.now.setting.segment_length }
+    requires later { first_index job.now ≤ first }
+    ensures { let s = job.now.setting in
+        out.new ≡ take (length out.old)
+        (drop (first - first_index job.now)
+        (reference_positions_of s.variant s.lanes s.segment_length s.passes job.now.pass
+        job.now.slice lane)) }
+{
+    recall_job(job);
+    let mut words = Block::zero();
+    for k in 0..out.len() {
+        let index = first + k as u32;
+        turn_to(job, lane, index, k == 0, &mut words);
+        out[k] = pick(
+            job,
+            lane,
+            index,
+            words[(index % ADDRESSES_IN_BLOCK) as usize],
+        );
+    }
+}
