@@ -7,3 +7,4 @@ pub mod HasherView
 pub mod Lane
 pub mod Shuffles
 pub mod Spread
+pub mod Rounds

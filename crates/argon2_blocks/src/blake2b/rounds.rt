@@ -2,6 +2,7 @@
 
 ghost use Rattle.std.specs.Prelude.{◌≡◌, ◌<◌, ◌≤◌, ◌^◌, length, bit_xor, IsTrue, nat_lt};
 ghost use Rattle.std.specs.List.{fold, list_all, range_with_len};
+ghost use Rattle.argon2_blocks.specs.Views.Rounds.{half_of_round};
 ghost use Rattle.argon2_blocks.specs.Standard.Blake2b.{Four, compress_f, half_g, mix_g, put_at, round, round_count, sigma_row, words_at, working_vector};
 
 /// How many values a word has: 2^64.
@@ -78,40 +79,40 @@ fn mix_g(v: &mut [u64; 16], a: usize, b: usize, c: usize, d: usize, x: u64, y: u
     v[d] = w.3;
 }
 
-/// A round: G on four columns, and then on four diagonals, where `s` is the order of the message
-/// words (RFC 7693, 3.2).
-#[tactic(auto, unfolding(crate::specs::Standard::Blake2b::round))]
+/// G on the four columns, where `s` is the order of the message words (RFC 7693, 3.2).
+#[inline(always)]
+fn mix_columns(v: &mut [u64; 16], m: &[u64; 16], s: &[usize; 16])
+    requires { IsTrue (list_all (λ i. nat_lt i 16) s.now) }
+    ensures { v.new ≡ half_of_round m.now v.old s.now 0 }
+{
+    let [s0, s1, s2, s3, s4, s5, s6, s7, _, _, _, _, _, _, _, _] = *s;
+    mix_g(v, 0, 4, 8, 12, m[s0], m[s1]);
+    mix_g(v, 1, 5, 9, 13, m[s2], m[s3]);
+    mix_g(v, 2, 6, 10, 14, m[s4], m[s5]);
+    mix_g(v, 3, 7, 11, 15, m[s6], m[s7]);
+}
+
+/// G on the four diagonals.
+#[inline(always)]
+fn mix_diagonals(v: &mut [u64; 16], m: &[u64; 16], s: &[usize; 16])
+    requires { IsTrue (list_all (λ i. nat_lt i 16) s.now) }
+    ensures { v.new ≡ half_of_round m.now v.old s.now 4 }
+{
+    let [_, _, _, _, _, _, _, _, s8, s9, s10, s11, s12, s13, s14, s15] = *s;
+    mix_g(v, 0, 5, 10, 15, m[s8], m[s9]);
+    mix_g(v, 1, 6, 11, 12, m[s10], m[s11]);
+    mix_g(v, 2, 7, 8, 13, m[s12], m[s13]);
+    mix_g(v, 3, 4, 9, 14, m[s14], m[s15]);
+}
+
+/// A round: G on the columns, and then on the diagonals (RFC 7693, 3.2).
 #[inline(always)]
 fn round(v: &mut [u64; 16], m: &[u64; 16], s: &[usize; 16])
     requires { IsTrue (list_all (λ i. nat_lt i 16) s.now) }
     ensures { v.new ≡ round m.now v.old s.now }
 {
-    let [
-        s0,
-        s1,
-        s2,
-        s3,
-        s4,
-        s5,
-        s6,
-        s7,
-        s8,
-        s9,
-        s10,
-        s11,
-        s12,
-        s13,
-        s14,
-        s15,
-    ] = *s;
-    mix_g(v, 0, 4, 8, 12, m[s0], m[s1]);
-    mix_g(v, 1, 5, 9, 13, m[s2], m[s3]);
-    mix_g(v, 2, 6, 10, 14, m[s4], m[s5]);
-    mix_g(v, 3, 7, 11, 15, m[s6], m[s7]);
-    mix_g(v, 0, 5, 10, 15, m[s8], m[s9]);
-    mix_g(v, 1, 6, 11, 12, m[s10], m[s11]);
-    mix_g(v, 2, 7, 8, 13, m[s12], m[s13]);
-    mix_g(v, 3, 4, 9, 14, m[s14], m[s15]);
+    mix_columns(v, m, s);
+    mix_diagonals(v, m, s);
 }
 
 /// The twelve rounds: the last two take the first two orders again (RFC 7693, 3.2).

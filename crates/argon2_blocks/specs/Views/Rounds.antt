@@ -1,0 +1,12 @@
+-- A round of BLAKE2b in two halves, as the code goes through it.
+use Rattle.std.specs.Prelude.{ℕ, ◌+◌, ◌*◌, List, take, drop, slice_index}
+use Rattle.std.specs.List.{fold, enumerate_from}
+use Rattle.argon2_blocks.specs.Standard.Blake2b.{mix_g, mix_places, put_at, words_at}
+
+-- four G of a round in turn, from the one with this number on: the columns from 0, the diagonals from 4
+abbrev pub half_of_round : List ℕ → List ℕ → List ℕ → ℕ → List ℕ
+half_of_round m v s first =
+    fold (λ v (k, at). put_at v at (mix_g
+    (slice_index m (slice_index s (2 * k)))
+    (slice_index m (slice_index s (2 * k + 1)))
+    (words_at v at))) v (take 4 (drop first (enumerate_from 0 mix_places)))
