@@ -2,16 +2,13 @@
 #![tactic(auto)]
 
 mod answer;
-mod arguments;
 mod command;
+mod command_line;
 mod fault;
 mod program;
 
 pub use answer::Answer;
-pub use arguments::{CommandLine, OfProcess};
 pub use command::Command;
+pub use command_line::{CommandLine, OfProcess, arguments};
 pub use fault::Fault;
 pub use program::{run, start};
-
-#[cfg(test)]
-mod tests;

@@ -10,8 +10,8 @@ ghost use Rattle.argon2_commands.specs.Run.{Answered, HasAnswer, IsShortOrRefuse
 ghost use Rattle.argon2_commands.specs.Words.{IsNoCommand, texts_of};
 
 use crate::answer::Answer;
-use crate::arguments::{CommandLine, arguments};
 use crate::command::Command;
+use crate::command_line::{CommandLine, arguments};
 use crate::fault::Fault;
 use std::alloc::Global;
 use std::io;

@@ -15,3 +15,6 @@ fn main(rt: HostRuntime) -> ExitCode {
         &mut rt.stderr(),
     )
 }
+
+#[cfg(test)]
+mod tests;

@@ -4,7 +4,7 @@ mod arguments;
 mod faults;
 mod streams;
 
-use crate::run;
+use argon2_commands::run;
 use std::alloc::{AllocError, Global};
 use std::io::Read;
 use std::marker::Sync;

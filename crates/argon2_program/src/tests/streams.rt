@@ -1,7 +1,7 @@
 //! Streams that fail, at once or midway.
 
 use super::{ARGON2I, Wanted, check, words_of};
-use crate::run;
+use argon2_commands::run;
 use std::alloc::{AllocError, Global};
 use std::io;
 use std::io::{Error, ErrorKind, Read, Write};

@@ -1,7 +1,6 @@
 //! Arguments that a runtime gives.
 
-use crate::arguments::arguments;
-use crate::{Fault, OfProcess, start};
+use argon2_commands::{Fault, OfProcess, arguments, start};
 use std::env::{Env, FillError};
 use std::test::Fail;
 

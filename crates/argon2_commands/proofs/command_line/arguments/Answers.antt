@@ -5,15 +5,13 @@ use Rattle.std.specs.Result.{IsOk}
 use Rattle.argon2_commands.specs.CommandLine.{IsArgument}
 use Rattle.argon2_commands.specs.Words.{texts_of}
 use Rattle.argon2_commands.proofs.Reading.{IsReadTo, all_read, no_text, one_more}
-use Rattle.argon2_commands.proofs.arguments.arguments.Goals as goal
+use Rattle.argon2_commands.proofs.command_line.arguments.Goals as goal
 
--- src/arguments.rt:56:13
 pub returns-in_default-clause-all : goal.returns-in_default-clause-all
 returns-in_default-clause-all g c =
     all_read (g.L.CommandLine.arguments c.args.line.now) (texts_of c.loop-index.words.items) c.loop-index.index c.loop-index.invariant.0
     (subst (λ found. IsArgument (g.L.CommandLine.arguments c.args.line.now) c.loop-index.index found) c.in_default.is c.in_ok-bytes.ensures.found)
 
--- src/arguments.rt:59:13
 pub returns-in_default-from_utf8-clause-fault : goal.returns-in_default-from_utf8-clause-fault
 returns-in_default-from_utf8-clause-fault g c =
     inl (
@@ -23,7 +21,6 @@ returns-in_default-from_utf8-clause-fault g c =
           (λ text. absurd (cc (subst (λ read. IsOk read) c.in_default-from_utf8.is (c.from_utf8.ensures.succeeds text)))),
     )
 
--- src/arguments.rt:54:5
 pub loop-index-preserved : goal.loop-index-preserved
 loop-index-preserved g c =
     let known = g.L.CommandLine.arguments c.args.line.now in
