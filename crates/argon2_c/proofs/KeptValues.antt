@@ -37,7 +37,8 @@ module _ {M : Type 1} {𝓤 : Ura M} {𝓛 : Logic 𝓤} {K : Type 0} {Γ : List
       k (subst (λ (ws : List Val). vs ≡ vstruct (of_list (ws ++ [])) ∷ []) ep ev))))
 
   pub kept_in : K → (p : Ptr) → Step K 𝓛 (‵ ((kept.the_row).own_val (record { at = p }) (word p ∷ [])) ∷ Γ) G (‵ (kept_owns memory.the_row p) ∷ Γ) G
-  kept_in t p = step (λ s. nothing t $ feq_i t (List Val) (ptr_val p ∷ []) (ptr_val p ∷ []) refl $ fjoin t $ feq_i t (List Val) (word p ∷ []) (word p ∷ []) refl $ fjoin t $
+  kept_in t p = step (λ s. nothing t $ feq_i t (List Val) (ptr_val p ∷ []) (ptr_val p ∷ []) refl $ fjoin t $
+      feq_i t (List Val) (word p ∷ []) (word p ∷ []) refl $ fjoin t $
       fpack t (Valss (RawPtr ∷ [])) (within (shape kept.the_type) (p, tt) (word p ∷ [])) (ptr_val p ∷ [], tt) $ fjoin t $ s)
 
   module _ (R : RattleType) where
@@ -47,7 +48,8 @@ module _ {M : Type 1} {𝓤 : Ura M} {𝓛 : Logic 𝓤} {K : Type 0} {Γ : List
         k (subst (λ (ws : List Val). vs ≡ vstruct (of_list (ws ++ [])) ∷ []) ep ev))))
 
     pub loose_in : K → (p : Ptr) → Step K 𝓛 (‵ ((loose.the_row R).own_val (record { at = p }) (word p ∷ [])) ∷ Γ) G (‵ (kept_owns R p) ∷ Γ) G
-    loose_in t p = step (λ s. nothing t $ feq_i t (List Val) (ptr_val p ∷ []) (ptr_val p ∷ []) refl $ fjoin t $ feq_i t (List Val) (word p ∷ []) (word p ∷ []) refl $ fjoin t $
+    loose_in t p = step (λ s. nothing t $ feq_i t (List Val) (ptr_val p ∷ []) (ptr_val p ∷ []) refl $ fjoin t $
+        feq_i t (List Val) (word p ∷ []) (word p ∷ []) refl $ fjoin t $
         fpack t (Valss (RawPtr ∷ [])) (within (shape (loose.the_type R)) (p, tt) (word p ∷ [])) (ptr_val p ∷ [], tt) $ fjoin t $ s)
 
 -- a pointer has its type, and so has the struct of it
@@ -69,8 +71,10 @@ module _ {M : Type 1} {𝓤 : Ura M} (𝓛 : Logic 𝓤) (R : RattleType) (a : G
 module _ {M : Type 1} {𝓤 : Ura M} {𝓛 : Logic 𝓤} {K : Type 0} {Γ : List (Item 𝓤)} {G : Goal 𝓤 𝓛.H} (R : RattleType) where
   -- nothing at null, and else a box
   pub either : K → (p : Ptr) → (p ≡ null_ptr → Seq K 𝓛 Γ G)
-      → ((b o : ℕ) (a : Global) (x : R.Denot) → p ≡ block_ptr b o → Testable (block_ptr b o) → Seq K 𝓛 (‵ (box_owns (ghosts.dealloc_token a) R (block_ptr b o) x) ∷ Γ) G)
+      → ((b o : ℕ) (a : Global) (x : R.Denot) → p ≡ block_ptr b o → Testable (block_ptr b o) →
+      Seq K 𝓛 (‵ (box_owns (ghosts.dealloc_token a) R (block_ptr b o) x) ∷ Γ) G)
       → Seq K 𝓛 (‵ (kept_owns R p) ∷ Γ) G
   either t null_ptr none some = drop t $ none refl
   either t (block_ptr b o) none some = fpick t (λ h.
-      use1 𝓛 (given (Testable (block_ptr b o)) (‵ (box_owns (ghosts.dealloc_token h.0) R (block_ptr b o) h.1))) (tested 𝓛 R h.0 (block_ptr b o) h.1) $ learn t (λ e. some b o h.0 h.1 refl e))
+      use1 𝓛 (given (Testable (block_ptr b o)) (‵ (box_owns (ghosts.dealloc_token h.0) R (block_ptr b o) h.1)))
+      (tested 𝓛 R h.0 (block_ptr b o) h.1) $ learn t (λ e. some b o h.0 h.1 refl e))

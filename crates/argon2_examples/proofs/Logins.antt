@@ -8,7 +8,8 @@ use Rattle.argon2.specs.Text.{Spelled}
 use Rattle.argon2_examples.specs.Service.{LetsIn}
 
 -- a value of an outcome is one of which P holds
-value_of : {A : Type 0} (refusal : Option Error) (workers : Bool) (P : A → Type 0) (result : Result A Error) → IsOutcome refusal workers P result → IfOk result P
+value_of : {A : Type 0} (refusal : Option Error) (workers : Bool) (P : A → Type 0) (result : Result A Error)
+    → IsOutcome refusal workers P result → IfOk result P
 value_of None workers P (Ok value) h = h
 value_of None workers P (Err e) h = tt
 value_of (Some refusal) workers P (Ok value) h = absurd (cc (h))

@@ -3,3 +3,4 @@ pub mod Filled
 pub mod Slices
 pub mod Written
 pub mod Made
+pub mod Lent

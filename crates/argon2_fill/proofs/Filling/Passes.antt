@@ -10,7 +10,8 @@ use Rattle.argon2_memory.specs.Views.Segments.{SegmentValue, IsReady, segment_at
 use Rattle.argon2_memory.specs.Views.Memories.{MemoryValue, HasShape, block_of, last_blocks_of, segment_in, IsFilledBelow, blocks_written}
 use Rattle.argon2_memory.specs.Laws.Matrix.{HoldsLastPass}
 use Rattle.argon2_memory.proofs.Filling.Slices.{slice_fits}
-use Rattle.argon2_memory.proofs.Schedules.AnyOrder.{IsNext, is_next, other_eqb}
+use Rattle.argon2_memory.proofs.Schedules.AnyOrder.{other_eqb}
+use Rattle.argon2_memory.proofs.Schedules.SliceToSlice.{IsNext, is_next}
 use Rattle.std.proofs.lemmas.List.FromFn.{get_or-map-range_with_len, length-map-range_with_len, fill_by_all}
 use Rattle.std.proofs.Math.Nat.{div-add-mod, mod-lt, mul-le-mul_right}
 use Rattle.argon2_settings.specs.Standard.Recurrence.{block_at}

@@ -1,11 +1,10 @@
 -- One more block of a segment: what it is made of stands where a lane sees it.
-use Rattle.std.proofs.Common.{◌≡◌, ℕ, zero, suc, ◌+◌, ◌-◌, ◌*◌, ◌/◌, ◌%◌, ◌<◌, ◌≤◌, ◌⊎◌, Bool, false, List, [], length, map, get_or, set, refl, arith}
+use Rattle.std.proofs.Common.{◌≡◌, ℕ, zero, suc, ◌+◌, ◌-◌, ◌*◌, ◌/◌, ◌%◌, ◌<◌, ◌≤◌, ◌⊎◌, Bool, false, List, [], length, get_or, set, refl, arith}
 use Rattle.std.proofs.Common.{cond, inl, inr, sym, ◌∙◌, ap}
 use Rattle.std.specs.Prelude.{◌==◌, ◌&&◌, nat_lt, slice_index}
 use Rattle.std.proofs.lemmas.Bool.Decides.{eqb_tells}
 use Rattle.std.proofs.lemmas.Bool.{ltb-true, cases_lt}
-use Rattle.std.proofs.lemmas.List.{get_or-set_same, get_or-set_other, length-set, get_or-take, get_or-map, get_or_default, length-map}
-use Rattle.std.specs.Borrow.{Bor}
+use Rattle.std.proofs.lemmas.List.{get_or-set_same, get_or-set_other, length-set, get_or-take}
 use Rattle.std.proofs.lemmas.List.FromFn.{get_or-map-range_with_len, length-map-range_with_len, fill_by_all}
 use Rattle.std.proofs.Math.Nat.{div-add-mod, mod-lt, div-lt_iff_lt-mul}
 use Rattle.std.proofs.lemmas.Nat.{div-mul-add}
@@ -16,10 +15,12 @@ use Rattle.argon2_settings.specs.Views.Jobs.{IsSetting, IsPosition, Job, IsJob, 
 use Rattle.argon2_settings.specs.Standard.Reference.{is_data_independent, previous, pick}
 use Rattle.argon2_settings.specs.Standard.Recurrence.{block_at, drawn_word, address_word, combines, made_block}
 use Rattle.argon2_memory.specs.Views.Segments.{SegmentValue, segment_at, segment_block, IsReady}
-use Rattle.argon2_memory.specs.Views.Filling.{position_of, SnapshotValue, IsSnapshot, no_segment, rank_among, other_blocks, block_seen, IsFilledTo, reference_of}
+use Rattle.argon2_memory.specs.Views.Filling.{position_of, SnapshotValue, IsSnapshot}
+use Rattle.argon2_memory.specs.Views.Filling.{other_blocks, block_seen, IsFilledTo, reference_of}
 use Rattle.argon2_settings.proofs.Settings.Jobs.{start_fits, later_index}
 use Rattle.argon2_memory.proofs.Recurrence.Recurrences.{same_choice, both-true, block_at-recurrence}
-use Rattle.argon2_memory.proofs.Schedules.AnyOrder.{pick-lane_fits, recurrence_later, slice_of_sum, no_skip}
+use Rattle.argon2_memory.proofs.Schedules.AnyOrder.{pick-lane_fits, recurrence_later, slice_of_sum}
+use Rattle.argon2_memory.proofs.Schedules.SliceToSlice.{no_skip}
 use Rattle.argon2_memory.proofs.Recurrence.References.{IsReadable, pick-readable}
 
 -- a quotient from a bound on the product
@@ -233,23 +234,3 @@ pub filled_all : (j : Job) (lane : ℕ) (blocks : List (List ℕ)) → IsFilledT
     blocks ≡ segment_at j.setting j.pass j.slice lane
 filled_all j lane blocks filled = fill_by_all (segment_block j.setting j.pass j.slice lane) blocks j.setting.segment_length [] filled.count
     (λ k h. filled.new k h)
-
--- ---- what a snapshot lends
-
--- the value of the borrow that is read at a place stands there among the values of all three
-pub read_lent : (others : List (Bor (List SegmentValue))) (i : ℕ) (o : Bor (List SegmentValue))
-    → length (map (λ (b : Bor (List SegmentValue)). b.now) others) ≡ 3 → i < 3 →
-    o ≡ get_or others i o → get_or (map (λ (b : Bor (List SegmentValue)). b.now) others) i [] ≡ o.now
-read_lent others i o n h e =
-    get_or-map (λ (b : Bor (List SegmentValue)). b.now) others i o [] (let l = simp length-map at n in omega (arith, l))
-    ∙ ap (λ (b : Bor (List SegmentValue)). b.now) (sym e)
-
--- the segment that is read is that of the slice and lane
-pub read_segment : (v : SnapshotValue) → IsSnapshot v → (slice lane at : ℕ) (segments : List SegmentValue) (segment : SegmentValue) →
-    lane < v.job.setting.lanes → at ≡ rank_among v.job slice → at < 3 → get_or v.others at [] ≡ segments → segment ≡ get_or segments lane segment →
-    segment.blocks ≡ other_blocks v slice lane
-read_segment v snapshot slice lane at segments segment fits e h es is =
-    let n : lane < length segments = let l = snapshot.lanes at h in let k = rw es at l in omega (arith, k, fits) in
-    let d : segment ≡ get_or segments lane no_segment = is ∙ get_or_default segments lane segment no_segment n in
-    let q : get_or v.others (rank_among v.job slice) [] ≡ segments = rw e at es in
-    ap (λ (x : SegmentValue). x.blocks) (d ∙ ap (λ l. get_or l lane no_segment) (sym q))

@@ -5,7 +5,8 @@ use Rattle.argon2.specs.Texts.{spelled_by}
 use Rattle.argon2.proofs.Verification.StoredTexts.{refuses_nothing}
 use Rattle.argon2.proofs.TextLaws.TextSpellings.{spells_one}
 use Rattle.argon2_examples.proofs.Logins.{lets_in}
-use Rattle.argon2_examples.proofs.service.log_in.Goals.{then-stored-gt65536-via-then-stored-gt65536, then-stored-gt65536-via-else-stored-gt65536+then-stored-gt10}
+use Rattle.argon2_examples.proofs.service.log_in.Goals.{then-stored-gt65536-via-then-stored-gt65536}
+use Rattle.argon2_examples.proofs.service.log_in.Goals.{then-stored-gt65536-via-else-stored-gt65536+then-stored-gt10}
 use Rattle.argon2_examples.proofs.service.log_in.Goals as goal
 
 -- src/service.rt:46:18

@@ -1,5 +1,5 @@
 use Rattle.std.proofs.Common.{◌<◌, arith}
-use Rattle.argon2_memory.proofs.Filling.Filled.{read_lent, read_segment}
+use Rattle.argon2_memory.proofs.Filling.Lent.{read_lent, read_segment}
 use Rattle.argon2_memory.proofs.segment.snapshot.Snapshot.block.Goals as goal
 
 pub bounds-segments-lane : goal.bounds-segments-lane
