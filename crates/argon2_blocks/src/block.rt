@@ -6,8 +6,6 @@ mod lane_wise;
 mod lanes;
 mod rows;
 mod shuffles;
-#[cfg(test)]
-mod tests;
 mod transpose;
 
 ghost use Rattle.std.specs.Prelude.{◌≡◌, ◌<◌, ◌↔◌, ⊤, IsTrue, ℕ, List, Some, nat_eq, slice_index, if◌then◌else◌};
@@ -20,6 +18,7 @@ ghost use Rattle.argon2_blocks.specs.Standard.Compression.{compress_g};
 use crate::common::{BLOCK_SIZE, QWORDS_IN_BLOCK};
 use crate::little_endian::{read_words, write_words};
 use kernel::fill_words;
+use lane_wise::fill_words_by_lanes;
 pub use lanes::permute_lanes;
 use std::alloc::AllocError;
 use std::fmt;
@@ -168,4 +167,13 @@ pub fn fill_block(prev: &Block, reference: &Block, next: &mut Block, with_xor: b
         next.new ≡ (if with_xor then xor g next.old else g) }
 {
     fill_words(&prev.words, &reference.words, &mut next.words, with_xor);
+}
+
+/// As `fill_block`, with a row or a column of the block in each lane of the vectors, which takes more
+/// time: a second way to the same blocks, to hold the first against.
+pub fn fill_block_by_lanes(prev: &Block, reference: &Block, next: &mut Block, with_xor: bool)
+    ensures { let g = compress_g prev.now reference.now in
+        next.new ≡ (if with_xor then xor g next.old else g) }
+{
+    fill_words_by_lanes(&prev.words, &reference.words, &mut next.words, with_xor);
 }

@@ -24,7 +24,7 @@ use argon2_memory::memory::{
     Memory, Segment, Slices, memory_of_slices, others, recall_memory, take_slice, take_slices,
 };
 use argon2_memory::segment::{Snapshot, fill_segment};
-use argon2_settings::context::{Context, Job, recall_context, recall_job};
+use argon2_settings::context::{Context, Job, recall_context, recall_job, write_first_blocks};
 use argon2_settings::error::Error;
 use argon2_settings::result::Result;
 use std::alloc::Global;
@@ -65,28 +65,28 @@ pub fn initialize(context: &Context<'_>, memory: &mut Memory)
     recall_context(context);
     let job = Job::new(context);
     for lane in 0..job.lanes() {
-        write_first(&job, lane, 0, memory);
-        write_first(&job, lane, 1, memory);
+        write_first(&job, lane, memory);
     }
 }
 
-/// Writes one of a lane's first two blocks.
-fn write_first(job: &Job, lane: u32, column: u32, memory: &mut Memory)
+/// Writes a lane's first two blocks.
+fn write_first(job: &Job, lane: u32, memory: &mut Memory)
     requires shape { HasShape job.now.setting memory.old }
     requires lane_fits { lane < job.now.setting.lanes }
-    requires column_fits { column < 2 }
     ensures shape { HasShape job.now.setting memory.new }
-    ensures blocks { let block = first_block job.now.setting
+    ensures blocks { let block = λ (column : ℕ). first_block job.now.setting
         (record { pass = 0; lane = lane; column = column }) in
         (l c : ℕ) → block_of memory.new l c ≡ matrix_with
-        (block_of memory.old) lane column block l c }
-    ensures writes { writes memory.new ≡ (writes memory.old + 1) % 2 ^ 64 }
+        (matrix_with (block_of memory.old) lane 0 (block 0)) lane 1 (block 1) l c }
+    ensures writes { writes memory.new ≡ (writes memory.old + 2) % 2 ^ 64 }
 {
     recall_job(job);
     recall_memory(memory);
-    let mut block = Block::zero();
-    job.first_block(lane, column, &mut block);
-    memory.set(lane, column, &block);
+    let mut first = Block::zero();
+    let mut second = Block::zero();
+    write_first_blocks(job, lane, &mut first, &mut second);
+    memory.set(lane, 0, &first);
+    memory.set(lane, 1, &second);
 }
 
 /// Fills all slices of all passes in the caller's thread, lane after lane. The memory has the

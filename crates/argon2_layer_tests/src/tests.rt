@@ -1,3 +1,5 @@
+mod blocks;
+mod hashes;
 mod memory;
 mod orders;
 mod positions;

@@ -18,7 +18,7 @@ use argon2_blocks::common::{
     SYNC_POINTS,
 };
 use inputs::prehash;
-pub use job::{Job, recall_job};
+pub use job::{Job, recall_job, write_first_blocks};
 pub use recall::recall_context;
 use std::fmt;
 

@@ -3,7 +3,7 @@ use Rattle.std.proofs.Common.{◌≡◌, ℕ, suc, ◌+◌, ◌-◌, ◌*◌, �
 use Rattle.std.proofs.Common.{inr}
 use Rattle.std.proofs.lemmas.Bool.{le-leb, lt-leb}
 use Rattle.std.proofs.lemmas.Bool.Decides.{leb_tells}
-use Rattle.std.proofs.lemmas.List.{append-nil, append_assoc, drop_all}
+use Rattle.std.proofs.lemmas.List.{append-nil, append_assoc, drop_all, length-take-le}
 use Rattle.std.specs.Int.{w32, to_le_bytes}
 use Rattle.argon2_blocks.specs.Standard.Blake2b.{blake2b}
 use Rattle.argon2_blocks.specs.Standard.Hprime.{chain_length, hash_chain, hprime}
@@ -44,6 +44,18 @@ hash_chain_all whole out v rest r i last k all within held e end =
     let left : drop k (drop (32 * r) out) ≡ [] = drop_all k (drop (32 * r) out) (omega (arith, length-drop (32 * r) out)) in
     let tail : hash_chain (r - i) last v ≡ rest = hash_chain_none (r - i) last v (omega arith) ∙ sym e in
     rw (left, append-nil) (sym (held ∙ rw (tail, at) refl))
+
+-- the same for a hash of n bytes, as the code writes the last hash
+pub hash_chain_ends : (n r i last : ℕ) (input out v rest : List ℕ) → 64 < n → r ≡ chain_length n → r ≤ i → i ≤ r → length out ≡ n → last ≡ n - 32 * r →
+    hash_chain r last input ≡ take (32 * i) out ++ hash_chain (r - i) last v →
+    rest ≡ blake2b (length (take (length out - 32 * r) (drop (32 * r) out))) (v ++ []) →
+    put_mid (32 * r) (length out - 32 * r) out rest ≡ hash_chain (chain_length n) (n - 32 * chain_length n) input
+hash_chain_ends n r i last input out v rest long er all within len el held e =
+    let left : ℕ = length out - 32 * r in
+    let room : length (take left (drop (32 * r) out)) ≡ last =
+    length-take-le left (drop (32 * r) out) (omega (arith, length-drop (32 * r) out)) ∙ omega arith in
+    let hash : rest ≡ blake2b last v = rw (room, append-nil) at e in
+    rw (← er, ← el) (hash_chain_all _ out v rest r i last left all within held hash (omega arith))
 
 -- ---- the two cases of H'
 

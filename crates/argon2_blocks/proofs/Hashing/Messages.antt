@@ -1,10 +1,11 @@
 -- The state of BLAKE2b before the last block of a message, and what it rests on.
-use Rattle.std.proofs.Common.{◌≡◌, ℕ, zero, suc, ◌+◌, ◌-◌, ◌*◌, ◌/◌, ◌%◌, ◌^◌, ◌≤◌, Bool, false, List, ◌++◌, length, take, drop, replicate, refl, sym}
+use Rattle.std.proofs.Common.{◌≡◌, ℕ, zero, suc, ◌+◌, ◌-◌, ◌*◌, ◌/◌, ◌%◌, ◌^◌, ◌≤◌, Bool, true, false, List, ◌++◌, length, take, drop, replicate, refl, sym}
 use Rattle.std.proofs.Common.{ap, ◌∙◌, arith, length-append, length-drop}
 use Rattle.std.proofs.lemmas.List.{take-append-le, drop-append-le, take-replicate, take-take, take-append-drop, drop-take, take_at, drop_at}
 use Rattle.std.specs.Prelude.{slice_range}
-use Rattle.argon2_blocks.specs.Standard.Word.{words_of}
-use Rattle.argon2_blocks.specs.Standard.Blake2b.{block_length, compress_f, last_block, message_block, message_words, state_after, working_vector}
+use Rattle.argon2_blocks.specs.Standard.Word.{bytes_of, words_of}
+use Rattle.argon2_blocks.specs.Standard.Blake2b.{blake2b, block_length, compress_f, initial_state, last_block, message_block, message_words, state_after, working_vector}
+use Rattle.argon2_blocks.proofs.Compression.Places.{by_elements}
 
 -- ---- the count is read modulo 2 ^ 128
 
@@ -79,3 +80,21 @@ message_block_last m u e =
     ∙ ap (λ (k : ℕ). take k (rest ++ zeros)) (sym room)
     ∙ sym (take-take_more (rest ++ zeros) u (128 - u))
     ∙ rw (take_at rest zeros u len, drop_at rest zeros u len, take-replicate {X = ℕ} (128 - u) 128 0 (omega arith)) refl
+
+-- ---- a message of half a block
+
+-- the words of the block that zeros fill up
+half_block : (m : List ℕ) → length m ≡ 64 → message_words m 0 ≡ words_of 8 m ++ replicate 8 0
+unfolding words_of
+half_block m l = by_elements 0 64 (λ m. message_words m 0 ≡ words_of 8 m ++ replicate 8 0) m l refl
+
+-- a state has 64 bytes
+all_bytes : (h m : List ℕ) (t : ℕ) (is_last : Bool) → take 64 (bytes_of (compress_f h m t is_last)) ≡ bytes_of (compress_f h m t is_last)
+unfolding compress_f bytes_of
+all_bytes h m t is_last = refl
+
+-- its hash of 64 bytes is one F, and all bytes of the state
+pub blake2b_half_block : (m : List ℕ) → length m ≡ 64 →
+    blake2b 64 m ≡ bytes_of (compress_f (initial_state 64) (words_of 8 m ++ replicate 8 0) 64 true)
+unfolding blake2b state_after
+blake2b_half_block m l = rw (l, half_block m l) (all_bytes (initial_state 64) (words_of 8 m ++ replicate 8 0) 64 true)

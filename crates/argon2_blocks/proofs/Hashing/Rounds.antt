@@ -1,5 +1,5 @@
 -- A round of BLAKE2b by halves.
-use Rattle.std.proofs.Common.{◌≡◌, ℕ, ◌+◌, ◌*◌, List, refl, take, drop}
+use Rattle.std.proofs.Common.{◌≡◌, ℕ, ◌+◌, ◌*◌, List, refl, take, drop, ap, ◌∙◌}
 use Rattle.std.specs.Prelude.{slice_index}
 use Rattle.std.specs.List.{fold, enumerate_from}
 use Rattle.argon2_blocks.specs.Standard.Blake2b.{Four, mix_g, mix_places, put_at, round, words_at}
@@ -19,3 +19,13 @@ round_by_halves m v s =
     (slice_index m (slice_index s (2 * k)))
     (slice_index m (slice_index s (2 * k + 1)))
     (words_at v at))) v
+
+-- G number k of a round, where m are the message words and s is their order
+abbrev pub numbered_g : List ℕ → List ℕ → List ℕ → ℕ → Four → List ℕ
+numbered_g m s v k at = put_at v at (mix_g (slice_index m (slice_index s (2 * k))) (slice_index m (slice_index s (2 * k + 1))) (words_at v at))
+
+-- four G in turn
+pub four_in_turn : (g : List ℕ → ℕ → Four → List ℕ) (v v1 v2 v3 v4 : List ℕ) (k k1 k2 k3 : ℕ) (at at1 at2 at3 : Four) →
+    v1 ≡ g v k at → v2 ≡ g v1 k1 at1 → v3 ≡ g v2 k2 at2 → v4 ≡ g v3 k3 at3 → v4 ≡ g (g (g (g v k at) k1 at1) k2 at2) k3 at3
+four_in_turn g v v1 v2 v3 v4 k k1 k2 k3 at at1 at2 at3 e e1 e2 e3 =
+    e3 ∙ ap (λ v. g v k3 at3) (e2 ∙ ap (λ v. g v k2 at2) (e1 ∙ ap (λ v. g v k1 at1) e))

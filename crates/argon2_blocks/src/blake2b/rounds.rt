@@ -2,23 +2,23 @@
 
 ghost use Rattle.std.specs.Prelude.{◌≡◌, ◌<◌, ◌≤◌, ◌^◌, length, bit_xor, IsTrue, nat_lt};
 ghost use Rattle.std.specs.List.{fold, list_all, range_with_len};
-ghost use Rattle.argon2_blocks.specs.Views.Rounds.{half_of_round};
+ghost use Rattle.argon2_blocks.specs.Views.Rounds.{half_of_round, next_state};
 ghost use Rattle.argon2_blocks.specs.Standard.Blake2b.{Four, compress_f, half_g, mix_g, put_at, round, round_count, sigma_row, words_at, working_vector};
 
 /// How many values a word has: 2^64.
 const WORD_VALUES: u128 = 1 << 64;
 
 /// R1: the first of the four numbers of bits that G rotates by (RFC 7693, 2.1).
-const R1: u32 = 32;
+pub(super) const R1: u32 = 32;
 
 /// R2: the second.
-const R2: u32 = 24;
+pub(super) const R2: u32 = 24;
 
 /// R3: the third.
-const R3: u32 = 16;
+pub(super) const R3: u32 = 16;
 
 /// R4: the fourth.
-const R4: u32 = 63;
+pub(super) const R4: u32 = 63;
 
 /// The initialization vector (RFC 7693, 2.6).
 pub(super) const IV: [u64; 8] = [
@@ -33,7 +33,7 @@ pub(super) const IV: [u64; 8] = [
 ];
 
 /// Ten orders of the sixteen message words (RFC 7693, 2.7).
-const SIGMA: [[usize; 16]; 10] = [
+pub(super) const SIGMA: [[usize; 16]; 10] = [
     [0, 1, 2, 3, 4, 5, 6, 7, 8, 9, 10, 11, 12, 13, 14, 15],
     [14, 10, 4, 8, 9, 15, 13, 6, 1, 12, 0, 2, 11, 7, 5, 3],
     [11, 8, 12, 0, 5, 2, 15, 13, 10, 14, 3, 6, 7, 1, 9, 4],
@@ -137,7 +137,7 @@ fn rounds(v: &mut [u64; 16], m: &[u64; 16])
 /// v before the first round: the state and the initialization vector, with the count of bytes and
 /// the mark of the last block (RFC 7693, 3.2).
 #[tactic(auto, using(crate::proofs::WordLists::Xor::eight_words), unfolding(crate::specs::Standard::Blake2b::working_vector))]
-fn working_vector(h: &[u64; 8], count: u128, is_last: bool) -> [u64; 16]
+pub(super) fn working_vector(h: &[u64; 8], count: u128, is_last: bool) -> [u64; 16]
     ensures { result ≡ working_vector h.now count is_last }
 {
     let low = (count % WORD_VALUES) as u64;
@@ -165,15 +165,12 @@ fn working_vector(h: &[u64; 8], count: u128, is_last: bool) -> [u64; 16]
     ]
 }
 
-/// F: takes a block of sixteen message words into the state, where `count` bytes of the message
-/// came so far (RFC 7693, 3.2).
-#[tactic(auto, unfolding(crate::specs::Standard::Blake2b::compress_f))]
-pub(super) fn compress_f(h: &mut [u64; 8], m: &[u64; 16], count: u128, is_last: bool)
-    ensures { h.new ≡ compress_f h.old m.now count is_last }
+/// The state after the rounds (RFC 7693, 3.2).
+#[inline(always)]
+pub(super) fn next_state(h: &[u64; 8], v: &[u64; 16]) -> [u64; 8]
+    ensures { result ≡ next_state h.now v.now }
 {
-    let mut v = working_vector(h, count, is_last);
-    rounds(&mut v, m);
-    *h = [
+    [
         h[0] ^ v[0] ^ v[8],
         h[1] ^ v[1] ^ v[9],
         h[2] ^ v[2] ^ v[10],
@@ -182,5 +179,16 @@ pub(super) fn compress_f(h: &mut [u64; 8], m: &[u64; 16], count: u128, is_last: 
         h[5] ^ v[5] ^ v[13],
         h[6] ^ v[6] ^ v[14],
         h[7] ^ v[7] ^ v[15],
-    ];
+    ]
+}
+
+/// F: takes a block of sixteen message words into the state, where `count` bytes of the message
+/// came so far (RFC 7693, 3.2).
+#[tactic(auto, unfolding(crate::specs::Standard::Blake2b::compress_f))]
+pub(super) fn compress_f(h: &mut [u64; 8], m: &[u64; 16], count: u128, is_last: bool)
+    ensures { h.new ≡ compress_f h.old m.now count is_last }
+{
+    let mut v = working_vector(h, count, is_last);
+    rounds(&mut v, m);
+    *h = next_state(h, &v);
 }

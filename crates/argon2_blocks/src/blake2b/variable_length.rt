@@ -1,17 +1,21 @@
 //! H', the hash function of variable length (RFC 9106, 3.3): a chain of BLAKE2b hashes.
 
-ghost use Rattle.std.specs.Prelude.{◌≡◌, ◌<◌, ◌≤◌, ◌^◌, ◌+◌, ◌-◌, ◌*◌, ◌++◌, ℕ, List, length, take};
+ghost use Rattle.std.specs.Prelude.{◌≡◌, ◌<◌, ◌≤◌, ◌^◌, ◌+◌, ◌-◌, ◌*◌, ◌++◌, ℕ, List, length, replicate, take};
+ghost use Rattle.argon2_blocks.specs.Standard.Word.{words_of};
 ghost use Rattle.argon2_blocks.specs.Standard.Blake2b.{blake2b};
 ghost use Rattle.argon2_blocks.specs.Standard.Hprime.{chain_length, hash_chain, hprime};
 
+use super::hasher::initial_state;
+use super::pairs::compress_both;
 use crate::blake2b::blake2b;
 use crate::common::BLAKE2B_OUT_LENGTH;
+use crate::little_endian::{read_words, write_words};
 
 /// How many bytes of each V but the last go into the hash: its first half, W.
 const HALF_LENGTH: usize = 32;
 
 /// r: how many V a hash of `len` bytes, more than 64, has before the last.
-pub(super) fn chain_length(len: usize) -> usize
+fn chain_length(len: usize) -> usize
     requires { 64 < len }
     ensures { result ≡ chain_length len }
 {
@@ -24,6 +28,28 @@ fn next_link(v: &mut [u8; BLAKE2B_OUT_LENGTH])
 {
     let before = *v;
     blake2b(v, &[&before]);
+}
+
+/// The words of a block whose second half is zeros.
+fn half_block(bytes: &[u8; BLAKE2B_OUT_LENGTH]) -> [u64; 16]
+    ensures { result ≡ words_of 8 bytes.now ++ replicate 8 0 }
+{
+    let mut words = [0; 8];
+    read_words(&mut words, bytes);
+    let [w0, w1, w2, w3, w4, w5, w6, w7] = words;
+    [w0, w1, w2, w3, w4, w5, w6, w7, 0, 0, 0, 0, 0, 0, 0, 0]
+}
+
+/// Replaces two V by the next of each.
+fn next_links(first: &mut [u8; BLAKE2B_OUT_LENGTH], second: &mut [u8; BLAKE2B_OUT_LENGTH])
+    ensures first { first.new ≡ blake2b 64 first.old }
+    ensures second { second.new ≡ blake2b 64 second.old }
+{
+    let state = initial_state(BLAKE2B_OUT_LENGTH);
+    let count = BLAKE2B_OUT_LENGTH as u128;
+    let (v, w) = compress_both(&state, &half_block(first), &half_block(second), count, true);
+    write_words(first, &v);
+    write_words(second, &w);
 }
 
 /// Writes W, the first half of a V, at an index.
@@ -67,4 +93,50 @@ pub fn hprime(out: &mut [u8], input: &[u8])
         blake2b(&mut v, &[&len, input]);
         write_chain(out, v);
     }
+}
+
+/// Fills two hashes of one length, more than 64 bytes, from V 1 of each, as `write_chain` does. The
+/// two chains go side by side.
+fn write_chains(
+    first: &mut [u8],
+    second: &mut [u8],
+    mut v: [u8; BLAKE2B_OUT_LENGTH],
+    mut w: [u8; BLAKE2B_OUT_LENGTH],
+)
+    requires long { 64 < length first.old }
+    requires same { length second.old ≡ length first.old }
+    ensures first { let r = chain_length (length first.old) in
+        (input : List ℕ) → v ≡ blake2b 64 input →
+        first.new ≡ hash_chain r (length first.old - 32 * r) input }
+    ensures second { let r = chain_length (length second.old) in
+        (input : List ℕ) → w ≡ blake2b 64 input →
+        second.new ≡ hash_chain r (length second.old - 32 * r) input }
+{
+    let r = chain_length(first.len());
+    write_half(first, 0, &v);
+    write_half(second, 0, &w);
+    for i in 1..r {
+        next_links(&mut v, &mut w);
+        write_half(first, HALF_LENGTH * i, &v);
+        write_half(second, HALF_LENGTH * i, &w);
+    }
+    blake2b(&mut first[HALF_LENGTH * r..], &[&v]);
+    blake2b(&mut second[HALF_LENGTH * r..], &[&w]);
+}
+
+/// H' (RFC 9106, 3.3) of two inputs, one hash for each, of the same length: 65 to 2^32 - 1 bytes.
+/// It is faster than `hprime` of one and of the other, and takes no memory.
+pub fn hprime_both(first: &mut [u8], second: &mut [u8], first_input: &[u8], second_input: &[u8])
+    requires long { 64 < length first.old }
+    requires few { length first.old < 2 ^ 32 }
+    requires same { length second.old ≡ length first.old }
+    ensures first { first.new ≡ hprime (length first.old) first_input.now }
+    ensures second { second.new ≡ hprime (length second.old) second_input.now }
+{
+    let len = (first.len() as u32).to_le_bytes();
+    let mut v = [0; BLAKE2B_OUT_LENGTH];
+    let mut w = [0; BLAKE2B_OUT_LENGTH];
+    blake2b(&mut v, &[&len, first_input]);
+    blake2b(&mut w, &[&len, second_input]);
+    write_chains(first, second, v, w);
 }

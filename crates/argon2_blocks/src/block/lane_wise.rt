@@ -28,8 +28,7 @@ fn permute_block_by_lanes(words: &[u64x8; VECTORS]) -> [u64x8; VECTORS]
     out_of_columns(&v)
 }
 
-/// As `fill_words`, under the same contract, by `permute_lanes`: a second way from rows to columns,
-/// which the tests compare with the first.
+/// As `fill_words`, under the same contract, by `permute_lanes`: a second way from rows to columns.
 #[inline(never)]
 pub(super) fn fill_words_by_lanes(
     prev: &[u64; QWORDS_IN_BLOCK],

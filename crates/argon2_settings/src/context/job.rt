@@ -11,7 +11,7 @@ ghost use Rattle.argon2_settings.specs.Standard.Variant.{variant_number};
 use crate::context::{Context, recall_context};
 use crate::variant::Variant;
 use crate::version::Version;
-use argon2_blocks::blake2b::hprime;
+use argon2_blocks::blake2b::{hprime, hprime_both};
 use argon2_blocks::block::Block;
 use argon2_blocks::common::{BLOCK_SIZE, PREHASH_DIGEST_LENGTH, PREHASH_SEED_LENGTH, SYNC_POINTS};
 use std::marker::Model;
@@ -88,6 +88,31 @@ pub fn recall_job(job: &Job)
     ensures { IsJob job.now }
 {
     let _lanes = job.lanes;
+}
+
+/// Writes both of a lane's first two blocks (RFC 9106, 3.2, steps 3 and 4), which takes less time
+/// than one after the other. A function and no method, since `Job` is seen by users.
+#[tactic(auto, unfolding(crate::specs::Standard::Recurrence::first_block))]
+pub fn write_first_blocks(job: &Job, lane: u32, first: &mut Block, second: &mut Block)
+    ensures first { first.new ≡ first_block job.now.setting
+        (record { pass = 0; lane = lane; column = 0 }) }
+    ensures second { second.new ≡ first_block job.now.setting
+        (record { pass = 0; lane = lane; column = 1 }) }
+{
+    let mut first_seed = [0; PREHASH_SEED_LENGTH];
+    let mut second_seed = [0; PREHASH_SEED_LENGTH];
+    first_input(&job.prehash, lane, 0, &mut first_seed);
+    first_input(&job.prehash, lane, 1, &mut second_seed);
+    let mut first_bytes = [0; BLOCK_SIZE];
+    let mut second_bytes = [0; BLOCK_SIZE];
+    hprime_both(
+        &mut first_bytes,
+        &mut second_bytes,
+        &first_seed,
+        &second_seed,
+    );
+    first.set_u8(&first_bytes);
+    second.set_u8(&second_bytes);
 }
 
 impl Job {

@@ -4,7 +4,7 @@ ghost use Rattle.std.specs.Prelude.{◌≡◌, ◌<◌};
 ghost use Rattle.argon2_blocks.specs.Standard.Blake2b.{Four, put_at, words_at};
 ghost use Rattle.argon2_blocks.specs.Standard.Compression.{add_product, half_gb, mix_gb, permute_p};
 
-use super::super::Block;
+use argon2_blocks::block::Block;
 
 /// How many values half a word has: 2^32.
 const HALF_WORD_VALUES: u64 = 1 << 32;
@@ -15,7 +15,7 @@ const ROWS: usize = 8;
 /// How many words a row, or column, has.
 const WORDS_IN_ROW: usize = 16;
 
-#[tactic(auto, unfolding(crate::specs::Standard::Compression::add_product))]
+#[tactic(auto, unfolding(argon2_blocks::specs::Standard::Compression::add_product))]
 fn add_product(x: u64, y: u64) -> u64
     ensures { result ≡ add_product x y }
 {
@@ -23,7 +23,7 @@ fn add_product(x: u64, y: u64) -> u64
     x.wrapping_add(y).wrapping_add(product.wrapping_mul(2))
 }
 
-#[tactic(auto, unfolding(crate::specs::Standard::Compression::half_gb))]
+#[tactic(auto, unfolding(argon2_blocks::specs::Standard::Compression::half_gb))]
 fn half_mix(w: (u64, u64, u64, u64), far: u32, near: u32) -> (u64, u64, u64, u64)
     ensures { let r = half_gb far near (record { a = w.0; b = w.1; c = w.2; d = w.3 }) in
         result ≡ record { 0 = r.a; 1 = r.b; 2 = r.c; 3 = r.d } }
@@ -36,7 +36,7 @@ fn half_mix(w: (u64, u64, u64, u64), far: u32, near: u32) -> (u64, u64, u64, u64
     (a, b, c, d)
 }
 
-#[tactic(auto, unfolding(crate::specs::Standard::Compression::mix_gb))]
+#[tactic(auto, unfolding(argon2_blocks::specs::Standard::Compression::mix_gb))]
 fn mix(v: &mut [u64; 16], a: usize, b: usize, c: usize, d: usize)
     requires a_fits { a < 16 }
     requires b_fits { b < 16 }
@@ -54,7 +54,7 @@ fn mix(v: &mut [u64; 16], a: usize, b: usize, c: usize, d: usize)
 }
 
 /// The permutation P.
-#[tactic(auto, unfolding(crate::specs::Standard::Compression::permute_p))]
+#[tactic(auto, unfolding(argon2_blocks::specs::Standard::Compression::permute_p))]
 pub(super) fn permute(v: &mut [u64; 16])
     ensures { v.new ≡ permute_p v.old }
 {

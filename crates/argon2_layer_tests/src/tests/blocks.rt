@@ -4,9 +4,8 @@ mod plain;
 
 ghost use Rattle.std.specs.Prelude.{◌<◌};
 
-use super::lane_wise::fill_words_by_lanes;
-use super::{Block, fill_block, permute_lanes};
-use crate::blake2b::blake2b;
+use argon2_blocks::blake2b::blake2b;
+use argon2_blocks::block::{Block, fill_block, fill_block_by_lanes, permute_lanes};
 use plain::{fill_plainly, permute};
 use std::process::Abort;
 use std::simd::prelude::*;
@@ -47,7 +46,7 @@ fn check_fill(rt: &impl Abort, prev: &Block, reference: &Block, old: &Block) {
         fill_plainly(prev, reference, &mut expected, with_xor);
         let mut by_lanes = Block::zero();
         old.copy_to(&mut by_lanes);
-        fill_words_by_lanes(&prev.words, &reference.words, &mut by_lanes.words, with_xor);
+        fill_block_by_lanes(prev, reference, &mut by_lanes, with_xor);
         assert!(rt; by_lanes == expected, "by lanes, with_xor {with_xor}");
         let mut next = Block::zero();
         old.copy_to(&mut next);

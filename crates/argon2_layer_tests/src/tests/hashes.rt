@@ -3,8 +3,7 @@
 
 ghost use Rattle.std.specs.Prelude.{◌<◌, ◌≤◌};
 
-use super::variable_length::chain_length;
-use super::{blake2b, hprime};
+use argon2_blocks::blake2b::{blake2b, hprime, hprime_both};
 use std::process::Abort;
 
 // A hash of 64 bytes as four numbers, each in the order of its hexadecimal digits.
@@ -166,17 +165,6 @@ fn hashes_to_fewer_bytes(rt: HostRuntime) {
     );
 }
 
-#[test]
-fn cuts_long_hashes_into_halves_and_a_last_hash(rt: HostRuntime) {
-    for (len, halves, last) in [(65, 1, 33), (96, 1, 64), (97, 2, 33), (1024, 30, 64)] {
-        assert!(rt; 64 < len);
-        let count = chain_length(len);
-        assert_eq!(rt; count, halves, "halves in {len} bytes");
-        let left = len.wrapping_sub(count.wrapping_mul(32));
-        assert_eq!(rt; left, last, "the last piece of {len} bytes");
-    }
-}
-
 fn short_hash_of_hprime(message: &[u8], len: usize) -> u128
     requires some { 0 < len }
     requires few { len ≤ 1024 }
@@ -205,5 +193,72 @@ fn hashes_to_each_length(rt: HostRuntime) {
     for (len, hash) in known {
         assert!(rt; 0 < len && len <= 1024);
         assert_eq!(rt; short_hash_of_hprime(&message, len), hash, "{len} bytes");
+    }
+}
+
+// One half and 33 bytes, one half and 64, two halves and 33, and thirty halves and 64 (RFC 9106,
+// 3.3).
+#[test]
+fn cuts_long_hashes_into_halves_and_a_last_hash(rt: HostRuntime) {
+    let known = [
+        (65, 0x9cb4e304fba5911d5f82bf085541203a),
+        (96, 0xbfa3adab87baeeac81cfb0a3b011850e),
+        (97, 0x3797e68d82557baa9aca802b1802a0e9),
+        (1024, 0xdd3c2d85465e5c583ca5b2845e486acc),
+    ];
+    for (len, hash) in known {
+        assert!(rt; 0 < len && len <= 1024);
+        assert_eq!(rt; short_hash_of_hprime(b"abc", len), hash, "{len} bytes");
+    }
+}
+
+// As `hashes_to_each_length`, with `abc` beside the message, each first and each second.
+#[test]
+fn hashes_two_messages_to_each_length(rt: HostRuntime) {
+    let message = message();
+    let known = [
+        (
+            65,
+            0x481e36a494f25620940a187062bbc2a2,
+            0x9cb4e304fba5911d5f82bf085541203a,
+        ),
+        (
+            96,
+            0x9e3f6f838e3290e51260cbe882292ab1,
+            0xbfa3adab87baeeac81cfb0a3b011850e,
+        ),
+        (
+            97,
+            0x5c2075961c925fabd51741463ab075d1,
+            0x3797e68d82557baa9aca802b1802a0e9,
+        ),
+        (
+            128,
+            0xaa970cd30f8987da3adeb20a3cb7e50b,
+            0x50ff220bb91617d7e81199dfa94e4096,
+        ),
+        (
+            1024,
+            0x29e68428f434abb65143b21269139ff5,
+            0xdd3c2d85465e5c583ca5b2845e486acc,
+        ),
+    ];
+    for (len, of_message, of_abc) in known {
+        assert!(rt; 64 < len && len <= 1024);
+        let (mut first, mut second) = ([0; 1024], [0; 1024]);
+        hprime_both(&mut first[..len], &mut second[..len], &message, b"abc");
+        assert_eq!(rt; short_hash_of(&first[..len]), of_message, "{len} bytes");
+        assert_eq!(rt; short_hash_of(&second[..len]), of_abc, "{len} bytes of abc");
+        hprime_both(&mut first[..len], &mut second[..len], b"abc", &message);
+        assert_eq!(rt;
+            short_hash_of(&first[..len]),
+            of_abc,
+            "{len} bytes of abc, first"
+        );
+        assert_eq!(rt;
+            short_hash_of(&second[..len]),
+            of_message,
+            "{len} bytes, second"
+        );
     }
 }
