@@ -1,6 +1,7 @@
 -- What is written in steps is the written text.
-use Rattle.std.proofs.Common.{◌≡◌, ℕ, List, ◌++◌, refl, append_assoc, arith}
-use Rattle.std.specs.Prelude.{codes}
+use Rattle.std.proofs.Common.{◌≡◌, ℕ, List, ◌++◌, Result, Ok, Err, refl, append_assoc, arith}
+use Rattle.std.specs.Prelude.{codes, MatchOption, MatchResult}
+use Rattle.std.specs.Result.{result_ok}
 use Rattle.std.specs.Fmt.{decimal}
 use Rattle.std.proofs.lemmas.Fmt.{decimal_digit, decimal_step}
 use Rattle.argon2_settings.specs.declared.version.Version.{Version}
@@ -39,3 +40,9 @@ pub text_in_steps : (d : Spelled) (front with_salt with_mark whole : List ℕ)
     → with_salt ≡ front ++ base64 d.salt → with_mark ≡ with_salt ++ codes "$" → whole ≡ with_mark ++ base64 d.hash → whole ≡ text_of d
 text_in_steps d front with_salt with_mark whole e0 e1 e2 e3 =
     rw (e3, e2, e1, e0, decimal-version d.version) (front-text_of d)
+
+-- what is read of a part, or that nothing could be read, without the fault
+pub read_part : {A E : Type 0} → (Nothing : Type 0) (IsRead : A → Type 0) (IsFault : E → Type 0) (r : Result A E)
+    → MatchResult r IsRead (λ e. IsFault e × Nothing) → MatchOption (result_ok r) Nothing IsRead
+read_part Nothing IsRead IsFault (Ok a) h = h
+read_part Nothing IsRead IsFault (Err e) h = h.1

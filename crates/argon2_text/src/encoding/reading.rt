@@ -66,7 +66,7 @@ fn head_of(text: &str) -> Option<Head<'_>>
 }
 
 /// The pieces of a text, where it has all of them but the version, and no further `$`.
-#[tactic(auto, unfolding(crate::specs::Views::Cutting::pieces_of))]
+#[tactic(auto)]
 fn pieces_of(text: &str) -> Option<Pieces<'_>>
     ensures { option_map pieces_view result ≡ pieces_of text.now }
 {
@@ -91,7 +91,7 @@ fn pieces_of(text: &str) -> Option<Pieces<'_>>
 }
 
 /// Behind `front`, the piece up to the first `mark`, and what is after the mark.
-#[tactic(auto, unfolding(crate::specs::Views::Cutting::piece))]
+#[tactic(auto)]
 fn piece<'a>(text: &'a str, front: &str, mark: char) -> Option<(&'a str, &'a str)>
     requires { mark < 128 }
     ensures { option_map two_texts result ≡ piece front.now mark text.now }
@@ -100,7 +100,7 @@ fn piece<'a>(text: &'a str, front: &str, mark: char) -> Option<(&'a str, &'a str
 }
 
 /// The version up to its `$`, where the text begins with one, and what is after it.
-#[tactic(auto, unfolding(crate::specs::Views::Cutting::version_piece))]
+#[tactic(auto)]
 fn version_piece(text: &str) -> Option<(Option<&str>, &str)>
     ensures { option_map version_and_rest result ≡ version_piece text.now }
 {
