@@ -1,3 +1,4 @@
 -- What a board keeps of its lanes.
 pub mod Boards
+pub mod Jobs
 pub mod Replays

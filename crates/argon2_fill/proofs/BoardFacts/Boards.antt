@@ -142,6 +142,21 @@ read-out {slots} own lane t b same fits read is =
     let p = ap (λ (j : Job). j.setting.lanes) same in
     slice_get-get_or slots lane t (omega (arith, p, fits, b.lanes)) ∙ ap Some (sym read ∙ is)
 
+-- a slot whose place is out is itself out
+slot-out : (t : Slot) → place_in t ≡ place.Out → t ≡ slot.Out
+slot-out (slot.Waiting s) is = absurd (cc)
+slot-out slot.Out is = refl
+slot-out (slot.Done s) is = absurd (cc)
+
+-- and the slot that was read there is out where the lane is
+pub out-read : {job : Job} {next : ℕ} {slots : List Slot} {log : List Event} (own : Job) (lane : ℕ) (t : Slot) → AreLanes job next slots log
+    → own ≡ job → lane < own.setting.lanes → t ≡ get_or slots lane t → slice_get (map place_in slots) lane ≡ Some place.Out → t ≡ slot.Out
+out-read {slots} own lane t b same fits read out =
+    let p = ap (λ (j : Job). j.setting.lanes) same in
+    let here : slice_get slots lane ≡ Some t = slice_get-get_or slots lane t (omega (arith, p, fits, b.lanes)) ∙ ap Some (sym read) in
+    let e : Some (place_in t) ≡ Some place.Out = sym (place_at slots lane t here) ∙ out in
+    slot-out t (let f : place_in t ≡ place.Out = cc in f)
+
 -- an element below the length
 slice_get_there : {X : Type 0} (xs : List X) (k : ℕ) → k < length xs → (x : X) × (slice_get xs k ≡ Some x)
 slice_get_there [] k within = absurd (omega arith)

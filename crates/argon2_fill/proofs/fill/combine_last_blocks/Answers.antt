@@ -6,6 +6,9 @@ use Rattle.argon2_blocks.specs.Standard.Block.{xor, zero_block}
 use Rattle.argon2_memory.specs.Views.Memories.{block_of}
 use Rattle.argon2_fill.proofs.fill.combine_last_blocks.Goals as goal
 
+pub loop-lane-init : goal.loop-lane-init
+loop-lane-init c = c.requires.zero
+
 pub loop-lane-preserved : goal.loop-lane-preserved
 loop-lane-preserved c =
     let m = c.args.memory.now in

@@ -1,4 +1,4 @@
-use Rattle.std.proofs.Common.{ℕ, ◌+◌, ◌*◌, ◌/◌, ◌%◌, ◌^◌, sym, ◌∙◌, ap}
+use Rattle.std.proofs.Common.{◌≡◌, ℕ, arith, ◌+◌, ◌*◌, ◌/◌, ◌%◌, ◌^◌, sym, ◌∙◌, ap}
 use Rattle.argon2_fill.proofs.Filling.Passes.{next_slice, blocks_more, add_written}
 use Rattle.argon2_memory.specs.Views.Memories.{blocks_written, writes_in}
 use Rattle.argon2_memory.specs.Laws.Schedule.{blocks_in_slice}
@@ -18,3 +18,16 @@ loop-n-preserved c =
           c.loop-n.invariant.writes (rw c.numbered_slice.ensures at c.fill_slice_in_turn.ensures.writes)
           ∙ ap (λ (b : ℕ). (before + b) % 2 ^ 64) (sym (blocks_more s n c.recall_job.ensures.setting));
     }
+
+pub returns-clause-filled : goal.returns-clause-filled
+returns-clause-filled c =
+    let s = c.args.job.now.setting in
+    let whole : c.loop-n.n ≡ 4 * s.passes = omega arith in
+    let pass : c.loop-n.n / 4 ≡ s.passes = omega (arith, whole) in
+    let slice : c.loop-n.n % 4 ≡ 0 = omega (arith, whole) in
+    rw (pass, slice) at c.loop-n.invariant.filled
+
+pub returns-clause-writes : goal.returns-clause-writes
+returns-clause-writes c =
+    let whole : c.loop-n.n ≡ 4 * c.args.job.now.setting.passes = omega arith in
+    rw whole at c.loop-n.invariant.writes

@@ -58,3 +58,13 @@ unreachable-requires c =
 pub returns-clause-board : goal.returns-clause-board
 returns-clause-board c =
     rw (c.replace.ensures.after, c.push_reserved.ensures.items, map-set, ← c.self.view_is) refl
+
+pub index_mut-requires : goal.index_mut-requires
+index_mut-requires c =
+    let more = lanes-more c.lanes.result c.self.invariant.kept c.lanes.ensures.value c.if-self-lanes.false in
+    omega (arith, more, c.self.invariant.kept.lanes)
+
+pub overflow_add-self : goal.overflow_add-self
+overflow_add-self c =
+    let more = lanes-more c.lanes.result c.self.invariant.kept c.lanes.ensures.value c.if-self-lanes.false in
+    omega (arith, more, c.lanes.ensures.value)
