@@ -1,7 +1,9 @@
 -- Refusals that are passed on, and what is known of accepted values.
-use Rattle.std.proofs.Common.{ap, inl, inr, refl, ◌⊎◌, ◌≡◌, ℕ, List, Option, None, Some, MatchOption, Result, Ok, Err, IfErr, sym, subst}
+use Rattle.std.proofs.Common.{ap, inl, inr, refl, ◌⊎◌, ◌≡◌, ℕ, List, Option, None, Some, MatchOption, Result, Ok, Err, IfErr, Bool, true, false, sym, subst}
 use Rattle.std.specs.Result.{IsErr, IsErrAnd}
 use Rattle.argon2.specs.ErrorType.{Error}
+use Rattle.argon2.specs.ErrorType.TheVariants.{OutOfMemory}
+use Rattle.argon2.specs.Outcome.{IsShortage}
 use Rattle.argon2_commands.specs.declared.fault.Fault.{Fault}
 use Rattle.argon2_commands.specs.declared.fault.Fault.TheVariants.{Input, Refused}
 use Rattle.std.specs.Io.KnownBytes.{Keeps}
@@ -12,15 +14,15 @@ use Rattle.argon2_commands.specs.Words.{IsCommand}
 use Rattle.argon2_commands.specs.declared.command.Command.{Command}
 
 -- what holds of a fault that is passed on
-pub passed_on : {A : Type 0} (result : Result A Fault) (fault : Fault) (P : Fault → Type 0) →
+pub passed_on : {A E : Type 0} (result : Result A E) (fault : E) (P : E → Type 0) →
     IsErr result × IsErrAnd result (λ other. other ≡ fault) → P fault → IfErr result P
 passed_on (Ok _) fault P h p = tt
 passed_on (Err other) fault P h p = subst P (sym h.1) p
 
--- known bytes that nothing was written to are kept
-keeps : (known : Option (List ℕ)) → Keeps known known
-keeps None = tt
-keeps (Some bytes) = refl
+-- known bytes are kept where nothing is done to them
+pub untouched : (known : Option (List ℕ)) → Keeps known known
+untouched None = tt
+untouched (Some bytes) = refl
 
 -- a fault of a command's answer with status 2 is the command's refusal
 pub is_refused : (words : List (List ℕ)) (input before : Option (List ℕ)) (command : Command) (fault : Fault) → IsCommand words command →
@@ -28,10 +30,15 @@ pub is_refused : (words : List (List ℕ)) (input before : Option (List ℕ)) (c
     IsShortOrRefused words input before before
 is_refused words input before command fault is (inl other) two = absurd (cc (ap fault_status other, two))
 is_refused words input before command fault is (inr (refusal, same, may)) two =
-    inl (record { command = command; refusal = refusal; is_command = is; may_refuse = may }, keeps before)
+    inl (record { command = command; refusal = refusal; is_command = is; may_refuse = may }, untouched before)
 
 -- what is known of an accepted value, where a refusal would have been an error
 pub at_accepted : {A : Type 0} (refusal : Option Error) (P : Type 0) (value : A) →
     MatchOption refusal P (λ (e : Error). let r : Result A Error = Ok value in r ≡ Err e) → P
 at_accepted None P value h = h
 at_accepted (Some e) P value h = absurd (cc)
+
+-- a want of memory is a shortage, whether workers may be wanting or not
+pub shortage : (workers : Bool) (e : Error) → e ≡ OutOfMemory → IsShortage workers e
+shortage true e memory = inl memory
+shortage false e memory = memory

@@ -1,12 +1,107 @@
-use Rattle.std.proofs.Common.{rules, arith}
-use Rattle.argon2_commands.proofs.Refusals.{is_refused, passed_on}
+use Rattle.std.proofs.Common.{Err, ap, inr, sym, subst, ◌∙◌}
+use Rattle.std.specs.Io.KnownBytes.{Appends}
+use Rattle.std.proofs.lemmas.Result.{IfOk-from_err, err_from_is_err_and}
 use Rattle.argon2_commands.specs.Words.{IsCommand, texts_of}
+use Rattle.argon2_commands.proofs.Attempts.{a_command, answer_is_no_usage, no_command, same_error, status_is_no_usage, stream_is_no_usage, usage_is_no_refusal}
+use Rattle.argon2_commands.proofs.Refusals.{is_refused, untouched, passed_on}
 use Rattle.argon2_commands.proofs.program.attempt.Goals as goal
 
--- src/program.rt:111:18
+-- ---- words of no command
+
+pub returns-in_err-command-clause-answered : goal.returns-in_err-command-clause-answered
+returns-in_err-command-clause-answered g c = IfOk-from_err _ _ c.from_residual.ensures.0
+
+pub returns-in_err-command-clause-usage : goal.returns-in_err-command-clause-usage
+returns-in_err-command-clause-usage g c =
+    let none = no_command (texts_of c.args.words.now) c.from_words.result c.in_err-command.field-0.0 c.from_words.ensures c.in_err-command.ensures.value in
+    let p = err_from_is_err_and c.from_residual.result c.from_residual.ensures.1 in
+    (λ _. none.0, λ _. p.1 ∙ ap Err (p.2 ∙ none.1))
+
+pub returns-in_err-command-clause-refused : goal.returns-in_err-command-clause-refused
+returns-in_err-command-clause-refused g c =
+    let none = no_command (texts_of c.args.words.now) c.from_words.result c.in_err-command.field-0.0 c.from_words.ensures c.in_err-command.ensures.value in
+    passed_on c.from_residual.result c.in_err-command.field-0.0 _ c.from_residual.ensures (λ two. usage_is_no_refusal c.in_err-command.field-0.0 none.1 two)
+
+pub returns-in_err-command-clause-unwritten : goal.returns-in_err-command-clause-unwritten
+returns-in_err-command-clause-unwritten g c =
+    passed_on c.from_residual.result c.in_err-command.field-0.0 _ c.from_residual.ensures (λ _. untouched (g.O.Write.contents c.args.output.now))
+
+pub returns-in_err-command-clause-unread : goal.returns-in_err-command-clause-unread
+returns-in_err-command-clause-unread g c _ = untouched (g.I.Read.remaining c.args.input.now)
+
+-- ---- a command that has no answer
+
+pub returns-in_err-answer-clause-answered : goal.returns-in_err-answer-clause-answered
+returns-in_err-answer-clause-answered g c = IfOk-from_err _ _ c.from_residual-in_err-answer.ensures.0
+
+pub returns-in_err-answer-clause-usage : goal.returns-in_err-answer-clause-usage
+returns-in_err-answer-clause-usage g c =
+    let is = a_command (texts_of c.args.words.now) c.from_words.result c.in_ok-command.command c.from_words.ensures c.in_ok-command.ensures.value in
+    let p = err_from_is_err_and c.from_residual-in_err-answer.result c.from_residual-in_err-answer.ensures.1 in (
+      λ usage. answer_is_no_usage c.in_err-answer.field-0.0 _ c.in_err-answer.ensures.fault (sym p.2 ∙ same_error _ _ (sym p.1 ∙ usage)),
+      λ none. absurd (none c.in_ok-command.command is),
+    )
+
 pub returns-in_err-answer-clause-refused : goal.returns-in_err-answer-clause-refused
 returns-in_err-answer-clause-refused g c =
-    let command : IsCommand (texts_of c.args.words.now) c.in_ok-command.command = search (rules, c.in_ok-command.ensures, c.from_words.ensures) in
+    let is = a_command (texts_of c.args.words.now) c.from_words.result c.in_ok-command.command c.from_words.ensures c.in_ok-command.ensures.value in
     passed_on c.from_residual-in_err-answer.result c.in_err-answer.field-0.0 _ c.from_residual-in_err-answer.ensures
     (is_refused (texts_of c.args.words.now) (g.I.Read.remaining c.args.input.now) (g.O.Write.contents c.args.output.now) c.in_ok-command.command
-    c.in_err-answer.field-0.0 command c.in_err-answer.ensures.fault)
+    c.in_err-answer.field-0.0 is c.in_err-answer.ensures.fault)
+
+pub returns-in_err-answer-clause-unwritten : goal.returns-in_err-answer-clause-unwritten
+returns-in_err-answer-clause-unwritten g c =
+    passed_on c.from_residual-in_err-answer.result c.in_err-answer.field-0.0 _ c.from_residual-in_err-answer.ensures
+    (λ _. untouched (g.O.Write.contents c.args.output.now))
+
+pub returns-in_err-answer-clause-unread : goal.returns-in_err-answer-clause-unread
+returns-in_err-answer-clause-unread g c need =
+    let is = a_command (texts_of c.args.words.now) c.from_words.result c.in_ok-command.command c.from_words.ensures c.in_ok-command.ensures.value in
+    c.to.ensures.unread (need c.in_ok-command.command is)
+
+-- ---- an answer that is written
+
+pub returns-in-Ok-clause-answered : goal.returns-in-Ok-clause-answered
+returns-in-Ok-clause-answered g c = record {
+  command = c.in_ok-command.command;
+  answer = c.in_ok-answer.answer;
+  is_command = a_command (texts_of c.args.words.now) c.from_words.result c.in_ok-command.command c.from_words.ensures c.in_ok-command.ensures.value;
+  is_answer = c.in_ok-answer.ensures.answer;
+  is_status = c.status.ensures;
+  is_written = subst (λ lines. Appends (g.O.Write.contents c.args.output.now) (g.O.Write.contents c.write_lines.new.output) lines) c.lines.ensures c.in-Ok.ensures;
+}
+
+pub returns-in-Ok-clause-usage : goal.returns-in-Ok-clause-usage
+returns-in-Ok-clause-usage g c =
+    let is = a_command (texts_of c.args.words.now) c.from_words.result c.in_ok-command.command c.from_words.ensures c.in_ok-command.ensures.value in
+    (λ usage. status_is_no_usage c.status.result usage, λ none. absurd (none c.in_ok-command.command is))
+
+pub returns-in-Ok-clause-unread : goal.returns-in-Ok-clause-unread
+returns-in-Ok-clause-unread g c need =
+    let is = a_command (texts_of c.args.words.now) c.from_words.result c.in_ok-command.command c.from_words.ensures c.in_ok-command.ensures.value in
+    c.to.ensures.unread (need c.in_ok-command.command is)
+
+-- ---- an answer that cannot be written
+
+pub returns-clause-usage : goal.returns-clause-usage
+returns-clause-usage g c =
+    let is = a_command (texts_of c.args.words.now) c.from_words.result c.in_ok-command.command c.from_words.ensures c.in_ok-command.ensures.value in (
+      λ usage. stream_is_no_usage c.of_stream.result _ c.of_stream.ensures.short c.of_stream.ensures.other (same_error _ _ usage),
+      λ none. absurd (none c.in_ok-command.command is),
+    )
+
+pub returns-clause-refused : goal.returns-clause-refused
+returns-clause-refused g c two = inr (record {
+  command = c.in_ok-command.command;
+  answer = c.in_ok-answer.answer;
+  is_command = a_command (texts_of c.args.words.now) c.from_words.result c.in_ok-command.command c.from_words.ensures c.in_ok-command.ensures.value;
+  is_answer = c.in_ok-answer.ensures.answer;
+})
+
+pub returns-clause-unwritten : goal.returns-clause-unwritten
+returns-clause-unwritten g c usage = stream_is_no_usage c.of_stream.result _ c.of_stream.ensures.short c.of_stream.ensures.other usage
+
+pub returns-clause-unread : goal.returns-clause-unread
+returns-clause-unread g c need =
+    let is = a_command (texts_of c.args.words.now) c.from_words.result c.in_ok-command.command c.from_words.ensures c.in_ok-command.ensures.value in
+    c.to.ensures.unread (need c.in_ok-command.command is)

@@ -1,0 +1,47 @@
+-- What is known of an attempt's steps.
+use Rattle.std.proofs.Common.{◌≡◌, ◌⊎◌, List, ℕ, Option, None, Some, MatchOption, Result, Ok, Err, ap, inl, inr, subst, sym, ◌∙◌}
+use Rattle.std.specs.Option.{ok_or}
+use Rattle.argon2.specs.ErrorType.{Error}
+use Rattle.argon2_commands.specs.Fault.{fault_status}
+use Rattle.argon2_commands.specs.Words.{IsCommand, IsNoCommand}
+use Rattle.argon2_commands.specs.declared.command.Command.{Command}
+use Rattle.argon2_commands.specs.declared.fault.Fault.{Fault}
+use Rattle.argon2_commands.specs.declared.fault.Fault.TheVariants.{Usage, Input, Refused, Output}
+
+-- the command that was read is that of the words
+pub a_command : (words : List (List ℕ)) (read : Option Command) (command : Command) → MatchOption read (IsNoCommand words) (IsCommand words)
+    → Ok command ≡ ok_or read Usage → IsCommand words command
+a_command words None command h e = absurd (cc)
+a_command words (Some other) command h e = let same : other ≡ command = cc in subst (λ x. IsCommand words x) same h
+
+-- where none was read, the words are those of no command, and the fault is that of wrong words
+pub no_command : (words : List (List ℕ)) (read : Option Command) (fault : Fault) → MatchOption read (IsNoCommand words) (IsCommand words)
+    → Err fault ≡ ok_or read Usage → IsNoCommand words × (fault ≡ Usage)
+no_command words None fault h e = (h, cc)
+no_command words (Some command) fault h e = absurd (cc)
+
+-- wrong words are no refusal
+pub usage_is_no_refusal : {A : Type 0} (fault : Fault) → fault ≡ Usage → fault_status fault ≡ 2 → A
+usage_is_no_refusal fault usage two = absurd (cc (ap fault_status usage, two))
+
+-- equal errors hold equal faults
+pub same_error : (fault other : Fault) → (let r : Result ℕ Fault = Err fault in r ≡ Err other) → fault ≡ other
+same_error fault other e = cc
+
+-- a status is no fault of wrong words
+pub status_is_no_usage : {A : Type 0} (status : ℕ) → (let r : Result ℕ Fault = Ok status in r ≡ Err Usage) → A
+status_is_no_usage status e = absurd (cc)
+
+-- nor is a fault of a command's answer
+pub answer_is_no_usage : {A : Type 0} (fault : Fault) (P : Error → Type 0) → (fault ≡ Input) ⊎ ((refusal : Error) × (fault ≡ Refused refusal) × P refusal)
+    → fault ≡ Usage → A
+answer_is_no_usage fault P (inl input) usage = absurd (cc (input, usage))
+answer_is_no_usage fault P (inr (refusal, refused, p)) usage = absurd (cc (refused, usage))
+
+-- nor that of a stream that failed, whether for want of memory or not
+pub stream_is_no_usage : {A Short : Type 0} (fault : Fault) (refusal : Error) → (Short → fault ≡ Refused refusal) → ((Short → ⊥) → fault ≡ Output)
+    → fault ≡ Usage → A
+stream_is_no_usage {Short = Short} fault refusal short other usage =
+    let long = λ (h : Short). let e = short h in absurd {A = ⊥} (cc (e, usage)) in
+    let e = other long in
+    absurd (cc (e, usage))

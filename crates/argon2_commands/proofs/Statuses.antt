@@ -1,0 +1,92 @@
+-- What an exit status says of a run.
+use Rattle.std.proofs.Common.{◌≡◌, ◌↔◌, ◌⊎◌, ◌<◌, ◌≤◌, ℕ, List, Option, Result, Ok, Err, true, false, ap, arith, inl, inr, refl, subst, sym, ◌∙◌, String}
+use Rattle.std.specs.declared.alloc.Global.{Global}
+use Rattle.std.specs.Io.KnownBytes.{Keeps}
+use Rattle.argon2.specs.ErrorType.TheVariants.{OutOfMemory}
+use Rattle.argon2_commands.specs.Answer.{answer_status}
+use Rattle.argon2_commands.specs.CommandLine.{AreWords, HasNoText}
+use Rattle.argon2_commands.specs.Fault.{fault_status}
+use Rattle.argon2_commands.specs.Run.{Answered, HasAnswer, IsShortOrRefused, OfWords}
+use Rattle.argon2_commands.specs.Words.{IsNoCommand, texts_of}
+use Rattle.argon2_commands.specs.declared.answer.Answer.{Answer}
+use Rattle.argon2_commands.specs.declared.answer.Answer.TheVariants.{Hashed, Verdict}
+use Rattle.argon2_commands.specs.declared.fault.Fault.{Fault}
+use Rattle.argon2_commands.specs.declared.fault.Fault.TheVariants.{Usage, Input, Refused, Output}
+
+-- ---- faults
+
+-- the status of a fault is 2, 3 or 4
+pub fault_bounded : (fault : Fault) (status : ℕ) → status ≡ fault_status fault → status < 5
+fault_bounded (Refused refusal) status e = omega arith
+fault_bounded Usage status e = omega arith
+fault_bounded Input status e = omega arith
+fault_bounded Output status e = omega arith
+
+pub no_fault : {A : Type 0} (fault : Fault) (status : ℕ) → status ≡ fault_status fault → status < 2 → A
+no_fault (Refused refusal) status e low = absurd (omega arith)
+no_fault Usage status e low = absurd (omega arith)
+no_fault Input status e low = absurd (omega arith)
+no_fault Output status e low = absurd (omega arith)
+
+-- 3 is the status of wrong words alone
+pub at_three : (fault : Fault) (status : ℕ) → status ≡ fault_status fault → status ≡ 3 → fault ≡ Usage
+at_three (Refused refusal) status e three = absurd (omega arith)
+at_three Usage status e three = refl
+at_three Input status e three = absurd (omega arith)
+at_three Output status e three = absurd (omega arith)
+
+-- so what is known of that fault is known of the status
+pub usage_status : (fault : Fault) (status : ℕ) (P : Type 0) → status ≡ fault_status fault →
+    (let r : Result ℕ Fault = Err fault in r ≡ Err Usage) ↔ P → (status ≡ 3) ↔ P
+usage_status fault status P e h = (
+  λ three. h.0 (ap Err (at_three fault status e three)),
+  λ p. let same = h.1 p in let usage : fault ≡ Usage = cc in e ∙ ap fault_status usage,
+)
+
+-- ---- answers
+
+-- the status of an answer is 0 or 1
+answer_below : (answer : Answer) → answer_status answer < 2
+answer_below (Hashed lines) = omega arith
+answer_below (Verdict true) = omega arith
+answer_below (Verdict false) = omega arith
+
+module _ {words : List (List ℕ)} {input before after : Option (List ℕ)} {status : ℕ} where
+  -- so is that of a run that answers
+  answered_below : Answered words input before after status → status < 2
+  answered_below h = subst (λ n. n < 2) (sym h.is_status) (answer_below h.answer)
+
+  pub answered_bounded : Answered words input before after status → status < 5
+  answered_bounded h = let below = answered_below h in omega arith
+
+  -- and no other
+  pub answered_not : {A : Type 0} (other : ℕ) → 2 ≤ other → Answered words input before after status → status ≡ other → A
+  answered_not other high h same = let below = answered_below h in absurd (omega (arith, below, high, same))
+
+  -- the words of a run that answers are those of a command
+  pub answered_usage : Answered words input before after status → (status ≡ 3) ↔ IsNoCommand words
+  answered_usage h = (answered_not 3 (omega arith) h, λ none. absurd (none h.command h.is_command))
+
+  -- an equal status is that of the same answer
+  pub answered_as : (other : ℕ) → other ≡ status → Answered words input before after status → Answered words input before after other
+  answered_as other same h = subst (λ n. Answered words input before after n) (sym same) h
+
+-- ---- command lines
+
+module _ (known : Option (List (List ℕ))) where
+  -- what holds of the texts that were read holds of the command line's words
+  pub of_words : (items words : List (String Global)) (P : List (List ℕ) → Type 0) → items ≡ words → AreWords known (texts_of words) → P (texts_of items)
+      → OfWords known P
+  of_words items words P same are p = (texts_of items, subst (λ read. AreWords known (texts_of read)) (sym same) are, p)
+
+  -- a refusal with nothing written, or an answer to the words that were read
+  pub refused_words : (items words : List (String Global)) (input before after : Option (List ℕ)) → items ≡ words → AreWords known (texts_of words)
+      → IsShortOrRefused (texts_of items) input before after → Keeps before after ⊎ OfWords known (λ read. HasAnswer read input)
+  refused_words items words input before after same are (inl refused) = inl refused.1
+  refused_words items words input before after same are (inr answer) = inr (of_words items words (λ read. HasAnswer read input) same are answer)
+
+  -- where reading the arguments ends with status 3, one of them is no text
+  pub unread_words : (fault : Fault) (status : ℕ) → (fault ≡ Usage × HasNoText known) ⊎ (fault ≡ Refused OutOfMemory) → status ≡ fault_status fault
+      → status ≡ 3 → HasNoText known
+  unread_words fault status (inl usage) e three = usage.1
+  unread_words fault status (inr short) e three = let usage = at_three fault status e three in absurd (cc (short, usage))
