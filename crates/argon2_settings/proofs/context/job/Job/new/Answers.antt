@@ -1,4 +1,4 @@
-use Rattle.std.proofs.Common.{arith}
+use Rattle.std.proofs.Common.{arith, refl}
 use Rattle.argon2_settings.specs.Standard.Prehash.{setting_of}
 use Rattle.argon2_settings.proofs.context.job.Job.new.Goals as goal
 
@@ -15,3 +15,7 @@ invariant_of-result c =
 
 pub returns-clause-job : goal.returns-clause-job
 returns-clause-job c = invariant_of-result c
+
+pub returns-clause-value : goal.returns-clause-value
+unfolding setting_of
+returns-clause-value c = let x = c.args.context.now in rw (x.hashed, x.segment) refl

@@ -1,0 +1,4 @@
+use Rattle.argon2_settings.proofs.config.Config.owasp5.Goals as goal
+
+pub returns : goal.returns
+returns c = c.preset.ensures
