@@ -1,4 +1,4 @@
-use Rattle.std.proofs.Common.{refl, arith}
+use Rattle.std.proofs.Common.{ℕ, List, length, ap, arith}
 use Rattle.argon2_text.proofs.Writing.TextLengths.{length-name, length-text_of}
 use Rattle.argon2_text.proofs.encoding.lengths.encoded_len.Goals as goal
 
@@ -11,15 +11,7 @@ overflow_add-result-4 c = rw c.as_lowercase_str.ensures
 
 pub returns : goal.returns
 returns c version salt hash salt_is hash_is =
-    rw (
-      length-text_of _,
-      c.as_lowercase_str.ensures,
-      c.from.ensures,
-      c.from-2.ensures,
-      c.from-3.ensures,
-      c.num_len.ensures,
-      c.num_len-2.ensures,
-      c.num_len-3.ensures,
-      c.base64_len.ensures.exact salt salt_is,
-      c.base64_len-2.ensures.exact hash hash_is,
-    ) refl
+    let name = ap (λ (t : List ℕ). length t) c.as_lowercase_str.ensures in
+    let salt_len = c.base64_len.ensures.exact salt salt_is in
+    let hash_len = c.base64_len-2.ensures.exact hash hash_is in
+    rw (length-text_of _) (omega arith)
