@@ -1,5 +1,5 @@
 -- What is known of an attempt's steps.
-use Rattle.std.proofs.Common.{◌≡◌, ◌⊎◌, List, ℕ, Option, None, Some, MatchOption, Result, Ok, Err, ap, inl, inr, subst, sym, ◌∙◌}
+use Rattle.std.proofs.Common.{◌≡◌, ◌⊎◌, List, ℕ, Option, None, Some, MatchOption, Result, Ok, Err, ap, inl, inr, subst}
 use Rattle.std.specs.Option.{ok_or}
 use Rattle.argon2.specs.ErrorType.{Error}
 use Rattle.argon2_commands.specs.Fault.{fault_status}

@@ -24,6 +24,12 @@ pub untouched : (known : Option (List ℕ)) → Keeps known known
 untouched None = tt
 untouched (Some bytes) = refl
 
+-- where the password cannot be read, memory may have been refused
+pub read_refused : (fault : Fault) (P : Error → Type 0) → (fault ≡ Input) ⊎ (fault ≡ Refused OutOfMemory) → P OutOfMemory
+    → (fault ≡ Input) ⊎ ((refusal : Error) × (fault ≡ Refused refusal) × P refusal)
+read_refused fault P (inl input) p = inl input
+read_refused fault P (inr short) p = inr (OutOfMemory, short, p)
+
 -- a fault of a command's answer with status 2 is the command's refusal
 pub is_refused : (words : List (List ℕ)) (input before : Option (List ℕ)) (command : Command) (fault : Fault) → IsCommand words command →
     (fault ≡ Input) ⊎ ((refusal : Error) × (fault ≡ Refused refusal) × MayRefuse command input refusal) → fault_status fault ≡ 2 →

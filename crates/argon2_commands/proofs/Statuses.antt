@@ -1,5 +1,5 @@
 -- What an exit status says of a run.
-use Rattle.std.proofs.Common.{◌≡◌, ◌↔◌, ◌⊎◌, ◌<◌, ◌≤◌, ℕ, List, Option, Result, Ok, Err, true, false, ap, arith, inl, inr, refl, subst, sym, ◌∙◌, String}
+use Rattle.std.proofs.Common.{◌≡◌, ◌↔◌, ◌⊎◌, ◌<◌, ◌≤◌, ℕ, List, Option, Result, Err, true, false, ap, arith, inl, inr, refl, subst, sym, ◌∙◌, String}
 use Rattle.std.specs.declared.alloc.Global.{Global}
 use Rattle.std.specs.Io.KnownBytes.{Keeps}
 use Rattle.argon2.specs.ErrorType.TheVariants.{OutOfMemory}

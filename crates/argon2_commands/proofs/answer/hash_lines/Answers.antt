@@ -1,5 +1,4 @@
 use Rattle.std.proofs.Common.{◌≡◌, length}
-use Rattle.argon2.specs.ContextType.{Context}
 use Rattle.argon2.specs.SettingsTable.{refusal_of}
 use Rattle.argon2_commands.proofs.Refusals.{at_accepted}
 use Rattle.argon2_commands.proofs.answer.hash_lines.Goals as goal

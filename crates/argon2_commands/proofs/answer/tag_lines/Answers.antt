@@ -16,7 +16,8 @@ returns-in_err-text-clause-lines g c = IfOk-from_err _ _ c.from_residual-in_err-
 
 pub returns-in_err-text-clause-refused : goal.returns-in_err-text-clause-refused
 returns-in_err-text-clause-refused g c =
-    passed_on _ c.in_err-text.field-0.0 _ c.from_residual-in_err-text.ensures (shortage (may_lack_workers c.args.context.now.config) _ c.in_err-text.ensures.refused)
+    passed_on _ c.in_err-text.field-0.0 _ c.from_residual-in_err-text.ensures
+    (shortage (may_lack_workers c.args.context.now.config) _ c.in_err-text.ensures.refused)
 
 pub returns-in_err-hexadecimal-clause-lines : goal.returns-in_err-hexadecimal-clause-lines
 returns-in_err-hexadecimal-clause-lines g c = IfOk-from_err _ _ c.from_residual-in_err-hexadecimal.ensures.0

@@ -1,6 +1,7 @@
-use Rattle.std.proofs.Common.{arith, sym, ◌∙◌, subst}
+use Rattle.std.proofs.Common.{arith, refl, sym, ◌∙◌, subst}
 use Rattle.argon2.specs.Variant.{IsName}
-use Rattle.argon2_commands.proofs.Places.{no_number, refusal_of, word-texts_of}
+use Rattle.argon2_commands.specs.Words.{IsNumber}
+use Rattle.argon2_commands.proofs.Places.{no_number, refusal_of, value_of, word-texts_of}
 use Rattle.argon2_commands.proofs.command.settings_of.Goals as goal
 
 -- src/command.rt:57:22
@@ -49,3 +50,35 @@ returns-in_err-ok-2-clause-none c =
     config.version
     (sym (word-texts_of c.args.words.now 2 c.index-words-2.result _ (omega (arith, c.requires)) c.index-words-2.is c.as_str-6.ensures.value)
     ∙ h.version))
+
+-- src/command.rt:59:1
+pub returns-clause-settings : goal.returns-clause-settings
+returns-clause-settings c = record {
+  variant =
+      subst (λ text. IsName text c.in_ok-ok.field-0)
+      (sym (word-texts_of c.args.words.now 1 c.index-words-1.result _ (omega (arith, c.requires)) c.index-words-1.is c.as_str-5.ensures.value))
+      (value_of _ _ c.from_str.result c.in_ok-ok.field-0 c.in_ok-ok.ensures.value c.from_str.ensures.read);
+  version = (word-texts_of c.args.words.now 2 c.index-words-2.result _ (omega (arith, c.requires)) c.index-words-2.is c.as_str-6.ensures.value)
+      ∙ value_of _ _ c.from_str-2.result c.in_ok-ok-2.field-0 c.in_ok-ok-2.ensures.value c.from_str-2.ensures.read;
+  time_cost =
+      subst (λ text. IsNumber text c.in_ok-number_of-4.field-0)
+      (sym (word-texts_of c.args.words.now 3 c.index-words-3.result _ (omega (arith, c.requires)) c.index-words-3.is c.as_str-4.ensures.value))
+      c.in_ok-number_of-4.ensures;
+  mem_cost =
+      subst (λ text. IsNumber text c.in_ok-number_of-3.field-0)
+      (sym (word-texts_of c.args.words.now 4 c.index-words-4.result _ (omega (arith, c.requires)) c.index-words-4.is c.as_str-3.ensures.value))
+      c.in_ok-number_of-3.ensures;
+  lanes =
+      subst (λ text. IsNumber text c.in_ok-number_of-2.field-0)
+      (sym (word-texts_of c.args.words.now 5 c.index-words-5.result _ (omega (arith, c.requires)) c.index-words-5.is c.as_str-2.ensures.value))
+      c.in_ok-number_of-2.ensures;
+  hash_length =
+      subst (λ text. IsNumber text c.in_ok-number_of.field-0)
+      (sym (word-texts_of c.args.words.now 6 c.index-words-6.result _ (omega (arith, c.requires)) c.index-words-6.is c.as_str.ensures.value))
+      c.in_ok-number_of.ensures;
+  secret = refl;
+  ad = refl;
+}
+
+pub returns-clause-mode : goal.returns-clause-mode
+returns-clause-mode c = refl

@@ -1,10 +1,10 @@
-use Rattle.std.proofs.Common.{rules, arith, ◌≡◌, ◌+◌, ◌∷◌, ◌++◌, [], ◌∙◌, Vec, inl, refl, subst, sym, ap}
+use Rattle.std.proofs.Common.{arith, ◌≡◌, ◌+◌, ◌∷◌, ◌++◌, [], ◌∙◌, Vec, inl, inr, refl, subst, sym, ap}
 use Rattle.std.proofs.lemmas.List.{map_push}
 use Rattle.std.specs.Prelude.{string_bytes}
 use Rattle.std.specs.Result.{IsOk}
 use Rattle.argon2_commands.specs.CommandLine.{IsArgument}
 use Rattle.argon2_commands.specs.Words.{texts_of}
-use Rattle.argon2_commands.proofs.Reading.{IsReadTo, all_read, no_text, one_more}
+use Rattle.argon2_commands.proofs.Reading.{IsReadTo, all_read, no_text, none_read, one_more}
 use Rattle.argon2_commands.proofs.command_line.arguments.Goals as goal
 
 pub returns-in_default-clause-all : goal.returns-in_default-clause-all
@@ -33,3 +33,11 @@ loop-index-preserved g c =
           (subst (λ found. IsArgument known c.loop-index.index found) c.in-Some.is c.in_ok-bytes.ensures.found)),
       omega (arith, c.loop-index.invariant.1),
     )
+
+pub loop-index-init : goal.loop-index-init
+loop-index-init g c =
+    let known = g.L.CommandLine.arguments c.args.line.now in
+    (subst (λ items. IsReadTo known (texts_of items) 1) (sym c.new-words.ensures.items) (none_read known), omega arith)
+
+pub returns : goal.returns
+returns g c = record { all = tt; fault = inr refl }

@@ -1,7 +1,7 @@
 use Rattle.std.proofs.Common.{Err, ap, inr, sym, subst, ◌∙◌}
 use Rattle.std.specs.Io.KnownBytes.{Appends}
 use Rattle.std.proofs.lemmas.Result.{IfOk-from_err, err_from_is_err_and}
-use Rattle.argon2_commands.specs.Words.{IsCommand, texts_of}
+use Rattle.argon2_commands.specs.Words.{texts_of}
 use Rattle.argon2_commands.proofs.Attempts.{a_command, answer_is_no_usage, no_command, same_error, status_is_no_usage, stream_is_no_usage, usage_is_no_refusal}
 use Rattle.argon2_commands.proofs.Refusals.{is_refused, untouched, passed_on}
 use Rattle.argon2_commands.proofs.program.attempt.Goals as goal
@@ -68,7 +68,9 @@ returns-in-Ok-clause-answered g c = record {
   is_command = a_command (texts_of c.args.words.now) c.from_words.result c.in_ok-command.command c.from_words.ensures c.in_ok-command.ensures.value;
   is_answer = c.in_ok-answer.ensures.answer;
   is_status = c.status.ensures;
-  is_written = subst (λ lines. Appends (g.O.Write.contents c.args.output.now) (g.O.Write.contents c.write_lines.new.output) lines) c.lines.ensures c.in-Ok.ensures;
+  is_written =
+      subst (λ lines. Appends (g.O.Write.contents c.args.output.now) (g.O.Write.contents c.write_lines.new.output) lines) c.lines.ensures
+      c.in-Ok.ensures;
 }
 
 pub returns-in-Ok-clause-usage : goal.returns-in-Ok-clause-usage

@@ -1,6 +1,8 @@
-use Rattle.std.proofs.Common.{Err, inr, refl, subst}
-use Rattle.argon2_commands.specs.Answer.{VerifyAnswers}
-use Rattle.argon2_commands.proofs.Refusals.{passed_on}
+use Rattle.std.proofs.Common.{Err, Ok, inl, inr, refl, string_bytes, subst}
+use Rattle.std.proofs.lemmas.Result.{IfOk-from_err}
+use Rattle.argon2.specs.ErrorType.TheVariants.{OutOfMemory}
+use Rattle.argon2_commands.specs.Answer.{HashAnswers, IsRefusal, MayRefuse, NeedsNoInput, VerifyAnswers}
+use Rattle.argon2_commands.proofs.Refusals.{passed_on, read_refused, untouched}
 use Rattle.argon2_commands.proofs.answer.Answer.to.Goals as goal
 
 -- src/answer.rt:52:31
@@ -38,3 +40,81 @@ returns-in_ok-needs_rehash-in-Rehash-clause-answer g c = rw c.in-Rehash.is (reco
   unspelled = c.in_ok-needs_rehash-in-Rehash.ensures.unspelled;
   spelled = c.in_ok-needs_rehash-in-Rehash.ensures.spelled;
 })
+
+pub returns-in_err-password-in-Hash-clause-answer : goal.returns-in_err-password-in-Hash-clause-answer
+returns-in_err-password-in-Hash-clause-answer g c = IfOk-from_err _ _ c.from_residual.ensures.0
+
+pub returns-in_err-password-in-Hash-clause-fault : goal.returns-in_err-password-in-Hash-clause-fault
+returns-in_err-password-in-Hash-clause-fault g c =
+    let may : MayRefuse c.args.command.now (g.I.Read.remaining c.args.input.now) OutOfMemory = rw c.in-Hash.is (inl refl) in
+    passed_on _ _ _ c.from_residual.ensures (read_refused _ _ c.in_err-password-in-Hash.ensures.fault may)
+
+pub returns-in_err-password-in-Hash-clause-unread : goal.returns-in_err-password-in-Hash-clause-unread
+returns-in_err-password-in-Hash-clause-unread g c need = absurd (subst NeedsNoInput c.in-Hash.is need)
+
+pub returns-in_err-password-in-Verify-clause-answer : goal.returns-in_err-password-in-Verify-clause-answer
+returns-in_err-password-in-Verify-clause-answer g c = IfOk-from_err _ _ c.from_residual-in_err-password-in-Verify.ensures.0
+
+pub returns-in_err-password-in-Verify-clause-fault : goal.returns-in_err-password-in-Verify-clause-fault
+returns-in_err-password-in-Verify-clause-fault g c =
+    let may : MayRefuse c.args.command.now (g.I.Read.remaining c.args.input.now) OutOfMemory = rw c.in-Verify.is (inl refl) in
+    passed_on _ _ _ c.from_residual-in_err-password-in-Verify.ensures (read_refused _ _ c.in_err-password-in-Verify.ensures.fault may)
+
+pub returns-in_err-password-in-Verify-clause-unread : goal.returns-in_err-password-in-Verify-clause-unread
+returns-in_err-password-in-Verify-clause-unread g c need = absurd (subst NeedsNoInput c.in-Verify.is need)
+
+pub returns-in_err-lines-in-Hash-clause-unread : goal.returns-in_err-lines-in-Hash-clause-unread
+returns-in_err-lines-in-Hash-clause-unread g c need = absurd (subst NeedsNoInput c.in-Hash.is need)
+
+pub returns-in_ok-lines-in-Hash-clause-unread : goal.returns-in_ok-lines-in-Hash-clause-unread
+returns-in_ok-lines-in-Hash-clause-unread g c need = absurd (subst NeedsNoInput c.in-Hash.is need)
+
+pub returns-in_err-verdict-in-Verify-clause-unread : goal.returns-in_err-verdict-in-Verify-clause-unread
+returns-in_err-verdict-in-Verify-clause-unread g c need = absurd (subst NeedsNoInput c.in-Verify.is need)
+
+pub returns-in_ok-verdict-in-Verify-clause-unread : goal.returns-in_ok-verdict-in-Verify-clause-unread
+returns-in_ok-verdict-in-Verify-clause-unread g c need = absurd (subst NeedsNoInput c.in-Verify.is need)
+
+pub returns-in_err-lines-in-Hash-clause-answer : goal.returns-in_err-lines-in-Hash-clause-answer
+returns-in_err-lines-in-Hash-clause-answer g c = IfOk-from_err _ _ c.from_residual-in_err-lines-in-Hash.ensures.0
+
+pub returns-in_err-verdict-in-Verify-clause-answer : goal.returns-in_err-verdict-in-Verify-clause-answer
+returns-in_err-verdict-in-Verify-clause-answer g c = IfOk-from_err _ _ c.from_residual-in_err-verdict-in-Verify.ensures.0
+
+pub returns-in_err-needs_rehash-in-Rehash-clause-answer : goal.returns-in_err-needs_rehash-in-Rehash-clause-answer
+returns-in_err-needs_rehash-in-Rehash-clause-answer g c = IfOk-from_err _ _ c.from_residual-in_err-needs_rehash-in-Rehash.ensures.0
+
+pub returns-in_err-needs_rehash-in-Rehash-clause-unread : goal.returns-in_err-needs_rehash-in-Rehash-clause-unread
+returns-in_err-needs_rehash-in-Rehash-clause-unread g c need = untouched (g.I.Read.remaining c.args.input.now)
+
+pub returns-in_ok-needs_rehash-in-Rehash-clause-unread : goal.returns-in_ok-needs_rehash-in-Rehash-clause-unread
+returns-in_ok-needs_rehash-in-Rehash-clause-unread g c need = untouched (g.I.Read.remaining c.args.input.now)
+
+pub returns-in_err-lines-in-Hash-clause-fault : goal.returns-in_err-lines-in-Hash-clause-fault
+returns-in_err-lines-in-Hash-clause-fault g c = rw c.in-Hash.is
+    (passed_on _ _ _ c.from_residual-in_err-lines-in-Hash.ensures (inr (
+      _,
+      refl,
+      inr (
+        _,
+        c.in_ok-password-in-Hash.ensures.bytes,
+        subst (λ read. IsRefusal c.in-Hash.config c.in-Hash.salt.now read c.in_err-lines-in-Hash.field-0.0) c.as_slice.ensures.value
+            c.in_err-lines-in-Hash.ensures.refused,
+      ),
+    )))
+
+pub returns-in_ok-lines-in-Hash-clause-answer : goal.returns-in_ok-lines-in-Hash-clause-answer
+returns-in_ok-lines-in-Hash-clause-answer g c = rw c.in-Hash.is (
+  _,
+  c.in_ok-password-in-Hash.ensures.bytes,
+  subst (λ read. HashAnswers c.in-Hash.config c.in-Hash.salt.now read (string_bytes c.in_ok-lines-in-Hash.lines)) c.as_slice.ensures.value
+      (record { accepted = c.in_ok-lines-in-Hash.ensures.accepted; written = c.in_ok-lines-in-Hash.ensures.lines }),
+)
+
+pub returns-in_ok-verdict-in-Verify-clause-answer : goal.returns-in_ok-verdict-in-Verify-clause-answer
+returns-in_ok-verdict-in-Verify-clause-answer g c = rw c.in-Verify.is (
+  _,
+  c.in_ok-password-in-Verify.ensures.bytes,
+  subst (λ read. VerifyAnswers c.in-Verify.encoded.now read (Ok c.in_ok-verdict-in-Verify.verdict)) c.as_slice-in-Verify.ensures.value
+      (record { unspelled = c.in_ok-verdict-in-Verify.ensures.unspelled; spelled = c.in_ok-verdict-in-Verify.ensures.spelled }),
+)

@@ -1,4 +1,5 @@
-use Rattle.std.proofs.Common.{rules, arith, sym, ◌∙◌, subst}
+use Rattle.std.proofs.Common.{arith, sym, ◌∙◌, subst}
+use Rattle.std.specs.Cmp.Lexicographic.{same_text}
 use Rattle.std.proofs.lemmas.List.{length-map}
 use Rattle.argon2_commands.specs.Words.{IsMode}
 use Rattle.argon2_commands.proofs.Places.{word-texts_of}
@@ -9,7 +10,7 @@ pub returns-in-len2 : goal.returns-in-len2
 returns-in-len2 c = record {
   count = rw (length-map c.args.words.now) (omega (arith, c.in-len2.len_at_least, c.in-len2.len_below));
   name = word-texts_of c.args.words.now 0 c.name-item.result _ (omega (arith, c.in-len2.len_at_least)) c.name-item.is c.as_str.ensures.value
-      ∙ search (rules, c.if-eq.true, c.if-eq.ensures);
+      ∙ same_text _ _ c.if-eq.ensures;
   text = sym (word-texts_of c.args.words.now 1 c.encoded-item.result _ (omega
       (arith, c.in-len2.len_at_least)) c.encoded-item.is c.as_str-in-len2.ensures.value);
 }
@@ -19,7 +20,7 @@ pub returns-in_ok-settings_of-in-len8 : goal.returns-in_ok-settings_of-in-len8
 returns-in_ok-settings_of-in-len8 c = record {
   count = rw (length-map c.args.words.now) (omega (arith, c.in-len8.len_at_least, c.in-len8.len_below));
   name = word-texts_of c.args.words.now 0 c.name-item-then-words-lt9.result _ (omega
-      (arith, c.in-len8.len_at_least)) c.name-item-then-words-lt9.is c.as_str-then-words-lt9.ensures.value ∙ search (rules, c.if-eq-2.true, c.if-eq-2.ensures);
+      (arith, c.in-len8.len_at_least)) c.name-item-then-words-lt9.is c.as_str-then-words-lt9.ensures.value ∙ same_text _ _ c.if-eq-2.ensures;
   settings = c.in_ok-settings_of-in-len8.ensures.settings;
   mode = c.in_ok-settings_of-in-len8.ensures.mode;
   text = sym (word-texts_of c.args.words.now 7 c.encoded-item-then-words-lt9.result _ (omega
@@ -32,7 +33,7 @@ returns-in_ok-settings_of-in-len9 c = record {
   count = rw (length-map c.args.words.now) (omega (arith, c.in-len9.len_at_least, c.in-len9.len_below));
   name = word-texts_of c.args.words.now 0 c.name-item-then-words-lt10.result _ (omega
       (arith, c.in-len9.len_at_least)) c.name-item-then-words-lt10.is c.as_str-then-words-lt10.ensures.value
-      ∙ search (rules, c.if-eq-3.true, c.if-eq-3.ensures);
+      ∙ same_text _ _ c.if-eq-3.ensures;
   settings = c.in_ok-settings_of-in-len9.ensures.settings;
   mode = rw c.in_ok-settings_of-in-len9.ensures.mode
       (subst (λ text. IsMode text c.in_ok-mode_of-in-len9.field-0)
