@@ -1,6 +1,9 @@
 //! The board by hand, permits, and refusals.
 
 ghost use Rattle.std.specs.Prelude.{◌≡◌, IfOk};
+ghost use Rattle.std.specs.List.{remove};
+ghost use Rattle.argon2_fill.specs.Views.Boards.{NoneOut};
+ghost use Rattle.argon2_memory.specs.Views.Filling.{IsSnapshot};
 ghost use Rattle.argon2_memory.specs.Views.Memories.{AreSlices, IsFilledBelow};
 ghost use Rattle.argon2_memory.specs.Views.SliceLists.{segments_of};
 
@@ -10,7 +13,9 @@ mod puts;
 mod starts;
 
 use argon2_fill::fill::{fill_slice_in_turn, initialize, prepare_memory};
-use argon2_fill::workers::{Event, NoGate, Permit, Place, board_of, fill_slice, fill_slice_with};
+use argon2_fill::workers::{
+    Board, Claim, Event, Filled, NoGate, Permit, Place, board_of, fill_slice, fill_slice_with,
+};
 use argon2_memory::memory::{Memory, Segment, Slices, others, take_slices};
 use argon2_memory::segment::Snapshot;
 use argon2_settings::config::Config;
@@ -22,6 +27,7 @@ use argon2_settings::variant::Variant;
 use argon2_settings::version::Version;
 use std::alloc::Global;
 use std::marker::Sync;
+use std::process::Abort;
 use std::sync::Wait;
 use std::test::Fail;
 use std::thread::Threads;
@@ -82,29 +88,90 @@ fn begin<'a>(
     Ok((job.at(0, 1), slices))
 }
 
+/// That slice on a board, with the slices that stay.
+fn second_board<'a>(
+    alloc: Global,
+    password: &'a [u8],
+    salt: &'a [u8],
+    config: Config<'a>,
+) -> Result<(Board, Slices)>
+    ensures none_out { IfOk result (λ r. NoneOut r.0.places) }
+    ensures snapshot { IfOk result (λ r. IsSnapshot (record {
+      job = r.0.job;
+      others = remove (segments_of r.1) 1;
+    })) }
+{
+    let (job, mut slices) = begin(alloc, password, salt, config)?;
+    let board = board_of(alloc, &job, &mut slices)?;
+    Ok((board, slices))
+}
+
+/// The snapshot that the board's lanes are filled from.
+fn snapshot_of<'a>(board: &Board, slices: &'a Slices) -> Snapshot<'a>
+    requires { IsSnapshot (record {
+      job = board.now.job;
+      others = remove (segments_of slices.now) 1;
+    }) }
+    ensures { result.job ≡ board.now.job }
+{
+    Snapshot::new(*board.job(), others(slices, 1))
+}
+
+/// The next lane of a board on which one waits.
+fn next(board: &mut Board, waits: &str) -> std::result::Result<Claim, Fail> {
+    Ok(board.take().ok_or(waits)?)
+}
+
+/// A lane, filled from a snapshot of its job.
+fn filled(
+    claim: Claim,
+    snapshot: &Snapshot<'_>,
+    is_of_job: &str,
+) -> std::result::Result<Filled, Fail> {
+    Ok(claim.fill(snapshot).ok().ok_or(is_of_job)?)
+}
+
+/// The state of a lane, checked to be one of the board's.
+fn place(rt: &impl Abort, board: &Board, lane: u32) -> Place {
+    assert!(rt; lane < board.job().lanes());
+    board.place(lane)
+}
+
+/// Takes two lanes, which are all, and puts the second before the first.
+fn put_in_turn(
+    rt: &impl Abort,
+    board: &mut Board,
+    snapshot: &Snapshot<'_>,
+) -> std::result::Result<(), Fail> {
+    let first = next(board, "lane 0 waits")?;
+    let second = next(board, "lane 1 waits")?;
+    assert!(rt; first.lane() == 0 && second.lane() == 1);
+    assert!(rt; board.take().is_none());
+    let second = filled(second, snapshot, "the snapshot is of the job")?;
+    assert!(rt; board.put(second).is_ok());
+    assert!(rt; place(rt, board, 0) == Place::Out && place(rt, board, 1) == Place::Done);
+    let first = filled(first, snapshot, "the snapshot is of the job")?;
+    assert!(rt; board.put(first).is_ok());
+    Ok(())
+}
+
+/// Lane 0 of another board of the same job, filled.
+fn lane_of_another(alloc: Global, snapshot: &Snapshot<'_>) -> std::result::Result<Filled, Fail> {
+    let (mut another, _slices) = second_board(alloc, b"password", b"somesalt", two_lanes())?;
+    filled(
+        next(&mut another, "lane 0 waits")?,
+        snapshot,
+        "the snapshot is of the job",
+    )
+}
+
 #[test]
 fn hands_out_lanes_in_order(rt: HostRuntime) -> std::result::Result<(), Fail> {
     let alloc = rt.alloc();
-    let (job, mut slices) = begin(alloc, b"password", b"somesalt", two_lanes())?;
-    let mut board = board_of(alloc, &job, &mut slices)?;
-    let snapshot = Snapshot::new(job, others(&slices, 1));
-    let first = board.take().ok_or("lane 0 waits")?;
-    let second = board.take().ok_or("lane 1 waits")?;
-    assert!(rt; first.lane() == 0 && second.lane() == 1);
-    assert!(rt; board.take().is_none());
-    let (Ok(first), Ok(second)) = (first.fill(&snapshot), second.fill(&snapshot)) else {
-        return Err(Fail::from("the snapshot is of the job"));
-    };
-    assert!(rt; board.put(second).is_ok());
-    assert!(rt; board.place(0) == Place::Out && board.place(1) == Place::Done);
-    assert!(rt; board.put(first).is_ok());
-    let (job, mut slices) = begin(alloc, b"password", b"somesalt", two_lanes())?;
-    let mut another = board_of(alloc, &job, &mut slices)?;
-    let claim = another.take().ok_or("lane 0 waits")?;
-    let again = claim
-        .fill(&snapshot)
-        .ok()
-        .ok_or("the snapshot is of the job")?;
+    let (mut board, slices) = second_board(alloc, b"password", b"somesalt", two_lanes())?;
+    let snapshot = snapshot_of(&board, &slices);
+    put_in_turn(&rt, &mut board, &snapshot)?;
+    let again = lane_of_another(alloc, &snapshot)?;
     assert!(rt; board.put(again).is_err());
     let log = [Event::Take(0), Event::Take(1), Event::Put(1), Event::Put(0)];
     assert_eq!(rt; board.log(), log.as_slice());
@@ -112,39 +179,64 @@ fn hands_out_lanes_in_order(rt: HostRuntime) -> std::result::Result<(), Fail> {
     Ok(())
 }
 
-#[test]
-fn finishes_no_slice_with_a_lane_out(rt: HostRuntime) -> std::result::Result<(), Fail> {
-    let alloc = rt.alloc();
-    let (job, mut slices) = begin(alloc, b"password", b"somesalt", two_lanes())?;
-    let mut board = board_of(alloc, &job, &mut slices)?;
-    let snapshot = Snapshot::new(job, others(&slices, 1));
-    let first = board.take().ok_or("lane 0 waits")?;
-    let second = board.take().ok_or("lane 1 waits")?;
-    let second = second
-        .fill(&snapshot)
-        .ok()
-        .ok_or("the snapshot is of the job")?;
+/// Takes two lanes, and puts the second alone.
+fn put_one_of_two(
+    rt: &impl Abort,
+    board: &mut Board,
+    snapshot: &Snapshot<'_>,
+) -> std::result::Result<(), Fail> {
+    let first = next(board, "lane 0 waits")?;
+    let second = next(board, "lane 1 waits")?;
+    let second = filled(second, snapshot, "the snapshot is of the job")?;
     assert!(rt; board.put(second).is_ok());
     drop(first);
+    Ok(())
+}
+
+#[test]
+fn finishes_no_slice_with_a_lane_out(rt: HostRuntime) -> std::result::Result<(), Fail> {
+    let (mut board, slices) = second_board(rt.alloc(), b"password", b"somesalt", two_lanes())?;
+    let snapshot = snapshot_of(&board, &slices);
+    put_one_of_two(&rt, &mut board, &snapshot)?;
     assert!(rt; board.finish().err() == Some(Error::WorkerRefused));
+    Ok(())
+}
+
+/// Fills a lane of a board from a snapshot of another job, and checks that it comes back.
+fn check_filling(
+    rt: &impl Abort,
+    ours: &mut Board,
+    snapshot: &Snapshot<'_>,
+) -> std::result::Result<(), Fail> {
+    let our_job = *ours.job();
+    let claim = next(ours, "lane 0 waits")?;
+    let claim = claim.fill(snapshot).err().ok_or("another job")?;
+    assert!(rt; claim.lane() == 0 && *claim.job() == our_job);
+    Ok(())
+}
+
+/// Puts a lane on the board of another job, and checks that it comes back.
+fn check_putting(
+    rt: &impl Abort,
+    ours: &mut Board,
+    theirs: &mut Board,
+    snapshot: &Snapshot<'_>,
+) -> std::result::Result<(), Fail> {
+    let their_job = *theirs.job();
+    let stranger = filled(next(theirs, "lane 0 waits")?, snapshot, "its own job")?;
+    let stranger = ours.put(stranger).err().ok_or("another job")?;
+    assert!(rt; stranger.lane() == 0 && *stranger.job() == their_job);
     Ok(())
 }
 
 #[test]
 fn hands_strangers_back(rt: HostRuntime) -> std::result::Result<(), Fail> {
     let alloc = rt.alloc();
-    let (our_job, mut our_slices) = begin(alloc, b"password", b"somesalt", two_lanes())?;
-    let mut ours = board_of(alloc, &our_job, &mut our_slices)?;
-    let (their_job, mut their_slices) = begin(alloc, b"passworD", b"somesalt", two_lanes())?;
-    let mut theirs = board_of(alloc, &their_job, &mut their_slices)?;
-    let snapshot = Snapshot::new(their_job, others(&their_slices, 1));
-    let claim = ours.take().ok_or("lane 0 waits")?;
-    let claim = claim.fill(&snapshot).err().ok_or("another job")?;
-    assert!(rt; claim.lane() == 0 && *claim.job() == our_job);
-    let stranger = theirs.take().ok_or("lane 0 waits")?;
-    let stranger = stranger.fill(&snapshot).ok().ok_or("its own job")?;
-    let stranger = ours.put(stranger).err().ok_or("another job")?;
-    assert!(rt; stranger.lane() == 0 && *stranger.job() == their_job);
+    let (mut ours, _our_slices) = second_board(alloc, b"password", b"somesalt", two_lanes())?;
+    let (mut theirs, their_slices) = second_board(alloc, b"passworD", b"somesalt", two_lanes())?;
+    let snapshot = snapshot_of(&theirs, &their_slices);
+    check_filling(&rt, &mut ours, &snapshot)?;
+    check_putting(&rt, &mut ours, &mut theirs, &snapshot)?;
     assert!(rt; ours.job().lanes() == 2);
     assert!(rt; ours.place(0) == Place::Out && ours.place(1) == Place::Waiting);
     assert_eq!(rt; ours.log(), [Event::Take(0)].as_slice());
@@ -170,9 +262,8 @@ impl Permit for AllBut {
 fn starts_permitted_workers_alone(rt: HostRuntime) -> std::result::Result<(), Fail> {
     let alloc = rt.alloc();
     for refused in 6..10 {
-        let (job, mut slices) = begin(alloc, b"password", b"somesalt", two_lanes())?;
-        let board = board_of(alloc, &job, &mut slices)?;
-        let snapshot = Snapshot::new(job, others(&slices, 1));
+        let (board, slices) = second_board(alloc, b"password", b"somesalt", two_lanes())?;
+        let snapshot = snapshot_of(&board, &slices);
         let permit = AllBut(refused);
         let board = fill_slice_with(&rt, board, &snapshot, &NoGate, &permit, 7, 2);
         let is_refused = refused == 7 || refused == 8;
@@ -207,9 +298,8 @@ fn board_new_refused_in_turn(rt: HostRuntime) -> std::result::Result<(), Fail> {
 
 /// The second slice, filled by four workers.
 fn second_slice<R: Threads + Wait + Sync>(rt: &R, alloc: Global) -> Result<Vec<Segment>> {
-    let (job, mut slices) = begin(alloc, &[1; 32], &[2; 16], four_lanes())?;
-    let board = board_of(alloc, &job, &mut slices)?;
-    let snapshot = Snapshot::new(job, others(&slices, 1));
+    let (board, slices) = second_board(alloc, &[1; 32], &[2; 16], four_lanes())?;
+    let snapshot = snapshot_of(&board, &slices);
     fill_slice(rt, board, &snapshot, &NoGate, 4)?.finish()
 }
 

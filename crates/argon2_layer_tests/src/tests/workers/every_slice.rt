@@ -1,5 +1,9 @@
 //! All slices under a gate that is new for each of them.
 
+ghost use Rattle.std.specs.Prelude.{IfOk};
+ghost use Rattle.argon2_memory.specs.Views.Memories.{HasShape};
+ghost use Rattle.argon2_settings.specs.Views.Contexts.{setting_of_context};
+
 use super::overlap::reaches;
 use super::two_lanes;
 use argon2_fill::fill::{finalize, initialize, prepare_memory};
@@ -8,6 +12,7 @@ use argon2_memory::memory::Memory;
 use argon2_memory::segment::Snapshot;
 use argon2_settings::config::Config;
 use argon2_settings::context::Context;
+use argon2_settings::result::Result;
 use std::alloc::Global;
 use std::marker::Sync;
 use std::process::Abort;
@@ -68,6 +73,33 @@ impl Gate for EachSlice {
     }
 }
 
+/// A memory that is filled under a gate by one of the two calls.
+fn filled<R: Threads + Wait + Sync>(
+    rt: &R,
+    alloc: Global,
+    context: &Context<'_>,
+    gate: &EachSlice,
+    with_permit: bool,
+) -> Result<Memory>
+    ensures { IfOk result (λ memory. HasShape (setting_of_context context.now) memory) }
+{
+    let mut memory = Memory::empty(alloc);
+    prepare_memory(alloc, context, &mut memory)?;
+    initialize(context, &mut memory);
+    if with_permit {
+        fill_parallel_with(rt, alloc, context, &mut memory, gate, &AllPermitted)?;
+    } else {
+        fill_parallel(rt, alloc, context, &mut memory, gate)?;
+    }
+    Ok(memory)
+}
+
+/// Checks what the gate saw of the filling of eight slices of two lanes.
+fn check_gate(rt: &impl Abort, gate: &EachSlice) {
+    assert!(rt; gate.late.load(Ordering::SeqCst) == 0, "the gate gave up");
+    assert_eq!(rt; gate.fills.load(Ordering::SeqCst), 0x1111_1111_1111_1111);
+}
+
 /// Fills eight slices of two lanes by one of the two calls, and checks what the gate saw, and the
 /// tag.
 fn check_every_slice<'a, R: Threads + Wait + Sync + Abort>(
@@ -82,17 +114,9 @@ fn check_every_slice<'a, R: Threads + Wait + Sync + Abort>(
         Ok(context) => context,
         Err(refusal) => return Err(Fail::from(refusal)),
     };
-    let mut memory = Memory::empty(alloc);
-    prepare_memory(alloc, &context, &mut memory)?;
-    initialize(&context, &mut memory);
     let gate = EachSlice::new();
-    if with_permit {
-        fill_parallel_with(rt, alloc, &context, &mut memory, &gate, &AllPermitted)?;
-    } else {
-        fill_parallel(rt, alloc, &context, &mut memory, &gate)?;
-    }
-    assert!(rt; gate.late.load(Ordering::SeqCst) == 0, "the gate gave up");
-    assert_eq!(rt; gate.fills.load(Ordering::SeqCst), 0x1111_1111_1111_1111);
+    let memory = filled(rt, alloc, &context, &gate, with_permit)?;
+    check_gate(rt, &gate);
     let tag = finalize(alloc, &context, &memory)?;
     assert_eq!(rt;
         hex::encode(alloc, tag)?.as_str(),

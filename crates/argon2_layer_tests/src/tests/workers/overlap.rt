@@ -1,8 +1,7 @@
 //! Workers under a gate that holds one back until another has come so far.
 
-use super::{begin, four_lanes, two_lanes};
-use argon2_fill::workers::{Claim, Event, Filled, Gate, board_of, fill_slice};
-use argon2_memory::memory::others;
+use super::{four_lanes, second_board, snapshot_of, two_lanes};
+use argon2_fill::workers::{Claim, Event, Filled, Gate, fill_slice};
 use argon2_memory::segment::Snapshot;
 use argon2_settings::config::Config;
 use std::alloc::Global;
@@ -89,9 +88,8 @@ fn check_overlap<'a, R: Threads + Wait + Sync + Abort>(
     config: Config<'a>,
     log: &[Event],
 ) -> std::result::Result<(), Fail> {
-    let (job, mut slices) = begin(alloc, password, salt, config)?;
-    let board = board_of(alloc, &job, &mut slices)?;
-    let snapshot = Snapshot::new(job, others(&slices, 1));
+    let (board, slices) = second_board(alloc, password, salt, config)?;
+    let snapshot = snapshot_of(&board, &slices);
     let gate = Hold::new(config.lanes.wrapping_sub(1));
     let board = fill_slice(rt, board, &snapshot, &gate, 2)?;
     assert!(rt; gate.late.load(Ordering::SeqCst) == 0, "the gate gave up");

@@ -1,9 +1,8 @@
 //! When a gate is told of a put.
 
 use super::overlap::reaches;
-use super::{begin, four_lanes};
-use argon2_fill::workers::{Claim, Event, Filled, Gate, board_of, fill_slice};
-use argon2_memory::memory::others;
+use super::{four_lanes, second_board, snapshot_of};
+use argon2_fill::workers::{Claim, Event, Filled, Gate, fill_slice};
 use argon2_memory::segment::Snapshot;
 use std::marker::Sync;
 use std::sync::atomic::{AtomicU64, Ordering};
@@ -53,9 +52,8 @@ impl Gate for Told {
 #[test]
 fn tells_of_a_put_after_it_and_outside_the_lock(rt: HostRuntime) -> std::result::Result<(), Fail> {
     let alloc = rt.alloc();
-    let (job, mut slices) = begin(alloc, &[1; 32], &[2; 16], four_lanes())?;
-    let board = board_of(alloc, &job, &mut slices)?;
-    let snapshot = Snapshot::new(job, others(&slices, 1));
+    let (board, slices) = second_board(alloc, &[1; 32], &[2; 16], four_lanes())?;
+    let snapshot = snapshot_of(&board, &slices);
     let gate = Told {
         begun: AtomicU64::new(0),
         told: AtomicU64::new(0),

@@ -1,8 +1,7 @@
 //! Which workers start, counted by a gate.
 
-use super::{AllBut, begin, four_lanes, two_lanes};
-use argon2_fill::workers::{Claim, Filled, Gate, Permit, board_of, fill_slice, fill_slice_with};
-use argon2_memory::memory::others;
+use super::{AllBut, four_lanes, second_board, snapshot_of, two_lanes};
+use argon2_fill::workers::{Claim, Filled, Gate, Permit, fill_slice, fill_slice_with};
 use argon2_memory::segment::Snapshot;
 use argon2_settings::error::Error;
 use std::marker::Sync;
@@ -67,9 +66,8 @@ impl Permit for Nobody {
 fn starts_the_others_of_a_refused_worker(rt: HostRuntime) -> std::result::Result<(), Fail> {
     let alloc = rt.alloc();
     for refused in 0..2 {
-        let (job, mut slices) = begin(alloc, b"password", b"somesalt", two_lanes())?;
-        let board = board_of(alloc, &job, &mut slices)?;
-        let snapshot = Snapshot::new(job, others(&slices, 1));
+        let (board, slices) = second_board(alloc, b"password", b"somesalt", two_lanes())?;
+        let snapshot = snapshot_of(&board, &slices);
         let gate = Count::new(1);
         let board = fill_slice_with(&rt, board, &snapshot, &gate, &AllBut(refused), 0, 2);
         assert!(rt; board.err() == Some(Error::WorkerRefused));
@@ -82,9 +80,8 @@ fn starts_the_others_of_a_refused_worker(rt: HostRuntime) -> std::result::Result
 #[test]
 fn starts_nobody_without_a_permit(rt: HostRuntime) -> std::result::Result<(), Fail> {
     let alloc = rt.alloc();
-    let (job, mut slices) = begin(alloc, b"password", b"somesalt", two_lanes())?;
-    let board = board_of(alloc, &job, &mut slices)?;
-    let snapshot = Snapshot::new(job, others(&slices, 1));
+    let (board, slices) = second_board(alloc, b"password", b"somesalt", two_lanes())?;
+    let snapshot = snapshot_of(&board, &slices);
     let gate = Count::new(0);
     let board = fill_slice_with(&rt, board, &snapshot, &gate, &Nobody, 0, 2);
     assert!(rt; board.err() == Some(Error::WorkerRefused));
@@ -95,9 +92,8 @@ fn starts_nobody_without_a_permit(rt: HostRuntime) -> std::result::Result<(), Fa
 #[test]
 fn starts_no_more_than_asked(rt: HostRuntime) -> std::result::Result<(), Fail> {
     let alloc = rt.alloc();
-    let (job, mut slices) = begin(alloc, &[1; 32], &[2; 16], four_lanes())?;
-    let board = board_of(alloc, &job, &mut slices)?;
-    let snapshot = Snapshot::new(job, others(&slices, 1));
+    let (board, slices) = second_board(alloc, &[1; 32], &[2; 16], four_lanes())?;
+    let snapshot = snapshot_of(&board, &slices);
     let gate = Count::new(2);
     let board = fill_slice(&rt, board, &snapshot, &gate, 2)?;
     assert!(rt; board.finish().is_ok());
