@@ -1,12 +1,16 @@
--- What hashing leaves in a buffer for the text.
+-- What hashing leaves in a buffer for the text, or for the tag.
 use Rattle.std.proofs.Common.{◌≡◌, ℕ, ◌<◌, ◌≤◌, false, true, List, length, Option, None, Some, Result, Ok, Err, nat_lt, refl, ap, arith}
-use Rattle.std.proofs.lemmas.Bool.{le-ltb, lt-ltb}
+use Rattle.std.proofs.lemmas.Bool.{eq-eqb, le-ltb, lt-ltb}
+use Rattle.std.specs.Prelude.{◌==◌}
 use Rattle.argon2.specs.ConfigType.{Config}
 use Rattle.argon2.specs.ErrorType.{Error}
 use Rattle.argon2.specs.ErrorType.TheVariants.{OutOfMemory}
 use Rattle.argon2.specs.Outcome.{IsOutcome}
 use Rattle.argon2.specs.SettingsTable.{refusal_of}
-use Rattle.argon2_c.specs.Answers.{IsTextLength, WritesHashText, hash_text}
+use Rattle.argon2.specs.Tag.{tag_of}
+use Rattle.argon2_c.specs.Answers.{IsTextLength, WritesHashText, WritesTag, hash_text}
+use Rattle.argon2_c.specs.Buffer.{WritesText}
+use Rattle.argon2_c.specs.declared.refusal.Refusal.{Refusal}
 use Rattle.argon2_c.specs.declared.refusal.Refusal.TheVariants.{Library, WrongLength}
 use Rattle.argon2_c.proofs.Lengths.{length-hash_text}
 
@@ -30,6 +34,23 @@ module _ (stood : Result Config Error) (config : Config) (pwd salt : List ℕ) (
       let room : nat_lt (length (hash_text pwd salt config)) (length old) ≡ true = lt-ltb (length (hash_text pwd salt config)) (length old) (omega
       (arith, size, fits)) in
       rw (is, accepted, room) (ap Library memory, refl)
+
+  -- where a buffer is longer than the text, what writing the text does is the answer
+  pub takes_text : (old new : List ℕ) (answer : Result (Unit {0}) Refusal) → len < length old → WritesText (hash_text pwd salt config) old new answer
+      → WritesHashText stood pwd salt old new answer
+  takes_text old new answer fits h =
+      let short : length (hash_text pwd salt config) < length old = omega (arith, size, fits) in
+      let room : nat_lt (length (hash_text pwd salt config)) (length old) ≡ true = lt-ltb (length (hash_text pwd salt config)) (length old) short in
+      let written = h.fits short in
+      rw (written.0, is, accepted, room) written.1
+
+-- a buffer of the tag's length that holds the tag of an accepted call
+pub takes_tag : (stood : Result Config Error) (config : Config) (pwd salt old new : List ℕ) → stood ≡ Ok config
+    → refusal_of config (length pwd) (length salt) config.hash_length ≡ None → length old ≡ config.hash_length
+    → new ≡ tag_of pwd salt config config.hash_length → WritesTag stood pwd salt old new (Ok tt)
+takes_tag stood config pwd salt old new is accepted fits whole =
+    let same : (length old == config.hash_length) ≡ true = eq-eqb (length old) config.hash_length fits in
+    rw (is, accepted, same) whole
 
 -- where nothing in the settings is refused, an error is a lack of memory
 pub shortage : {A : Type 0} (refusal : Option Error) (P : A → Type 0) (e : Error) → refusal ≡ None → IsOutcome refusal false P (Err e) → e ≡ OutOfMemory

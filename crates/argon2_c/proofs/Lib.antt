@@ -3,4 +3,5 @@ pub mod Lengths
 pub mod Verdicts
 pub mod HashTexts
 pub mod Comparisons
+pub mod Presets
 mod KeptValues

@@ -3,9 +3,11 @@ use Rattle.std.proofs.Common.{◌≡◌, ℕ, None, Some, refl, sym, subst, inl,
 use Rattle.std.proofs.lemmas.Bool.Decides.{eqb_tells}
 use Rattle.argon2.specs.VariantType.{Variant}
 use Rattle.argon2.specs.VariantType.TheVariants.{Argon2d, Argon2i, Argon2id}
+use Rattle.argon2.specs.VersionType.{Version}
 use Rattle.argon2.specs.VersionType.TheVariants.{Version10, Version13}
 use Rattle.argon2.specs.Names.{IsNoVariantNumber, IsNoVersionNumber}
 use Rattle.argon2.specs.Variant.{variant_number}
+use Rattle.argon2.specs.Version.{version_number}
 use Rattle.argon2_c.specs.Settings.{variant_of, version_of}
 
 -- the number of a variant stands for that variant
@@ -13,6 +15,11 @@ pub variant_of-number : (variant : Variant) (number : ℕ) → variant_number va
 variant_of-number Argon2d number e = subst (λ n. variant_of n ≡ Some Argon2d) e refl
 variant_of-number Argon2i number e = subst (λ n. variant_of n ≡ Some Argon2i) e refl
 variant_of-number Argon2id number e = subst (λ n. variant_of n ≡ Some Argon2id) e refl
+
+-- the number of a version stands for that version
+pub version_of-number : (version : Version) (number : ℕ) → version_number version ≡ number → version_of number ≡ Some version
+version_of-number Version10 number e = subst (λ n. version_of n ≡ Some Version10) e refl
+version_of-number Version13 number e = subst (λ n. version_of n ≡ Some Version13) e refl
 
 -- a number that is none of a variant's stands for no variant
 pub variant_of-none : (number : ℕ) → IsNoVariantNumber number → variant_of number ≡ None
