@@ -4,11 +4,11 @@ use Rattle.argon2_commands.proofs.Statuses.{answered_bounded, answered_not, answ
 use Rattle.argon2_commands.proofs.program.run.Goals as goal
 
 -- src/program.rt:68:1
-pub returns-in-Ok-clause-bounded : goal.returns-in-Ok-clause-bounded
-returns-in-Ok-clause-bounded g c = answered_bounded c.in-Ok.ensures.answered
-
 pub returns-in-Ok-clause-answered : goal.returns-in-Ok-clause-answered
 returns-in-Ok-clause-answered g c low = c.in-Ok.ensures.answered
+
+pub returns-in-Ok-clause-bounded : goal.returns-in-Ok-clause-bounded
+returns-in-Ok-clause-bounded g c = answered_bounded c.in-Ok.ensures.answered
 
 pub returns-in-Ok-clause-usage : goal.returns-in-Ok-clause-usage
 returns-in-Ok-clause-usage g c = answered_usage c.in-Ok.ensures.answered

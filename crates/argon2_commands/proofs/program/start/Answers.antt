@@ -26,15 +26,15 @@ pub returns-in-Err-clause-silent : goal.returns-in-Err-clause-silent
 returns-in-Err-clause-silent g c = no_fault c.in-Err.fault _ (c.from.ensures ∙ c.report.ensures)
 
 -- src/program.rt:26:1
-pub returns-clause-bounded : goal.returns-clause-bounded
-returns-clause-bounded g c = subst (λ n. n < 5) (sym c.from-2.ensures) c.run-status.ensures.bounded
-
 pub returns-clause-answered : goal.returns-clause-answered
 returns-clause-answered g c low =
     of_words (g.L.CommandLine.arguments c.args.line.now) c.as_slice.result.now c.in-Ok.words.items
     (λ words. Answered words (g.I.Read.remaining c.args.input.now) (g.O.Write.contents c.args.output.now) (g.O.Write.contents c.run-status.new.output) _)
     c.as_slice.ensures.value c.in-Ok.ensures.all
     (answered_as _ c.from-2.ensures (c.run-status.ensures.answered (subst (λ n. n < 2) c.from-2.ensures low)))
+
+pub returns-clause-bounded : goal.returns-clause-bounded
+returns-clause-bounded g c = subst (λ n. n < 5) (sym c.from-2.ensures) c.run-status.ensures.bounded
 
 pub returns-clause-usage : goal.returns-clause-usage
 returns-clause-usage g c three =
