@@ -1,4 +1,4 @@
--- What the derived `==` of jobs tells.
+-- What the derived `!=` of jobs tells.
 use Rattle.std.proofs.Common.{◌≡◌, Bool, true, false, rules}
 use Rattle.std.specs.Prelude.{◌&&◌, not}
 use lib.Pointwise.{pointwise}
@@ -16,11 +16,7 @@ same_job a b =
     && (eqb a.setting.segment_length b.setting.segment_length && (eqb a.setting.passes b.setting.passes
     && (eqb a.pass b.pass && eqb a.slice b.slice))))))
 
--- jobs for which the test holds are equal
-pub equal_jobs : (a b : Job) → true ≡ same_job a b → a ≡ b
-equal_jobs a b e = search rules
-
--- so are jobs for which `!=` does not hold
+-- jobs for which `!=` does not hold are equal
 pub no_other_job : (a b : Job) → false ≡ not (same_job a b) → a ≡ b
 no_other_job a b e = search rules
 
