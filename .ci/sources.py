@@ -11,6 +11,8 @@ CLAUSE = re.compile(r'^ +(requires|ensures)\*?(?: (\w+))? \{')
 GHOST = re.compile(r'^    ghost (?!use)(\w+) =')
 RE_EXPORT = re.compile(r'^pub use ([\w:]+?)(?:::\{([^}]*)\})?;', re.M)
 GHOST_TRAITS = ('Model',)
+# `rt ci` tries the edits of the first folder, and `.ci/edits` those of the second.
+EDITS = ALONE, JOINED = 'must-fail', 'must-fail-joined'
 
 
 def crates():
@@ -168,37 +170,50 @@ class Sources:
 
 
 class Edit:
-    """A must-fail edit: its crate, and the function in whose span its last text stands."""
+    """A must-fail edit: its crate, its pairs of texts, the goal that it names, and the functions in whose spans the
+    texts stand. `function` is that of the last pair."""
 
     def __init__(self, path, sources):
-        self.name, self.crate = path.stem, path.parent.parent.name
-        self.function, self.file, self.fault, texts, old = None, None, None, {}, None
-        for line in path.read_text(encoding='utf-8').splitlines():
+        self.path, self.name, self.crate = path, path.stem, path.parent.parent.name
+        self.pairs, self.goal = list(self.read_pairs()), self.read_goal()
+        self.fault, self.functions, texts = None if self.pairs else 'it has no text', [], {}
+        for file, old, new in self.pairs:
+            line = self.line_of(file, old, texts)
+            if line is not None:
+                self.functions.append(next((f for f in sources.functions if f.module.file == file
+                                            and f.first <= line <= f.last), None))
+                texts[file] = texts[file].replace(old, new)
+        self.file = self.pairs[-1][0] if self.pairs else None
+        self.function = self.functions[-1] if self.functions else None
+
+    def read_pairs(self):
+        file, old = None, None
+        for line in self.path.read_text(encoding='utf-8').splitlines():
             if line.startswith('file: '):
                 file = TOP / 'crates' / self.crate / line[6:]
-                self.file = file
-                texts.setdefault(file, file.read_text(encoding='utf-8') if file.exists() else '')
             elif line.startswith('old: '):
                 old = line[5:]
             elif line.startswith('new:'):
-                self.apply(file, texts, old, line[4:].removeprefix(' '), sources)
-        if old is None:
-            self.fault = 'it has no text'
+                yield file, old, line[4:].removeprefix(' ')
 
-    def apply(self, file, texts, old, new, sources):
-        """One pair of texts. The old one has to stand once in the file as the pairs before it left it."""
+    def read_goal(self):
+        """The goal that has to be left unproved, where the edit names one."""
+        said = re.search(r'^goal: (\S+)$', self.path.read_text(encoding='utf-8'), re.M)
+        return said and said.group(1)
+
+    def line_of(self, file, old, texts):
+        """The line of an old text, which has to stand once in its file as the pairs before left it."""
+        if file not in texts:
+            texts[file] = file.read_text(encoding='utf-8') if file.exists() else ''
         count = texts[file].count(old)
         if count != 1:
             self.fault = self.fault or f'its text stands {count} times in {file.relative_to(TOP)}: {old.strip()}'
-            return
-        line = texts[file][:texts[file].index(old)].count('\n') + 1
-        self.file, self.function = file, next((f for f in sources.functions if f.module.file == file
-                                               and f.first <= line <= f.last), None)
-        texts[file] = texts[file].replace(old, new)
+            return None
+        return texts[file][:texts[file].index(old)].count('\n') + 1
 
 
-def edits(sources):
-    found = [Edit(path, sources) for crate in crates()
-             for path in sorted((TOP / 'crates' / crate / 'must-fail').glob('*.edit'))]
+def edits(sources, folders=EDITS):
+    found = [Edit(path, sources) for crate in crates() for folder in folders
+             for path in sorted((TOP / 'crates' / crate / folder).glob('*.edit'))]
     assert found, 'there is no must-fail edit'
     return found

@@ -212,6 +212,19 @@ fn cuts_long_hashes_into_halves_and_a_last_hash(rt: HostRuntime) {
     }
 }
 
+/// Hashes two messages at once, each beside the short hash of its hash.
+fn check_both(rt: &impl Abort, len: usize, first: (&[u8], u128), second: (&[u8], u128)) {
+    assert!(rt; 64 < len && len <= 1024);
+    let (mut one, mut other) = ([0; 1024], [0; 1024]);
+    hprime_both(&mut one[..len], &mut other[..len], first.0, second.0);
+    assert_eq!(rt; short_hash_of(&one[..len]), first.1, "{len} bytes");
+    assert_eq!(rt;
+        short_hash_of(&other[..len]),
+        second.1,
+        "{len} bytes, second"
+    );
+}
+
 // As `hashes_to_each_length`, with `abc` beside the message, each first and each second.
 #[test]
 fn hashes_two_messages_to_each_length(rt: HostRuntime) {
@@ -244,21 +257,7 @@ fn hashes_two_messages_to_each_length(rt: HostRuntime) {
         ),
     ];
     for (len, of_message, of_abc) in known {
-        assert!(rt; 64 < len && len <= 1024);
-        let (mut first, mut second) = ([0; 1024], [0; 1024]);
-        hprime_both(&mut first[..len], &mut second[..len], &message, b"abc");
-        assert_eq!(rt; short_hash_of(&first[..len]), of_message, "{len} bytes");
-        assert_eq!(rt; short_hash_of(&second[..len]), of_abc, "{len} bytes of abc");
-        hprime_both(&mut first[..len], &mut second[..len], b"abc", &message);
-        assert_eq!(rt;
-            short_hash_of(&first[..len]),
-            of_abc,
-            "{len} bytes of abc, first"
-        );
-        assert_eq!(rt;
-            short_hash_of(&second[..len]),
-            of_message,
-            "{len} bytes, second"
-        );
+        check_both(&rt, len, (&message, of_message), (b"abc", of_abc));
+        check_both(&rt, len, (b"abc", of_abc), (&message, of_message));
     }
 }
