@@ -1,6 +1,6 @@
 /* Lets each new thread of the program that it is preloaded into wait before it begins, for up to
-   DELAY_MICROSECONDS, another time for each. The toolchain's clang has no headers, so what is used of
-   the C library is declared here. */
+   DELAY_MICROSECONDS, another time for each, and between its work and its end for LINGER_MICROSECONDS. The
+   toolchain's clang has no headers, so what is used of the C library is declared here. */
 
 typedef __SIZE_TYPE__ size;
 typedef int create(void *, const void *, void *(*)(void *), void *);
@@ -21,28 +21,37 @@ struct start {
 static void *const NEXT = (void *)-1l;
 static create *next_create;
 static unsigned long most;
+static unsigned long linger;
 static unsigned long drawn = 88172645463325252ul;
 static struct start starts[MOST_THREADS];
 static unsigned long count;
 
+static unsigned long number_in(const char *name) {
+  const char *number = getenv(name);
+  return number ? strtoul(number, 0, 10) : 0;
+}
+
 __attribute__((constructor)) static void begin(void) {
-  const char *number = getenv("DELAY_MICROSECONDS");
   next_create = (create *)dlsym(NEXT, "pthread_create");
-  most = number ? strtoul(number, 0, 10) : 0;
+  most = number_in("DELAY_MICROSECONDS");
+  linger = number_in("LINGER_MICROSECONDS");
 }
 
 static void *wait_and_run(void *given) {
   struct start *start = given;
+  void *result;
   usleep(start->wait);
-  return start->run(start->argument);
+  result = start->run(start->argument);
+  usleep((unsigned)linger);
+  return result;
 }
 
 int pthread_create(void *thread, const void *attributes, void *(*run)(void *), void *argument) {
   unsigned long number = count++;
-  if (most == 0 || number >= MOST_THREADS) return next_create(thread, attributes, run, argument);
+  if (most + linger == 0 || number >= MOST_THREADS) return next_create(thread, attributes, run, argument);
   drawn ^= drawn << 13;
   drawn ^= drawn >> 7;
   drawn ^= drawn << 17;
-  starts[number] = (struct start){run, argument, (unsigned)(drawn % most)};
+  starts[number] = (struct start){run, argument, most ? (unsigned)(drawn % most) : 0};
   return next_create(thread, attributes, wait_and_run, &starts[number]);
 }
