@@ -8,7 +8,8 @@ import shutil
 
 def load_rt():
     """The command `rt` as a module; its library is `load_rt().rtlib`."""
-    found = shutil.which('rt', path=os.environ.get('PATH', '') + ':/opt/rattle/bin')
+    os.environ['PATH'] = os.environ.get('PATH', '') + ':/opt/rattle/bin'
+    found = shutil.which('rt')
     assert found, 'there is no rt, which proves and builds'
     path = os.path.realpath(found)
     loader = importlib.machinery.SourceFileLoader('rt', path)
