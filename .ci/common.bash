@@ -28,6 +28,12 @@ fail() {
     echo "$1" >>"${room:?}/failed"
 }
 
+# Whether a file crates/CRATE/out/NAME is what was built from the sources as they are; else it is a failed check.
+require_current() {
+    local crate=${1#crates/} said
+    said=$(.ci/stamp --check "${crate%%/*}" "$1" 2>&1) || { fail "$1" "${said#"$1 "}"; return 1; }
+}
+
 # The test binaries of the crates that have tests. Where one is not built, it is named all the same, so
 # that its run fails.
 test_binaries() {

@@ -1,14 +1,16 @@
-/* Asks memcheck which branches and addresses depend on secrets. The password, the secret and, for a
-   raw hash that is verified, the hash are marked as undefined. Memcheck carries the mark through all
-   that is computed from them, and reports each branch and each address that depends on it. Lengths,
-   the salt, the associated data, the settings and stored texts are public, and stay defined.
+/* Asks memcheck which branches and addresses depend on secrets. The password, the secret, a hash that is
+   verified and the letters of the hash in a stored text are marked as undefined. Memcheck carries the mark
+   through all that is computed from them, and reports each branch and each address that depends on it.
+   Lengths, the salt, the associated data, the settings and what is before the hash in a text are public, and
+   stay defined.
 
-   usage: valgrind --tool=memcheck constant_time CASE <QUESTIONS
+   usage: valgrind --tool=memcheck constant_time CASE MEMORY <QUESTIONS
 
-   A question is a line `VARIANT VERSION T M P LEN PASSWORD SALT SECRET DATA TAG`, the last five in
-   hexadecimal, or `-` where they are empty. For the case verify_text it is `TEXT VERDICT`, where the
-   verdict is `true` if the text is of the password `password`. The last line of the output says how
-   many there were, and the status is 0 where each of them came out as the case has it. */
+   MEMORY is `fresh`, or `kept` for the calls over a memory that is kept from question to question. A question
+   is a line `VARIANT VERSION T M P LEN PASSWORD SALT SECRET DATA TAG`, the last five in hexadecimal, or `-`
+   where they are empty. For the case verify_text it is `TEXT VERDICT`, where the verdict is `true` if the text
+   is of the password `password`. The last line of the output says how many there were, and the status is 0
+   where each of them came out as the case has it. */
 #include "proved_argon2.h"
 
 #include <stdbool.h>
@@ -17,7 +19,7 @@
 #include <string.h>
 #include <valgrind/memcheck.h>
 
-enum { MAX_BYTES = 1024, BITS_OF_BYTE = 8 };
+enum { MAX_BYTES = 1024, MAX_TEXT = 4096, BITS_OF_BYTE = 8, BITS_OF_LETTER = 6, CHEAP = 2048 };
 
 struct bytes {
   uint8_t at[MAX_BYTES];
@@ -29,6 +31,26 @@ struct vector {
   proved_argon2_settings settings;
   struct bytes password, salt, secret, ad, tag;
 };
+
+/* A text, and where its hash begins. */
+struct text {
+  uint8_t at[MAX_TEXT];
+  size_t length, hash;
+};
+
+/* What a verifying call is to see: how many branches may look at a verdict as a whole, and its answer. */
+struct verdict {
+  unsigned branches;
+  bool is_open;
+  uint32_t code;
+};
+
+/* The memory that is kept, where one is. */
+static proved_argon2_memory memory;
+static bool is_kept;
+
+/* How many hashes were tried that differ in one byte alone, at each of their bytes. */
+static unsigned at_each_byte;
 
 static void stop(const char *why) {
   printf("%s\n", why);
@@ -97,14 +119,59 @@ static void read_hidden(char *line, struct vector *it) {
   hide(it->secret.at, it->secret.length);
 }
 
+/* ---- the calls, over a memory that is kept or none */
+
+static uint32_t hash_raw(const struct vector *it, struct bytes *tag) {
+  tag->length = it->tag.length;
+  if (is_kept) {
+    return proved_argon2_hash_raw_in(&memory, it->password.at, it->password.length, it->salt.at,
+                                     it->salt.length, it->secret.at, it->secret.length, it->ad.at,
+                                     it->ad.length, &it->settings, tag->at, tag->length);
+  }
+  return proved_argon2_hash_raw(it->password.at, it->password.length, it->salt.at, it->salt.length,
+                                it->secret.at, it->secret.length, it->ad.at, it->ad.length,
+                                &it->settings, tag->at, tag->length);
+}
+
+static uint32_t hash_encoded(const struct vector *it, struct text *text) {
+  if (is_kept) {
+    return proved_argon2_hash_encoded_in(&memory, it->password.at, it->password.length, it->salt.at,
+                                         it->salt.length, it->secret.at, it->secret.length,
+                                         it->ad.at, it->ad.length, &it->settings, text->at,
+                                         sizeof text->at);
+  }
+  return proved_argon2_hash_encoded(it->password.at, it->password.length, it->salt.at,
+                                    it->salt.length, it->secret.at, it->secret.length, it->ad.at,
+                                    it->ad.length, &it->settings, text->at, sizeof text->at);
+}
+
+static uint32_t verify_raw(const struct vector *it, const struct bytes *hash) {
+  if (is_kept) {
+    return proved_argon2_verify_raw_in(&memory, it->password.at, it->password.length, it->salt.at,
+                                       it->salt.length, it->secret.at, it->secret.length, it->ad.at,
+                                       it->ad.length, &it->settings, hash->at, hash->length);
+  }
+  return proved_argon2_verify_raw(it->password.at, it->password.length, it->salt.at,
+                                  it->salt.length, it->secret.at, it->secret.length, it->ad.at,
+                                  it->ad.length, &it->settings, hash->at, hash->length);
+}
+
+static uint32_t verify_encoded(const struct vector *it, const struct text *text) {
+  if (is_kept) {
+    return proved_argon2_verify_encoded_in(&memory, text->at, text->length, it->password.at,
+                                           it->password.length, it->secret.at, it->secret.length,
+                                           it->ad.at, it->ad.length);
+  }
+  return proved_argon2_verify_encoded(text->at, text->length, it->password.at, it->password.length,
+                                      it->secret.at, it->secret.length, it->ad.at, it->ad.length);
+}
+
+/* ---- hashing */
+
 /* Writes the tag of a vector, and gives how many reports came of it. */
 static unsigned reports_of_hash(const struct vector *it, struct bytes *tag) {
   const unsigned before = VALGRIND_COUNT_ERRORS;
-  tag->length = it->tag.length;
-  const uint32_t code = proved_argon2_hash_raw(
-      it->password.at, it->password.length, it->salt.at, it->salt.length, it->secret.at,
-      it->secret.length, it->ad.at, it->ad.length, &it->settings, tag->at, tag->length);
-  if (code != PROVED_ARGON2_OK) stop("the hash was refused");
+  if (hash_raw(it, tag) != PROVED_ARGON2_OK) stop("the hash was refused");
   return VALGRIND_COUNT_ERRORS - before;
 }
 
@@ -127,87 +194,334 @@ static bool hashes_alike(char *line) {
   return reports_of_hash(&it, &tag) == 0 && undefined_bits(tag.at, tag.length) == 0;
 }
 
-/* Whether an answer is the wanted one, and either came of no report and is undefined, so that no branch
-   has looked at it before the one here; or is defined and came of two reports at most: the branch on the
-   whole verdict, and the place of its number in a table. A comparison byte by byte that stops has more of
-   them for the right hash. */
-static bool is_judged_unseen(unsigned reports, uint32_t code, uint32_t wanted) {
-  const bool is_open = undefined_bits(&code, sizeof code) > 0;
-  show(&code, sizeof code);
-  printf("%u reports, and the answer %u %s\n", reports, code, is_open ? "undefined" : "defined");
-  return reports <= (is_open ? 0 : 2) && code == wanted;
+/* The unpadded base64 of some bytes (RFC 4648), by a table. */
+static size_t letters_by_table(const uint8_t *bytes, size_t length, uint8_t *letters) {
+  static const char TABLE[] = "ABCDEFGHIJKLMNOPQRSTUVWXYZabcdefghijklmnopqrstuvwxyz0123456789+/";
+  size_t count = 0;
+  for (size_t bit = 0; bit < BITS_OF_BYTE * length; bit += BITS_OF_LETTER) {
+    const size_t at = bit / BITS_OF_BYTE;
+    const unsigned next = at + 1 < length ? bytes[at + 1] : 0;
+    const unsigned two = ((unsigned)bytes[at] << BITS_OF_BYTE) | next;
+    letters[count++] = (uint8_t)TABLE[(two >> (10 - bit % BITS_OF_BYTE)) & 63];
+  }
+  return count;
+}
+
+/* Finds how long a text is, and where its hash begins. */
+static void measure(struct text *text) {
+  text->length = strlen((const char *)text->at);
+  const char *mark = strrchr((const char *)text->at, '$');
+  if (mark == NULL) stop("a text has no mark");
+  text->hash = (size_t)(mark + 1 - (const char *)text->at);
+}
+
+/* Writes the text of a vector, and gives how many reports came of it. Of its form only what is public is
+   looked at: the zeros behind it begin where its length says. */
+static unsigned reports_of_text(const struct vector *it, struct text *text) {
+  const unsigned before = VALGRIND_COUNT_ERRORS;
+  if (hash_encoded(it, text) != PROVED_ARGON2_OK) stop("the text was refused");
+  const unsigned reports = VALGRIND_COUNT_ERRORS - before;
+  text->length = (size_t)proved_argon2_encoded_len(&it->settings, (uint32_t)it->salt.length);
+  text->hash = text->length - (4 * it->tag.length + 2) / 3;
+  return reports;
+}
+
+/* No report, and a text whose letters of the hash are undefined, each in some bit, and whose other bytes are
+   not. The letters are those of the vector's tag. */
+static bool encodes_alike(char *line) {
+  struct vector it;
+  struct text text;
+  uint8_t letters[2 * MAX_BYTES];
+  read_hidden(line, &it);
+  const unsigned reports = reports_of_text(&it, &text);
+  unsigned hidden = 0;
+  for (size_t i = text.hash; i < text.length; i++) {
+    if (undefined_bits(&text.at[i], 1) > 0) hidden++;
+  }
+  const bool is_open = undefined_bits(text.at, text.hash) == 0 && hidden == text.length - text.hash;
+  printf("%u reports, %u of %zu letters undefined\n", reports, hidden, text.length - text.hash);
+  show(text.at, sizeof text.at);
+  const size_t count = letters_by_table(it.tag.at, it.tag.length, letters);
+  return reports == 0 && is_open && text.at[text.hash - 1] == '$' && text.at[text.length] == 0 &&
+         count == text.length - text.hash && memcmp(&text.at[text.hash], letters, count) == 0;
+}
+
+/* ---- verifying */
+
+/* What came of a call since there were so many reports. */
+static struct verdict verdict_since(unsigned before, uint32_t code) {
+  const struct verdict it = {VALGRIND_COUNT_ERRORS - before, undefined_bits(&code, sizeof code) > 0,
+                             code};
+  show(&it.code, sizeof it.code);
+  printf("%u reports, and the answer %u %s\n", it.branches, it.code,
+         it.is_open ? "undefined" : "defined");
+  return it;
+}
+
+/* Whether a verdict is the wanted one and comes out undefined and of no report, so that no branch has looked
+   at it or at a part of it before the one here. */
+static bool is_judged_unseen(struct verdict it, uint32_t wanted) {
+  return it.branches == 0 && it.is_open && it.code == wanted;
 }
 
 static bool judges_raw_unseen(const struct vector *it, const struct bytes *hash, uint32_t wanted) {
   const unsigned before = VALGRIND_COUNT_ERRORS;
   hide(hash->at, hash->length);
-  const uint32_t code = proved_argon2_verify_raw(
-      it->password.at, it->password.length, it->salt.at, it->salt.length, it->secret.at,
-      it->secret.length, it->ad.at, it->ad.length, &it->settings, hash->at, hash->length);
-  return is_judged_unseen(VALGRIND_COUNT_ERRORS - before, code, wanted);
+  return is_judged_unseen(verdict_since(before, verify_raw(it, hash)), wanted);
 }
 
-/* The verdict alone is seen of the right hash, and of one that differs in its first, its last or each byte. */
+/* A number that depends on a question and a place alone. */
+static unsigned drawn(const struct vector *it, size_t place) {
+  unsigned word = 2166136261u;
+  for (size_t i = 0; i < it->salt.length; i++) {
+    word = (word ^ it->salt.at[i]) * 16777619u;
+  }
+  return ((word ^ (unsigned)place) * 2654435761u) >> 8;
+}
+
+/* Hashes that differ from the right one: in the first, the last and each byte, in a drawn one, and in drawn
+   bytes; where a verdict is cheap, also in each single byte. */
+static bool refuses_alike(const struct vector *it) {
+  const size_t length = it->tag.length;
+  struct bytes first = it->tag, last = it->tag, each = it->tag, one = it->tag, some = it->tag;
+  first.at[0] ^= 1;
+  last.at[length - 1] ^= 1;
+  one.at[drawn(it, length) % length] ^= 128;
+  for (size_t i = 0; i < length; i++) {
+    each.at[i] ^= 1;
+    some.at[i] = (uint8_t)drawn(it, i);
+  }
+  const struct bytes *wrong[] = {&first, &last, &each, &one, &some};
+  for (size_t i = 0; i < sizeof wrong / sizeof wrong[0]; i++) {
+    if (!judges_raw_unseen(it, wrong[i], PROVED_ARGON2_MISMATCH)) return false;
+  }
+  if (length * it->settings.mem_cost * it->settings.time_cost > CHEAP) return true;
+  for (size_t i = 0; i < length; i++) {
+    struct bytes single = it->tag;
+    single.at[i] ^= (uint8_t)(1u << i % BITS_OF_BYTE);
+    if (!judges_raw_unseen(it, &single, PROVED_ARGON2_MISMATCH)) return false;
+  }
+  at_each_byte++;
+  return true;
+}
+
+/* No branch looks at the verdict on the right hash, nor on any that differs. */
 static bool verifies_alike(char *line) {
   struct vector it;
   read_hidden(line, &it);
-  const size_t length = it.tag.length;
-  struct bytes right = it.tag, first = it.tag, last = it.tag, each = it.tag;
-  first.at[0] ^= 1;
-  last.at[length - 1] ^= 1;
-  for (size_t i = 0; i < length; i++) {
-    each.at[i] ^= 1;
-  }
-  return judges_raw_unseen(&it, &right, PROVED_ARGON2_OK) &&
-         judges_raw_unseen(&it, &first, PROVED_ARGON2_MISMATCH) &&
-         judges_raw_unseen(&it, &last, PROVED_ARGON2_MISMATCH) &&
-         judges_raw_unseen(&it, &each, PROVED_ARGON2_MISMATCH);
+  const struct bytes right = it.tag;
+  return judges_raw_unseen(&it, &right, PROVED_ARGON2_OK) && refuses_alike(&it);
 }
 
-/* The verdict alone is seen, whether or not the hidden password is the text's. */
-static bool verifies_text_alike(char *line) {
-  uint8_t password[] = {'p', 'a', 's', 's', 'w', 'o', 'r', 'd'};
-  const char *text = strtok(line, " ");
-  const bool matches = strcmp(next_field(), "true") == 0;
+/* Two branches, which look at the letters as a whole: whether all are ASCII, and whether they are base64. Then
+   the answer is defined where they are not, and else a verdict that no branch looks at. */
+static bool judges_text_unseen(const struct vector *it, const struct text *text, uint32_t wanted) {
   const unsigned before = VALGRIND_COUNT_ERRORS;
-  hide(password, sizeof password);
-  const uint32_t code =
-      proved_argon2_verify_encoded((const uint8_t *)text, strlen(text), password, sizeof password,
-                                   NULL, 0, NULL, 0);
-  return is_judged_unseen(VALGRIND_COUNT_ERRORS - before, code,
-                          matches ? PROVED_ARGON2_OK : PROVED_ARGON2_MISMATCH);
+  hide(&text->at[text->hash], text->length - text->hash);
+  struct verdict seen = verdict_since(before, verify_encoded(it, text));
+  const bool is_read = wanted != PROVED_ARGON2_DECODING_FAIL;
+  return seen.branches == 2 && seen.is_open == is_read && seen.code == wanted;
 }
 
-/* Reports, as there have to be where references are drawn from the blocks. */
+/* A text with one letter of its hash in place of another. */
+static struct text with_letter(const struct text *text, size_t at, uint8_t letter) {
+  struct text other = *text;
+  other.at[text->hash + at] = letter;
+  return other;
+}
+
+/* Texts that differ in one letter of the hash: the first, the last but one and a drawn one, by another letter
+   and by bytes that are none. */
+static bool refuses_texts_alike(const struct vector *it, const struct text *text) {
+  const size_t count = text->length - text->hash;
+  const size_t places[] = {0, count - 2, drawn(it, count) % (count - 1)};
+  for (size_t i = 0; i < sizeof places / sizeof places[0]; i++) {
+    const size_t at = places[i];
+    const struct text other =
+        with_letter(text, at, text->at[text->hash + at] == 'A' ? 'B' : 'A');
+    const struct text mark = with_letter(text, at, '$'), padding = with_letter(text, at, '=');
+    if (!judges_text_unseen(it, &other, PROVED_ARGON2_MISMATCH) ||
+        !judges_text_unseen(it, &mark, PROVED_ARGON2_DECODING_FAIL) ||
+        !judges_text_unseen(it, &padding, PROVED_ARGON2_DECODING_FAIL)) {
+      return false;
+    }
+  }
+  return true;
+}
+
+/* The text of a vector, its hash hidden, and texts that differ. */
+static bool verifies_own_text_alike(char *line) {
+  struct vector it;
+  struct text text;
+  read_hidden(line, &it);
+  reports_of_text(&it, &text);
+  show(text.at, sizeof text.at);
+  const struct text right = text;
+  return judges_text_unseen(&it, &right, PROVED_ARGON2_OK) && refuses_texts_alike(&it, &text);
+}
+
+/* An outside text, its hash hidden, whether or not the hidden password is the text's. */
+static bool verifies_text_alike(char *line) {
+  struct vector it = {.password = {.at = "password", .length = 8}};
+  struct text text = {.length = 0};
+  const char *words = strtok(line, " ");
+  const bool matches = strcmp(next_field(), "true") == 0;
+  if (strlen(words) >= sizeof text.at) stop("a text is too long");
+  strcpy((char *)text.at, words);
+  measure(&text);
+  hide(it.password.at, it.password.length);
+  return judges_text_unseen(&it, &text, matches ? PROVED_ARGON2_OK : PROVED_ARGON2_MISMATCH);
+}
+
+/* ---- references that are drawn from the blocks */
+
+/* How many blocks draw their reference from a block, and how many of these draw its lane too. */
+static struct {
+  uint64_t references, lanes;
+} drawn_in_all;
+
+/* Counts the blocks that draw: all but the first two of each lane, and in Argon2id only those behind the first
+   two slices of the first pass (RFC 9106, 3.4). The lane is drawn where there are several, but in the first
+   slice of the first pass, where only one lane may be referred to. */
+static void count_drawing(const proved_argon2_settings *settings) {
+  const uint64_t lanes = settings->lanes, slice = lanes * (settings->mem_cost / (4 * lanes));
+  const uint64_t all = 4 * slice * settings->time_cost;
+  const bool is_id = settings->variant == PROVED_ARGON2_ID;
+  const uint64_t references = all - 2 * (is_id ? slice : lanes);
+  drawn_in_all.references += references;
+  if (lanes > 1) drawn_in_all.lanes += is_id ? references : all - slice;
+}
+
+/* Reports, which are counted by their places, and the tag. */
 static bool draws_from_blocks(char *line) {
   struct vector it;
   struct bytes tag;
   read_hidden(line, &it);
   const unsigned reports = reports_of_hash(&it, &tag);
   printf("%u reports\n", reports);
+  count_drawing(&it.settings);
   return reports > 0 && is_tag_of(&it, &tag);
 }
 
-/* A comparison that stops at the first difference. */
-__attribute__((noinline)) static bool is_equal_in_haste(const uint8_t *one, const uint8_t *other,
-                                                        size_t length) {
+/* The same, and a branch on a byte of the tag, which stands for one on a word of a block. */
+static bool branches_on_a_word(char *line) {
+  struct vector it;
+  struct bytes tag;
+  read_hidden(line, &it);
+  reports_of_hash(&it, &tag);
+  if ((tag.at[0] & 1) != 0) printf("the first byte of the tag is odd\n");
+  count_drawing(&it.settings);
+  return is_tag_of(&it, &tag);
+}
+
+/* ---- stand-ins for what has to be refused */
+
+typedef bool comparison(const uint8_t *one, const uint8_t *other, size_t length);
+
+/* Gathers all differences, as the library does. */
+__attribute__((noinline)) static bool to_the_end(const uint8_t *one, const uint8_t *other,
+                                                 size_t length) {
+  unsigned difference = 0;
+  for (size_t i = 0; i < length; i++) {
+    difference |= (unsigned)(one[i] ^ other[i]);
+  }
+  return (difference - 1u) >> 31;
+}
+
+__attribute__((noinline)) static bool to_the_first_difference(const uint8_t *one,
+                                                              const uint8_t *other, size_t length) {
   for (size_t i = 0; i < length; i++) {
     if (one[i] != other[i]) return false;
   }
   return true;
 }
 
-/* More than two reports, as there have to be where a comparison stops at the first difference. */
-static bool stops_early(char *line) {
+/* Looks at the first and the last byte in one branch, and then at all. */
+__attribute__((noinline)) static bool at_both_ends_first(const uint8_t *one, const uint8_t *other,
+                                                         size_t length) {
+  if (((one[0] ^ other[0]) | (one[length - 1] ^ other[length - 1])) != 0) return false;
+  return to_the_end(one, other, length);
+}
+
+/* Looks at the first half as a whole, and then at the other. */
+__attribute__((noinline)) static bool by_halves(const uint8_t *one, const uint8_t *other,
+                                                size_t length) {
+  if (!to_the_end(one, other, length / 2)) return false;
+  return to_the_end(one, other, length);
+}
+
+__attribute__((noinline)) static bool by_memcmp(const uint8_t *one, const uint8_t *other,
+                                                size_t length) {
+  return memcmp(one, other, length) == 0;
+}
+
+/* Looks at a byte where the hashes match. */
+__attribute__((noinline)) static bool looking_at_a_match(const uint8_t *one, const uint8_t *other,
+                                                         size_t length) {
+  static volatile unsigned odd;
+  const bool is_equal = to_the_end(one, other, length);
+  if (is_equal && (one[0] & 1) != 0) odd++;
+  return is_equal;
+}
+
+/* Whether a comparison of a hidden tag is judged unseen, by the rule for the library's calls. */
+static bool compares_unseen(comparison *are_equal, const struct bytes *tag,
+                            const struct bytes *hash, uint32_t wanted) {
+  const unsigned before = VALGRIND_COUNT_ERRORS;
+  const uint32_t is_equal = are_equal(tag->at, hash->at, tag->length);
+  const uint32_t code = PROVED_ARGON2_MISMATCH * (1 - is_equal);
+  return is_judged_unseen(verdict_since(before, code), wanted);
+}
+
+/* The rule for a verdict lets the comparison to the end through, and no other one. */
+static bool tells_comparisons(char *line) {
+  static comparison *const WRONG[] = {to_the_first_difference, at_both_ends_first, by_halves,
+                                      by_memcmp, looking_at_a_match};
   struct vector it;
   struct bytes tag;
   read_hidden(line, &it);
   if (reports_of_hash(&it, &tag) > 0) return false;
+  struct bytes right = it.tag, other = it.tag;
+  other.at[it.tag.length / 2] ^= 1;
+  if (!compares_unseen(to_the_end, &tag, &right, PROVED_ARGON2_OK) ||
+      !compares_unseen(to_the_end, &tag, &other, PROVED_ARGON2_MISMATCH)) {
+    return false;
+  }
+  for (size_t i = 0; i < sizeof WRONG / sizeof WRONG[0]; i++) {
+    if (compares_unseen(WRONG[i], &tag, &right, PROVED_ARGON2_OK)) return false;
+  }
+  return true;
+}
+
+/* Whether letters are base64, up to the first that is none. */
+__attribute__((noinline)) static bool are_letters(const uint8_t *letters, size_t length) {
+  for (size_t i = 0; i < length; i++) {
+    const uint8_t a = letters[i];
+    if (!((a >= 'a' && a <= 'z') || (a >= 'A' && a <= 'Z') || (a >= '0' && a <= '9') || a == '+' ||
+          a == '/')) {
+      return false;
+    }
+  }
+  return true;
+}
+
+/* Letters that are written through a table are reported, one by one, and so are letters that are looked at
+   one by one. */
+static bool tells_letters(char *line) {
+  struct vector it;
+  struct bytes tag;
+  uint8_t letters[2 * MAX_BYTES];
+  read_hidden(line, &it);
+  if (reports_of_hash(&it, &tag) > 0) return false;
   const unsigned before = VALGRIND_COUNT_ERRORS;
-  const bool is_equal = is_equal_in_haste(tag.at, it.tag.at, tag.length);
-  const unsigned reports = VALGRIND_COUNT_ERRORS - before;
-  printf("%u reports\n", reports);
-  return is_equal && reports > 2;
+  const size_t count = letters_by_table(tag.at, tag.length, letters);
+  const unsigned written = VALGRIND_COUNT_ERRORS - before;
+  hide(letters, count);
+  const bool are_right = are_letters(letters, count);
+  const unsigned read = VALGRIND_COUNT_ERRORS - before - written;
+  printf("%u reports of %zu letters that were written, and %u that were read\n", written, count,
+         read);
+  return are_right && written >= count && read >= count;
 }
 
 static const struct {
@@ -215,23 +529,31 @@ static const struct {
   bool (*holds)(char *line);
 } CASES[] = {
     {"hash", hashes_alike},
+    {"hash_text", encodes_alike},
     {"verify", verifies_alike},
+    {"verify_own_text", verifies_own_text_alike},
     {"verify_text", verifies_text_alike},
     {"draws_from_blocks", draws_from_blocks},
-    {"stops_early", stops_early},
+    {"branches_on_a_word", branches_on_a_word},
+    {"comparisons", tells_comparisons},
+    {"letters", tells_letters},
 };
 
 int main(int argc, char **argv) {
   bool (*holds)(char *) = NULL;
-  for (size_t i = 0; argc == 2 && i < sizeof CASES / sizeof CASES[0]; i++) {
+  for (size_t i = 0; argc == 3 && i < sizeof CASES / sizeof CASES[0]; i++) {
     if (strcmp(argv[1], CASES[i].name) == 0) holds = CASES[i].holds;
   }
-  if (holds == NULL) stop("usage: valgrind --tool=memcheck constant_time CASE <QUESTIONS");
+  is_kept = argc == 3 && strcmp(argv[2], "kept") == 0;
+  if (holds == NULL || (!is_kept && strcmp(argv[2], "fresh") != 0)) {
+    stop("usage: valgrind --tool=memcheck constant_time CASE fresh|kept <QUESTIONS");
+  }
   if (!RUNNING_ON_VALGRIND) stop("this does not run under valgrind");
 
   char *line = NULL;
   size_t size = 0;
   unsigned count = 0, others = 0;
+  memory = proved_argon2_memory_new();
   while (getline(&line, &size, stdin) > 0) {
     count++;
     if (!holds(line)) {
@@ -240,6 +562,12 @@ int main(int argc, char **argv) {
     }
   }
   free(line);
+  proved_argon2_memory_free(&memory);
+  if (holds == verifies_alike && at_each_byte == 0) {
+    stop("no hash was tried that differs in each single byte");
+  }
+  printf("%llu references and %llu lanes were drawn\n", (unsigned long long)drawn_in_all.references,
+         (unsigned long long)drawn_in_all.lanes);
   printf("%u questions, %u of them otherwise\n", count, others);
   return count > 0 && others == 0 ? EXIT_SUCCESS : EXIT_FAILURE;
 }

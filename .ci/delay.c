@@ -1,6 +1,7 @@
 /* Lets each new thread of the program that it is preloaded into wait before it begins, for up to
-   DELAY_MICROSECONDS, another time for each, and between its work and its end for LINGER_MICROSECONDS. The
-   toolchain's clang has no headers, so what is used of the C library is declared here. */
+   DELAY_MICROSECONDS, another time for each, and between its work and its end for LINGER_MICROSECONDS. Each thread
+   that waited says `late` on standard error, and each that lingered `lingered`. The toolchain's clang has no headers,
+   so what is used of the C library is declared here. */
 
 typedef __SIZE_TYPE__ size;
 typedef int create(void *, const void *, void *(*)(void *), void *);
@@ -9,8 +10,9 @@ extern void *dlsym(void *, const char *);
 extern char *getenv(const char *);
 extern unsigned long strtoul(const char *, char **, int);
 extern int usleep(unsigned);
+extern long write(int, const void *, size);
 
-enum { MOST_THREADS = 4096 };
+enum { MOST_THREADS = 4096, STANDARD_ERROR = 2 };
 
 struct start {
   void *(*run)(void *);
@@ -40,9 +42,15 @@ __attribute__((constructor)) static void begin(void) {
 static void *wait_and_run(void *given) {
   struct start *start = given;
   void *result;
-  usleep(start->wait);
+  if (start->wait) {
+    usleep(start->wait);
+    write(STANDARD_ERROR, "late\n", 5);
+  }
   result = start->run(start->argument);
-  usleep((unsigned)linger);
+  if (linger) {
+    usleep((unsigned)linger);
+    write(STANDARD_ERROR, "lingered\n", 9);
+  }
   return result;
 }
 
@@ -52,6 +60,6 @@ int pthread_create(void *thread, const void *attributes, void *(*run)(void *), v
   drawn ^= drawn << 13;
   drawn ^= drawn >> 7;
   drawn ^= drawn << 17;
-  starts[number] = (struct start){run, argument, most ? (unsigned)(drawn % most) : 0};
+  starts[number] = (struct start){run, argument, most ? (unsigned)(drawn % most) + 1 : 0};
   return next_create(thread, attributes, wait_and_run, &starts[number]);
 }

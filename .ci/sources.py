@@ -11,8 +11,8 @@ CLAUSE = re.compile(r'^ +(requires|ensures)\*?(?: (\w+))? \{')
 GHOST = re.compile(r'^    ghost (?!use)(\w+) =')
 RE_EXPORT = re.compile(r'^pub use ([\w:]+?)(?:::\{([^}]*)\})?;', re.M)
 GHOST_TRAITS = ('Model',)
-# `rt ci` tries the edits of the first folder, and `.ci/edits` those of the second.
-EDITS = ALONE, JOINED = 'must-fail', 'must-fail-joined'
+# `.ci/edits` judges the edits of these folders, and `rt ci` tries those of the first one too.
+EDITS = *WRONG, EQUAL = 'must-fail', 'wrong-bodies', 'equal-bodies'
 
 
 def crates():
@@ -40,6 +40,25 @@ class Function:
         if self.owner is None:
             return self.name
         return f'{self.owner}::{self.name}' if ' for ' not in self.owner else self.owner
+
+    def is_called(self, place):
+        """Whether the checker calls it so: `crate::module::VariantOrd::cmp` is that of `impl Ord for Variant`."""
+        what, _, name = (self.owner or '').rpartition(' for ')
+        return place.split('::') == [*self.module.path, *filter(None, [name + spelled(what)]), self.name]
+
+
+def spelled(what):
+    """A trait as the checker spells it: `Index<(u32, u32)>` is `IndexTuple2U32U32`, `From<Failed<T>>` is `FromFailed`."""
+    trait, _, inside = re.sub(r"'\w+,? ?", '', what).partition('<')
+    inside = inside.removesuffix('>')
+    if inside.startswith('('):
+        parts = inside.strip('()').split(', ')
+        return f'{trait}Tuple{len(parts)}' + ''.join(map(capital, parts))
+    return trait + ('Ref' if '&' in inside else '') + capital(inside.lstrip('&').partition('<')[0])
+
+
+def capital(word):
+    return word[:1].upper() + word[1:]
 
 
 class Module:
@@ -95,8 +114,8 @@ class Module:
             clause = CLAUSE.match(line)
             if clause:
                 current.clauses.append(clause.groups())
-            if (line == indent + '}' or line.endswith('{}') and not clause
-                    or line == indent + '{}' or is_trait and line.endswith(';')):
+            is_empty = line.endswith('{}') and (start or line.startswith((f'{indent}{{', f'{indent})')))
+            if line == indent + '}' or is_empty or is_trait and line.endswith(';'):
                 current.last = number
                 yield current
                 current = None
@@ -170,12 +189,13 @@ class Sources:
 
 
 class Edit:
-    """A must-fail edit: its crate, its pairs of texts, the goal that it names, and the functions in whose spans the
-    texts stand. `function` is that of the last pair."""
+    """An edit: its crate, its pairs of texts, the goals that it names where it is a wrong body, and the functions in
+    whose spans the texts stand. `function` is that of the last pair."""
 
     def __init__(self, path, sources):
         self.path, self.name, self.crate = path, path.stem, path.parent.parent.name
-        self.pairs, self.goal = list(self.read_pairs()), self.read_goal()
+        self.is_equal = path.parent.name == EQUAL
+        self.pairs, self.goals = list(self.read_pairs()), self.read_goals()
         self.fault, self.functions, texts = None if self.pairs else 'it has no text', [], {}
         for file, old, new in self.pairs:
             line = self.line_of(file, old, texts)
@@ -196,10 +216,9 @@ class Edit:
             elif line.startswith('new:'):
                 yield file, old, line[4:].removeprefix(' ')
 
-    def read_goal(self):
-        """The goal that has to be left unproved, where the edit names one."""
-        said = re.search(r'^goal: (\S+)$', self.path.read_text(encoding='utf-8'), re.M)
-        return said and said.group(1)
+    def read_goals(self):
+        """The goals that have to be left unproved: `returns-clause-items`, or behind their functions' paths."""
+        return re.findall(r'^goal: (.+)$', self.path.read_text(encoding='utf-8'), re.M)
 
     def line_of(self, file, old, texts):
         """The line of an old text, which has to stand once in its file as the pairs before left it."""
@@ -215,5 +234,5 @@ class Edit:
 def edits(sources, folders=EDITS):
     found = [Edit(path, sources) for crate in crates() for folder in folders
              for path in sorted((TOP / 'crates' / crate / folder).glob('*.edit'))]
-    assert found, 'there is no must-fail edit'
+    assert found, 'there is no edit'
     return found

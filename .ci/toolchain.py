@@ -1,9 +1,12 @@
-"""The toolchain's own code, which stands beside `rt`, and what `rt ci` leaves of the libraries."""
+"""The toolchain's own code, which stands beside `rt`, and what `.ci/proofs` leaves of the libraries."""
 
 import importlib.machinery
 import importlib.util
 import os
 import shutil
+import subprocess
+
+HERE = os.path.dirname(os.path.realpath(__file__))
 
 
 def load_rt():
@@ -18,29 +21,23 @@ def load_rt():
     return module
 
 
-def time_of(path):
-    return os.stat(path).st_mtime_ns
+def stamp(*crates):
+    """What the sources of crates and of those below them are, in one line: `.ci/stamp` says how it is made."""
+    return subprocess.run([f'{HERE}/stamp', *crates], stdout=subprocess.PIPE, check=True, text=True).stdout.strip()
 
 
-def newest_source(crate):
-    """When a source was last changed. Adding or removing one changes its folder."""
-    parts = [f'{crate.folder}/{part}' for part in ('src', 'specs', 'proofs')]
-    return max(time_of(at) for part in parts for path, _, files in os.walk(part)
-               for at in [path, *(f'{path}/{name}' for name in files)])
+def mark(crate, line, *files):
+    """Notes of files that they are built from these sources of a crate; gives whether the sources are still the same."""
+    return subprocess.run([f'{HERE}/stamp', '--mark', crate, line, *files], check=False).returncode == 0
 
 
-def is_left_by_ci(library):
-    """Whether `rt ci` proved a library after its last change, and over the libraries below it as they are now.
-
-    It leaves no stamp, so that other commands build their own: its libraries fit only each other."""
-    folder = os.path.dirname(library.rlib)
-    if not os.path.isdir(library.rlib) or os.path.exists(f'{folder}/stamp'):
-        return False
-    before = [newest_source(library), time_of(f'{folder}/../../../../crates.txt')]
-    before += [time_of(below.rlib) for below in library.deps]
-    return time_of(library.rlib) >= max(before)
+def is_current(crate, *files, says_why=False):
+    """Whether files of a crate's build are what they were when they were marked, and the crate's sources as well."""
+    errors = None if says_why else subprocess.DEVNULL
+    return subprocess.run([f'{HERE}/stamp', '--check', crate, *files], stderr=errors, check=False).returncode == 0
 
 
 def are_left_by_ci(libraries):
-    """Whether all are; those below come first."""
-    return all(is_left_by_ci(it) for it in sorted(libraries, key=lambda it: len(it.below())))
+    """Whether `.ci/proofs` left all these libraries, and no source has changed since. They fit only each other: where
+    another command has built one anew, the mark in its folder is gone."""
+    return all(is_current(it.name, os.path.dirname(it.rlib)) for it in libraries)

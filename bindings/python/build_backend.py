@@ -1,4 +1,4 @@
-"""Builds the package by the standard library alone (PEP 517), so that pip needs no network and no setuptools."""
+"""Builds the package by the standard library alone (PEP 517, PEP 660), so that pip needs no network and no setuptools."""
 import base64
 import hashlib
 import re
@@ -9,6 +9,7 @@ from pathlib import Path
 ROOT = Path(__file__).resolve().parent
 PACKAGE = "proved_argon2"
 WHEEL = "Wheel-Version: 1.0\nGenerator: proved_argon2\nRoot-Is-Purelib: true\nTag: py3-none-any\n"
+LICENCES = ("LICENSE", "NOTICE")
 
 
 def _project(key):
@@ -16,15 +17,25 @@ def _project(key):
     return re.search(rf'^{key} = "(.*)"$', (ROOT / "pyproject.toml").read_text(), re.MULTILINE).group(1)
 
 
+def _stem():
+    return f"{PACKAGE}-{_project('version')}"
+
+
 def _metadata():
-    fields = {
-        "Metadata-Version": "2.1",
-        "Name": _project("name"),
-        "Version": _project("version"),
-        "Summary": _project("description"),
-        "Requires-Python": _project("requires-python"),
-    }
-    return "".join(f"{name}: {value}\n" for name, value in fields.items())
+    fields = [
+        ("Metadata-Version", "2.1"),
+        ("Name", _project("name")),
+        ("Version", _project("version")),
+        ("Summary", _project("description")),
+        ("License", _project("license")),
+        *(("License-File", name) for name in LICENCES),
+        ("Classifier", "Operating System :: POSIX :: Linux"),
+        ("Classifier", "Topic :: Security :: Cryptography"),
+        ("Requires-Python", _project("requires-python")),
+        ("Description-Content-Type", "text/markdown"),
+    ]
+    lines = "".join(f"{name}: {value}\n" for name, value in fields)
+    return f"{lines}\n{(ROOT / _project('readme')).read_text()}"
 
 
 def _record_line(name, content):
@@ -36,26 +47,34 @@ def _sources():
     return sorted((ROOT / "src" / PACKAGE).glob("*.py")) + [ROOT / "src" / PACKAGE / "py.typed"]
 
 
-def build_wheel(wheel_directory, config_settings=None, metadata_directory=None):
-    """Writes the wheel and returns its name."""
-    stem = f"{PACKAGE}-{_project('version')}"
-    files = {f"{PACKAGE}/{file.name}": file.read_bytes() for file in _sources()}
-    files[f"{stem}.dist-info/METADATA"] = _metadata().encode()
-    files[f"{stem}.dist-info/WHEEL"] = WHEEL.encode()
-    record = f"{stem}.dist-info/RECORD"
+def _write_wheel(folder, files):
+    """Writes a wheel of these files and of what tells of them, and returns its name."""
+    told = f"{_stem()}.dist-info"
+    files = {**files, f"{told}/METADATA": _metadata().encode(), f"{told}/WHEEL": WHEEL.encode()}
+    files.update({f"{told}/{name}": (ROOT / name).read_bytes() for name in LICENCES})
     lines = [_record_line(name, content) for name, content in files.items()]
-    files[record] = "".join([*lines, f"{record},,\n"]).encode()
-    name = f"{stem}-py3-none-any.whl"
-    with zipfile.ZipFile(Path(wheel_directory) / name, "w", zipfile.ZIP_DEFLATED) as wheel:
+    files[f"{told}/RECORD"] = "".join([*lines, f"{told}/RECORD,,\n"]).encode()
+    name = f"{_stem()}-py3-none-any.whl"
+    with zipfile.ZipFile(Path(folder) / name, "w", zipfile.ZIP_DEFLATED) as wheel:
         for file, content in files.items():
             wheel.writestr(file, content)
     return name
 
 
+def build_wheel(wheel_directory, config_settings=None, metadata_directory=None):
+    """Writes the wheel and returns its name."""
+    return _write_wheel(wheel_directory, {f"{PACKAGE}/{file.name}": file.read_bytes() for file in _sources()})
+
+
+def build_editable(wheel_directory, config_settings=None, metadata_directory=None):
+    """Writes a wheel that leads to the sources here, for `pip install -e`, and returns its name."""
+    return _write_wheel(wheel_directory, {f"{PACKAGE}.pth": f"{ROOT / 'src'}\n".encode()})
+
+
 def build_sdist(sdist_directory, config_settings=None):
     """Writes the archive of the sources and returns its name."""
-    stem = f"{PACKAGE}-{_project('version')}"
-    with tarfile.open(Path(sdist_directory) / f"{stem}.tar.gz", "w:gz") as archive:
-        for file in [ROOT / "pyproject.toml", ROOT / "README.md", ROOT / "build_backend.py", *_sources()]:
-            archive.add(file, f"{stem}/{file.relative_to(ROOT)}")
-    return f"{stem}.tar.gz"
+    names = ["pyproject.toml", "README.md", "build_backend.py", *LICENCES]
+    with tarfile.open(Path(sdist_directory) / f"{_stem()}.tar.gz", "w:gz") as archive:
+        for file in [*(ROOT / name for name in names), *_sources()]:
+            archive.add(file, f"{_stem()}/{file.relative_to(ROOT)}")
+    return f"{_stem()}.tar.gz"

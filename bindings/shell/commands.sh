@@ -8,7 +8,8 @@
 #     prepare     a function that makes the program ready, or fails
 #
 # The words `--help`, `--version`, `new`, `check` and `tune` are answered here. All others go to the program
-# as they are, with its standard streams and its exit status.
+# as they are, with its standard streams and its exit status. Where it says `usage` or `Decoding failed`, a line
+# on standard error may be added, which names what looks wrong.
 # shellcheck shell=sh disable=SC2154
 
 newline='
@@ -24,20 +25,36 @@ tuned_memory=65536
 terminal_line=4095
 
 main() {
+    if asks_for_help "$@"; then
+        show_help
+        return
+    fi
     case $#:${1-} in
-    1:--help) sed "s|NAME|$name|g" "$help" ;;
-    1:--version) printf 'proved-argon2 %s\n' "$version" ;;
+    1:--version | 1:-V) printf 'proved-argon2 %s\n' "$version" ;;
     1:new)
         # The settings are words, to be split.
         # shellcheck disable=SC2086
         new_text $owasp_settings
         ;;
     8:new) shift && new_text "$@" ;;
-    2:check) check "$2" ;;
+    2:check) if [ "$2" = - ]; then check_described; else check "$2"; fi ;;
     2:tune) tune "$2" "$tuned_memory" ;;
     3:tune) tune "$2" "$3" ;;
     *) run_program "$@" ;;
     esac
+}
+
+# `--help`, alone or behind one of the words.
+asks_for_help() {
+    case $#:${1-} in
+    1:--help | 1:-h | 1:help) return ;;
+    2:new | 2:check | 2:tune | 2:hash | 2:verify | 2:rehash) [ "$2" = --help ] || [ "$2" = -h ] ;;
+    *) return 1 ;;
+    esac
+}
+
+show_help() {
+    sed "s|NAME|$name|g" "$help"
 }
 
 # Ends with a line on standard error: `fail STATUS LINE`.
@@ -46,44 +63,168 @@ fail() {
     exit "$1"
 }
 
-# Runs the program in place of this shell, so that signals reach it. Where it may say `usage`, which is
-# status 3, on a terminal, the shell stays and adds a line.
+# Runs the program in place of this shell, so that signals reach it. Where it may refuse the words themselves, the
+# shell stays and says which of them looks wrong.
 run_program() {
     prepare || exit 70
-    if [ ! -t 2 ] || looks_right "$@"; then
+    if looks_right "$@"; then
         exec "$program" "$@"
     fi
     "$program" "$@"
-    status=$?
-    [ "$status" != 3 ] || printf 'What the words are: %s --help\n' "$name" >&2
+    end_with "$?" "$@"
+}
+
+# Ends with the status of the program, which had these words: `end_with STATUS WORD..`.
+end_with() {
+    status=$1
+    shift
+    case $status:${1-} in
+    2:verify) hint_at_text "$2" ;;
+    2:rehash) hint_at_text "$8" ;;
+    3:*) name_wrong_word "$@" ;;
+    esac
     exit "$status"
 }
+
+# ---- words that look wrong
 
 # Whether words look like a command of the program. Only the program decides whether they are one.
 looks_right() {
     case $#:${1-} in
-    9:hash) looks_like_settings "$@" && looks_like_mode "$8" ;;
-    2:verify) ;;
-    8:rehash) looks_like_settings "$@" ;;
+    9:hash) looks_like_settings "$@" && looks_like_mode "$8" && is_plain "$9" ;;
+    2:verify) looks_like_text "$2" ;;
+    8:rehash) looks_like_settings "$@" && looks_like_text "$8" ;;
     *) return 1 ;;
     esac
 }
 
 # Whether the words after the first look like `VARIANT VERSION T M P LEN`.
 looks_like_settings() {
-    case $2:$3 in
-    [Aa]rgon2d:1[69] | [Aa]rgon2i:1[69] | [Aa]rgon2id:1[69]) ;;
+    is_variant "$2" && is_version "$3" && looks_like_number "$4" && looks_like_number "$5" \
+        && looks_like_number "$6" && looks_like_number "$7"
+}
+
+is_variant() {
+    case $1 in
+    [Aa]rgon2d | [Aa]rgon2i | [Aa]rgon2id) ;;
     *) return 1 ;;
     esac
-    case $4:$5:$6:$7 in
-    :* | *::* | *: | *[!0-9:]*) return 1 ;;
+}
+
+is_version() {
+    case $1 in
+    16 | 19) ;;
+    *) return 1 ;;
+    esac
+}
+
+# Whether a word is a number of at most nine digits. The program takes some longer ones too.
+looks_like_number() {
+    case $1 in
+    '' | *[!0-9]* | ??????????*) return 1 ;;
     esac
 }
 
 looks_like_mode() {
     case $1 in
-    seq | par | max[0-9]*) ;;
+    seq | par) ;;
+    max*) looks_like_number "${1#max}" ;;
     *) return 1 ;;
+    esac
+}
+
+# Whether a word has letters, digits and the signs of base64 and of texts alone. Other words may be no UTF-8.
+is_plain() {
+    case $1 in
+    *[!A-Za-z0-9+/=,.:_\$-]*) return 1 ;;
+    esac
+}
+
+looks_like_text() {
+    case $1 in
+    [\$][Aa]rgon2*) is_plain "$1" ;;
+    *) return 1 ;;
+    esac
+}
+
+# Adds a line on standard error: `add LINE`.
+add() {
+    printf '%s: %s\n' "$name" "$1" >&2
+}
+
+# Names the first word of a command that looks wrong, where the program has said `usage`.
+name_wrong_word() {
+    case ${1-} in
+    new) name_wrong_setting 7 8 'SETTINGS, or no word' "$@" ;;
+    hash) name_wrong_setting 8 9 'SETTINGS SALT' "$@" ;;
+    rehash) name_wrong_setting 7 8 'VARIANT VERSION T M P LEN TEXT' "$@" ;;
+    verify | check)
+        if [ $# = 2 ]; then
+            add 'the text is not UTF-8'
+        else
+            add "$1 takes one word, the text, and here are $(($# - 1))"
+        fi
+        ;;
+    tune) name_wrong_bound "$@" ;;
+    '') add 'there is no word' ;;
+    *) add "there is no word '$1'" ;;
+    esac
+    add "what the words are: $name --help"
+}
+
+# `name_wrong_setting WORDS COUNT FORM WORD..`
+name_wrong_setting() {
+    words=$1 count=$2 form=$3
+    shift 3
+    if [ $# != "$count" ]; then
+        add "$1 takes the $words words $form, and here are $(($# - 1))"
+    elif ! is_variant "$2"; then
+        add "'$2' is no variant: argon2id, argon2i or argon2d"
+    elif ! is_version "$3"; then
+        add "'$3' is no version: 19 or 16"
+    else
+        name_wrong_number "$@"
+    fi
+}
+
+# The program takes numbers below 2^32, of any length with zeros in front.
+name_wrong_number() {
+    for place in 4 5 6 7; do
+        eval "number=\${$place}"
+        case ${number#+} in
+        '' | *[!0-9]*) add "'$number' is no number, of digits alone" && return ;;
+        ??????????*) add "'$number' may be too large: the greatest number is 4294967295" && return ;;
+        esac
+    done
+    if [ "$1" = rehash ]; then
+        add 'the text is not UTF-8'
+    elif ! looks_like_mode "$8"; then
+        add "'$8' is no mode: seq, par, or max and a number, as max4"
+    else
+        add 'the salt is not UTF-8'
+    fi
+}
+
+name_wrong_bound() {
+    if [ $# -gt 3 ] || [ $# -lt 2 ]; then
+        add "tune takes MILLISECONDS, or MILLISECONDS KIB, and here are $(($# - 1)) words"
+    elif ! is_number "$2"; then
+        add "'$2' is no number of milliseconds, of digits alone"
+    else
+        add "'$3' is no number of KiB, of digits alone"
+    fi
+}
+
+# Says what a refused text looks like, where it is no text of Argon2: `hint_at_text TEXT`.
+hint_at_text() {
+    case $1 in
+    [\$][Aa]rgon2*) ;;
+    [\$]2[abxy][\$]*) add 'the text looks like one of bcrypt, not of Argon2' ;;
+    [\$][1567y][\$]*) add 'the text looks like one of crypt(3), not of Argon2' ;;
+    [\$]scrypt[\$]* | [\$]pbkdf2*) add 'the text looks like one of another function, not of Argon2' ;;
+    \{*\}[\$][Aa]rgon2*) add 'the text has a scheme in braces in front: leave it out' ;;
+    argon2[\$]argon2*) add "the text looks like one of Django: leave out 'argon2' in front of the first \$" ;;
+    *) add "the text does not begin with \$argon2: put single quotes around it, since a shell replaces each \$.." ;;
     esac
 }
 
@@ -118,6 +259,23 @@ new_salt() {
     [ "${#salt}" = 22 ] || fail 4 'there are no random bytes'
 }
 
+# Passes standard input on, and says on standard error where it ends with a newline, which `echo` adds. Where it
+# cannot be read to its end, this shell is told to end, so that no text of a part is printed.
+watch_for_newline() {
+    { pass_on 3>&1 | tell_of_newline; } 4>&1
+}
+
+# Passes standard input to the descriptors 3 and 4. A status of 1 is that of a failed read; a signal ends `tee` where
+# the program reads no more.
+pass_on() {
+    tee /dev/fd/3 >&4 2>/dev/null
+    [ $? != 1 ] || { add 'the input cannot be read' && kill -USR1 $$; }
+}
+
+tell_of_newline() {
+    [ "$(tail -c 1 | od -An -tx1)" != ' 0a' ] || add 'the password ends with a newline, as echo adds one: use printf'
+}
+
 # Prints the text of a password: `new_text VARIANT VERSION T M P LEN MODE`. The password is typed twice, or it
 # is all of standard input where that is no terminal.
 new_text() {
@@ -128,9 +286,12 @@ new_text() {
         password=$answer
         ask 'The same once more: '
         [ "$password" = "$answer" ] || fail 1 'the two are not the same'
-        lines=$(printf '%s' "$password" | "$program" hash "$@" "$salt") || exit
+        lines=$(printf '%s' "$password" | "$program" hash "$@" "$salt") || end_with "$?" new "$@"
     else
-        lines=$("$program" hash "$@" "$salt") || exit
+        [ -e /dev/fd/0 ] || fail 4 'there is no input'
+        trap 'exit 4' USR1
+        lines=$(watch_for_newline | "$program" hash "$@" "$salt") || end_with "$?" new "$@"
+        trap - USR1
     fi
     text=${lines#*"$newline"}
     refuse_empty_password "$text"
@@ -154,7 +315,16 @@ check() {
     prepare || exit 70
     ask 'Password: '
     printf '%s' "$answer" | "$program" verify "$1"
-    exit
+    end_with "$?" verify "$1"
+}
+
+# The same for the text that is the first line of descriptor 3: `check - 3<FILE`.
+check_described() {
+    described=
+    { IFS= read -r described <&3; } 2>/dev/null || [ -n "$described" ] \
+        || fail 4 'check -: there is no text on descriptor 3, as in 3<FILE'
+    exec 3<&-
+    check "$described"
 }
 
 # ---- tuning

@@ -30,6 +30,7 @@ lib/pkgconfig/proved_argon2.pc
 libexec/proved-argon2/argon2_program
 libexec/proved-argon2/commands.sh
 libexec/proved-argon2/help.txt
+share/bash-completion/completions/proved-argon2
 share/man/man1/proved-argon2.1
 share/man/man3/proved_argon2.3
 share/proved-argon2/installed

@@ -2,10 +2,14 @@
 
 PROGRAM is the file of the program, and COMMAND runs it through the script around it.
 """
+import contextlib
+import itertools
+import os
 import pathlib
 import re
 import subprocess
 import sys
+import tempfile
 import traceback
 
 PROGRAM, *COMMAND = sys.argv[1:]
@@ -28,8 +32,19 @@ def require(holds, *seen):
 
 def piped(words, given=b"", command=None, **more):
     """The status, standard output and standard error of the words."""
-    done = subprocess.run([*(command or COMMAND), *words], input=given, capture_output=True, timeout=120, **more)
+    done = subprocess.run([*(command or COMMAND), *words], input=given, capture_output=True, timeout=600, **more)
     return done.returncode, done.stdout, done.stderr
+
+
+@contextlib.contextmanager
+def clock(*milliseconds):
+    """An environment in which `tune` measures these times, one after another."""
+    with tempfile.NamedTemporaryFile("w") as lines:
+        for number, took in zip(itertools.count(1_700_000_000), milliseconds):
+            lines.write(f"{number}000000000\n{number}{took:03}000000\n")
+        lines.flush()
+        path = f"{ROOT}/bindings/tests/clock:{os.environ['PATH']}"
+        yield {**os.environ, "PATH": path, "CLOCK": lines.name}
 
 
 def verifies(text, password):

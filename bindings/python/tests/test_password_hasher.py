@@ -1,9 +1,25 @@
 """The names, defaults and answers of argon2-cffi."""
+import base64
 import inspect
+import subprocess
+import sys
 import unittest
+import warnings
+from dataclasses import replace
+from unittest import mock
 
 import proved_argon2
-from proved_argon2 import Parameters, PasswordHasher, Type, extract_parameters, profiles
+from proved_argon2 import (
+    Parameters,
+    PasswordHasher,
+    Type,
+    extract_parameters,
+    hash_password,
+    hash_password_raw,
+    low_level,
+    profiles,
+    verify_password,
+)
 from proved_argon2.exceptions import (
     Argon2Error,
     HashingError,
@@ -47,10 +63,131 @@ class Names(unittest.TestCase):
         )
         self.assertEqual(PasswordHasher()._parameters, profiles.RFC_9106_LOW_MEMORY)
 
+    def test_a_hasher_of_parameters_has_each_of_them(self):
+        for variant in Type:
+            given = Parameters(
+                type=variant, version=19, salt_len=9, hash_len=5, time_cost=2, memory_cost=97, parallelism=3
+            )
+            hasher = PasswordHasher.from_parameters(given)
+            self.assertEqual(hasher._parameters, given)
+            self.assertEqual(extract_parameters(hasher.hash("password")), given)
+
+    def test_parameters_can_be_changed_and_the_profiles_stay(self):
+        changed = profiles.get_default_parameters()
+        self.assertEqual(changed, profiles.RFC_9106_LOW_MEMORY)
+        changed.salt_len = 8
+        self.assertEqual((changed.salt_len, profiles.RFC_9106_LOW_MEMORY.salt_len), (8, 16))
+        self.assertFalse(hasattr(changed, "__dict__"))
+
+    def test_all_wrong_types_are_named(self):
+        with self.assertRaisesRegex(TypeError, "'time_cost' .*, 'hash_len' .*"):
+            PasswordHasher(time_cost="1", hash_len=None)
+
     def test_wrong_types_are_refused(self):
         for name, value in (("time_cost", "1"), ("type", 2), ("encoding", 8), ("hash_len", None)):
             with self.subTest(name), self.assertRaisesRegex(TypeError, name):
                 PasswordHasher(**{name: value})
+
+
+class Profiles(unittest.TestCase):
+    def recommended(self, name, **changed):
+        """The parameters of settings that the library recommends, with a salt of 16 bytes."""
+        from proved_argon2 import _library
+
+        call = getattr(_library._library, f"proved_argon2_{name}")
+        call.argtypes, call.restype = [], _library.Settings
+        settings = call()
+        return replace(
+            Parameters(
+                type=Type(settings.variant),
+                version=settings.version,
+                salt_len=16,
+                hash_len=settings.hash_length,
+                time_cost=settings.time_cost,
+                memory_cost=settings.mem_cost,
+                parallelism=settings.lanes,
+            ),
+            **changed,
+        )
+
+    def test_the_profiles_are_those_that_the_library_recommends(self):
+        self.assertEqual(profiles.OWASP, self.recommended("owasp2"))
+        self.assertEqual(profiles.RFC_9106_HIGH_MEMORY, self.recommended("rfc9106", parallelism=4))
+        self.assertEqual(profiles.RFC_9106_LOW_MEMORY, self.recommended("rfc9106_low_mem", parallelism=4))
+
+    def test_the_profiles_that_argon2_cffi_alone_has(self):
+        self.assertEqual(
+            profiles.PRE_21_2,
+            replace(profiles.OWASP, time_cost=2, memory_cost=102400, parallelism=8, hash_len=16, salt_len=16),
+        )
+        self.assertEqual(
+            profiles.CHEAPEST,
+            replace(profiles.OWASP, time_cost=1, memory_cost=8, parallelism=1, hash_len=4, salt_len=8),
+        )
+
+
+class Salts(unittest.TestCase):
+    """Salts of known bytes, as the system's random ones."""
+
+    def test_the_salt_is_what_the_system_gives(self):
+        known = bytes(range(0x81, 0xC1))
+        spelled = base64.b64encode(known[:16]).decode().rstrip("=")
+        with mock.patch("os.urandom", lambda length: known[:length]):
+            self.assertEqual(PasswordHasher(**SMALL).hash("password").split("$")[4], spelled)
+            text = PasswordHasher(**SMALL, salt_len=64).hash("password")
+            self.assertEqual(text.split("$")[4], base64.b64encode(known).decode().rstrip("="))
+            with self.assertWarns(DeprecationWarning):
+                text = hash_password(b"password", time_cost=1, memory_cost=32, parallelism=2)
+            self.assertEqual(text.decode().split("$")[4], spelled)
+            with self.assertWarns(DeprecationWarning):
+                raw = hash_password_raw(b"password", time_cost=1, memory_cost=32, parallelism=2)
+            self.assertEqual(raw, low_level.hash_secret_raw(b"password", known[:16], 1, 32, 2, 32, Type.I))
+
+    def test_a_salt_that_is_given_is_taken(self):
+        text = PasswordHasher(**SMALL).hash("password", salt=b"somesalt")
+        self.assertEqual(text.split("$")[4], "c29tZXNhbHQ")
+        for salt in (b"", b"salt"):
+            with self.assertRaisesRegex(HashingError, "Salt is too short"):
+                PasswordHasher(**SMALL).hash("password", salt=salt)
+
+
+class Deprecated(unittest.TestCase):
+    """The calls that argon2-cffi had before `PasswordHasher`."""
+
+    def test_they_hash_and_verify(self):
+        given = {"time_cost": 1, "memory_cost": 32, "parallelism": 2, "hash_len": 24}
+        with warnings.catch_warnings():
+            warnings.simplefilter("ignore")
+            text = hash_password(b"password", b"somesalt", **given, type=Type.ID)
+            raw = hash_password_raw(b"password", b"somesalt", **given, type=Type.ID)
+            self.assertIs(verify_password(text, b"password", Type.ID), True)
+            with self.assertRaises(VerifyMismatchError):
+                verify_password(text, b"Password", Type.ID)
+            with self.assertRaises(VerificationError):
+                verify_password(text, b"password")
+        self.assertEqual(text, low_level.hash_secret(b"password", b"somesalt", 1, 32, 2, 24, Type.ID))
+        self.assertEqual(text.decode().split("$")[5], base64.b64encode(raw).decode().rstrip("="))
+
+    def test_they_have_the_arguments_and_defaults_of_argon2_cffi(self):
+        wanted = [None, 3, 65536, 4, 32, Type.I]
+        for call in (hash_password, hash_password_raw):
+            arguments = inspect.signature(call).parameters
+            self.assertEqual([it.default for it in list(arguments.values())[1:]], wanted)
+            self.assertEqual(
+                list(arguments),
+                ["password", "salt", "time_cost", "memory_cost", "parallelism", "hash_len", "type"],
+            )
+        self.assertEqual(str(inspect.signature(verify_password)).split(" ->")[0].count("Type.I"), 1)
+
+    def test_the_module_measures(self):
+        words = [sys.executable, "-m", "proved_argon2", "-n", "2", "-t", "1", "-m", "64", "-p", "2", "-l", "16"]
+        done = subprocess.run(words, capture_output=True, text=True, timeout=60)
+        self.assertEqual(done.returncode, 0, done.stderr)
+        for line in ("time_cost: 1 passes", "memory_cost: 64 KiB", "parallelism: 2 lanes", "hash_len: 16 bytes"):
+            self.assertIn(line, done.stdout)
+        self.assertRegex(done.stdout, r"\d+\.\dms per password verification")
+        done = subprocess.run([*words, "--profile", "CHEAPEST"], capture_output=True, text=True, timeout=60)
+        self.assertIn("memory_cost: 8 KiB", done.stdout)
 
 
 class Hashing(unittest.TestCase):
@@ -104,7 +241,7 @@ class Hashing(unittest.TestCase):
 
     def test_a_password_that_is_no_bytes_is_refused(self):
         for password in (None, 1, bytearray(b"password")):
-            with self.assertRaises(TypeError):
+            with self.assertRaisesRegex(TypeError, "'password'"):
                 PasswordHasher(**SMALL).hash(password)
 
 
@@ -136,7 +273,8 @@ class Texts(unittest.TestCase):
         self.assertTrue(PasswordHasher(**today).check_needs_rehash(self.text.replace("v=19", "v=16")))
 
     def test_what_is_no_hash_is_invalid(self):
-        for text in ("", "x", "$argon2x" + self.text[8:], b"\xff", "\xe9", "\ud800", "$" * (1 << 20)):
+        texts = ("", "x", "$argon2x" + self.text[8:], b"\xff", "\xe9", "\ud800", "$" * (1 << 20))
+        for text in (*texts, " " + self.text, "\n" + self.text):
             for call in (PasswordHasher().check_needs_rehash, extract_parameters):
                 with self.assertRaises(InvalidHashError):
                     call(text)
@@ -144,7 +282,14 @@ class Texts(unittest.TestCase):
                 PasswordHasher().verify(text, "password")
 
     def test_what_begins_as_a_hash_cannot_be_verified(self):
-        for text in (self.text + "=", self.text + "\0", self.text[:-2], self.text.replace("m=256", "m=7")):
+        for text in (
+            self.text + "=",
+            self.text + "\0",
+            self.text + "\n",
+            self.text + " ",
+            self.text[:-2],
+            self.text.replace("m=256", "m=7"),
+        ):
             with self.assertRaises(VerificationError) as raised:
                 PasswordHasher().verify(text, "password")
             self.assertNotIsInstance(raised.exception, VerifyMismatchError)

@@ -1,4 +1,5 @@
 """The outside vectors, and those of RFC 9106."""
+import base64
 import unittest
 from pathlib import Path
 
@@ -49,6 +50,25 @@ class Vectors(unittest.TestCase):
             )
             self.assertEqual(tag, answer, line)
         self.assertEqual(len(lines), 240)
+
+    def test_each_tag_in_a_text(self):
+        """The tags once more, in texts that verify with this secret and this associated data alone."""
+        for line in (VECTORS / "raw.txt").read_text().splitlines():
+            variant, *numbers, pwd, salt, secret, ad, answer = line.split(" ", 10)
+            version, time_cost, memory_cost, lanes, length = map(int, numbers)
+            given = (bytes_of(pwd), bytes_of(salt), time_cost, memory_cost, lanes, length, TYPES[variant], version)
+            named = {"key": bytes_of(secret), "associated_data": bytes_of(ad)}
+            text = answer_of(hash_secret, *given, **named)
+            if answer.startswith("ERR "):
+                self.assertEqual(text, answer, line)
+                continue
+            tag = text.decode().split("$")[-1]
+            self.assertEqual(base64.b64decode(tag + "=" * (-len(tag) % 4)).hex(), answer, line)
+            self.assertIs(verify_secret(text, given[0], TYPES[variant], **named), True, line)
+            others = {"key": named["associated_data"], "associated_data": named["key"]}
+            if others != named:
+                with self.assertRaises(VerifyMismatchError):
+                    verify_secret(text, given[0], TYPES[variant], **others)
 
     def test_each_text(self):
         lines = (VECTORS / "texts.txt").read_text().splitlines()

@@ -117,3 +117,37 @@ impl Default for Config<'_> {
         Config::owasp2()
     }
 }
+
+#[cfg(test)]
+mod tests {
+    use super::{Config, ThreadMode};
+    use crate::{face, Variant, Version};
+
+    #[test]
+    fn the_presets_are_those_that_the_library_recommends() {
+        let presets = [
+            Config::owasp1(),
+            Config::owasp2(),
+            Config::owasp3(),
+            Config::owasp4(),
+            Config::owasp5(),
+            Config::rfc9106(),
+            Config::rfc9106_low_mem(),
+        ];
+        for (preset, settings) in presets.into_iter().zip(face::recommended()) {
+            let config = Config {
+                ad: &[],
+                hash_length: settings.hash_length,
+                lanes: settings.lanes,
+                mem_cost: settings.mem_cost,
+                secret: &[],
+                thread_mode: ThreadMode::Sequential,
+                time_cost: settings.time_cost,
+                variant: Variant::from_u32(settings.variant).unwrap(),
+                version: Version::from_u32(settings.version).unwrap(),
+            };
+            assert_eq!(preset, config);
+        }
+        assert_eq!(Config::default(), Config::owasp2());
+    }
+}

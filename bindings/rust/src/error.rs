@@ -2,6 +2,8 @@ use std::fmt;
 
 /// Why a call was refused.
 #[derive(Clone, Debug, PartialEq)]
+#[cfg_attr(feature = "serde", derive(serde::Serialize, serde::Deserialize))]
+#[cfg_attr(feature = "serde", serde(rename_all = "snake_case"))]
 pub enum Error {
     /// The hash is shorter than 4 bytes.
     OutputTooShort,

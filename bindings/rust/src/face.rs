@@ -23,13 +23,22 @@ const MESSAGE_SIZE: usize = 64;
 
 /// `proved_argon2_settings` of the header.
 #[repr(C)]
-struct Settings {
-    variant: u32,
-    version: u32,
-    mem_cost: u32,
-    time_cost: u32,
-    lanes: u32,
-    hash_length: u32,
+#[derive(Default)]
+pub struct Settings {
+    pub variant: u32,
+    pub version: u32,
+    pub mem_cost: u32,
+    pub time_cost: u32,
+    pub lanes: u32,
+    pub hash_length: u32,
+}
+
+/// `proved_argon2_stored` of the header.
+#[repr(C)]
+#[derive(Default)]
+pub struct Stored {
+    pub settings: Settings,
+    pub salt_length: u32,
 }
 
 impl Settings {
@@ -77,12 +86,27 @@ extern "C" {
         secret: *const u8, secret_len: usize,
         ad: *const u8, ad_len: usize,
     ) -> u32;
+    fn proved_argon2_read(text: *const u8, text_len: usize, stored: *mut Stored) -> u32;
     fn proved_argon2_needs_rehash(text: *const u8, text_len: usize, settings: *const Settings) -> u32;
     fn proved_argon2_encoded_len(settings: *const Settings, salt_len: u32) -> u64;
     #[cfg(test)]
     fn proved_argon2_message(number: u32, text: *mut u8, text_len: usize) -> u32;
     #[cfg(test)]
     fn proved_argon2_library_version() -> u32;
+    #[cfg(test)]
+    fn proved_argon2_owasp1() -> Settings;
+    #[cfg(test)]
+    fn proved_argon2_owasp2() -> Settings;
+    #[cfg(test)]
+    fn proved_argon2_owasp3() -> Settings;
+    #[cfg(test)]
+    fn proved_argon2_owasp4() -> Settings;
+    #[cfg(test)]
+    fn proved_argon2_owasp5() -> Settings;
+    #[cfg(test)]
+    fn proved_argon2_rfc9106() -> Settings;
+    #[cfg(test)]
+    fn proved_argon2_rfc9106_low_mem() -> Settings;
 }
 
 /// Writes the tag to `out`, which has `config.hash_length` bytes.
@@ -150,6 +174,14 @@ pub fn verify_encoded(text: &str, pwd: &[u8], secret: &[u8], ad: &[u8]) -> u32 {
     }
 }
 
+/// What a text spells, where the number is that of success.
+pub fn read(text: &str) -> (u32, Stored) {
+    let mut stored = Stored::default();
+    // SAFETY: the pointer and the length are those of a slice, and `stored` is this function's own.
+    let number = unsafe { proved_argon2_read(text.as_ptr(), text.len(), &mut stored) };
+    (number, stored)
+}
+
 /// Compares the settings of a text with others.
 pub fn needs_rehash(text: &str, config: &Config<'_>) -> u32 {
     let settings = Settings::of(config);
@@ -179,6 +211,24 @@ pub fn message(number: u32) -> Option<String> {
 fn library_version() -> u32 {
     // SAFETY: the call takes nothing.
     unsafe { proved_argon2_library_version() }
+}
+
+/// The settings that the library recommends.
+#[cfg(test)]
+#[rustfmt::skip]
+pub fn recommended() -> [Settings; 7] {
+    // SAFETY: the calls take nothing.
+    unsafe {
+        [
+            proved_argon2_owasp1(),
+            proved_argon2_owasp2(),
+            proved_argon2_owasp3(),
+            proved_argon2_owasp4(),
+            proved_argon2_owasp5(),
+            proved_argon2_rfc9106(),
+            proved_argon2_rfc9106_low_mem(),
+        ]
+    }
 }
 
 #[cfg(test)]

@@ -42,8 +42,8 @@
 //!
 //! # Limits
 //!
-//! Passwords and memory are not wiped. A text says how much memory it is verified with, up to 4 TiB: verify
-//! no text of a stranger.
+//! Passwords and memory are not wiped. A text says how much memory it is verified with, up to 4 TiB, and how many
+//! passes: look at a text of a stranger by [`read`] first.
 #![deny(unsafe_code)]
 #![warn(missing_docs)]
 
@@ -53,6 +53,7 @@ mod error;
 mod face;
 mod hashing;
 mod result;
+mod stored;
 mod thread_mode;
 mod variant;
 mod verifying;
@@ -62,6 +63,7 @@ pub use config::Config;
 pub use error::Error;
 pub use hashing::{encoded_len, hash_encoded, hash_raw};
 pub use result::Result;
+pub use stored::{read, Stored};
 pub use thread_mode::ThreadMode;
 pub use variant::Variant;
 pub use verifying::{needs_rehash, verify_encoded, verify_encoded_ext, verify_raw};

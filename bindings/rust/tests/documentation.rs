@@ -1,8 +1,8 @@
 //! The vectors of RFC 9106, of rust-argon2's tests and of its documentation, and what is refused.
 
 use proved_argon2::{
-    encoded_len, hash_encoded, hash_raw, needs_rehash, verify_encoded, verify_encoded_ext, verify_raw,
-    Config, Error, ThreadMode, Variant, Version,
+    encoded_len, hash_encoded, hash_raw, needs_rehash, read, verify_encoded, verify_encoded_ext, verify_raw,
+    Config, Error, Stored, ThreadMode, Variant, Version,
 };
 use Variant::{Argon2d, Argon2i, Argon2id};
 use Version::{Version10, Version13};
@@ -206,15 +206,87 @@ fn presets_names_and_numbers() {
         assert_eq!(preset, Config { variant, mem_cost, time_cost, ..Config::default() });
         assert!(preset.uses_sequential());
     }
-    assert_eq!(Variant::from_str("Argon2id"), Ok(Argon2id));
-    assert_eq!(Variant::from_str("ARGON2ID"), Err(Error::DecodingFail));
-    assert_eq!(Variant::from_u32(3), Err(Error::IncorrectType));
-    assert_eq!(Version::from_u32(18), Err(Error::IncorrectVersion));
-    assert_eq!(Version::from_str("18"), Err(Error::DecodingFail));
-    assert_eq!((Argon2id.to_string(), Version10.to_string()), ("argon2id".into(), "16".into()));
-    assert_eq!(ThreadMode::from_threads(2), ThreadMode::Parallel);
     assert_eq!(ThreadMode::from_threads(0), ThreadMode::default());
     assert_eq!((Variant::default(), Version::default()), (Argon2i, Version13));
+}
+
+/// Each way from a number or a name, and back.
+#[test]
+fn variants_from_and_to_numbers_and_names() {
+    for (variant, number, lower, upper) in [
+        (Argon2d, 0, "argon2d", "Argon2d"),
+        (Argon2i, 1, "argon2i", "Argon2i"),
+        (Argon2id, 2, "argon2id", "Argon2id"),
+    ] {
+        assert_eq!(Variant::from_u32(number), Ok(variant));
+        assert_eq!((variant.as_u32(), variant.as_u64()), (number, u64::from(number)));
+        assert_eq!(Variant::from_str(lower), Ok(variant));
+        assert_eq!(Variant::from_str(upper), Ok(variant));
+        assert_eq!((variant.as_lowercase_str(), variant.as_uppercase_str()), (lower, upper));
+        assert_eq!(variant.to_string(), lower);
+    }
+    for number in (3..300).chain([0x1_0000, u32::MAX - 1, u32::MAX]) {
+        assert_eq!(Variant::from_u32(number), Err(Error::IncorrectType));
+    }
+    for name in ["", "argon2", "argon2x", "ARGON2ID", "argon2id ", " argon2d", "argon2I", "aRgon2i"] {
+        assert_eq!(Variant::from_str(name), Err(Error::DecodingFail), "{name}");
+    }
+    assert!(Argon2d < Argon2i && Argon2i < Argon2id);
+}
+
+#[test]
+fn versions_from_and_to_numbers_and_names() {
+    for (version, number, name) in [(Version10, 16, "16"), (Version13, 19, "19")] {
+        assert_eq!(Version::from_u32(number), Ok(version));
+        assert_eq!(version.as_u32(), number);
+        assert_eq!(Version::from_str(name), Ok(version));
+        assert_eq!(version.to_string(), name);
+    }
+    for number in (0..300).filter(|it| *it != 16 && *it != 19).chain([u32::MAX]) {
+        assert_eq!(Version::from_u32(number), Err(Error::IncorrectVersion));
+        assert_eq!(Version::from_str(&number.to_string()), Err(Error::DecodingFail));
+    }
+    for name in ["", "x", "0x13", "019", " 19", "19 "] {
+        assert_eq!(Version::from_str(name), Err(Error::DecodingFail), "{name}");
+    }
+    assert!(Version10 < Version13);
+}
+
+#[test]
+fn thread_modes_from_numbers_and_what_they_ask_for() {
+    for (threads, mode) in [(0, ThreadMode::Sequential), (1, ThreadMode::Sequential)]
+        .into_iter()
+        .chain((2..40).chain([u32::MAX]).map(|threads| (threads, ThreadMode::Parallel)))
+    {
+        assert_eq!(ThreadMode::from_threads(threads), mode);
+    }
+    for (thread_mode, lanes, sequential) in [
+        (ThreadMode::Sequential, 1, true),
+        (ThreadMode::Sequential, 4, true),
+        (ThreadMode::Parallel, 1, true),
+        (ThreadMode::Parallel, 2, false),
+        (ThreadMode::Parallel, 4, false),
+    ] {
+        let config = Config { thread_mode, lanes, ..Config::default() };
+        assert_eq!(config.uses_sequential(), sequential, "{thread_mode:?} {lanes}");
+    }
+}
+
+#[test]
+fn a_text_is_read() {
+    let stored = read("$argon2d$v=16$m=4294967295,t=0,p=6$c29tZXNhbHQ$AAAAAAAAAAAAAAAA").unwrap();
+    let wanted = Stored {
+        hash_length: 12,
+        lanes: 6,
+        mem_cost: u32::MAX,
+        salt_length: 8,
+        time_cost: 0,
+        variant: Argon2d,
+        version: Version10,
+    };
+    assert_eq!(stored, wanted);
+    assert_eq!(read("$argon2id$m=8,t=1,p=1$$").unwrap().version, Version10);
+    assert_eq!(read("x"), Err(Error::DecodingFail));
 }
 
 #[test]

@@ -1,6 +1,9 @@
 //! The outside vectors in bindings/vectors.
 
-use proved_argon2::{hash_raw, verify_encoded, verify_raw, Config, Error, ThreadMode, Variant, Version};
+use proved_argon2::{
+    hash_encoded, hash_raw, verify_encoded, verify_encoded_ext, verify_raw, Config, Error, ThreadMode,
+    Variant, Version,
+};
 
 const RAW: &str = include_str!("../../vectors/raw.txt");
 const TEXTS: &str = include_str!("../../vectors/texts.txt");
@@ -9,6 +12,18 @@ const TEXTS: &str = include_str!("../../vectors/texts.txt");
 fn bytes_of(field: &str) -> Vec<u8> {
     let digits = if field == "-" { "" } else { field };
     (0..digits.len()).step_by(2).map(|at| u8::from_str_radix(&digits[at..at + 2], 16).unwrap()).collect()
+}
+
+/// Unpadded base64 (RFC 4648).
+fn base64_of(bytes: &[u8]) -> String {
+    const LETTERS: &[u8; 64] = b"ABCDEFGHIJKLMNOPQRSTUVWXYZabcdefghijklmnopqrstuvwxyz0123456789+/";
+    let bits: Vec<u8> = bytes.iter().flat_map(|byte| (0..8).rev().map(move |at| byte >> at & 1)).collect();
+    bits.chunks(6)
+        .map(|six| {
+            let place = (0..6).fold(0, |place, at| 2 * place + six.get(at).copied().unwrap_or(0));
+            char::from(LETTERS[usize::from(place)])
+        })
+        .collect()
 }
 
 /// What a line of raw.txt says: the settings without secret and associated data, these four, and the answer.
@@ -62,6 +77,28 @@ fn each_tag_and_refusal_is_that_of_the_vectors() {
         assert_eq!(Row::answer_of(hexadecimal), row.answer, "{line}");
     }
     assert_eq!(RAW.lines().count(), 240);
+}
+
+/// The tags once more, in texts that verify with this secret and this associated data alone.
+#[test]
+fn each_tag_and_refusal_comes_in_a_text() {
+    for line in RAW.lines() {
+        let row = Row::of(line);
+        let config = Config { secret: &row.secret, ad: &row.ad, ..row.config };
+        let text = match hash_encoded(&row.pwd, &row.salt, &config) {
+            Ok(text) => text,
+            Err(error) => {
+                assert_eq!(Row::answer_of(Err(error)), row.answer, "{line}");
+                continue;
+            }
+        };
+        let tag = text.rsplit('$').next().unwrap();
+        assert_eq!(tag, base64_of(&bytes_of(row.answer)), "{line}");
+        assert_eq!(verify_encoded_ext(&text, &row.pwd, &row.secret, &row.ad), Ok(true), "{line}");
+        if row.secret != row.ad {
+            assert_eq!(verify_encoded_ext(&text, &row.pwd, &row.ad, &row.secret), Ok(false), "{line}");
+        }
+    }
 }
 
 #[test]

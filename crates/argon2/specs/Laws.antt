@@ -1,3 +1,4 @@
 -- Statements about the definitions. The contracts of calls without arguments make them.
 pub mod Definitions
 pub mod Texts
+pub mod KnownAnswers

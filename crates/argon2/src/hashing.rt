@@ -1,59 +1,21 @@
 //! Hashing a password: its tag, and its text.
 
-ghost use Rattle.std.specs.Prelude.{◌≡◌, IfErr, IfOk, false, vec_len};
+ghost use Rattle.std.specs.Prelude.{◌≡◌, false};
 ghost use Rattle.std.specs.String.{string_bytes};
-ghost use Rattle.argon2_settings.specs.Standard.Outcome.{IsShortage};
-ghost use Rattle.argon2_settings.specs.Standard.ThreadModes.{may_lack_workers};
-ghost use Rattle.argon2_settings.specs.Standard.Tag.{tag_of};
-ghost use Rattle.argon2_text.specs.Standard.Text.{spelled_of, text_of};
-ghost use Rattle.argon2.specs.Standard.Hash.{IsHash};
+ghost use Rattle.argon2_standard.specs.Standard.ThreadModes.{may_lack_workers};
+ghost use Rattle.argon2_standard.specs.Standard.Text.{spelled_of, text_of};
+ghost use Rattle.argon2_standard.specs.Standard.Outcome.{IsHash};
+ghost use Rattle.argon2.specs.Standard.Leaves.{LeavesMemory};
 
 use crate::parts::context::Context;
 use crate::parts::encoding::encode_string;
-use crate::parts::fill::{
-    fill_memory_blocks, fill_sequential, finalize, initialize, prepare_memory,
-};
+use crate::parts::fill::{tag, tag_sequential};
 use crate::parts::memory::Memory;
 use crate::{Config, Result};
 use std::alloc::Global;
 use std::marker::Sync;
 use std::sync::Wait;
 use std::thread::Threads;
-
-/// The tag of an accepted call, computed over a memory in the thread mode of its configuration.
-pub(crate) fn tag<R: Threads + Wait + Sync>(
-    rt: &R,
-    alloc: Global,
-    memory: &mut Memory,
-    context: &Context<'_>,
-) -> Result<Vec<u8>>
-    ensures tag { let c = context.now in
-        IfOk result (λ tag. tag.items ≡ tag_of c.pwd.now c.salt.now c.config c.config.hash_length) }
-    ensures length { IfOk result (λ tag. vec_len tag ≡ context.now.config.hash_length) }
-    ensures refused { IfErr result (IsShortage (may_lack_workers context.now.config)) }
-{
-    prepare_memory(alloc, context, memory)?;
-    initialize(context, memory);
-    fill_memory_blocks(rt, alloc, context, memory)?;
-    finalize(alloc, context, memory)
-}
-
-/// The tag of an accepted call, computed over a memory in the caller's thread.
-pub(crate) fn tag_sequential(
-    alloc: Global,
-    memory: &mut Memory,
-    context: &Context<'_>,
-) -> Result<Vec<u8>>
-    ensures tag { let c = context.now in
-        IfOk result (λ tag. tag.items ≡ tag_of c.pwd.now c.salt.now c.config c.config.hash_length) }
-    ensures length { IfOk result (λ tag. vec_len tag ≡ context.now.config.hash_length) }
-    ensures refused { IfErr result (IsShortage false) }
-{
-    prepare_memory(alloc, context, memory)?;
-    initialize(context, memory);
-    fill_sequential(context, memory);
-    finalize(alloc, context, memory)
-}
 
 /// The tag of a password: `config.hash_length` bytes (RFC 9106, 3.2).
 ///
@@ -77,8 +39,9 @@ pub fn hash_raw<R: Threads + Wait + Sync>(
 /// memory with the lanes and the lane length of the call is used as it is, whatever it holds, and
 /// no blocks are asked for. Any other gives its blocks back first and is made anew.
 ///
-/// After the call the memory holds the blocks of this computation. It is not wiped. Where memory or
-/// a worker was refused, it may have no lanes.
+/// Where the settings table refuses something, the memory stays as it is. Else it holds the blocks of
+/// this computation after the call, which are not wiped. After a shortage it may have no lanes, but one
+/// that had those of the call loses them only to workers.
 pub fn hash_raw_in<'a, R: Threads + Wait + Sync>(
     rt: &R,
     alloc: Global,
@@ -87,11 +50,13 @@ pub fn hash_raw_in<'a, R: Threads + Wait + Sync>(
     salt: &'a [u8],
     config: &Config<'a>,
 ) -> Result<Vec<u8>>
-    ensures { IsHash pwd.now salt.now config.now (may_lack_workers config.now)
+    ensures answer { IsHash pwd.now salt.now config.now (may_lack_workers config.now)
         (λ tag expected. tag.items ≡ expected) result }
+    ensures memory { LeavesMemory pwd.now salt.now config.now config.now.hash_length
+        (may_lack_workers config.now) memory.old memory.new result }
 {
     match Context::new(*config, pwd, salt) {
-        Ok(context) => tag(rt, alloc, memory, &context),
+        Ok(context) => tag(rt, alloc, &context, memory),
         Err(refusal) => Err(refusal),
     }
 }
@@ -119,11 +84,13 @@ pub fn hash_raw_in_sequential<'a>(
     salt: &'a [u8],
     config: &Config<'a>,
 ) -> Result<Vec<u8>>
-    ensures { IsHash pwd.now salt.now config.now false
+    ensures answer { IsHash pwd.now salt.now config.now false
         (λ tag expected. tag.items ≡ expected) result }
+    ensures memory { LeavesMemory pwd.now salt.now config.now config.now.hash_length
+        false memory.old memory.new result }
 {
     match Context::new(*config, pwd, salt) {
-        Ok(context) => tag_sequential(alloc, memory, &context),
+        Ok(context) => tag_sequential(alloc, &context, memory),
         Err(refusal) => Err(refusal),
     }
 }
@@ -153,12 +120,14 @@ pub fn hash_encoded_in<'a, R: Threads + Wait + Sync>(
     salt: &'a [u8],
     config: &Config<'a>,
 ) -> Result<String>
-    ensures { IsHash pwd.now salt.now config.now (may_lack_workers config.now)
+    ensures answer { IsHash pwd.now salt.now config.now (may_lack_workers config.now)
         (λ text tag. string_bytes text ≡ text_of (spelled_of config.now salt.now tag)) result }
+    ensures memory { LeavesMemory pwd.now salt.now config.now config.now.hash_length
+        (may_lack_workers config.now) memory.old memory.new result }
 {
     match Context::new(*config, pwd, salt) {
         Ok(context) => {
-            let hash = tag(rt, alloc, memory, &context)?;
+            let hash = tag(rt, alloc, &context, memory)?;
             encode_string(alloc, &context, &hash)
         }
         Err(refusal) => Err(refusal),
@@ -188,12 +157,14 @@ pub fn hash_encoded_in_sequential<'a>(
     salt: &'a [u8],
     config: &Config<'a>,
 ) -> Result<String>
-    ensures { IsHash pwd.now salt.now config.now false
+    ensures answer { IsHash pwd.now salt.now config.now false
         (λ text tag. string_bytes text ≡ text_of (spelled_of config.now salt.now tag)) result }
+    ensures memory { LeavesMemory pwd.now salt.now config.now config.now.hash_length
+        false memory.old memory.new result }
 {
     match Context::new(*config, pwd, salt) {
         Ok(context) => {
-            let hash = tag_sequential(alloc, memory, &context)?;
+            let hash = tag_sequential(alloc, &context, memory)?;
             encode_string(alloc, &context, &hash)
         }
         Err(refusal) => Err(refusal),

@@ -7,12 +7,12 @@ pub mod parts;
 mod rehashing;
 mod verifying;
 
-pub use argon2_settings::config::Config;
-pub use argon2_settings::error::Error;
-pub use argon2_settings::result::Result;
-pub use argon2_settings::thread_mode::ThreadMode;
-pub use argon2_settings::variant::Variant;
-pub use argon2_settings::version::Version;
+pub use argon2_standard::config::Config;
+pub use argon2_standard::error::Error;
+pub use argon2_standard::result::Result;
+pub use argon2_standard::thread_mode::ThreadMode;
+pub use argon2_standard::variant::Variant;
+pub use argon2_standard::version::Version;
 pub use argon2_text::encoding::encoded_len;
 pub use hashing::{
     hash_encoded, hash_encoded_in, hash_encoded_in_sequential, hash_encoded_sequential, hash_raw,
@@ -24,6 +24,3 @@ pub use verifying::{
     verify_encoded_sequential, verify_raw, verify_raw_in, verify_raw_in_sequential,
     verify_raw_sequential,
 };
-
-#[cfg(test)]
-mod tests;

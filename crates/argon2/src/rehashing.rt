@@ -1,14 +1,14 @@
 //! Whether a stored text was made with other settings.
 
 ghost use Rattle.std.specs.Prelude.{◌≡◌, ◌↔◌, IsTrue, MatchResult};
-ghost use Rattle.argon2_text.specs.Standard.Grammar.{Spells, SpellsNothing};
-ghost use Rattle.argon2.specs.Standard.Rehash.{Agrees, Differs};
-ghost use Rattle.argon2_text.specs.Standard.Text.{Spelled};
+ghost use Rattle.argon2_standard.specs.Standard.Grammar.{Spells, SpellsNothing};
+ghost use Rattle.argon2_standard.specs.Standard.Stored.{Agrees, Differs};
+ghost use Rattle.argon2_standard.specs.Standard.Text.{Spelled};
 ghost use Rattle.argon2_text.specs.Views.Texts.{spelled_by};
 
-use argon2_settings::config::Config;
-use argon2_settings::error::Error;
-use argon2_settings::result::Result;
+use argon2_standard::config::Config;
+use argon2_standard::error::Error;
+use argon2_standard::result::Result;
 use argon2_text::decoded::Decoded;
 use argon2_text::encoding::decode_string;
 use std::alloc::Global;

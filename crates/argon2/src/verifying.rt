@@ -1,15 +1,18 @@
 //! Verifying a password against a hash.
 
-ghost use Rattle.std.specs.Prelude.{◌≡◌, ◌↔◌, IfErr, IfOk, IsTrue, None, Some, false, length};
-ghost use Rattle.argon2_settings.specs.Standard.ThreadModes.{may_lack_workers};
-ghost use Rattle.argon2_settings.specs.Standard.SettingsTable.{refusal_of};
-ghost use Rattle.argon2.specs.Standard.Verdict.{IsVerdict};
+ghost use Rattle.std.specs.Prelude.{◌≡◌, ◌↔◌, IfErr, IfOk, IsTrue, None, OnErr, OnOk, Some, false, length};
+ghost use Rattle.argon2_standard.specs.Standard.ThreadModes.{may_lack_workers};
+ghost use Rattle.argon2_standard.specs.Standard.SettingsTable.{refusal_of};
+ghost use Rattle.argon2_memory.specs.Views.Jobs.{setting_of_context};
+ghost use Rattle.argon2_memory.specs.Standard.Kept.{HoldsFill, IsLeft};
+ghost use Rattle.argon2.specs.Standard.Leaves.{LeavesMemory};
+ghost use Rattle.argon2_standard.specs.Standard.Outcome.{IsVerdict};
 ghost use Rattle.argon2.specs.Views.Comparison.{difference_of};
 
 mod texts;
 
-use crate::hashing::{tag, tag_sequential};
 use crate::parts::context::{Context, first_refusal};
+use crate::parts::fill::{tag, tag_sequential};
 use crate::parts::memory::Memory;
 use crate::{Config, Result};
 use argon2_settings::context::accepted_context;
@@ -41,7 +44,7 @@ fn are_equal(one: &[u8], other: &[u8]) -> bool
 }
 
 /// The context of a hash of this hash's own length, whatever `config.hash_length` is.
-#[tactic(auto, unfolding(argon2_settings::specs::Standard::SettingsTable::refusal_of))]
+#[tactic(auto, unfolding(argon2_standard::specs::Standard::SettingsTable::refusal_of))]
 fn context_of_hash<'a>(
     config: Config<'a>,
     pwd: &'a [u8],
@@ -81,10 +84,13 @@ fn is_tag<R: Threads + Wait + Sync>(
     hash: &[u8],
 ) -> Result<bool>
     requires length { length hash.now ≡ context.now.config.hash_length }
-    ensures { let c = context.now in
+    ensures answer { let c = context.now in
         IsVerdict c.pwd.now c.salt.now hash.now c.config (may_lack_workers c.config) result }
+    ensures filled { OnOk result (HoldsFill (setting_of_context context.now) memory.new) }
+    ensures left { OnErr result (IsLeft (may_lack_workers context.now.config) (setting_of_context context.now)
+        memory.old memory.new) }
 {
-    let tag = tag(rt, alloc, memory, context)?;
+    let tag = tag(rt, alloc, context, memory)?;
     Ok(are_equal(&tag, hash))
 }
 
@@ -97,10 +103,13 @@ fn is_tag_sequential(
     hash: &[u8],
 ) -> Result<bool>
     requires length { length hash.now ≡ context.now.config.hash_length }
-    ensures { let c = context.now in
+    ensures answer { let c = context.now in
         IsVerdict c.pwd.now c.salt.now hash.now c.config false result }
+    ensures filled { OnOk result (HoldsFill (setting_of_context context.now) memory.new) }
+    ensures left { OnErr result (IsLeft false (setting_of_context context.now)
+        memory.old memory.new) }
 {
-    let tag = tag_sequential(alloc, memory, context)?;
+    let tag = tag_sequential(alloc, context, memory)?;
     Ok(are_equal(&tag, hash))
 }
 
@@ -143,7 +152,9 @@ pub fn verify_raw_in<'a, R: Threads + Wait + Sync>(
     hash: &[u8],
     config: &Config<'a>,
 ) -> Result<bool>
-    ensures { IsVerdict pwd.now salt.now hash.now config.now (may_lack_workers config.now) result }
+    ensures answer { IsVerdict pwd.now salt.now hash.now config.now (may_lack_workers config.now) result }
+    ensures memory { LeavesMemory pwd.now salt.now config.now (length hash.now)
+        (may_lack_workers config.now) memory.old memory.new result }
 {
     match context_of_hash(*config, pwd, salt, hash) {
         Ok(context) => is_tag(rt, alloc, memory, &context, hash),
@@ -175,7 +186,9 @@ pub fn verify_raw_in_sequential<'a>(
     hash: &[u8],
     config: &Config<'a>,
 ) -> Result<bool>
-    ensures { IsVerdict pwd.now salt.now hash.now config.now false result }
+    ensures answer { IsVerdict pwd.now salt.now hash.now config.now false result }
+    ensures memory { LeavesMemory pwd.now salt.now config.now (length hash.now)
+        false memory.old memory.new result }
 {
     match context_of_hash(*config, pwd, salt, hash) {
         Ok(context) => is_tag_sequential(alloc, memory, &context, hash),

@@ -39,7 +39,7 @@ pub const MIN_AD_LENGTH: u32 = 0;
 /// The greatest length of the associated data, in bytes.
 pub const MAX_AD_LENGTH: u32 = 0xFFFF_FFFF;
 
-/// The least length of a salt, in bytes.
+/// The least length of a salt, in bytes: a limit of this crate, since RFC 9106 gives a salt none.
 pub const MIN_SALT_LENGTH: u32 = 8;
 
 /// The greatest length of a salt, in bytes.

@@ -1,11 +1,20 @@
-/* The five lines that docs/C.md begins with: a text is made of a password, and the password verifies. */
+/* What docs/C.md begins with: a text is made of a password, and the password verifies; and the same in a call each. */
 #include "proved_argon2.h"
 
 #include <string.h>
 #include <sys/random.h>
 
+static int in_one_call_each(const char *password)
+{
+    char text[PROVED_ARGON2_TEXT_SIZE];
+    if (proved_argon2_password_hash(text, password, strlen(password)) != PROVED_ARGON2_OK) return 1;
+    if (proved_argon2_password_verify(text, password, strlen(password)) != PROVED_ARGON2_OK) return 1;
+    return 0;
+}
+
 int main(void)
 {
+    if (in_one_call_each("correct horse battery staple") != 0) return 1;
     const uint8_t *pwd = (const uint8_t *)"correct horse battery staple";
     const size_t pwd_len = 28;
     uint8_t salt[16], text[128];

@@ -118,16 +118,78 @@ static void check_answers(const proved_argon2_settings *with, const char *name)
     check_code(verify_encoded_in("Password"), PROVED_ARGON2_MISMATCH, "another password for the text");
 }
 
-/* Blocks that fit are used again, and others are not asked for. */
-static void check_reuse(void)
+/* The four calls, over what stands in `kept`. */
+static uint32_t hash_raw_again(void)
 {
-    uint32_t first = hash_raw_in(kept);
-    large_requests = 0;
-    uint32_t second = hash_raw_in(kept);
-    check(first == PROVED_ARGON2_OK && second == PROVED_ARGON2_OK && large_requests == 0, "no blocks are asked for");
-    size_t before = held;
+    return hash_raw_in(plain);
+}
+
+static uint32_t verify_raw_again(void)
+{
+    return verify_raw_in("password");
+}
+
+static uint32_t hash_encoded_again(void)
+{
+    return hash_encoded_in(plain);
+}
+
+static uint32_t verify_encoded_again(void)
+{
+    return verify_encoded_in("password");
+}
+
+/* A call over an empty memory keeps its blocks, and over these it asks for none and keeps them. */
+static bool uses_again(uint32_t (*call)(void))
+{
     proved_argon2_memory_free(&memory);
-    check(before >= 1024 * (size_t)settings.mem_cost / 2 && held == 0 && memory.kept == NULL, "all is given back");
+    uint32_t first = call();
+    size_t blocks = held;
+    large_requests = 0;
+    uint32_t second = call();
+    return first == PROVED_ARGON2_OK && second == PROVED_ARGON2_OK && large_requests == 0 && held == blocks &&
+           blocks >= 1024 * (size_t)settings.mem_cost / 2;
+}
+
+/* A refusal leaves what is kept: the call after it asks for no blocks. */
+static bool refuses_and_keeps(uint32_t (*call)(void), uint32_t (*after)(void), uint32_t expected)
+{
+    const proved_argon2_settings with = settings;
+    uint32_t made = after();
+    size_t blocks = held;
+    settings.lanes = 99;
+    uint32_t refused = call();
+    settings = with;
+    large_requests = 0;
+    uint32_t used = after();
+    return made == PROVED_ARGON2_OK && refused == expected && used == PROVED_ARGON2_OK && large_requests == 0 &&
+           held == blocks;
+}
+
+static uint32_t verify_no_text(void)
+{
+    return proved_argon2_verify_encoded_in(&memory, bytes_of("$"), 1, bytes_of("password"), 8, NULL, 0, NULL, 0);
+}
+
+/* Each of the four calls. */
+static void check_reuse(const proved_argon2_settings *with, const char *name)
+{
+    settings = *with;
+    printf("%s, once more:\n", name);
+    check(uses_again(hash_raw_again), "the tag asks for no blocks again");
+    check(hash_raw(kept) == PROVED_ARGON2_OK && uses_again(verify_raw_again), "nor does its verdict");
+    check(refuses_and_keeps(hash_raw_again, verify_raw_again, PROVED_ARGON2_MEMORY_TOO_LITTLE),
+          "refused settings of a tag leave what is kept");
+    check(refuses_and_keeps(verify_raw_again, hash_raw_again, PROVED_ARGON2_MEMORY_TOO_LITTLE),
+          "and those of a verdict");
+    check(uses_again(hash_encoded_again), "the text asks for no blocks again");
+    check(hash_encoded(kept) == PROVED_ARGON2_OK && uses_again(verify_encoded_again), "nor does its verdict");
+    check(refuses_and_keeps(hash_encoded_again, verify_encoded_again, PROVED_ARGON2_MEMORY_TOO_LITTLE),
+          "refused settings of a text leave what is kept");
+    check(refuses_and_keeps(verify_no_text, hash_encoded_again, PROVED_ARGON2_DECODING_FAIL),
+          "and so does a text that spells nothing");
+    proved_argon2_memory_free(&memory);
+    check(held == 0 && memory.kept == NULL, "all is given back");
     proved_argon2_memory_free(&memory);
     check(held == 0 && memory.kept == NULL, "and given back again");
 }
@@ -159,28 +221,14 @@ static void check_refusals(void)
     check(holds && refused && number > 4, "each refused request is an answer, and nothing is left behind");
 }
 
-/* A refusal of the settings leaves what is kept. */
-static void check_refused_settings(void)
-{
-    settings = small;
-    uint32_t made = hash_raw_in(kept);
-    size_t before = held;
-    settings.lanes = 99;
-    uint32_t refused = hash_raw_in(kept);
-    check(made == PROVED_ARGON2_OK && refused == PROVED_ARGON2_MEMORY_TOO_LITTLE && held == before,
-          "a refusal leaves what is kept");
-    proved_argon2_memory_free(&memory);
-    check(held == 0, "which is given back");
-}
-
 int main(void)
 {
     memory = proved_argon2_memory_new();
     check_answers(&small, "48 KiB in three lanes");
     check_answers(&large, "256 KiB in two lanes");
     check_answers(&small, "48 KiB again");
-    check_reuse();
+    check_reuse(&small, "48 KiB in three lanes");
+    check_reuse(&large, "256 KiB in two lanes");
     check_refusals();
-    check_refused_settings();
     return checks_failed != 0;
 }

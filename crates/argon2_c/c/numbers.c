@@ -44,6 +44,8 @@ static const refusal refusals[] = {
     {PROVED_ARGON2_NOT_UTF8, "The text is not UTF-8"},
     {PROVED_ARGON2_UNKNOWN_NUMBER, "There is no refusal of this number"},
     {PROVED_ARGON2_NEEDS_REHASH, "The text was made with other settings"},
+    {PROVED_ARGON2_NULL_POINTER, "A pointer is null"},
+    {PROVED_ARGON2_NO_RANDOM_BYTES, "There are no random bytes"},
 };
 
 /* A text and zeros behind it, for each number of the header and for no other one. */

@@ -4,7 +4,8 @@
  * Argon2d, Argon2i and Argon2id, versions 0x10 and 0x13, with a secret and associated data. Each call
  * is computed in the caller's thread, whatever the number of lanes.
  *
- * Passing bytes. A pointer and then a length pass bytes; a null pointer with the length 0 passes none.
+ * Passing bytes. A pointer and then a length pass bytes; a null pointer with the length 0 passes none. Any other
+ * null pointer is PROVED_ARGON2_NULL_POINTER, before all other refusals.
  * The caller owns all memory that it passes; no call keeps a pointer to it. What a call writes to overlaps
  * nothing else that it is passed. Only a proved_argon2_memory leads to memory of the library's.
  *
@@ -20,8 +21,8 @@
  * keeps (.._in) leaves the blocks there.
  *
  * Threads. The library starts no thread and keeps no state. Calls may run in several threads at once,
- * as long as none writes to what another one is passed. No call may come from a signal handler, nor
- * from the forked child of a process with threads.
+ * as long as none writes to what another one is passed. No call may come from a signal handler. In the
+ * forked child of a process with threads calls may be made where malloc may be called, as with the GNU C library.
  *
  * Symbols. Each of the library's begins with proved_argon2_, so that a program may link libargon2 too.
  * rattle_alloc, rattle_realloc and rattle_dealloc are those of the toolchain's archive liblibc_c.a, which
@@ -112,7 +113,10 @@ enum proved_argon2_code {
     PROVED_ARGON2_WRONG_LENGTH = 65,   /* the buffer does not fit */
     PROVED_ARGON2_NOT_UTF8 = 66,       /* the text is not UTF-8 */
     PROVED_ARGON2_UNKNOWN_NUMBER = 67, /* proved_argon2_message: no refusal has this number */
-    PROVED_ARGON2_NEEDS_REHASH = 68    /* proved_argon2_needs_rehash: the text has other settings */
+    PROVED_ARGON2_NEEDS_REHASH = 68,   /* proved_argon2_needs_rehash: the text has other settings */
+    /* Answered by the inline functions of the header, and by no function of the library: */
+    PROVED_ARGON2_NULL_POINTER = 128,   /* a pointer is null, and its length is not 0 */
+    PROVED_ARGON2_NO_RANDOM_BYTES = 129 /* proved_argon2_password_hash: the system gave no salt */
 };
 
 /* The settings of a hash. A field that is left out of an initializer is 0, and no hash has version 0. */
@@ -158,8 +162,8 @@ uint32_t proved_argon2_library_version(void);
 /*
  * Writes the tag of a password (RFC 9106, 3.2) to out.
  *
- * out_len is settings->hash_length: any other length is PROVED_ARGON2_WRONG_LENGTH. The salt is at least
- * 8 bytes, and 16 random ones for a password (RFC 9106, 3.1).
+ * out_len is settings->hash_length: any other length is PROVED_ARGON2_WRONG_LENGTH. The salt has at least
+ * 8 bytes, which is this library's own limit; for a password RFC 9106, 3.1, recommends 16.
  */
 PROVED_ARGON2_CHECKED PROVED_ARGON2_NONNULL
 uint32_t proved_argon2_hash_raw(
@@ -262,7 +266,9 @@ uint32_t proved_argon2_message(uint32_t number, uint8_t *text, size_t text_len);
  * After the call memory keeps the blocks, which are not cleared, until proved_argon2_memory_free gives them
  * back. Where the library is refused the few bytes that lead to them, it keeps nothing.
  *
- * A memory is used by one call at a time, and by the thread that made its first call.
+ * A memory is used by one call at a time, and by the thread that made its first call. After a fork the parent
+ * and the child each have one of their own, with the same blocks, where malloc goes on in both, as with the GNU C
+ * library.
  */
 
 /* A memory that keeps nothing yet. */
@@ -318,4 +324,5 @@ uint32_t proved_argon2_verify_encoded_in(
 }
 #endif
 #include "proved_argon2_null.h"
+#include "proved_argon2_password.h"
 #endif

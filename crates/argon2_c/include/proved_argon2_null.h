@@ -1,14 +1,17 @@
 /*
  * Null pointers: a part of proved_argon2.h, which includes it.
  *
- * The functions of the library take no null pointer. Each call that takes bytes goes through a function
- * below, which puts the address of a byte that nobody reads in place of a pointer with the length 0. A
- * program that loads the library without the header has to do the same.
+ * The functions of the library take no null pointer. Each call that takes a pointer goes through a function
+ * below, which puts the address of a byte that nobody reads in place of a pointer with the length 0, and
+ * answers PROVED_ARGON2_NULL_POINTER for any other null pointer, before the library is called. A program that
+ * loads the library without the header has to do the same.
  */
 #ifndef PROVED_ARGON2_NULL_H
 #define PROVED_ARGON2_NULL_H
 
 #include "proved_argon2.h"
+
+#include <string.h>
 
 /* Bytes to read, or an address for none. */
 static inline const uint8_t *proved_argon2_readable(const uint8_t *bytes, size_t len)
@@ -23,6 +26,24 @@ static inline uint8_t *proved_argon2_writable(uint8_t *bytes, size_t len, uint8_
     return len == 0 ? spare : bytes;
 }
 
+/* Whether a pointer leads to none of the bytes that its length promises. */
+static inline int proved_argon2_is_missing(const void *bytes, size_t len)
+{
+    return bytes == NULL && len != 0;
+}
+
+/* The same of the four inputs of a hash and of its settings. */
+static inline int proved_argon2_are_missing(
+    const uint8_t *pwd, size_t pwd_len,
+    const uint8_t *salt, size_t salt_len,
+    const uint8_t *secret, size_t secret_len,
+    const uint8_t *ad, size_t ad_len,
+    const proved_argon2_settings *settings)
+{
+    return proved_argon2_is_missing(pwd, pwd_len) || proved_argon2_is_missing(salt, salt_len)
+        || proved_argon2_is_missing(secret, secret_len) || proved_argon2_is_missing(ad, ad_len) || settings == NULL;
+}
+
 PROVED_ARGON2_CHECKED
 static inline uint32_t proved_argon2_nullable_hash_raw(
     const uint8_t *pwd, size_t pwd_len,
@@ -33,6 +54,10 @@ static inline uint32_t proved_argon2_nullable_hash_raw(
     uint8_t *out, size_t out_len)
 {
     uint8_t spare;
+    if (proved_argon2_are_missing(pwd, pwd_len, salt, salt_len, secret, secret_len, ad, ad_len, settings)
+        || proved_argon2_is_missing(out, out_len)) {
+        return PROVED_ARGON2_NULL_POINTER;
+    }
     return proved_argon2_hash_raw(
         proved_argon2_readable(pwd, pwd_len), pwd_len,
         proved_argon2_readable(salt, salt_len), salt_len,
@@ -52,6 +77,10 @@ static inline uint32_t proved_argon2_nullable_hash_encoded(
     uint8_t *text, size_t text_len)
 {
     uint8_t spare;
+    if (proved_argon2_are_missing(pwd, pwd_len, salt, salt_len, secret, secret_len, ad, ad_len, settings)
+        || proved_argon2_is_missing(text, text_len)) {
+        return PROVED_ARGON2_NULL_POINTER;
+    }
     return proved_argon2_hash_encoded(
         proved_argon2_readable(pwd, pwd_len), pwd_len,
         proved_argon2_readable(salt, salt_len), salt_len,
@@ -70,6 +99,10 @@ static inline uint32_t proved_argon2_nullable_verify_raw(
     const proved_argon2_settings *settings,
     const uint8_t *hash, size_t hash_len)
 {
+    if (proved_argon2_are_missing(pwd, pwd_len, salt, salt_len, secret, secret_len, ad, ad_len, settings)
+        || proved_argon2_is_missing(hash, hash_len)) {
+        return PROVED_ARGON2_NULL_POINTER;
+    }
     return proved_argon2_verify_raw(
         proved_argon2_readable(pwd, pwd_len), pwd_len,
         proved_argon2_readable(salt, salt_len), salt_len,
@@ -86,6 +119,10 @@ static inline uint32_t proved_argon2_nullable_verify_encoded(
     const uint8_t *secret, size_t secret_len,
     const uint8_t *ad, size_t ad_len)
 {
+    if (proved_argon2_is_missing(text, text_len) || proved_argon2_is_missing(pwd, pwd_len)
+        || proved_argon2_is_missing(secret, secret_len) || proved_argon2_is_missing(ad, ad_len)) {
+        return PROVED_ARGON2_NULL_POINTER;
+    }
     return proved_argon2_verify_encoded(
         proved_argon2_readable(text, text_len), text_len,
         proved_argon2_readable(pwd, pwd_len), pwd_len,
@@ -97,6 +134,9 @@ PROVED_ARGON2_CHECKED
 static inline uint32_t proved_argon2_nullable_read(
     const uint8_t *text, size_t text_len, proved_argon2_stored *stored)
 {
+    if (proved_argon2_is_missing(text, text_len) || stored == NULL) {
+        return PROVED_ARGON2_NULL_POINTER;
+    }
     return proved_argon2_read(proved_argon2_readable(text, text_len), text_len, stored);
 }
 
@@ -104,14 +144,37 @@ PROVED_ARGON2_CHECKED
 static inline uint32_t proved_argon2_nullable_needs_rehash(
     const uint8_t *text, size_t text_len, const proved_argon2_settings *settings)
 {
+    if (proved_argon2_is_missing(text, text_len) || settings == NULL) {
+        return PROVED_ARGON2_NULL_POINTER;
+    }
     return proved_argon2_needs_rehash(proved_argon2_readable(text, text_len), text_len, settings);
+}
+
+/* The text of a number that the header alone answers, or null. */
+static inline const char *proved_argon2_header_message(uint32_t number)
+{
+    return number == PROVED_ARGON2_NULL_POINTER ? "A pointer is null"
+        : number == PROVED_ARGON2_NO_RANDOM_BYTES ? "There are no random bytes"
+        : NULL;
 }
 
 PROVED_ARGON2_CHECKED
 static inline uint32_t proved_argon2_nullable_message(uint32_t number, uint8_t *text, size_t text_len)
 {
     uint8_t spare;
-    return proved_argon2_message(number, proved_argon2_writable(text, text_len, &spare), text_len);
+    const char *const own = proved_argon2_header_message(number);
+    if (proved_argon2_is_missing(text, text_len)) {
+        return PROVED_ARGON2_NULL_POINTER;
+    }
+    if (own == NULL) {
+        return proved_argon2_message(number, proved_argon2_writable(text, text_len, &spare), text_len);
+    }
+    if (text_len <= strlen(own)) {
+        return PROVED_ARGON2_WRONG_LENGTH;
+    }
+    memset(text, 0, text_len);
+    memcpy(text, own, strlen(own));
+    return PROVED_ARGON2_OK;
 }
 
 PROVED_ARGON2_CHECKED
@@ -125,6 +188,11 @@ static inline uint32_t proved_argon2_nullable_hash_raw_in(
     uint8_t *out, size_t out_len)
 {
     uint8_t spare;
+    if (memory == NULL
+        || proved_argon2_are_missing(pwd, pwd_len, salt, salt_len, secret, secret_len, ad, ad_len, settings)
+        || proved_argon2_is_missing(out, out_len)) {
+        return PROVED_ARGON2_NULL_POINTER;
+    }
     return proved_argon2_hash_raw_in(
         memory,
         proved_argon2_readable(pwd, pwd_len), pwd_len,
@@ -146,6 +214,11 @@ static inline uint32_t proved_argon2_nullable_hash_encoded_in(
     uint8_t *text, size_t text_len)
 {
     uint8_t spare;
+    if (memory == NULL
+        || proved_argon2_are_missing(pwd, pwd_len, salt, salt_len, secret, secret_len, ad, ad_len, settings)
+        || proved_argon2_is_missing(text, text_len)) {
+        return PROVED_ARGON2_NULL_POINTER;
+    }
     return proved_argon2_hash_encoded_in(
         memory,
         proved_argon2_readable(pwd, pwd_len), pwd_len,
@@ -166,6 +239,11 @@ static inline uint32_t proved_argon2_nullable_verify_raw_in(
     const proved_argon2_settings *settings,
     const uint8_t *hash, size_t hash_len)
 {
+    if (memory == NULL
+        || proved_argon2_are_missing(pwd, pwd_len, salt, salt_len, secret, secret_len, ad, ad_len, settings)
+        || proved_argon2_is_missing(hash, hash_len)) {
+        return PROVED_ARGON2_NULL_POINTER;
+    }
     return proved_argon2_verify_raw_in(
         memory,
         proved_argon2_readable(pwd, pwd_len), pwd_len,
@@ -184,6 +262,10 @@ static inline uint32_t proved_argon2_nullable_verify_encoded_in(
     const uint8_t *secret, size_t secret_len,
     const uint8_t *ad, size_t ad_len)
 {
+    if (memory == NULL || proved_argon2_is_missing(text, text_len) || proved_argon2_is_missing(pwd, pwd_len)
+        || proved_argon2_is_missing(secret, secret_len) || proved_argon2_is_missing(ad, ad_len)) {
+        return PROVED_ARGON2_NULL_POINTER;
+    }
     return proved_argon2_verify_encoded_in(
         memory,
         proved_argon2_readable(text, text_len), text_len,

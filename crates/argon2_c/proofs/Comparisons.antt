@@ -9,7 +9,7 @@ use Rattle.argon2.specs.VariantType.{Variant}
 use Rattle.argon2.specs.VariantType.TheVariants.{Argon2d, Argon2i, Argon2id}
 use Rattle.argon2.specs.VersionType.{Version}
 use Rattle.argon2.specs.VersionType.TheVariants.{Version10, Version13}
-use Rattle.argon2.specs.Standard.Rehash.{Agrees, Differs}
+use Rattle.argon2.specs.Stored.{Agrees, Differs}
 use Rattle.argon2.specs.Text.{Spelled}
 use Rattle.argon2_c.specs.Reading.{Compares, ComparesSettings, ComparesText, comparison_of}
 use Rattle.argon2_c.specs.Settings.{config_at, config_of, config_with, variant_of, version_of}

@@ -6,7 +6,7 @@ use Rattle.argon2.specs.ErrorType.{Error}
 use Rattle.argon2.specs.ErrorType.TheVariants.{DecodingFail, OutOfMemory}
 use Rattle.argon2.specs.Grammar.{Spells, SpellsNothing}
 use Rattle.argon2.specs.SettingsTable.{refusal_of}
-use Rattle.argon2.specs.Standard.Stored.{IsStoredConfig}
+use Rattle.argon2.specs.Stored.{IsStoredConfig}
 use Rattle.argon2.specs.Tag.{tag_of}
 use Rattle.argon2.specs.Text.{Spelled, spelled_of, text_of}
 use Rattle.argon2_c.specs.Buffer.{WritesText, padded}
@@ -48,10 +48,10 @@ WritesHashText (Ok config) pwd salt old new answer =
 -- ---- verifying
 
 -- a verdict as one answer: Ok where there is a match
-abbrev pub judgement_of : Result Bool Error → Result (Unit {0}) Refusal
+abbrev pub judgement_of : Result Bool Refusal → Result (Unit {0}) Refusal
 judgement_of (Ok true) = Ok tt
 judgement_of (Ok false) = Err Mismatch
-judgement_of (Err e) = Err (Library e)
+judgement_of (Err refusal) = Err refusal
 
 -- the library's refusal, where there is one; else Ok where Same holds and Mismatch where it does not,
 -- or memory was refused

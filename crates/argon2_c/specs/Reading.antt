@@ -4,7 +4,7 @@ use Rattle.argon2.specs.ConfigType.{Config}
 use Rattle.argon2.specs.ErrorType.{Error}
 use Rattle.argon2.specs.ErrorType.TheVariants.{DecodingFail, OutOfMemory}
 use Rattle.argon2.specs.Grammar.{Spells, SpellsNothing}
-use Rattle.argon2.specs.Standard.Rehash.{Agrees}
+use Rattle.argon2.specs.Stored.{Agrees}
 use Rattle.argon2.specs.SettingsTable.{max_length}
 use Rattle.argon2.specs.Text.{Spelled}
 use Rattle.argon2.specs.Variant.{variant_number}

@@ -6,7 +6,7 @@ ghost use Rattle.argon2_c.specs.Refusal.{IsCodeOf};
 ghost use Rattle.argon2_c.specs.Settings.{config_of};
 
 use crate::kept::KeptMemory;
-use crate::refusal::code_of;
+use crate::refusal::{code_of, code_of_verdict};
 use crate::settings::Settings;
 use crate::{hashing, verifying};
 use std::alloc::Global;
@@ -78,9 +78,9 @@ pub extern "C" fn proved_argon2_verify_raw_in(
         hash.now) result }
 {
     let mut held = memory.take(alloc);
-    let answer = verifying::verify_raw(alloc, &mut held, pwd, salt, secret, ad, settings, hash);
+    let verdict = verifying::verify_raw(alloc, &mut held, pwd, salt, secret, ad, settings, hash);
     memory.keep(alloc, held);
-    code_of(&answer)
+    code_of_verdict(&verdict)
 }
 
 /// `proved_argon2_verify_encoded`, computed over a memory that the caller keeps.
@@ -96,7 +96,7 @@ pub extern "C" fn proved_argon2_verify_encoded_in(
     ensures { IsCodeOf (JudgesText text.now pwd.now secret.now ad.now) result }
 {
     let mut held = memory.take(alloc);
-    let answer = verifying::verify_encoded(alloc, &mut held, text, pwd, secret, ad);
+    let verdict = verifying::verify_encoded(alloc, &mut held, text, pwd, secret, ad);
     memory.keep(alloc, held);
-    code_of(&answer)
+    code_of_verdict(&verdict)
 }

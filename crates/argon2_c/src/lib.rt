@@ -20,6 +20,7 @@ mod reading;
 mod recommended;
 mod refusal;
 mod settings;
+mod stored_text;
 mod verifying;
 
 use argon2::parts::memory::Memory;
@@ -33,12 +34,9 @@ pub use recommended::{
     proved_argon2_owasp1, proved_argon2_owasp2, proved_argon2_owasp3, proved_argon2_owasp4,
     proved_argon2_owasp5, proved_argon2_rfc9106, proved_argon2_rfc9106_low_mem,
 };
-use refusal::code_of;
+use refusal::{code_of, code_of_verdict};
 pub use settings::Settings;
 use std::alloc::Global;
-
-#[cfg(test)]
-mod tests;
 
 /// Writes the tag of a password (RFC 9106, 3.2) to `out`, which has `settings.hash_length` bytes.
 /// On a refusal `out` is as it was.
@@ -94,7 +92,7 @@ pub extern "C" fn proved_argon2_verify_raw(
         hash.now) result }
 {
     let memory = &mut Memory::empty(alloc);
-    code_of(&verifying::verify_raw(alloc, memory, pwd, salt, secret, ad, settings, hash))
+    code_of_verdict(&verifying::verify_raw(alloc, memory, pwd, salt, secret, ad, settings, hash))
 }
 
 /// Returns 0 only where a stored text is the hash of a password with this secret and this
@@ -110,7 +108,7 @@ pub extern "C" fn proved_argon2_verify_encoded(
     ensures { IsCodeOf (JudgesText text.now pwd.now secret.now ad.now) result }
 {
     let memory = &mut Memory::empty(alloc);
-    code_of(&verifying::verify_encoded(alloc, memory, text, pwd, secret, ad))
+    code_of_verdict(&verifying::verify_encoded(alloc, memory, text, pwd, secret, ad))
 }
 
 /// Writes what a stored text spells to `stored`, and verifies nothing. On a refusal `stored` is as

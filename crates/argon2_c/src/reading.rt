@@ -8,6 +8,7 @@ ghost use Rattle.argon2_c.specs.Settings.{config_of};
 
 use crate::refusal::Refusal;
 use crate::settings::Settings;
+use crate::stored_text::text_of;
 use argon2::parts::decoded::Decoded;
 use argon2::parts::encoding::decode_string;
 use std::alloc::Global;
@@ -54,12 +55,12 @@ fn held_len(bytes: &[u8]) -> u32
 pub fn read(alloc: Global, text: &[u8], stored: &mut Stored) -> Result<(), Refusal>
     ensures { ReadsText text.now stored.old stored.new result }
 {
-    match std::str::from_utf8(text) {
+    match text_of(text) {
         Ok(text) => {
             *stored = Stored::of(&decode_string(alloc, text)?);
             Ok(())
         }
-        Err(_) => Err(Refusal::NotUtf8),
+        Err(refusal) => Err(refusal),
     }
 }
 
@@ -70,9 +71,9 @@ pub fn needs_rehash(alloc: Global, text: &[u8], settings: &Settings) -> Result<(
         → ComparesSettings (config_of settings.now secret ad) text.now result }
 {
     let config = settings.config(&[], &[])?;
-    match std::str::from_utf8(text) {
+    match text_of(text) {
         Ok(text) => comparison(argon2::needs_rehash(alloc, text, &config)),
-        Err(_) => Err(Refusal::NotUtf8),
+        Err(refusal) => Err(refusal),
     }
 }
 

@@ -2,7 +2,7 @@
 
 ghost use Rattle.std.specs.Prelude.{◌≡◌, IfSome};
 ghost use Rattle.argon2.specs.ErrorType.{Error};
-ghost use Rattle.argon2_c.specs.Answers.{WritesMessage};
+ghost use Rattle.argon2_c.specs.Answers.{WritesMessage, judgement_of};
 ghost use Rattle.argon2_c.specs.Refusal.{code_of, library_number, message_of, number_of};
 ghost use Rattle.argon2_c.specs.declared.refusal.Refusal.{Refusal};
 ghost use Rattle.argon2_c.specs.declared.refusal.Refusal.TheVariants.{Library};
@@ -152,6 +152,17 @@ pub fn code_of(answer: &Result<(), Refusal>) -> u32
     match answer {
         Ok(()) => 0,
         Err(refusal) => refusal.number(),
+    }
+}
+
+/// What a verifying call returns to C. The number of a verdict is computed from it, so that no branch
+/// looks at it and no table is looked into at its place.
+pub fn code_of_verdict(verdict: &Result<bool, Refusal>) -> u32
+    ensures { result ≡ code_of (judgement_of verdict.now) }
+{
+    match verdict {
+        Ok(matches) => 64 - 64 * u32::from(*matches),
+        Err(refused) => refused.number(),
     }
 }
 

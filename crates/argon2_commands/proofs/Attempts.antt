@@ -1,12 +1,11 @@
 -- What is known of an attempt's steps.
-use Rattle.std.proofs.Common.{◌≡◌, ◌⊎◌, List, ℕ, Option, None, Some, MatchOption, Result, Ok, Err, ap, inl, inr, subst}
+use Rattle.std.proofs.Common.{◌≡◌, ◌⊎◌, List, ℕ, Option, None, Some, MatchOption, Result, Ok, Err, inl, inr, subst}
 use Rattle.std.specs.Option.{ok_or}
 use Rattle.argon2.specs.ErrorType.{Error}
-use Rattle.argon2_commands.specs.Fault.{fault_status}
 use Rattle.argon2_commands.specs.Words.{IsCommand, IsNoCommand}
 use Rattle.argon2_commands.specs.declared.command.Command.{Command}
 use Rattle.argon2_commands.specs.declared.fault.Fault.{Fault}
-use Rattle.argon2_commands.specs.declared.fault.Fault.TheVariants.{Usage, Input, Refused, Output}
+use Rattle.argon2_commands.specs.declared.fault.Fault.TheVariants.{Usage, Input, Refused, Output, OutputShort}
 
 -- the command that was read is that of the words
 pub a_command : (words : List (List ℕ)) (read : Option Command) (command : Command) → MatchOption read (IsNoCommand words) (IsCommand words)
@@ -19,10 +18,6 @@ pub no_command : (words : List (List ℕ)) (read : Option Command) (fault : Faul
     → Err fault ≡ ok_or read Usage → IsNoCommand words × (fault ≡ Usage)
 no_command words None fault h e = (h, cc)
 no_command words (Some command) fault h e = absurd (cc)
-
--- wrong words are no refusal
-pub usage_is_no_refusal : {A : Type 0} (fault : Fault) → fault ≡ Usage → fault_status fault ≡ 2 → A
-usage_is_no_refusal fault usage two = absurd (cc (ap fault_status usage, two))
 
 -- equal errors hold equal faults
 pub same_error : (fault other : Fault) → (let r : Result ℕ Fault = Err fault in r ≡ Err other) → fault ≡ other
@@ -38,10 +33,8 @@ pub answer_is_no_usage : {A : Type 0} (fault : Fault) (P : Error → Type 0) →
 answer_is_no_usage fault P (inl input) usage = absurd (cc (input, usage))
 answer_is_no_usage fault P (inr (refusal, refused, p)) usage = absurd (cc (refused, usage))
 
--- nor that of a stream that failed, whether for want of memory or not
-pub stream_is_no_usage : {A Short : Type 0} (fault : Fault) (refusal : Error) → (Short → fault ≡ Refused refusal) → ((Short → ⊥) → fault ≡ Output)
-    → fault ≡ Usage → A
-stream_is_no_usage {Short = Short} fault refusal short other usage =
-    let long = λ (h : Short). let e = short h in absurd {A = ⊥} (cc (e, usage)) in
-    let e = other long in
-    absurd (cc (e, usage))
+-- what holds of neither fault of an output does not hold of that of a stream that failed
+pub output_is_not : {A Short : Type 0} (fault : Fault) (P : Fault → Type 0) → (Short → fault ≡ OutputShort) → ((Short → ⊥) → fault ≡ Output)
+    → (P OutputShort → ⊥) → (P Output → ⊥) → P fault → A
+output_is_not fault P short other not_short not_output p =
+    absurd (not_output (subst P (other (λ h. not_short (subst P (short h) p))) p))

@@ -1,15 +1,14 @@
 -- Refusals that are passed on, and what is known of accepted values.
-use Rattle.std.proofs.Common.{ap, inl, inr, refl, ◌⊎◌, ◌≡◌, ℕ, List, Option, None, Some, MatchOption, Result, Ok, Err, IfErr, Bool, true, false, sym, subst}
+use Rattle.std.proofs.Common.{inl, inr, refl, ◌⊎◌, ◌≡◌, ℕ, List, Option, None, Some, MatchOption, Result, Ok, Err, IfErr, Bool, true, false, sym, subst}
 use Rattle.std.specs.Result.{IsErr, IsErrAnd}
 use Rattle.argon2.specs.ErrorType.{Error}
 use Rattle.argon2.specs.ErrorType.TheVariants.{OutOfMemory}
 use Rattle.argon2.specs.Outcome.{IsShortage}
 use Rattle.argon2_commands.specs.declared.fault.Fault.{Fault}
-use Rattle.argon2_commands.specs.declared.fault.Fault.TheVariants.{Input, Refused}
+use Rattle.argon2_commands.specs.declared.fault.Fault.TheVariants.{Input, Refused, OutputShort}
 use Rattle.std.specs.Io.KnownBytes.{Keeps}
 use Rattle.argon2_commands.specs.Answer.{MayRefuse}
-use Rattle.argon2_commands.specs.Fault.{fault_status}
-use Rattle.argon2_commands.specs.Run.{IsShortOrRefused}
+use Rattle.argon2_commands.specs.Run.{IsRefused}
 use Rattle.argon2_commands.specs.Words.{IsCommand}
 use Rattle.argon2_commands.specs.declared.command.Command.{Command}
 
@@ -30,13 +29,20 @@ pub read_refused : (fault : Fault) (P : Error → Type 0) → (fault ≡ Input) 
 read_refused fault P (inl input) p = inl input
 read_refused fault P (inr short) p = inr (OutOfMemory, short, p)
 
--- a fault of a command's answer with status 2 is the command's refusal
-pub is_refused : (words : List (List ℕ)) (input before : Option (List ℕ)) (command : Command) (fault : Fault) → IsCommand words command →
-    (fault ≡ Input) ⊎ ((refusal : Error) × (fault ≡ Refused refusal) × MayRefuse command input refusal) → fault_status fault ≡ 2 →
-    IsShortOrRefused words input before before
-is_refused words input before command fault is (inl other) two = absurd (cc (ap fault_status other, two))
-is_refused words input before command fault is (inr (refusal, same, may)) two =
-    inl (record { command = command; refusal = refusal; is_command = is; may_refuse = may }, untouched before)
+-- a refusal among the faults of a command's answer is the command's
+pub is_refused : (words : List (List ℕ)) (input : Option (List ℕ)) (command : Command) (fault : Fault) → IsCommand words command →
+    (fault ≡ Input) ⊎ ((refusal : Error) × (fault ≡ Refused refusal) × MayRefuse command input refusal) → (refusal : Error) → fault ≡ Refused refusal →
+    IsRefused words input refusal
+is_refused words input command fault is (inl other) refusal same = absurd (cc (other, same))
+is_refused words input command fault is (inr (told, same, may)) refusal refused =
+    let e : told ≡ refusal = cc (same, refused) in
+    record { command = command; is_command = is; may_refuse = subst (λ r. MayRefuse command input r) e may }
+
+-- and none of them is the output's
+pub is_no_output : {A : Type 0} (fault : Fault) (P : Error → Type 0) → (fault ≡ Input) ⊎ ((refusal : Error) × (fault ≡ Refused refusal) × P refusal)
+    → fault ≡ OutputShort → A
+is_no_output fault P (inl other) short = absurd (cc (other, short))
+is_no_output fault P (inr (refusal, refused, p)) short = absurd (cc (refused, short))
 
 -- what is known of an accepted value, where a refusal would have been an error
 pub at_accepted : {A : Type 0} (refusal : Option Error) (P : Type 0) (value : A) →

@@ -2,16 +2,17 @@
 use Rattle.std.proofs.Common.{◌≡◌, ◌↔◌, ◌⊎◌, ◌<◌, ◌≤◌, ℕ, List, Option, Result, Err, true, false, ap, arith, inl, inr, refl, subst, sym, ◌∙◌, String}
 use Rattle.std.specs.declared.alloc.Global.{Global}
 use Rattle.std.specs.Io.KnownBytes.{Keeps}
+use Rattle.argon2.specs.ErrorType.{Error}
 use Rattle.argon2.specs.ErrorType.TheVariants.{OutOfMemory}
 use Rattle.argon2_commands.specs.Answer.{answer_status}
 use Rattle.argon2_commands.specs.CommandLine.{AreWords, HasNoText}
-use Rattle.argon2_commands.specs.Fault.{fault_status}
-use Rattle.argon2_commands.specs.Run.{Answered, HasAnswer, IsShortOrRefused, OfWords}
+use Rattle.argon2_commands.specs.Fault.{IsBeforeOutput, fault_status}
+use Rattle.argon2_commands.specs.Run.{Answered, HasAnswer, IsRefused, IsShortOrRefused, OfWords}
 use Rattle.argon2_commands.specs.Words.{IsNoCommand, texts_of}
 use Rattle.argon2_commands.specs.declared.answer.Answer.{Answer}
 use Rattle.argon2_commands.specs.declared.answer.Answer.TheVariants.{Hashed, Verdict}
 use Rattle.argon2_commands.specs.declared.fault.Fault.{Fault}
-use Rattle.argon2_commands.specs.declared.fault.Fault.TheVariants.{Usage, Input, Refused, Output}
+use Rattle.argon2_commands.specs.declared.fault.Fault.TheVariants.{Usage, Input, Refused, Output, OutputShort}
 
 -- ---- faults
 
@@ -21,12 +22,14 @@ fault_bounded (Refused refusal) status e = omega arith
 fault_bounded Usage status e = omega arith
 fault_bounded Input status e = omega arith
 fault_bounded Output status e = omega arith
+fault_bounded OutputShort status e = omega arith
 
 pub no_fault : {A : Type 0} (fault : Fault) (status : ℕ) → status ≡ fault_status fault → status < 2 → A
 no_fault (Refused refusal) status e low = absurd (omega arith)
 no_fault Usage status e low = absurd (omega arith)
 no_fault Input status e low = absurd (omega arith)
 no_fault Output status e low = absurd (omega arith)
+no_fault OutputShort status e low = absurd (omega arith)
 
 -- 3 is the status of wrong words alone
 pub at_three : (fault : Fault) (status : ℕ) → status ≡ fault_status fault → status ≡ 3 → fault ≡ Usage
@@ -34,6 +37,17 @@ at_three (Refused refusal) status e three = absurd (omega arith)
 at_three Usage status e three = refl
 at_three Input status e three = absurd (omega arith)
 at_three Output status e three = absurd (omega arith)
+at_three OutputShort status e three = absurd (omega arith)
+
+-- 2 is that of a refusal, before anything was written, and of an output that lacked memory
+pub at_two : (fault : Fault) (status : ℕ) (words : List (List ℕ)) (input before after : Option (List ℕ)) → status ≡ fault_status fault →
+    ((refusal : Error) → fault ≡ Refused refusal → IsRefused words input refusal) → (fault ≡ OutputShort → HasAnswer words input) →
+    (IsBeforeOutput fault → Keeps before after) → status ≡ 2 → IsShortOrRefused words input before after
+at_two (Refused refusal) status words input before after e refused short kept two = inl ((refusal, refused refusal refl), kept tt)
+at_two Usage status words input before after e refused short kept two = absurd (omega arith)
+at_two Input status words input before after e refused short kept two = absurd (omega arith)
+at_two Output status words input before after e refused short kept two = absurd (omega arith)
+at_two OutputShort status words input before after e refused short kept two = inr (short refl)
 
 -- so what is known of that fault is known of the status
 pub usage_status : (fault : Fault) (status : ℕ) (P : Type 0) → status ≡ fault_status fault →

@@ -5,12 +5,12 @@ use Rattle.hex.specs.Hex.{encode_lower}
 use Rattle.argon2.specs.Outcome.{IsShortage}
 use Rattle.argon2.specs.ThreadModes.{may_lack_workers}
 use Rattle.argon2.specs.Grammar.{Spells, SpellsNothing}
-use Rattle.argon2.specs.Standard.Rehash.{Differs}
+use Rattle.argon2.specs.Stored.{Differs}
 use Rattle.argon2.specs.SettingsTable.{refusal_of}
-use Rattle.argon2.specs.Standard.Stored.{IsStoredConfig}
+use Rattle.argon2.specs.Stored.{IsStoredConfig}
 use Rattle.argon2.specs.Tag.{tag_of}
 use Rattle.argon2.specs.Text.{Spelled, spelled_of, text_of}
-use Rattle.argon2.specs.Standard.Verdict.{IsVerdict}
+use Rattle.argon2.specs.Outcome.{IsVerdict}
 use Rattle.argon2.specs.ConfigType.{Config}
 use Rattle.argon2.specs.ErrorType.{Error}
 use Rattle.argon2.specs.ErrorType.TheVariants.{DecodingFail, OutOfMemory}

@@ -1,15 +1,26 @@
 -- What a fault is told as.
-use Rattle.std.specs.Prelude.{ℕ, List, [], ◌++◌, codes}
+use Rattle.std.specs.Prelude.{ℕ, List, [], ◌++◌, codes, ⊤}
 use Rattle.argon2.specs.Messages.{message_of}
 use Rattle.argon2_commands.specs.declared.fault.Fault.{Fault}
-use Rattle.argon2_commands.specs.declared.fault.Fault.TheVariants.{Usage, Input, Refused, Output}
+use Rattle.argon2.specs.ErrorType.TheVariants.{OutOfMemory}
+use Rattle.argon2_commands.specs.declared.fault.Fault.TheVariants.{Usage, Input, Refused, Output, OutputShort}
 
--- 2 for a refusal, 3 for words of no command, 4 where a stream failed
+-- 2 for a refusal and for want of memory, 3 for words of no command, 4 where a stream failed for another
+-- reason
 abbrev pub fault_status : Fault → ℕ
 fault_status (Refused refusal) = 2
 fault_status Usage = 3
 fault_status Input = 4
 fault_status Output = 4
+fault_status OutputShort = 2
+
+-- nothing was written before the fault
+abbrev pub IsBeforeOutput : Fault → Type 0
+IsBeforeOutput (Refused refusal) = ⊤
+IsBeforeOutput Usage = ⊤
+IsBeforeOutput Input = ⊤
+IsBeforeOutput Output = ⊥
+IsBeforeOutput OutputShort = ⊥
 
 -- the line of a fault; where the output cannot be written, none
 abbrev pub line_of : Fault → List ℕ
@@ -17,3 +28,4 @@ line_of (Refused refusal) = message_of refusal ++ codes "\n"
 line_of Usage = codes "usage\n"
 line_of Input = codes "input\n"
 line_of Output = []
+line_of OutputShort = message_of OutOfMemory ++ codes "\n"

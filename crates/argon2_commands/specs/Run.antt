@@ -25,10 +25,9 @@ pub record HasAnswer (words : List (List ℕ)) (input : Option (List ℕ)) : Typ
   pub is_command : IsCommand words command
   pub is_answer : IsAnswer command input answer
 
--- the words' command may be refused, for the input's bytes, where they are known
-pub record IsRefused (words : List (List ℕ)) (input : Option (List ℕ)) : Type 0 where
+-- the words' command may be refused so, for the input's bytes, where they are known
+pub record IsRefused (words : List (List ℕ)) (input : Option (List ℕ)) (refusal : Error) : Type 0 where
   pub command : Command
-  pub refusal : Error
   pub is_command : IsCommand words command
   pub may_refuse : MayRefuse command input refusal
 
@@ -37,9 +36,10 @@ abbrev pub NeedNoInput : List (List ℕ) → Type 0
 NeedNoInput words = (command : Command) → IsCommand words command → NeedsNoInput command
 
 -- the words' command may be refused, and nothing was written; or it has an answer, and the output had no
--- memory to take all of it
+-- memory to take all of it. A status does not say which of the two it was: a fault does
 abbrev pub IsShortOrRefused : List (List ℕ) → Option (List ℕ) → Option (List ℕ) → Option (List ℕ) → Type 0
-IsShortOrRefused words input before after = (IsRefused words input × Keeps before after) ⊎ HasAnswer words input
+IsShortOrRefused words input before after =
+    (((refusal : Error) × IsRefused words input refusal) × Keeps before after) ⊎ HasAnswer words input
 
 -- what holds of the command line's words, where its arguments are known, or of some words where they are not
 abbrev pub OfWords : Option (List (List ℕ)) → (List (List ℕ) → Type 0) → Type 0

@@ -1,11 +1,10 @@
 //! What a command answers.
 
-ghost use Rattle.std.specs.Prelude.{◌≡◌, ◌⊎◌, IfErr, IfOk, IfSome, IsNone, OnOk, length, string_bytes, vec_len};
+ghost use Rattle.std.specs.Prelude.{◌≡◌, ◌⊎◌, IfErr, IfOk, IfSome, IsNone, OnOk, length, string_bytes};
 ghost use Rattle.std.specs.Io.KnownBytes.{Keeps};
 ghost use Rattle.argon2.specs.Outcome.{IsShortage};
 ghost use Rattle.argon2.specs.ThreadModes.{may_lack_workers};
 ghost use Rattle.argon2.specs.SettingsTable.{refusal_of};
-ghost use Rattle.argon2.specs.Tag.{tag_of};
 ghost use Rattle.argon2.specs.ErrorType.{Error};
 ghost use Rattle.argon2.specs.ErrorType.TheVariants.{OutOfMemory};
 ghost use Rattle.argon2_commands.specs.Answer.{IsAnswer, IsPassword, IsRefusal, MayRefuse, NeedsNoInput, answer_status, hash_lines, lines_of};
@@ -14,9 +13,9 @@ use crate::command::Command;
 use crate::fault::Fault;
 use argon2::parts::context::Context;
 use argon2::parts::encoding::encode_string;
-use argon2::parts::fill::{fill_memory_blocks, finalize, initialize, prepare_memory};
+use argon2::parts::fill::tag;
 use argon2::parts::memory::Memory;
-use argon2::{Config, needs_rehash, verify_encoded};
+use argon2::{Config, Error, needs_rehash, verify_encoded};
 use std::alloc::Global;
 use std::io::Read;
 use std::marker::Sync;
@@ -96,26 +95,12 @@ fn read_password<I: Read>(alloc: Global, input: &mut I) -> Result<Vec<u8>, Fault
     let mut password = Vec::new(alloc);
     match input.read_to_end(&mut password) {
         Ok(_) => Ok(password),
-        Err(error) => Err(Fault::of_stream(&error, Fault::Input)),
+        Err(error) => Err(Fault::of_stream(
+            &error,
+            Fault::Refused(Error::OutOfMemory),
+            Fault::Input,
+        )),
     }
-}
-
-/// The tag of an accepted call.
-fn tag<R: Threads + Wait + Sync>(
-    rt: &R,
-    alloc: Global,
-    context: &Context<'_>,
-) -> argon2::Result<Vec<u8>>
-    ensures tag { let c = context.now in
-        IfOk result (λ tag. tag.items ≡ tag_of c.pwd.now c.salt.now c.config c.config.hash_length) }
-    ensures length { IfOk result (λ tag. vec_len tag ≡ context.now.config.hash_length) }
-    ensures refused { IfErr result (IsShortage (may_lack_workers context.now.config)) }
-{
-    let mut memory = Memory::empty(alloc);
-    prepare_memory(alloc, context, &mut memory)?;
-    initialize(context, &mut memory);
-    fill_memory_blocks(rt, alloc, context, &mut memory)?;
-    finalize(alloc, context, &memory)
 }
 
 /// The tag of an accepted call in lower-case hexadecimal and its encoded text, a line each.
@@ -128,7 +113,7 @@ fn tag_lines<R: Threads + Wait + Sync>(
         IfOk result (λ lines. string_bytes lines ≡ hash_lines c.config c.salt.now c.pwd.now) }
     ensures refused { IfErr result (IsShortage (may_lack_workers context.now.config)) }
 {
-    let tag = tag(rt, alloc, context)?;
+    let tag = tag(rt, alloc, context, &mut Memory::empty(alloc))?;
     let text = encode_string(alloc, context, tag.as_slice())?;
     let hexadecimal = hex::encode(alloc, tag.as_slice())?;
     Ok(format!(in alloc; "{hexadecimal}\n{text}\n")?)

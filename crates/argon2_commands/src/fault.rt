@@ -21,31 +21,36 @@ pub enum Fault {
     /// The password could not be read.
     Input,
 
-    /// The call was refused, or memory was.
+    /// The call was refused, or memory was before there was an answer.
     Refused(Error),
 
     /// The answer could not be written.
     Output,
+
+    /// The output lacked memory to take all of the answer.
+    OutputShort,
 }
 
 impl Fault {
-    /// The fault of a stream that failed: want of memory is a refusal, anything else what is given.
-    pub fn of_stream(error: &io::Error, other: Fault) -> Fault
-        ensures short { error_kind error.now ≡ ErrorKind.OutOfMemory → result ≡ Refused OutOfMemory }
+    /// The fault of a stream that failed, of two that are given: one for want of memory, and one for
+    /// anything else.
+    pub fn of_stream(error: &io::Error, short: Fault, other: Fault) -> Fault
+        ensures short { error_kind error.now ≡ ErrorKind.OutOfMemory → result ≡ short }
         ensures other { error_kind error.now ≢ ErrorKind.OutOfMemory → result ≡ other }
     {
         match error.kind() {
-            ErrorKind::OutOfMemory => Fault::Refused(Error::OutOfMemory),
+            ErrorKind::OutOfMemory => short,
             _ => other,
         }
     }
 
-    /// The exit status: 2 for a refusal, 3 for wrong words, 4 where a stream failed.
+    /// The exit status: 2 for a refusal and for want of memory, 3 for wrong words, 4 where a stream
+    /// failed for another reason.
     pub fn status(&self) -> u8
         ensures { result ≡ fault_status self.now }
     {
         match *self {
-            Fault::Refused(_) => 2,
+            Fault::Refused(_) | Fault::OutputShort => 2,
             Fault::Usage => 3,
             Fault::Input | Fault::Output => 4,
         }
@@ -69,6 +74,10 @@ impl Fault {
             Fault::Usage => errors.write_all(b"usage\n")?,
             Fault::Input => errors.write_all(b"input\n")?,
             Fault::Refused(refusal) => writeln!(errors, "{refusal}")?,
+            Fault::OutputShort => {
+                let refusal = Error::OutOfMemory;
+                writeln!(errors, "{refusal}")?;
+            }
             Fault::Output => {}
         }
         errors.flush()

@@ -11,4 +11,4 @@ pub use answer::Answer;
 pub use command::Command;
 pub use command_line::{CommandLine, OfProcess, arguments};
 pub use fault::Fault;
-pub use program::{run, start};
+pub use program::{attempt, run, start};

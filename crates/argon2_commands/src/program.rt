@@ -3,10 +3,10 @@
 ghost use Rattle.std.specs.Prelude.{◌≡◌, ◌≢◌, ◌<◌, ◌↔◌, ◌⊎◌, IfErr, IfOk, IfSome, OnOk};
 ghost use Rattle.std.specs.Process.{exit_status};
 ghost use Rattle.std.specs.Io.KnownBytes.{Appends, Keeps};
-ghost use Rattle.argon2.specs.ErrorType.TheVariants.{OutOfMemory};
-ghost use Rattle.argon2_commands.specs.Fault.{fault_status};
+ghost use Rattle.argon2.specs.ErrorType.{Error};
+ghost use Rattle.argon2_commands.specs.Fault.{IsBeforeOutput};
 ghost use Rattle.argon2_commands.specs.CommandLine.{HasNoText};
-ghost use Rattle.argon2_commands.specs.Run.{Answered, HasAnswer, IsShortOrRefused, NeedNoInput, OfWords};
+ghost use Rattle.argon2_commands.specs.Run.{Answered, HasAnswer, IsRefused, IsShortOrRefused, NeedNoInput, OfWords};
 ghost use Rattle.argon2_commands.specs.Words.{IsNoCommand, texts_of};
 
 use crate::answer::Answer;
@@ -90,8 +90,10 @@ pub fn run<R: Threads + Wait + Sync, I: Read, O: Write, E: Write>(
     }
 }
 
-/// Writes the answer of the words' command, and gives the exit status.
-fn attempt<R: Threads + Wait + Sync, I: Read, O: Write>(
+/// Writes the answer of the words' command, and gives the exit status. It tells the call's refusals from
+/// an output that lacked memory, which have one exit status: nothing was written where anything but the
+/// output failed.
+pub fn attempt<R: Threads + Wait + Sync, I: Read, O: Write>(
     rt: &R,
     alloc: Global,
     words: &[String],
@@ -101,10 +103,11 @@ fn attempt<R: Threads + Wait + Sync, I: Read, O: Write>(
     ensures answered { IfOk result (Answered (texts_of words.now) (I.remaining input.old)
         (O.contents output.old) (O.contents output.new)) }
     ensures usage { (result ≡ Err Fault.Usage) ↔ IsNoCommand (texts_of words.now) }
-    ensures refused { IfErr result (λ fault. fault_status fault ≡ 2
-        → IsShortOrRefused (texts_of words.now) (I.remaining input.old)
-        (O.contents output.old) (O.contents output.new)) }
-    ensures unwritten { IfErr result (λ fault. fault ≡ Fault.Usage
+    ensures refused { IfErr result (λ fault. (refusal : Error) → fault ≡ Fault.Refused refusal
+        → IsRefused (texts_of words.now) (I.remaining input.old) refusal) }
+    ensures short { IfErr result (λ fault. fault ≡ Fault.OutputShort
+        → HasAnswer (texts_of words.now) (I.remaining input.old)) }
+    ensures unwritten { IfErr result (λ fault. IsBeforeOutput fault
         → Keeps (O.contents output.old) (O.contents output.new)) }
     ensures unread { NeedNoInput (texts_of words.now)
         → Keeps (I.remaining input.old) (I.remaining input.new) }
@@ -113,7 +116,7 @@ fn attempt<R: Threads + Wait + Sync, I: Read, O: Write>(
     let answer = Answer::to(rt, alloc, &command, input)?;
     match write_lines(output, answer.lines()) {
         Ok(()) => Ok(answer.status()),
-        Err(error) => Err(Fault::of_stream(&error, Fault::Output)),
+        Err(error) => Err(Fault::of_stream(&error, Fault::OutputShort, Fault::Output)),
     }
 }
 

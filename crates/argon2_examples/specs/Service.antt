@@ -1,7 +1,7 @@
 -- What the service keeps of a password, and whom it lets in.
 use Rattle.std.specs.Prelude.{◌≡◌, ◌≤◌, ℕ, List, [], length}
 use Rattle.argon2.specs.ConfigType.{Config}
-use Rattle.argon2.specs.Standard.Rehash.{Agrees}
+use Rattle.argon2.specs.Stored.{Agrees}
 use Rattle.argon2.specs.Tag.{tag_of}
 use Rattle.argon2.specs.Text.{Spelled, spelled_of, text_of}
 

@@ -3,8 +3,8 @@
 ghost use Rattle.std.specs.Prelude.{◌≡◌, nat_lt};
 ghost use Rattle.argon2.specs.ConfigType.{Config};
 ghost use Rattle.argon2.specs.Grammar.{Spells, SpellsNothing};
-ghost use Rattle.argon2.specs.Standard.Stored.{IsStoredConfig};
-ghost use Rattle.argon2.specs.Standard.Verdict.{IsVerdict};
+ghost use Rattle.argon2.specs.Stored.{IsStoredConfig};
+ghost use Rattle.argon2.specs.Outcome.{IsVerdict};
 ghost use Rattle.argon2.specs.Text.{Spelled};
 
 use argon2::{Error, Result, verify_encoded_ext};

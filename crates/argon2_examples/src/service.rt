@@ -4,8 +4,8 @@ ghost use Rattle.std.specs.Prelude.{◌≡◌, ◌↔◌, [], IfOk, IsTrue, Matc
 ghost use Rattle.std.specs.String.{string_bytes};
 ghost use Rattle.argon2.specs.ConfigType.{Config};
 ghost use Rattle.argon2.specs.Grammar.{Spells, SpellsNothing};
-ghost use Rattle.argon2.specs.Standard.Rehash.{Differs};
-ghost use Rattle.argon2.specs.Standard.Stored.{IsStoredConfig};
+ghost use Rattle.argon2.specs.Stored.{Differs};
+ghost use Rattle.argon2.specs.Stored.{IsStoredConfig};
 ghost use Rattle.argon2.specs.Text.{Spelled};
 ghost use Rattle.argon2_examples.specs.Service.{IsTextOf, LetsIn};
 

@@ -1,32 +1,36 @@
 //! The first blocks of a memory, the fill of its slices, and the tag.
 
-ghost use Rattle.std.specs.Prelude.{◌≡◌, ℕ, ◌+◌, ◌-◌, ◌*◌, ◌%◌, ◌^◌, ◌<◌, ◌≤◌, [], IfErr, IfOk, IsOk, OnErr, OnOk, length, slice_index_or, true, vec_len};
+ghost use Rattle.std.specs.Prelude.{◌≡◌, ℕ, ◌+◌, ◌-◌, ◌*◌, ◌%◌, ◌^◌, ◌<◌, ◌≤◌, ◌++◌, [], IfErr, IfOk, IsOk, OnErr, OnOk, false, length, slice_index_or, true, vec_len};
+ghost use Rattle.std.specs.Int.{to_le_bytes, w32};
 ghost use Rattle.std.specs.List.{fold};
 ghost use Rattle.argon2_blocks.specs.Standard.Block.{xor, zero_block};
-ghost use Rattle.argon2_settings.specs.Standard.Outcome.{IsShortage};
-ghost use Rattle.argon2_settings.specs.Standard.ThreadModes.{may_lack_workers, uses_sequential};
-ghost use Rattle.argon2_settings.specs.Views.Contexts.{setting_of_context};
+ghost use Rattle.argon2_standard.specs.Standard.Outcome.{IsShortage};
+ghost use Rattle.argon2_standard.specs.Standard.ThreadModes.{may_lack_workers, uses_sequential};
+ghost use Rattle.argon2_memory.specs.Views.Jobs.{setting_of_context};
 ghost use Rattle.argon2_memory.specs.Views.Filling.{IsSnapshot, no_segment};
-ghost use Rattle.argon2_memory.specs.Laws.Matrix.{HoldsLastPass, IsBegun, matrix_with};
-ghost use Rattle.argon2_memory.specs.Views.Memories.{AreSlices, HasShape, IsFilledBelow, block_of, blocks_written, last_blocks_of, no_memory, slice_writes, writes, writes_in};
-ghost use Rattle.argon2_settings.specs.Standard.Recurrence.{first_block};
+ghost use Rattle.argon2_memory.specs.Standard.Kept.{HasShape, HoldsFill, HoldsLastPass, IsLeft, block_of, no_memory};
+ghost use Rattle.argon2_memory.specs.Laws.Matrix.{IsBegun, matrix_with};
+ghost use Rattle.argon2_memory.specs.Views.Memories.{AreSlices, IsFilledBelow, blocks_written, last_blocks_of, slice_writes, writes, writes_in};
+ghost use Rattle.argon2_standard.specs.Standard.Recurrence.{first_block};
 ghost use Rattle.argon2_memory.specs.Laws.Schedule.{blocks_in_slice};
 ghost use Rattle.argon2_memory.specs.Views.Segments.{IsReady, segment_at};
-ghost use Rattle.argon2_settings.specs.Standard.Setting.{memory_blocks};
+ghost use Rattle.argon2_standard.specs.Standard.Setting.{memory_blocks};
 ghost use Rattle.argon2_memory.specs.Views.SliceLists.{segments_of};
-ghost use Rattle.argon2_settings.specs.Standard.Tag.{tag_from, tag_of};
+ghost use Rattle.argon2_standard.specs.Standard.Tag.{tag_from, tag_of};
 
 use crate::walk::{numbered_slice, slice_count};
 use crate::workers::{NoGate, fill_parallel};
-use argon2_blocks::blake2b::hprime;
+use argon2_blocks::blake2b::{hprime, hprime_both};
 use argon2_blocks::block::Block;
+use argon2_blocks::common::{BLOCK_SIZE, PREHASH_DIGEST_LENGTH, PREHASH_SEED_LENGTH};
+use argon2_memory::job::{Job, prehash_of_job, recall_context, recall_job};
 use argon2_memory::memory::{
     Memory, Segment, Slices, memory_of_slices, others, recall_memory, take_slice, take_slices,
 };
 use argon2_memory::segment::{Snapshot, fill_segment};
-use argon2_settings::context::{Context, Job, recall_context, recall_job, write_first_blocks};
-use argon2_settings::error::Error;
-use argon2_settings::result::Result;
+use argon2_settings::context::Context;
+use argon2_standard::error::Error;
+use argon2_standard::result::Result;
 use std::alloc::Global;
 use std::marker::Sync;
 use std::sync::Wait;
@@ -67,6 +71,44 @@ pub fn initialize(context: &Context<'_>, memory: &mut Memory)
     for lane in 0..job.lanes() {
         write_first(&job, lane, memory);
     }
+}
+
+/// Writes what one of a lane's first two blocks is hashed from.
+fn first_input(prehash: &[u8; PREHASH_DIGEST_LENGTH], lane: u32, column: u32, out: &mut [u8])
+    requires { length out.old ≡ 72 }
+    ensures { out.new ≡ prehash.now ++ to_le_bytes w32 column ++ to_le_bytes w32 lane }
+{
+    let (head, rest) = out.split_at_mut(PREHASH_DIGEST_LENGTH);
+    let (middle, tail) = rest.split_at_mut(4);
+    head.copy_from_slice(prehash);
+    middle.copy_from_slice(&column.to_le_bytes());
+    tail.copy_from_slice(&lane.to_le_bytes());
+}
+
+/// Writes both of a lane's first two blocks (RFC 9106, 3.2, steps 3 and 4), which takes less time
+/// than one after the other.
+#[tactic(auto, unfolding(argon2_standard::specs::Standard::Recurrence::first_block))]
+pub fn write_first_blocks(job: &Job, lane: u32, first: &mut Block, second: &mut Block)
+    ensures first { first.new ≡ first_block job.now.setting
+        (record { pass = 0; lane = lane; column = 0 }) }
+    ensures second { second.new ≡ first_block job.now.setting
+        (record { pass = 0; lane = lane; column = 1 }) }
+{
+    let mut first_seed = [0; PREHASH_SEED_LENGTH];
+    let mut second_seed = [0; PREHASH_SEED_LENGTH];
+    let prehash = prehash_of_job(job);
+    first_input(&prehash, lane, 0, &mut first_seed);
+    first_input(&prehash, lane, 1, &mut second_seed);
+    let mut first_bytes = [0; BLOCK_SIZE];
+    let mut second_bytes = [0; BLOCK_SIZE];
+    hprime_both(
+        &mut first_bytes,
+        &mut second_bytes,
+        &first_seed,
+        &second_seed,
+    );
+    first.set_u8(&first_bytes);
+    second.set_u8(&second_bytes);
 }
 
 /// Writes a lane's first two blocks.
@@ -212,7 +254,7 @@ fn combine_last_blocks(memory: &Memory, lanes: u32, column: u32, out: &mut Block
 /// The hash of the last blocks of all lanes, combined (RFC 9106, 3.2, steps 7 and 8): the tag,
 /// where the memory is filled. The memory has the context's lanes and lane length. Where memory is
 /// refused: `OutOfMemory`.
-#[tactic(auto, unfolding(argon2_settings::specs::Standard::SettingsTable::refusal_of))]
+#[tactic(auto, unfolding(argon2_standard::specs::Standard::SettingsTable::refusal_of))]
 pub fn finalize(alloc: Global, context: &Context<'_>, memory: &Memory) -> Result<Vec<u8>>
     requires shape { HasShape (setting_of_context context.now) memory.now }
     ensures hash { IfOk result (λ tag. tag.items
@@ -233,4 +275,47 @@ pub fn finalize(alloc: Global, context: &Context<'_>, memory: &Memory) -> Result
     let mut tag = vec![in alloc; 0u8; context.config.hash_length as usize]?;
     hprime(&mut tag[..], &block.as_u8());
     Ok(tag)
+}
+
+/// The tag of an accepted call, computed over a memory in the thread mode of the configuration: all
+/// stages of a hash, one after another. Any memory serves. One with the context's lanes and lane
+/// length is used as it is, and any other gives its blocks back first and is made anew.
+///
+/// The memory then holds the blocks of this computation. Where memory is refused (`OutOfMemory`) or
+/// the start of a worker is (`WorkerRefused`), it may have no lanes.
+pub fn tag<R: Threads + Wait + Sync>(
+    rt: &R,
+    alloc: Global,
+    context: &Context<'_>,
+    memory: &mut Memory,
+) -> Result<Vec<u8>>
+    ensures tag { let c = context.now in
+        IfOk result (λ tag. tag.items ≡ tag_of c.pwd.now c.salt.now c.config c.config.hash_length) }
+    ensures length { IfOk result (λ tag. vec_len tag ≡ context.now.config.hash_length) }
+    ensures filled { OnOk result (HoldsFill (setting_of_context context.now) memory.new) }
+    ensures left { OnErr result (IsLeft (may_lack_workers context.now.config)
+        (setting_of_context context.now) memory.old memory.new) }
+    ensures refused { IfErr result (IsShortage (may_lack_workers context.now.config)) }
+{
+    prepare_memory(alloc, context, memory)?;
+    initialize(context, memory);
+    fill_memory_blocks(rt, alloc, context, memory)?;
+    finalize(alloc, context, memory)
+}
+
+/// The tag of an accepted call, computed over a memory in the caller's thread: as `tag` does it, but
+/// no worker is asked for, and blocks that fit are never lost.
+pub fn tag_sequential(alloc: Global, context: &Context<'_>, memory: &mut Memory) -> Result<Vec<u8>>
+    ensures tag { let c = context.now in
+        IfOk result (λ tag. tag.items ≡ tag_of c.pwd.now c.salt.now c.config c.config.hash_length) }
+    ensures length { IfOk result (λ tag. vec_len tag ≡ context.now.config.hash_length) }
+    ensures filled { OnOk result (HoldsFill (setting_of_context context.now) memory.new) }
+    ensures left { OnErr result (IsLeft false (setting_of_context context.now)
+        memory.old memory.new) }
+    ensures refused { IfErr result (IsShortage false) }
+{
+    prepare_memory(alloc, context, memory)?;
+    initialize(context, memory);
+    fill_sequential(context, memory);
+    finalize(alloc, context, memory)
 }

@@ -2,5 +2,6 @@
 #![tactic(auto)]
 
 pub mod fill;
+pub mod lent;
 mod walk;
 pub mod workers;

@@ -3,7 +3,7 @@
 ghost use Rattle.std.specs.Prelude.{◌≡◌, ◌*◌, ◌/◌, ◌%◌, ◌<◌};
 
 use argon2_blocks::common::SYNC_POINTS;
-use argon2_settings::context::{Job, recall_job};
+use argon2_memory::job::{Job, recall_job};
 
 /// How many slices a fill goes through: those of all passes.
 pub(crate) fn slice_count(job: &Job) -> u64

@@ -1,5 +1,5 @@
 mod blocks;
-mod hashes;
+mod lent;
 mod memory;
 mod orders;
 mod positions;

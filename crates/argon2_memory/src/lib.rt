@@ -1,5 +1,6 @@
-//! The matrix of a hash, its segments, and the fill of one segment.
+//! The job of a slice, the matrix of a hash, its segments, and the fill of one segment.
 #![tactic(auto)]
 
+pub mod job;
 pub mod memory;
 pub mod segment;

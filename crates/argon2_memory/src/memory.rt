@@ -8,9 +8,10 @@ mod slices;
 
 use argon2_blocks::block::Block;
 use argon2_blocks::common::SYNC_POINTS;
-use argon2_settings::error::Error;
-use argon2_settings::result::Result;
+use argon2_standard::error::Error;
+use argon2_standard::result::Result;
 pub use segment::{Segment, Source, recall_segment};
+pub(crate) use segment::{named_among, write_among};
 pub use slices::{Slices, others, take_slice};
 use slices::{ask_for_room, empty_slices, tally, zero_slice};
 use std::alloc::Global;

@@ -1,5 +1,3 @@
--- Settings that are accepted, and the jobs that follow.
+-- Settings that are accepted, and how long hashes are.
 pub mod Accepted
-pub mod Jobs
-pub mod Versions
 pub mod HashLengths

@@ -1,29 +1,23 @@
-//! The settings table, the inputs of an accepted call, and its job.
+//! The settings table, and the inputs of an accepted call with H0, the hash of them.
 
 ghost use Rattle.std.specs.Prelude.{◌≡◌, ◌*◌, ◌/◌, ◌^◌, ◌<◌, length, IsNone, IsOkAnd, MatchOption};
-ghost use Rattle.argon2_settings.specs.Views.Presets.{workers_of};
-ghost use Rattle.argon2_settings.specs.Standard.Prehash.{prehash_of};
-ghost use Rattle.argon2_settings.specs.Standard.SettingsTable.{refusal_of};
+ghost use Rattle.argon2_standard.specs.Views.Presets.{workers_of};
+ghost use Rattle.argon2_standard.specs.Standard.Prehash.{prehash_of};
+ghost use Rattle.argon2_standard.specs.Standard.SettingsTable.{refusal_of};
 
-mod inputs;
-mod job;
-mod recall;
-
-use crate::config::Config;
-use crate::error::Error;
-use crate::result::Result;
+use argon2_blocks::blake2b::blake2b;
 use argon2_blocks::common::{
     MAX_AD_LENGTH, MAX_HASH_LENGTH, MAX_LANES, MAX_PWD_LENGTH, MAX_SALT_LENGTH, MAX_SECRET_LENGTH,
     MIN_HASH_LENGTH, MIN_LANES, MIN_MEMORY, MIN_SALT_LENGTH, MIN_TIME, PREHASH_DIGEST_LENGTH,
     SYNC_POINTS,
 };
-use inputs::prehash;
-pub use job::{Job, recall_job, write_first_blocks};
-pub use recall::recall_context;
+use argon2_standard::config::Config;
+use argon2_standard::error::Error;
+use argon2_standard::result::Result;
 use std::fmt;
 
 /// The first refusal of the settings table for a password, a salt and a hash of these lengths.
-#[tactic(auto, unfolding(crate::specs::Standard::SettingsTable::refusal_of))]
+#[tactic(auto, unfolding(argon2_standard::specs::Standard::SettingsTable::refusal_of))]
 pub fn first_refusal(config: &Config, pwd_len: u64, salt_len: u64, hash_len: u64) -> Option<Error>
     ensures { result ≡ refusal_of config.now pwd_len salt_len hash_len }
 {
@@ -54,6 +48,46 @@ pub fn first_refusal(config: &Config, pwd_len: u64, salt_len: u64, hash_len: u64
     } else {
         None
     }
+}
+
+/// H0, the hash of all inputs (RFC 9106, 3.2, step 1).
+#[tactic(auto, unfolding(argon2_standard::specs::Standard::Prehash::prehash_of, argon2_standard::specs::Standard::SettingsTable::refusal_of))]
+fn prehash<'a>(config: &Config<'a>, pwd: &'a [u8], salt: &'a [u8]) -> [u8; PREHASH_DIGEST_LENGTH]
+    requires { IsNone (refusal_of config.now (length pwd.now)
+        (length salt.now) config.now.hash_length) }
+    ensures { result ≡ prehash_of pwd.now salt.now config.now config.now.hash_length }
+{
+    let lanes = config.lanes.to_le_bytes();
+    let hash_length = config.hash_length.to_le_bytes();
+    let mem_cost = config.mem_cost.to_le_bytes();
+    let time_cost = config.time_cost.to_le_bytes();
+    let version = config.version.as_u32().to_le_bytes();
+    let variant = config.variant.as_u32().to_le_bytes();
+    let pwd_length = (pwd.len() as u32).to_le_bytes();
+    let salt_length = (salt.len() as u32).to_le_bytes();
+    let secret_length = (config.secret.len() as u32).to_le_bytes();
+    let ad_length = (config.ad.len() as u32).to_le_bytes();
+    let mut out = [0; PREHASH_DIGEST_LENGTH];
+    blake2b(
+        &mut out,
+        &[
+            &lanes[..],
+            &hash_length[..],
+            &mem_cost[..],
+            &time_cost[..],
+            &version[..],
+            &variant[..],
+            &pwd_length[..],
+            pwd,
+            &salt_length[..],
+            salt,
+            &secret_length[..],
+            config.secret,
+            &ad_length[..],
+            config.ad,
+        ],
+    );
+    out
 }
 
 /// The accepted inputs of a call, the lengths that follow from them, and H0, the hash of all
@@ -94,7 +128,7 @@ impl<'a> Context<'a> {
 }
 
 /// The context of settings that were judged before and not refused.
-#[tactic(auto, unfolding(crate::specs::Standard::SettingsTable::refusal_of))]
+#[tactic(auto, unfolding(argon2_standard::specs::Standard::SettingsTable::refusal_of))]
 pub fn accepted_context<'a>(config: Config<'a>, pwd: &'a [u8], salt: &'a [u8]) -> Context<'a>
     requires { IsNone (refusal_of config (length pwd.now) (length salt.now) config.hash_length) }
     ensures config { result.config ≡ config.entry }
@@ -114,6 +148,14 @@ pub fn accepted_context<'a>(config: Config<'a>, pwd: &'a [u8], salt: &'a [u8]) -
         segment_length,
         prehash,
     }
+}
+
+/// H0 of a context. A function and no method, since `Context` is seen by users.
+pub fn prehash_of_context(context: &Context<'_>) -> [u8; PREHASH_DIGEST_LENGTH]
+    ensures { let c = context.now in
+        result ≡ prehash_of c.pwd.now c.salt.now c.config c.config.hash_length }
+{
+    context.prehash
 }
 
 /// How many workers fill a slice: at least one, and fewer than 2^24.

@@ -1,10 +1,4 @@
-//! The settings of a hash, the table that refuses some, the inputs of an accepted call and its job.
+//! The settings table, and the inputs of a call that it accepts.
 #![tactic(auto)]
 
-pub mod config;
 pub mod context;
-pub mod error;
-pub mod result;
-pub mod thread_mode;
-pub mod variant;
-pub mod version;

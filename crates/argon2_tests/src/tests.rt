@@ -1,8 +1,6 @@
-mod context;
+mod documentation;
 mod encoding;
-mod fill;
 mod permits;
 mod refused;
-mod rehash;
 mod settings;
 mod types;

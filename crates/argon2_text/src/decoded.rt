@@ -1,7 +1,7 @@
 //! What an encoded text spells.
 
-use argon2_settings::variant::Variant;
-use argon2_settings::version::Version;
+use argon2_standard::variant::Variant;
+use argon2_standard::version::Version;
 
 /// What an encoded text spells: all that a hash is verified with, except the password, the secret
 /// and the associated data.

@@ -3,23 +3,23 @@
 
 ghost use Rattle.std.specs.Prelude.{◌≡◌, IfErr, IfOk};
 ghost use Rattle.std.specs.String.{string_bytes};
-ghost use Rattle.argon2_text.specs.Standard.Grammar.{IsItem, Spells};
+ghost use Rattle.argon2_standard.specs.Standard.Grammar.{IsItem, Spells};
 ghost use Rattle.argon2_text.specs.Views.Faults.{IsSomeItem, Refuses};
-ghost use Rattle.argon2_text.specs.Standard.Text.{spelled_of, text_of};
+ghost use Rattle.argon2_standard.specs.Standard.Text.{spelled_of, text_of};
 ghost use Rattle.argon2_text.specs.Views.Texts.{spelled_by, spelled_with};
 
 mod items;
 mod lengths;
+mod letters;
 mod reading;
 
 use crate::decoded::Decoded;
-use argon2_settings::config::Config;
 use argon2_settings::context::Context;
-use argon2_settings::error::Error;
-use argon2_settings::result::Result;
-use base64::engine::general_purpose::STANDARD_NO_PAD;
-use items::bytes_of;
+use argon2_standard::config::Config;
+use argon2_standard::error::Error;
+use argon2_standard::result::Result;
 pub use items::item_len;
+use items::{bytes_of, push_item};
 pub use lengths::{base64_len, encoded_len, num_len};
 pub use reading::{Head, spelling_of};
 use std::alloc::Global;
@@ -44,9 +44,9 @@ pub fn encode_string(alloc: Global, context: &Context<'_>, hash: &[u8]) -> Resul
     let mut text = format!(in alloc;
         "${variant}$v={version}$m={mem_cost},t={time_cost},p={lanes}$"
     )?;
-    STANDARD_NO_PAD.encode_string(context.salt, &mut text)?;
+    push_item(&mut text, context.salt)?;
     text.push_str("$")?;
-    STANDARD_NO_PAD.encode_string(hash, &mut text)?;
+    push_item(&mut text, hash)?;
     Ok(text)
 }
 

@@ -1,15 +1,46 @@
-//! Replays outside vectors: reads a question from each line of standard input and prints its
-//! answer.
+//! Answers questions on public calls, one a line of standard input, so that rows of tests are data. A
+//! line is the name of a call and its words, with single blanks between them; docs/SOURCES.md says
+//! where the answers come from that this crate's `stdout` has.
 //!
 //! | Line | Answer |
 //! |---|---|
-//! | `tag VARIANT VERSION T M P LEN PASSWORD SALT SECRET DATA` | the tag in hexadecimal, or `ERR` and the refusal |
-//! | `text TEXT` | `true` or `false`, and the text as it is written anew; or `ERR` and the refusal |
+//! | `hash_raw INPUTS` | the tag in hexadecimal |
+//! | `hash_encoded INPUTS` | the text |
+//! | `verify_raw INPUTS HASH` | `true` or `false` |
+//! | `verify_encoded TEXT` | `true` or `false` for the password `password`, and the text as it is written anew |
+//! | `verify_encoded_ext PASSWORD SECRET DATA TEXT` | `true` or `false` |
+//! | `needs_rehash INPUTS TEXT` | `true` or `false` |
+//! | `decode_string TEXT` | what the text spells |
+//! | `encode_string INPUTS HASH` | the text of a hash |
+//! | `encoded_len VARIANT M T P SALT_LEN HASH_LEN`, `base64_len LEN`, `num_len NUMBER` | the length |
+//! | `first_refusal INPUTS PASSWORD_LEN SALT_LEN HASH_LEN` | `None`, or the refusal |
+//! | `Context::new INPUTS`, `Job::new INPUTS` | what is shown of it |
+//! | `fill_sequential INPUTS` | how many blocks are written before the fill, and by it |
+//! | `reference_positions INPUTS PASS SLICE LANE FIRST COUNT` | `LANE,COLUMN` of each |
+//! | `blake2b LENGTH PIECE..` | the hash in hexadecimal |
+//! | `hprime LENGTHS MESSAGE`, `hprime_both LENGTHS FIRST SECOND` | the hash, or both, cut into pieces of these lengths |
+//! | `Config::NAME` | the preset, and whether it uses one thread |
+//! | `ThreadMode::from_threads N`, `Variant::from_u32 N`, `Version::from_str WORD`, .. | the value and its names |
+//! | `Error NAME` | the refusal that `serde` reads from this name: its case, what `serde` writes, its text |
+//! | `common` | the constants |
+//! | `run INPUT WORDS`, `run/broken`, `run/full`, `run/without_memory`, `arguments`, `start` | see `program.rt` |
+//!
+//! INPUTS are `VARIANT VERSION T M P LEN MODE PASSWORD SALT SECRET DATA`. MODE is `seq`, `par`, `max`
+//! and a number, or `all`: then all thread modes, and the call that goes by no mode, have to give the
+//! same. Bytes are `-` for none, text behind a `'`, or hexadecimal (`words.rt`). TEXT is the rest of the line, or
+//! behind `hex` its bytes in hexadecimal. For a refusal the answer is `ERR` and its text.
 #![tactic(auto)]
 
+mod hashes;
+mod inputs;
+mod modes;
+mod program;
 mod question;
-mod tag;
-mod text;
+mod stages;
+mod streams;
+mod texts;
+mod types;
+mod words;
 
 use anyhow::{Context, Result};
 use question::answer;

@@ -3,9 +3,11 @@
 ghost use Rattle.std.specs.Prelude.{◌≡◌, ◌++◌, IfOk, codes, string_bytes};
 ghost use Rattle.argon2.specs.Messages.{message_of};
 
-use crate::tag::TagQuestion;
-use crate::text::answer_text;
-use anyhow::{Result, bail};
+use crate::inputs::Inputs;
+use crate::modes::Asked;
+use crate::words::Words;
+use crate::{hashes, program, stages, texts, types};
+use anyhow::Result;
 use std::alloc::Global;
 use std::marker::Sync;
 use std::sync::Wait;
@@ -13,10 +15,61 @@ use std::thread::Threads;
 
 /// The answer to a line.
 pub fn answer<R: Threads + Wait + Sync>(rt: &R, alloc: Global, line: &str) -> Result<String> {
-    match line.split_once(' ') {
-        Some(("tag", fields)) => TagQuestion::from_fields(alloc, fields)?.answer(rt, alloc),
-        Some(("text", encoded)) => answer_text(rt, alloc, encoded),
-        _ => bail!("it begins with neither `tag ` nor `text `"),
+    let (call, rest) = match line.split_once(' ') {
+        Some((call, rest)) => (call, Some(rest)),
+        None => (line, None),
+    };
+    let mut words = Words::new(rest);
+    let answered = match call {
+        "hash_raw" | "hash_encoded" | "verify_raw" => in_modes(rt, alloc, call, &mut words),
+        "verify_encoded" => texts::verdict_and_text(rt, alloc, words.text(alloc)?.as_str()),
+        "verify_encoded_ext" => texts::verdict(rt, alloc, &mut words),
+        "run" | "run/broken" | "run/full" | "run/without_memory" | "run/fails_once" | "start" => {
+            program::answer(rt, alloc, call, &mut words)
+        }
+        _ => answer_alone(alloc, call, &mut words),
+    }?;
+    words.end()?;
+    Ok(answered)
+}
+
+/// The answer of a call that may work in several threads.
+fn in_modes<R: Threads + Wait + Sync>(
+    rt: &R,
+    alloc: Global,
+    call: &str,
+    words: &mut Words<'_>,
+) -> Result<String> {
+    let inputs = Inputs::read(alloc, words)?;
+    match call {
+        "hash_raw" => Asked::Tag.answer(rt, alloc, &inputs),
+        "hash_encoded" => Asked::Text.answer(rt, alloc, &inputs),
+        _ => {
+            let hash = words.bytes(alloc)?;
+            Asked::Verdict(hash.as_slice()).answer(rt, alloc, &inputs)
+        }
+    }
+}
+
+/// The answer of a call that starts no worker.
+fn answer_alone(alloc: Global, call: &str, words: &mut Words<'_>) -> Result<String> {
+    match call {
+        "needs_rehash" => texts::rehash(alloc, words),
+        "decode_string" => texts::decoded(alloc, words),
+        "encode_string" => texts::encoded(alloc, words),
+        "encoded_len" => texts::text_length(alloc, words),
+        "base64_len" => texts::item_length(alloc, words),
+        "num_len" => texts::digits(alloc, words),
+        "first_refusal" => stages::refusal(alloc, words),
+        "Context::new" => stages::context(alloc, words),
+        "Job::new" => stages::job(alloc, words),
+        "fill_sequential" => stages::writes(alloc, words),
+        "reference_positions" => stages::positions(alloc, words),
+        "blake2b" => hashes::plain(alloc, words),
+        "hprime" => hashes::stretched(alloc, words),
+        "hprime_both" => hashes::both_stretched(alloc, words),
+        "arguments" => program::words_given(alloc, words),
+        _ => types::answer(alloc, call, words),
     }
 }
 
@@ -25,4 +78,28 @@ pub fn refused(alloc: Global, refusal: &argon2::Error) -> Result<String>
     ensures { IfOk result (λ text. string_bytes text ≡ codes "ERR " ++ message_of refusal.now) }
 {
     Ok(format!(in alloc; "ERR {refusal}")?)
+}
+
+/// How a tag is printed, or why there is none.
+pub fn told_bytes(alloc: Global, answer: argon2::Result<Vec<u8>>) -> Result<String> {
+    match answer {
+        Ok(tag) => Ok(hex::encode(alloc, tag.as_slice())?),
+        Err(refusal) => refused(alloc, &refusal),
+    }
+}
+
+/// How a text is printed, or why there is none.
+pub fn told_text(alloc: Global, answer: argon2::Result<String>) -> Result<String> {
+    match answer {
+        Ok(text) => Ok(text),
+        Err(refusal) => refused(alloc, &refusal),
+    }
+}
+
+/// How a verdict is printed, or why there is none.
+pub fn told_verdict(alloc: Global, answer: argon2::Result<bool>) -> Result<String> {
+    match answer {
+        Ok(verdict) => Ok(format!(in alloc; "{verdict}")?),
+        Err(refusal) => refused(alloc, &refusal),
+    }
 }

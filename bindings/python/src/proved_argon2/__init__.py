@@ -10,6 +10,7 @@
 is raised.
 """
 from . import exceptions, low_level, profiles
+from ._legacy import hash_password, hash_password_raw, verify_password
 from ._parameters import Parameters, extract_parameters
 from ._password_hasher import (
     DEFAULT_HASH_LENGTH,
@@ -34,6 +35,9 @@ __all__ = [
     "Type",
     "exceptions",
     "extract_parameters",
+    "hash_password",
+    "hash_password_raw",
     "low_level",
     "profiles",
+    "verify_password",
 ]

@@ -3,13 +3,17 @@ from dataclasses import dataclass
 from typing import Union
 
 from ._library import Refused, read
-from .exceptions import InvalidHashError
-from .low_level import Type, spells_nothing
+from .low_level import Type, reading_error
 
 
-@dataclass(frozen=True)
+@dataclass
 class Parameters:
-    """The settings of a hash: lengths in bytes, and memory in KiB."""
+    """The settings of a hash: lengths in bytes, and memory in KiB.
+
+    They can be changed, as those of argon2-cffi: Django sets the length of the salt.
+    """
+
+    __slots__ = ("type", "version", "salt_len", "hash_len", "time_cost", "memory_cost", "parallelism")
 
     type: Type
     version: int
@@ -21,7 +25,8 @@ class Parameters:
 
 
 def extract_parameters(hash: Union[str, bytes]) -> Parameters:
-    """What a text spells. It raises `InvalidHashError` where that is nothing, and verifies nothing.
+    """What a text spells. It raises `InvalidHashError` where that is nothing, `MemoryError` where there is no memory
+    to read it, and verifies nothing.
 
     A text without a version is of version 16, which is 0x10.
     """
@@ -29,9 +34,7 @@ def extract_parameters(hash: Union[str, bytes]) -> Parameters:
     try:
         stored = read(text)
     except Refused as refused:
-        if spells_nothing(refused):
-            raise InvalidHashError(str(refused)) from None
-        raise MemoryError from None
+        raise reading_error(refused) from None
     settings = stored.settings
     return Parameters(
         type=Type(settings.variant),

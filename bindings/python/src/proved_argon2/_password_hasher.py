@@ -3,7 +3,7 @@ import os
 from typing import Literal, Optional, Union
 
 from ._parameters import Parameters, extract_parameters
-from .exceptions import InvalidHashError, VerificationError
+from .exceptions import Argon2Error, InvalidHashError, VerificationError
 from .low_level import ARGON2_VERSION, Type, hash_secret, verify_secret
 from .profiles import RFC_9106_LOW_MEMORY
 
@@ -45,9 +45,13 @@ class PasswordHasher:
             "encoding": (encoding, str),
             "type": (type, Type),
         }
-        for name, (value, wanted) in settings.items():
-            if not isinstance(value, wanted):
-                raise TypeError(f"'{name}' must be {wanted.__name__}, not {value.__class__.__name__}")
+        wrong = [
+            f"'{name}' must be {wanted.__name__}, not {value.__class__.__name__}"
+            for name, (value, wanted) in settings.items()
+            if not isinstance(value, wanted)
+        ]
+        if wrong:
+            raise TypeError(", ".join(wrong))
         self._parameters = Parameters(
             type=type,
             version=ARGON2_VERSION,
@@ -143,9 +147,15 @@ class PasswordHasher:
             if text.startswith(_BEGINNINGS):
                 raise VerificationError(str(error)) from None
             raise
+        except (Argon2Error, MemoryError) as error:
+            raise VerificationError(str(error)) from None
 
     def _password_bytes(self, password: Union[str, bytes]) -> bytes:
-        return password.encode(self.encoding) if isinstance(password, str) else password
+        if isinstance(password, str):
+            return password.encode(self.encoding)
+        if not isinstance(password, bytes):
+            raise TypeError(f"'password' must be str or bytes, not {password.__class__.__name__}")
+        return password
 
     @staticmethod
     def _text_bytes(hash: Union[str, bytes]) -> bytes:

@@ -22,3 +22,7 @@ class InvalidHashError(ValueError):
 
 
 InvalidHash = InvalidHashError
+
+
+class UnsupportedParametersError(ValueError):
+    """The settings cannot be used on this machine. Never raised: each machine of the library has all of them."""

@@ -12,6 +12,7 @@ from ._library import (
     MAX_NUMBER,
     MISMATCH,
     NOT_UTF8,
+    OUT_OF_MEMORY,
     Refused,
     Settings,
     hash_encoded,
@@ -20,7 +21,7 @@ from ._library import (
     read,
     verify_encoded,
 )
-from .exceptions import HashingError, VerificationError, VerifyMismatchError
+from .exceptions import Argon2Error, HashingError, InvalidHashError, VerificationError, VerifyMismatchError
 
 ARGON2_VERSION = 19
 """The version of RFC 9106, 0x13."""
@@ -121,6 +122,9 @@ def verify_secret(
     try:
         if read(hash).settings.variant != Type(type).value:
             raise Refused(DECODING_FAIL)
+    except Refused as refused:
+        raise VerificationError(str(refused)) from None
+    try:
         verify_encoded(hash, secret, key, associated_data)
     except Refused as refused:
         error = VerifyMismatchError if refused.number == MISMATCH else VerificationError
@@ -133,6 +137,8 @@ def error_to_str(error: int) -> str:
     return message(error)
 
 
-def spells_nothing(refused: Refused) -> bool:
-    """Whether a text was refused as one that spells no hash."""
-    return refused.number in (DECODING_FAIL, NOT_UTF8)
+def reading_error(refused: Refused) -> Exception:
+    """What is raised where a text is read and refused: it spells no hash, or there is no memory to read it."""
+    if refused.number in (DECODING_FAIL, NOT_UTF8):
+        return InvalidHashError(str(refused))
+    return MemoryError(str(refused)) if refused.number == OUT_OF_MEMORY else Argon2Error(str(refused))

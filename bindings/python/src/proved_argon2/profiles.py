@@ -4,10 +4,19 @@
 after another, so that settings with one lane take the same time: `OWASP` are those of OWASP's Password
 Storage Cheat Sheet.
 """
+from dataclasses import replace
+
 from ._parameters import Parameters
 from .low_level import Type
 
-__all__ = ["CHEAPEST", "OWASP", "PRE_21_2", "RFC_9106_HIGH_MEMORY", "RFC_9106_LOW_MEMORY"]
+__all__ = [
+    "CHEAPEST",
+    "OWASP",
+    "PRE_21_2",
+    "RFC_9106_HIGH_MEMORY",
+    "RFC_9106_LOW_MEMORY",
+    "get_default_parameters",
+]
 
 #: RFC 9106's first choice: 1 pass over 2 GiB in 4 lanes.
 RFC_9106_HIGH_MEMORY = Parameters(
@@ -33,3 +42,8 @@ PRE_21_2 = Parameters(
 CHEAPEST = Parameters(
     type=Type.ID, version=19, salt_len=8, hash_len=4, time_cost=1, memory_cost=8, parallelism=1
 )
+
+
+def get_default_parameters() -> Parameters:
+    """The settings of `PasswordHasher()`, to change: `RFC_9106_LOW_MEMORY`."""
+    return replace(RFC_9106_LOW_MEMORY)

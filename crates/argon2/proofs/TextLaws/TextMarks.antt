@@ -3,10 +3,10 @@ use Rattle.std.proofs.Common.{◌≡◌, ℕ, ◌+◌, ◌==◌, cond, ◌⊎◌
 use Rattle.std.specs.Prelude.{codes, count_by, IfSome}
 use Rattle.std.proofs.lemmas.Bool.{ne_eqb}
 use Rattle.std.proofs.lemmas.List.Sums.{sum_by-append, sum_by-cons}
-use Rattle.argon2_text.specs.Standard.Grammar.{Pieces, Lacks, text_of_pieces, version_part}
+use Rattle.argon2_standard.specs.Standard.Grammar.{Pieces, Lacks, text_of_pieces, version_part}
 use Rattle.argon2.specs.Laws.Texts.{HeadHasItems}
 use Rattle.argon2_text.proofs.Reading.TextNumbers.{number_lacks}
-use Rattle.argon2_text.proofs.Reading.TextHeads.{head_clean}
+use Rattle.argon2_text.proofs.Reading.TextHeads.{head_clean, split_of}
 use Rattle.argon2_text.proofs.Reading.TextPieces.{IsClean}
 
 -- how many `$` stand in a text
@@ -44,19 +44,19 @@ unfolding text_of_pieces
 joined-behind p = refl
 
 -- the text of clean pieces holds four `$` and those of its version part
-marks-joined : (p : Pieces) → IsClean p → Lacks 36 p.memory → Lacks 36 p.time → marks (text_of_pieces p) ≡ 4 + marks (version_part p.version)
+marks-joined : (p : Pieces) → IsClean p → Lacks 36 p.memory → Lacks 36 p.time → Lacks 36 p.hash → marks (text_of_pieces p) ≡ 4 + marks (version_part p.version)
 unfolding text_of_pieces
-marks-joined p clean memory time =
+marks-joined p clean memory time hash =
     marks_between p.name (version_part p.version) p.memory p.time p.lanes p.salt p.hash (marks_none p.name clean.name) (marks_none p.memory memory)
-    (marks_none p.time time) (marks_none p.lanes clean.lanes) (marks_none p.salt clean.salt) (marks_none p.hash clean.hash)
+    (marks_none p.time time) (marks_none p.lanes clean.lanes) (marks_none p.salt clean.salt) (marks_none p.hash hash)
 
 -- a text with a spelled head begins with a `$` and holds four or five of them
 pub head_has_items : HeadHasItems
 head_has_items text (p, d, cut, head) =
-    let clean = head_clean text p d cut head in
+    let clean = head_clean text p d (split_of text p cut) head in
     let memory : Lacks 36 p.memory = number_lacks 36 p.memory d.mem_cost (λ h. omega arith) (λ h. omega arith) head.memory in
     let time : Lacks 36 p.time = number_lacks 36 p.time d.time_cost (λ h. omega arith) (λ h. omega arith) head.time in
-    let count : marks text ≡ 4 + marks (version_part p.version) = ap marks cut.whole ∙ marks-joined p clean memory time in
+    let count : marks text ≡ 4 + marks (version_part p.version) = ap marks cut.whole ∙ marks-joined p clean memory time cut.hash in
     record {
       behind = behind p;
       begins = cut.whole ∙ joined-behind p;

@@ -1,17 +1,17 @@
 -- A text spells at most one value.
 use Rattle.std.proofs.Common.{◌≡◌, ℕ, ◌+◌, List, get_or, Option, Some, None, refl, sym, ap, subst, ◌∙◌, arith, inl, inr}
-use Rattle.argon2_settings.specs.declared.variant.Variant.{Variant}
-use Rattle.argon2_settings.specs.declared.variant.Variant.TheVariants.{Argon2d, Argon2i, Argon2id}
-use Rattle.argon2_settings.specs.declared.version.Version.{Version}
-use Rattle.argon2_settings.specs.declared.version.Version.TheVariants.{Version10, Version13}
-use Rattle.argon2_settings.specs.Standard.Variant.{IsName, lowercase_name, uppercase_name}
-use Rattle.argon2_settings.specs.Standard.Version.{version_text}
-use Rattle.argon2_text.specs.Standard.Text.{Spelled}
-use Rattle.argon2_text.specs.Standard.Grammar.{IsHead, IsItem, IsVersion, Pieces}
+use Rattle.argon2_standard.specs.declared.variant.Variant.{Variant}
+use Rattle.argon2_standard.specs.declared.variant.Variant.TheVariants.{Argon2d, Argon2i, Argon2id}
+use Rattle.argon2_standard.specs.declared.version.Version.{Version}
+use Rattle.argon2_standard.specs.declared.version.Version.TheVariants.{Version10, Version13}
+use Rattle.argon2_standard.specs.Standard.Variant.{IsName, lowercase_name, uppercase_name}
+use Rattle.argon2_standard.specs.Standard.Version.{version_text}
+use Rattle.argon2_standard.specs.Standard.Text.{Spelled}
+use Rattle.argon2_standard.specs.Standard.Grammar.{IsHead, IsItem, IsVersion, Pieces}
 use Rattle.argon2.specs.Laws.Texts.{SpellsOne}
 use Rattle.argon2_text.proofs.Reading.TextNumbers.{number_unique}
 use Rattle.argon2_text.proofs.Reading.TextItems.{item_unique}
-use Rattle.argon2_text.proofs.Reading.TextHeads.{pieces_unique}
+use Rattle.argon2_text.proofs.Reading.TextHeads.{pieces_unique, split_of}
 
 -- what follows the number 2 in a name tells the variant
 abbrev ending : List ℕ → ℕ
@@ -91,7 +91,7 @@ same_value d e variant version mem_cost time_cost parallelism salt hash =
 -- a text spells at most one value
 pub spells_one : SpellsOne
 spells_one text d e s t =
-    let same : s.pieces ≡ t.pieces = pieces_unique text s.pieces t.pieces d e s.cut s.head t.cut t.head in
+    let same : s.pieces ≡ t.pieces = pieces_unique text s.pieces t.pieces d e (split_of text s.pieces s.cut) s.head (split_of text t.pieces t.cut) t.head in
     let head : IsHead t.pieces d = subst (λ (p : Pieces). IsHead p d) same s.head in
     let salt : IsItem t.pieces.salt d.salt = subst (λ (p : Pieces). IsItem p.salt d.salt) same s.salt in
     let hash : IsItem t.pieces.hash d.hash = subst (λ (p : Pieces). IsItem p.hash d.hash) same s.hash in

@@ -1,8 +1,8 @@
 -- A hashed text verifies.
 use Rattle.std.proofs.Common.{refl}
-use Rattle.argon2_text.specs.Standard.Text.{Spelled, spelled_of}
-use Rattle.argon2.specs.Standard.Stored.{IsStoredConfig}
-use Rattle.argon2_settings.specs.Standard.Tag.{tag_of}
+use Rattle.argon2_standard.specs.Standard.Text.{Spelled, spelled_of}
+use Rattle.argon2_standard.specs.Standard.Stored.{IsStoredConfig}
+use Rattle.argon2_standard.specs.Standard.Tag.{tag_of}
 use Rattle.argon2.specs.Laws.Texts.{HashedTextVerifies}
 use Rattle.argon2.proofs.Verification.HashBytes.{tag_is_bytes}
 use Rattle.argon2.proofs.Verification.StoredTexts.{verdict-same}

@@ -8,10 +8,10 @@ use Rattle.std.proofs.lemmas.Bool.{and_parts}
 use Rattle.std.proofs.lemmas.Fmt.{decimal_is_IsNumeral, decimal_digit, decimal_step}
 use Rattle.base64.specs.Rfc4648.{encode_symbols}
 use Rattle.base64.specs.GeneralPurpose.{IsBytes}
-use Rattle.argon2_settings.specs.Standard.Variant.{lowercase_name}
-use Rattle.argon2_settings.specs.Standard.Version.{version_text}
-use Rattle.argon2_text.specs.Standard.Text.{Spelled, base64, text_of}
-use Rattle.argon2_text.specs.Standard.Grammar.{IsNumber, Pieces, text_of_pieces}
+use Rattle.argon2_standard.specs.Standard.Variant.{lowercase_name}
+use Rattle.argon2_standard.specs.Standard.Version.{version_text}
+use Rattle.argon2_standard.specs.Standard.Text.{Spelled, base64, text_of}
+use Rattle.argon2_standard.specs.Standard.Grammar.{IsNumber, Pieces, text_of_pieces}
 use Rattle.argon2.specs.Laws.Texts.{IsJoinedItems, SpellsExample, SpellsOwnValue, WritesExample, example_value}
 use Rattle.argon2_text.proofs.Reading.TextItems.{base64_lacks}
 use Rattle.argon2_text.proofs.Reading.TextCuts.{any_lacks}

@@ -6,8 +6,8 @@ use Rattle.argon2_blocks.specs.Standard.Word.{bytes_of}
 use Rattle.argon2_blocks.specs.Standard.Blake2b.{blake2b, compress_f, last_block, message_words, state_after}
 use Rattle.argon2_blocks.specs.Standard.Hprime.{chain_length, hash_chain, hprime}
 use Rattle.argon2_blocks.proofs.Hashing.Chain.{hprime-hash_chain}
-use Rattle.argon2_settings.specs.declared.config.Config.{Config}
-use Rattle.argon2_settings.specs.Standard.Tag.{tag_from, tag_of}
+use Rattle.argon2_standard.specs.declared.config.Config.{Config}
+use Rattle.argon2_standard.specs.Standard.Tag.{tag_from, tag_of}
 use Rattle.argon2_text.proofs.Reading.TextItems.{both_bytes, take_bytes}
 
 -- the empty list is bytes

@@ -4,26 +4,26 @@ use Rattle.std.proofs.Common.{sym, ap, subst, ◌∙◌, arith, inl, inr}
 use Rattle.std.specs.Prelude.{◌↔◌, IsNone, IsTrue, IfOk, IfErr}
 use Rattle.std.proofs.Math.Nat.{min-eq_left}
 use Rattle.std.proofs.lemmas.Bool.{cases_Bool, ltb-true, ne_eqb}
-use Rattle.argon2_settings.specs.declared.config.Config.{Config}
-use Rattle.argon2_settings.specs.declared.error.Error.{Error}
-use Rattle.argon2_settings.specs.declared.error.Error.TheVariants.{DecodingFail, OutOfMemory}
+use Rattle.argon2_standard.specs.declared.config.Config.{Config}
+use Rattle.argon2_standard.specs.declared.error.Error.{Error}
+use Rattle.argon2_standard.specs.declared.error.Error.TheVariants.{DecodingFail, OutOfMemory}
 use Rattle.argon2_text.specs.declared.decoded.Decoded.{Decoded}
 use Rattle.argon2_text.specs.declared.encoding.reading.Head.{Head}
-use Rattle.argon2_settings.specs.declared.thread_mode.ThreadMode.{ThreadMode}
-use Rattle.argon2_settings.specs.declared.thread_mode.ThreadMode.TheVariants.{AtMost, Sequential}
-use Rattle.argon2_settings.specs.Standard.Outcome.{IsOutcome}
-use Rattle.argon2_settings.specs.Standard.ThreadModes.{fills_alone, may_lack_workers}
-use Rattle.argon2_text.specs.Standard.Grammar.{IsItem, Spells, SpellsNothing}
+use Rattle.argon2_standard.specs.declared.thread_mode.ThreadMode.{ThreadMode}
+use Rattle.argon2_standard.specs.declared.thread_mode.ThreadMode.TheVariants.{AtMost, Sequential}
+use Rattle.argon2_standard.specs.Standard.Outcome.{IsOutcome}
+use Rattle.argon2_standard.specs.Standard.ThreadModes.{fills_alone, may_lack_workers}
+use Rattle.argon2_standard.specs.Standard.Grammar.{IsItem, Spells, SpellsNothing}
 use Rattle.argon2_text.specs.Views.Faults.{Refuses}
-use Rattle.argon2_settings.specs.Standard.Prehash.{prehash_of, setting_of}
-use Rattle.argon2.specs.Standard.Rehash.{Agrees, Differs}
-use Rattle.argon2_settings.specs.Standard.SettingsTable.{refusal_of}
+use Rattle.argon2_standard.specs.Standard.Prehash.{prehash_of, setting_of}
+use Rattle.argon2_standard.specs.Standard.Stored.{Agrees, Differs}
+use Rattle.argon2_standard.specs.Standard.SettingsTable.{refusal_of}
 use Rattle.argon2.specs.Views.StoredTexts.{IsAccepted, IsConfigOf, max_workers}
-use Rattle.argon2.specs.Standard.Stored.{IsStoredConfig}
-use Rattle.argon2_settings.specs.Standard.Tag.{tag_of}
-use Rattle.argon2_text.specs.Standard.Text.{Spelled}
+use Rattle.argon2_standard.specs.Standard.Stored.{IsStoredConfig}
+use Rattle.argon2_standard.specs.Standard.Tag.{tag_of}
+use Rattle.argon2_standard.specs.Standard.Text.{Spelled}
 use Rattle.argon2_text.specs.Views.Texts.{IsSpellingOf, spelled_by, spelled_with}
-use Rattle.argon2.specs.Standard.Verdict.{IsVerdict}
+use Rattle.argon2_standard.specs.Standard.Outcome.{IsVerdict}
 use Rattle.argon2_settings.proofs.Settings.Accepted.{hash_fits}
 use Rattle.argon2_text.proofs.Reading.TextItems.{item_unique}
 use Rattle.argon2.proofs.TextLaws.TextSpellings.{spells_one}
@@ -69,13 +69,18 @@ workers_flag mode lanes is = elim (cases_Bool (nat_lt 1 lanes)) [
   | inr one ↦ rw (is, one) refl
 ]
 
+-- and so does the configuration that a text's value is verified with
+pub stored_workers : (stored : Decoded) (secret ad : List ℕ) (used : Config) → IsConfigOf (spelled_by stored) secret ad used
+    → may_lack_workers used ≡ nat_lt 1 stored.parallelism
+stored_workers stored secret ad used used_is =
+    ap (λ n. not (fills_alone used.thread_mode n)) used_is.stored.lanes ∙ workers_flag used.thread_mode stored.parallelism used_is.thread_mode
+
 -- the verdict of the configuration that a text's value is verified with is that of the text
 pub stored_verdict : (stored : Decoded) (d : Spelled) (pwd secret ad : List ℕ) (used config : Config) (answer : Result Bool Error) → spelled_by stored ≡ d
     → IsConfigOf (spelled_by stored) secret ad used → IsStoredConfig d secret ad config
     → IsVerdict pwd stored.salt.items stored.hash.items used (may_lack_workers used) answer → IsVerdict pwd d.salt d.hash config (nat_lt 1 d.parallelism) answer
 stored_verdict stored d pwd secret ad used config answer same used_is config_is verdict =
-    let flag : may_lack_workers used ≡ nat_lt 1 stored.parallelism =
-    ap (λ n. not (fills_alone used.thread_mode n)) used_is.stored.lanes ∙ workers_flag used.thread_mode stored.parallelism used_is.thread_mode in
+    let flag = stored_workers stored secret ad used used_is in
     let here = subst (λ (v : Spelled). IsStoredConfig v secret ad config) (sym same) config_is in
     let told = verdict-same (spelled_by stored) pwd secret ad used config (nat_lt 1 stored.parallelism) answer used_is.stored here (rw flag at verdict) in
     subst (λ (v : Spelled). IsVerdict pwd v.salt v.hash config (nat_lt 1 v.parallelism) answer) same told

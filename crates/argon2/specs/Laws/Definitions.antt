@@ -1,15 +1,15 @@
 -- Laws of the blocks, the tag and the verdict.
 use Rattle.std.specs.Prelude.{◌≡◌, ℕ, List, length, None, Result, Bool, IsTrue, MatchResult}
-use Rattle.argon2_settings.specs.declared.config.Config.{Config}
-use Rattle.argon2_settings.specs.declared.error.Error.{Error}
-use Rattle.argon2_settings.specs.declared.thread_mode.ThreadMode.{ThreadMode}
-use Rattle.argon2_settings.specs.Standard.Outcome.{IsShortage}
-use Rattle.argon2_settings.specs.Standard.Setting.{Setting, Position}
-use Rattle.argon2_settings.specs.Views.Jobs.{IsSetting, IsPosition}
-use Rattle.argon2_settings.specs.Standard.SettingsTable.{refusal_of}
-use Rattle.argon2_settings.specs.Standard.Recurrence.{Blocks, recurrence, block_at}
-use Rattle.argon2_settings.specs.Standard.Tag.{tag_of}
-use Rattle.argon2.specs.Standard.Verdict.{IsVerdict}
+use Rattle.argon2_standard.specs.declared.config.Config.{Config}
+use Rattle.argon2_standard.specs.declared.error.Error.{Error}
+use Rattle.argon2_standard.specs.declared.thread_mode.ThreadMode.{ThreadMode}
+use Rattle.argon2_standard.specs.Standard.Outcome.{IsShortage}
+use Rattle.argon2_standard.specs.Standard.Setting.{Setting, Position}
+use Rattle.argon2_memory.specs.Views.Jobs.{IsSetting, IsPosition}
+use Rattle.argon2_standard.specs.Standard.SettingsTable.{refusal_of}
+use Rattle.argon2_standard.specs.Standard.Recurrence.{Blocks, recurrence, block_at}
+use Rattle.argon2_standard.specs.Standard.Tag.{tag_of}
+use Rattle.argon2_standard.specs.Standard.Outcome.{IsVerdict}
 
 -- the blocks meet the recurrence at each place
 abbrev pub MeetsRecurrence : Type 0

@@ -3,20 +3,20 @@ use Rattle.std.specs.Prelude.{◌≡◌, ◌⊎◌, ℕ, ◌==◌, ◌<◌, ◌^
 use Rattle.std.specs.Fmt.{decimal}
 use Rattle.std.specs.List.{join_with_byte}
 use Rattle.base64.specs.GeneralPurpose.{IsBytes}
-use Rattle.argon2_settings.specs.declared.config.Config.{Config}
-use Rattle.argon2_settings.specs.declared.error.Error.{Error}
-use Rattle.argon2_settings.specs.declared.variant.Variant.TheVariants.{Argon2i}
-use Rattle.argon2_settings.specs.declared.version.Version.TheVariants.{Version10}
-use Rattle.argon2_settings.specs.Standard.Outcome.{IsShortage}
-use Rattle.argon2_settings.specs.Standard.SettingsTable.{refusal_of}
-use Rattle.argon2.specs.Standard.Stored.{IsStoredConfig}
-use Rattle.argon2_settings.specs.Standard.Tag.{tag_of}
-use Rattle.argon2_settings.specs.Standard.Variant.{lowercase_name}
-use Rattle.argon2.specs.Standard.Verdict.{IsVerdict}
-use Rattle.argon2_settings.specs.Standard.Version.{version_text}
-use Rattle.argon2_text.specs.Standard.Text.{Spelled, base64, spelled_of, text_of}
+use Rattle.argon2_standard.specs.declared.config.Config.{Config}
+use Rattle.argon2_standard.specs.declared.error.Error.{Error}
+use Rattle.argon2_standard.specs.declared.variant.Variant.TheVariants.{Argon2i}
+use Rattle.argon2_standard.specs.declared.version.Version.TheVariants.{Version10}
+use Rattle.argon2_standard.specs.Standard.Outcome.{IsShortage}
+use Rattle.argon2_standard.specs.Standard.SettingsTable.{refusal_of}
+use Rattle.argon2_standard.specs.Standard.Stored.{IsStoredConfig}
+use Rattle.argon2_standard.specs.Standard.Tag.{tag_of}
+use Rattle.argon2_standard.specs.Standard.Variant.{lowercase_name}
+use Rattle.argon2_standard.specs.Standard.Outcome.{IsVerdict}
+use Rattle.argon2_standard.specs.Standard.Version.{version_text}
+use Rattle.argon2_standard.specs.Standard.Text.{Spelled, base64, spelled_of, text_of}
 use Rattle.argon2_text.specs.Views.Faults.{HasHead, comma}
-use Rattle.argon2_text.specs.Standard.Grammar.{Spells, dollar}
+use Rattle.argon2_standard.specs.Standard.Grammar.{Spells, dollar}
 
 -- a text spells at most one value
 abbrev pub SpellsOne : Type 0

@@ -1,10 +1,10 @@
 -- The configuration that a stored text is verified with.
 use Rattle.std.specs.Prelude.{◌≡◌, ℕ, List, None, length, min, nat_lt, if◌then◌else◌}
-use Rattle.argon2_settings.specs.declared.config.Config.{Config}
-use Rattle.argon2_settings.specs.declared.thread_mode.ThreadMode.TheVariants.{AtMost, Sequential}
-use Rattle.argon2_settings.specs.Standard.SettingsTable.{max_length, refusal_of}
-use Rattle.argon2_text.specs.Standard.Text.{Spelled}
-use Rattle.argon2.specs.Standard.Stored.{IsStoredConfig}
+use Rattle.argon2_standard.specs.declared.config.Config.{Config}
+use Rattle.argon2_standard.specs.declared.thread_mode.ThreadMode.TheVariants.{AtMost, Sequential}
+use Rattle.argon2_standard.specs.Standard.SettingsTable.{max_length, refusal_of}
+use Rattle.argon2_standard.specs.Standard.Text.{Spelled}
+use Rattle.argon2_standard.specs.Standard.Stored.{IsStoredConfig}
 
 -- the settings table refuses none of the text's settings for a password of this length
 abbrev pub IsAccepted : Spelled → ℕ → List ℕ → List ℕ → Type 0

@@ -3,6 +3,7 @@
 
 ghost use Rattle.argon2_memory.specs.Laws.AnyOrder.{EveryOrderAgrees, NoEntryReadsOthers, PicksHoldTheirBlocks};
 ghost use Rattle.argon2.specs.Laws.Definitions.{IsOnlySolution, LengthIsTheHash, MeetsRecurrence, OwnTagVerifies, TagForgetsMode};
+ghost use Rattle.argon2.specs.Laws.KnownAnswers.{DrawsWord, FirstPass, FirstPassFirstIndex, FirstPassOtherLane, FirstSlice, LaterPass, LaterPassFirstIndex, LaterPassLastSlice, LaterPassOtherLane, PicksEnds};
 ghost use Rattle.argon2.specs.Laws.Texts.{HashedTextVerifies, HeadHasItems, IsJoinedItems, SpellsExample, SpellsOne, SpellsOwnValue, WritesExample};
 
 /// The blocks that the contracts speak of meet the recurrence at every place (RFC 9106, 3.2), and
@@ -37,4 +38,23 @@ pub fn laws()
     ensures marks { HeadHasItems }
     ensures written { WritesExample }
     ensures spelled { SpellsExample }
+{}
+
+/// The definitions give what is known from outside: which blocks may be referred to in each case of RFC
+/// 9106, 3.4.2 (the first slice, the first pass and a later one, the own lane and another one, the
+/// first index of a segment), which of them the least and the greatest word pick, and a word that is
+/// drawn from no block (3.4.1.2).
+///
+/// It does nothing when it runs. Its contract states the values, and the checker computes them.
+pub fn known_answers()
+    ensures first_slice { FirstSlice }
+    ensures first_pass { FirstPass }
+    ensures first_pass_other_lane { FirstPassOtherLane }
+    ensures first_pass_first_index { FirstPassFirstIndex }
+    ensures later_pass { LaterPass }
+    ensures later_pass_last_slice { LaterPassLastSlice }
+    ensures later_pass_other_lane { LaterPassOtherLane }
+    ensures later_pass_first_index { LaterPassFirstIndex }
+    ensures picks_ends { PicksEnds }
+    ensures draws_word { DrawsWord }
 {}

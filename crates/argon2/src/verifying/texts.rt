@@ -1,15 +1,16 @@
 //! Verifying a password against a stored text.
 
-ghost use Rattle.std.specs.Prelude.{◌≡◌, ℕ, List, [], IfOk, IsNone, false, length, nat_lt};
-ghost use Rattle.argon2_settings.specs.Standard.Outcome.{IsOutcome};
-ghost use Rattle.argon2_settings.specs.Standard.SettingsTable.{refusal_of};
-ghost use Rattle.argon2_settings.specs.declared.config.Config.{Config};
-ghost use Rattle.argon2_text.specs.Standard.Grammar.{IsItem, Spells, SpellsNothing};
-ghost use Rattle.argon2_text.specs.Standard.Text.{Spelled};
+ghost use Rattle.std.specs.Prelude.{◌≡◌, ◌⊎◌, ℕ, List, [], IfOk, IsErr, IsNone, false, length, nat_lt};
+ghost use Rattle.argon2_standard.specs.Standard.Outcome.{IsOutcome};
+ghost use Rattle.argon2_standard.specs.Standard.SettingsTable.{refusal_of};
+ghost use Rattle.argon2_standard.specs.declared.config.Config.{Config};
+ghost use Rattle.argon2_standard.specs.Standard.Grammar.{IsItem, Spells, SpellsNothing};
+ghost use Rattle.argon2_standard.specs.Standard.Text.{Spelled};
 ghost use Rattle.argon2_text.specs.Views.Texts.{spelled_by, spelled_with};
 ghost use Rattle.argon2.specs.Views.StoredTexts.{IsAccepted, IsConfigOf};
-ghost use Rattle.argon2.specs.Standard.Stored.{IsStoredConfig};
-ghost use Rattle.argon2.specs.Standard.Verdict.{IsVerdict};
+ghost use Rattle.argon2.specs.Standard.Leaves.{LeavesMemory};
+ghost use Rattle.argon2_standard.specs.Standard.Stored.{IsStoredConfig};
+ghost use Rattle.argon2_standard.specs.Standard.Outcome.{IsVerdict};
 
 use crate::parts::common::MAX_HASH_LENGTH;
 use crate::parts::context::{Context, first_refusal};
@@ -82,6 +83,11 @@ pub fn verify_encoded_in<R: Threads + Wait + Sync>(
     ensures spelled { (d : Spelled) (config : Config) → Spells encoded.now d
         → IsStoredConfig d secret.now ad.now config
         → IsVerdict pwd.now d.salt d.hash config (nat_lt 1 d.parallelism) result }
+    ensures untouched { SpellsNothing encoded.now → memory.new ≡ memory.old }
+    ensures memory { (d : Spelled) (config : Config) → Spells encoded.now d
+        → IsStoredConfig d secret.now ad.now config
+        → (IsErr result × (memory.new ≡ memory.old)) ⊎ LeavesMemory pwd.now d.salt config
+        (length d.hash) (nat_lt 1 d.parallelism) memory.old memory.new result }
 {
     let stored = accepted_text(alloc, encoded, pwd.len() as u64, secret, ad)?;
     let config = config_of(&stored, secret, ad);
@@ -120,6 +126,11 @@ pub fn verify_encoded_in_sequential(
     ensures spelled { (d : Spelled) (config : Config) → Spells encoded.now d
         → IsStoredConfig d secret.now ad.now config
         → IsVerdict pwd.now d.salt d.hash config false result }
+    ensures untouched { SpellsNothing encoded.now → memory.new ≡ memory.old }
+    ensures memory { (d : Spelled) (config : Config) → Spells encoded.now d
+        → IsStoredConfig d secret.now ad.now config
+        → (IsErr result × (memory.new ≡ memory.old)) ⊎ LeavesMemory pwd.now d.salt config
+        (length d.hash) false memory.old memory.new result }
 {
     let stored = accepted_text(alloc, encoded, pwd.len() as u64, secret, ad)?;
     let config = config_of(&stored, secret, ad);
@@ -201,6 +212,3 @@ fn stored_context<'a>(stored: &'a Decoded, config: &'a Config<'a>, pwd: &'a [u8]
 {
     accepted_context(*config, pwd, &stored.salt)
 }
-
-#[cfg(test)]
-mod tests;

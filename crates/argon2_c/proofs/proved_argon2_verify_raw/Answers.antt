@@ -1,5 +1,5 @@
+use Rattle.argon2_c.specs.Answers.{judgement_of}
 use Rattle.argon2_c.proofs.proved_argon2_verify_raw.Goals as goal
 
--- The checker finds this by itself, but refuses an edit sooner where it is written.
 pub returns : goal.returns
-returns c = search
+returns c = (judgement_of c.verify_raw.result, c.code_of_verdict.ensures, c.verify_raw.ensures)

@@ -8,7 +8,7 @@ use Rattle.std.proofs.lemmas.List.{map-set}
 use Rattle.std.proofs.lemmas.Option.{slice_get_within, slice_get-map, slice_get-get_or, get_or_from_slice_get}
 use Rattle.std.proofs.lemmas.List.{length-map}
 use Rattle.std.proofs.lemmas.Bool.Decides.{eqb_tells}
-use Rattle.argon2_settings.specs.Views.Jobs.{Job}
+use Rattle.argon2_memory.specs.Views.Jobs.{Job}
 use Rattle.argon2_fill.specs.declared.workers.event.Place.{Place}
 use Rattle.argon2_fill.specs.declared.workers.event.Place.TheVariants as place
 use Rattle.argon2_fill.specs.declared.workers.event.Event.{Event}

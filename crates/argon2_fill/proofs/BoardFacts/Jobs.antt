@@ -4,9 +4,9 @@ use Rattle.std.specs.Prelude.{◌&&◌, not}
 use lib.Pointwise.{pointwise}
 use lib.Dec.{eqb}
 use denote.Enum.Bare.{sameb}
-use Rattle.argon2_settings.specs.Views.Jobs.{Job}
-use Rattle.argon2_settings.specs.contracts.variant.Variant as variant
-use Rattle.argon2_settings.specs.contracts.version.Version as version
+use Rattle.argon2_memory.specs.Views.Jobs.{Job}
+use Rattle.argon2_standard.specs.contracts.variant.Variant as variant
+use Rattle.argon2_standard.specs.contracts.version.Version as version
 
 -- the test that `==` makes, field by field
 abbrev pub same_job : Job → Job → Bool

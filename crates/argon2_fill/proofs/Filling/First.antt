@@ -5,10 +5,10 @@ use Rattle.std.proofs.lemmas.List.{get_or-set_same, get_or-set_other, length-set
 use Rattle.std.proofs.lemmas.List.Sums.{sum_by-set}
 use Rattle.std.proofs.lemmas.List.FromFn.{get_or-map-range_with_len, length-map-range_with_len}
 use Rattle.std.proofs.Math.Nat.{div-add-mod, mod-lt, div-eq_of_lt, mod-eq_of_lt}
-use Rattle.argon2_settings.specs.Standard.Setting.{Setting}
-use Rattle.argon2_settings.specs.Views.Jobs.{IsSetting}
+use Rattle.argon2_standard.specs.Standard.Setting.{Setting}
+use Rattle.argon2_memory.specs.Views.Jobs.{IsSetting}
 use Rattle.argon2_memory.specs.Laws.Matrix.{IsBegun, matrix_with}
-use Rattle.argon2_settings.specs.Standard.Recurrence.{block_at, first_block}
+use Rattle.argon2_standard.specs.Standard.Recurrence.{block_at, first_block}
 use Rattle.argon2_memory.specs.Views.Segments.{SegmentValue, IsReady, segment_at, segment_block}
 use Rattle.argon2_memory.specs.Views.Sources.{with_block}
 use Rattle.argon2_memory.specs.Views.Filling.{no_segment}
@@ -97,7 +97,7 @@ module _ (m : MemoryValue) (slices : AreSlices m.lanes m.segment_length m.slices
 -- ---- the beginning of a fill
 
 -- a whole segment of slice 0 with the lane's first two blocks at its front is ready for pass 0
-ready_first : (s : Setting) → IsSetting s → (lane : ℕ) → lane < s.lanes → (blocks : List (List ℕ)) → length blocks ≡ s.segment_length →
+pub ready_first : (s : Setting) → IsSetting s → (lane : ℕ) → lane < s.lanes → (blocks : List (List ℕ)) → length blocks ≡ s.segment_length →
     ((column : ℕ) → column < 2 → get_or blocks column [] ≡ first_block s (record { pass = 0; lane = lane; column = column })) → IsReady s 0 0 lane blocks
 ready_first s good lane fits blocks n first =
     let t = length-take 2 blocks in

@@ -3,8 +3,8 @@ use Rattle.std.proofs.Common.{◌≡◌, ℕ, zero, suc, ◌+◌, ◌-◌, ◌*�
 use Rattle.std.specs.Prelude.{◌==◌, ◌&&◌}
 use Rattle.std.proofs.lemmas.Bool.Decides.{eqb_tells}
 use Rattle.std.proofs.lemmas.Bool.{cases_lt}
-use Rattle.argon2_settings.specs.Standard.Setting.{Setting, lane_length, memory_blocks}
-use Rattle.argon2_settings.specs.Views.Jobs.{IsSetting}
+use Rattle.argon2_standard.specs.Standard.Setting.{Setting, lane_length, memory_blocks}
+use Rattle.argon2_memory.specs.Views.Jobs.{IsSetting}
 use Rattle.argon2_memory.specs.Laws.Schedule.{blocks_in_slice}
 use Rattle.argon2_memory.specs.Views.Segments.{SegmentValue, IsReady, segment_at, segment_block}
 use Rattle.argon2_memory.specs.Views.Memories.{MemoryValue, HasShape, block_of, last_blocks_of, segment_in, IsFilledBelow, blocks_written}
@@ -14,8 +14,8 @@ use Rattle.argon2_memory.proofs.Schedules.AnyOrder.{other_eqb}
 use Rattle.argon2_memory.proofs.Schedules.SliceToSlice.{IsNext, is_next}
 use Rattle.std.proofs.lemmas.List.FromFn.{get_or-map-range_with_len, length-map-range_with_len, fill_by_all}
 use Rattle.std.proofs.Math.Nat.{div-add-mod, mod-lt, mul-le-mul_right}
-use Rattle.argon2_settings.specs.Standard.Recurrence.{block_at}
-use Rattle.argon2_settings.specs.Standard.Tag.{last_blocks}
+use Rattle.argon2_standard.specs.Standard.Recurrence.{block_at}
+use Rattle.argon2_standard.specs.Standard.Tag.{last_blocks}
 
 -- slices filled up to the end of one are filled below the next, of the same pass or the next
 next-below : (s : Setting) (pass slice pass' slice' : ℕ) (m : List (List SegmentValue)) → IsNext pass slice pass' slice' →
@@ -76,7 +76,7 @@ all_written s good =
 -- ---- the end
 
 -- a segment that is ready for a pass after the first holds the blocks of the pass before
-last_in : (pass : ℕ) (s : Setting) (slice lane : ℕ) (blocks : List (List ℕ)) → 0 < pass → IsReady s pass slice lane blocks
+pub last_in : (pass : ℕ) (s : Setting) (slice lane : ℕ) (blocks : List (List ℕ)) → 0 < pass → IsReady s pass slice lane blocks
     → blocks ≡ segment_at s (pass - 1) slice lane
 last_in zero s slice lane blocks h ready = absurd (omega arith)
 last_in (suc last) s slice lane blocks h ready = ready ∙ ap (λ p. segment_at s p slice lane) (omega arith)

@@ -4,8 +4,8 @@ use Rattle.std.specs.Coded.{Coded-set, coded_list, coded_ℕ, ×_prop}
 use Rattle.argon2_fill.specs.declared.workers.event.Place.{Place}
 use Rattle.argon2_fill.specs.declared.workers.event.Place.TheVariants.{Done, Out}
 use Rattle.argon2_fill.specs.declared.workers.event.Event.{Event}
-use Rattle.argon2_settings.specs.Standard.Setting.{Setting}
-use Rattle.argon2_settings.specs.Views.Jobs.{Job}
+use Rattle.argon2_standard.specs.Standard.Setting.{Setting}
+use Rattle.argon2_memory.specs.Views.Jobs.{Job}
 use Rattle.argon2_memory.specs.Views.Segments.{SegmentValue, IsReady, segment_at}
 use Rattle.argon2_memory.specs.Views.Filling.{no_segment}
 

@@ -6,7 +6,7 @@ use Rattle.argon2_fill.specs.declared.workers.event.Event.{Event}
 use Rattle.argon2_fill.specs.declared.workers.slot.Slot.{Slot}
 use Rattle.argon2_fill.specs.declared.workers.slot.Slot.TheVariants as slot
 use Rattle.argon2_fill.specs.declared.workers.board.Board.TheInside.{Inside}
-use Rattle.argon2_settings.specs.Views.Jobs.{Job}
+use Rattle.argon2_memory.specs.Views.Jobs.{Job}
 use Rattle.argon2_memory.specs.Views.Segments.{IsReady, segment_at}
 use Rattle.argon2_fill.specs.Views.Replay.{replay}
 use Rattle.argon2_fill.specs.Views.Boards.{BoardValue}

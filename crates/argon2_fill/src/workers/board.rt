@@ -7,10 +7,10 @@ ghost use Rattle.argon2_fill.specs.Views.Replay.{least_waiting, replay};
 
 use crate::workers::slot::Slot;
 use crate::workers::{Claim, Event, Filled, Place};
+use argon2_memory::job::Job;
 use argon2_memory::memory::Segment;
-use argon2_settings::context::Job;
-use argon2_settings::error::Error;
-use argon2_settings::result::Result;
+use argon2_standard::error::Error;
+use argon2_standard::result::Result;
 use std::alloc::{AllocError, Global};
 use std::marker::Model;
 use std::mem;

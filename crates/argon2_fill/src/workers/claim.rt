@@ -4,9 +4,9 @@ ghost use Rattle.std.specs.Prelude.{◌≡◌, ◌<◌, ◌↔◌, IfErr, IfOk, 
 ghost use Rattle.argon2_fill.specs.Views.Boards.{IsReady-prop};
 ghost use Rattle.argon2_memory.specs.Views.Segments.{IsReady, segment_at};
 
+use argon2_memory::job::Job;
 use argon2_memory::memory::Segment;
 use argon2_memory::segment::{Snapshot, fill_segment};
-use argon2_settings::context::Job;
 
 /// A lane that is out: its segment is as `fill_segment` asks for it.
 #[derive(Drop)]

@@ -2,9 +2,9 @@
 
 ghost use Rattle.std.specs.Prelude.{◌≡◌, ◌+◌, ◌*◌, ◌^◌, ◌<◌, [], IfErr, IfOk, OnErr, OnOk, replicate, slice_set, true};
 ghost use Rattle.std.specs.List.{remove};
-ghost use Rattle.argon2_settings.specs.Standard.Outcome.{IsShortage};
-ghost use Rattle.argon2_settings.specs.Views.Presets.{workers_of};
-ghost use Rattle.argon2_settings.specs.Views.Contexts.{setting_of_context};
+ghost use Rattle.argon2_standard.specs.Standard.Outcome.{IsShortage};
+ghost use Rattle.argon2_standard.specs.Views.Presets.{workers_of};
+ghost use Rattle.argon2_memory.specs.Views.Jobs.{setting_of_context};
 ghost use Rattle.argon2_fill.specs.Views.Boards.{NoneOut};
 ghost use Rattle.argon2_memory.specs.Views.Filling.{IsSnapshot};
 ghost use Rattle.argon2_memory.specs.Laws.Matrix.{HoldsLastPass, IsBegun};
@@ -14,11 +14,12 @@ ghost use Rattle.argon2_memory.specs.Views.SliceLists.{segments_of};
 
 use crate::walk::{numbered_slice, slice_count};
 use crate::workers::{AllPermitted, Board, Gate, Permit, Place, fill_slice_with};
+use argon2_memory::job::{Job, recall_context, recall_job};
 use argon2_memory::memory::{Memory, Slices, memory_of_slices, others, take_slice, take_slices};
 use argon2_memory::segment::Snapshot;
-use argon2_settings::context::{Context, Job, recall_context, recall_job, worker_count};
-use argon2_settings::error::Error;
-use argon2_settings::result::Result;
+use argon2_settings::context::{Context, worker_count};
+use argon2_standard::error::Error;
+use argon2_standard::result::Result;
 use std::alloc::Global;
 use std::marker::Sync;
 use std::sync::Wait;

@@ -5,12 +5,14 @@ ghost use Rattle.std.specs.Prelude.{◌<◌, length};
 use argon2_blocks::blake2b::hprime;
 use argon2_blocks::block::{Block, fill_block};
 use argon2_blocks::common::SYNC_POINTS;
+use argon2_fill::fill::write_first_blocks;
+use argon2_memory::job::Job;
 use argon2_memory::segment::{pick, reference_positions};
-use argon2_settings::config::Config;
-use argon2_settings::context::{Context, Job};
-use argon2_settings::thread_mode::ThreadMode;
-use argon2_settings::variant::Variant;
-use argon2_settings::version::Version;
+use argon2_settings::context::Context;
+use argon2_standard::config::Config;
+use argon2_standard::thread_mode::ThreadMode;
+use argon2_standard::variant::Variant;
+use argon2_standard::version::Version;
 use std::alloc::{AllocError, Global};
 use std::process::Abort;
 use std::test::Fail;
@@ -134,10 +136,13 @@ fn run<'a>(
         blocks.push(Block::zero())?;
     }
     for lane in 0..job.lanes() {
-        for column in 0..2 {
-            let at = place(rt, &job, &blocks, lane, column);
-            job.first_block(lane, column, &mut blocks[at]);
-        }
+        let mut first = Block::zero();
+        let mut second = Block::zero();
+        write_first_blocks(&job, lane, &mut first, &mut second);
+        let at = place(rt, &job, &blocks, lane, 0);
+        blocks[at] = first;
+        let at = place(rt, &job, &blocks, lane, 1);
+        blocks[at] = second;
     }
     for n in 0..4 * u64::from(job.passes()) {
         let slice = job.at((n / 4) as u32, (n % 4) as u32);
@@ -154,7 +159,8 @@ fn run<'a>(
     Ok(tag)
 }
 
-fn config(variant: Variant) -> Config<'static> {
+/// The settings of RFC 9106, section 5.
+pub(super) fn config(variant: Variant) -> Config<'static> {
     Config {
         ad: &[4; 12],
         hash_length: 32,

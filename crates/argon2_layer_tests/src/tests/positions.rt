@@ -1,65 +1,87 @@
-//! What a block refers to.
+//! What a block refers to. The positions of independent segments are rows of `argon2_vectors`.
 
-use argon2_memory::segment::{allowed_column, allowed_count, pick, reference_positions};
-use argon2_settings::config::Config;
-use argon2_settings::context::{Context, Job};
-use argon2_settings::thread_mode::ThreadMode;
-use argon2_settings::variant::Variant;
-use argon2_settings::version::Version;
-use std::process::Abort;
+ghost use Rattle.std.specs.Prelude.{◌≡◌, ◌+◌, ◌*◌, ◌/◌, ◌^◌, [], ◌∷◌};
+ghost use Rattle.argon2_blocks.specs.Standard.Word.{low_half};
+ghost use Rattle.argon2_standard.specs.Standard.Reference.{pick, reference_window, window_index};
+ghost use Rattle.argon2_standard.specs.Standard.Setting.{Position, Setting};
+ghost use Rattle.argon2_standard.specs.declared.variant.Variant.TheVariants.{Argon2d};
+ghost use Rattle.argon2_standard.specs.declared.version.Version.TheVariants.{Version13};
+
+use argon2_memory::job::Job;
+use argon2_memory::segment::{allowed_column, allowed_count, pick};
+use argon2_settings::context::Context;
+use argon2_standard::config::Config;
+use argon2_standard::thread_mode::ThreadMode;
+use argon2_standard::variant::Variant;
+use argon2_standard::version::Version;
 use std::test::Fail;
 
-fn config(variant: Variant, lanes: u32, mem_cost: u32) -> Config<'static> {
-    Config {
+/// The references of RFC 9106, 3.4.2, worked out by hand for two lanes and two blocks a segment: the first
+/// block of the third slice, in the second pass, may refer in another lane to the columns 6 and 7 of the
+/// first pass and to 0, 1 and 2 of its own. The greatest lower half of a word picks the first of them, and 0
+/// the last.
+///
+/// It does nothing when it runs. Its contract states the values, and the checker computes them.
+#[tactic(auto, unfolding(argon2_standard::specs::Standard::Reference::reference_window, argon2_standard::specs::Standard::Reference::pick))]
+fn stated_references()
+    ensures window { let s : Setting = record {
+      prehash = [];
+      variant = Argon2d;
+      version = Version13;
+      lanes = 2;
+      segment_length = 2;
+      passes = 2;
+    } in
+        let at : Position = record { pass = 1; lane = 0; column = 4 } in
+        reference_window s at 1 ≡ (0, 6) ∷ (0, 7) ∷ (1, 0) ∷ (1, 1) ∷ (1, 2) ∷ [] }
+    ensures x { low_half 4294967295 * low_half 4294967295 / 2 ^ 32 ≡ 4294967294 }
+    ensures y { 5 * 4294967294 / 2 ^ 32 ≡ 4 }
+    ensures place { window_index 5 4294967295 ≡ 0 }
+    ensures first { let s : Setting = record {
+      prehash = [];
+      variant = Argon2d;
+      version = Version13;
+      lanes = 2;
+      segment_length = 2;
+      passes = 2;
+    } in
+        let at : Position = record { pass = 1; lane = 0; column = 4 } in
+        pick s (2 ^ 32 + 4294967295) at ≡ record { pass = 0; lane = 1; column = 6 } }
+    ensures last_place { window_index 5 0 ≡ 4 }
+    ensures last { let s : Setting = record {
+      prehash = [];
+      variant = Argon2d;
+      version = Version13;
+      lanes = 2;
+      segment_length = 2;
+      passes = 2;
+    } in
+        let at : Position = record { pass = 1; lane = 0; column = 4 } in
+        pick s (2 ^ 32) at ≡ record { pass = 1; lane = 1; column = 2 } }
+{}
+
+// The same references, as the code finds them.
+#[test]
+fn picks_among_the_blocks_of_another_lane(rt: HostRuntime) -> Result<(), Fail> {
+    stated_references();
+    let config = Config {
         ad: b"",
         hash_length: 32,
-        lanes,
-        mem_cost,
+        lanes: 2,
+        mem_cost: 16,
         secret: b"",
         thread_mode: ThreadMode::Sequential,
         time_cost: 2,
-        variant,
+        variant: Variant::Argon2d,
         version: Version::Version13,
-    }
-}
-
-fn job<'a>(
-    rt: &impl Abort,
-    config: Config<'a>,
-    pwd: &'a [u8],
-    salt: &'a [u8],
-    pass: u32,
-    slice: u32,
-) -> Result<Job, Fail> {
-    let context = match Context::new(config, pwd, salt) {
+    };
+    let context = match Context::new(config, b"password", b"somesalt") {
         Ok(context) => context,
         Err(refusal) => return Err(Fail::from(refusal)),
     };
     let first = Job::new(&context);
-    assert!(rt; pass < first.passes() && slice < 4);
-    Ok(first.at(pass, slice))
-}
-
-/// The positions from an index on, checked to be asked for rightly.
-fn positions(rt: &impl Abort, job: &Job, lane: u32, first: u32, out: &mut [(u32, u32)]) {
-    assert!(rt; lane < job.lanes() && job.is_independent());
-    assert!(rt; job.first_index() <= first && first <= job.segment_length());
-    assert!(rt; out.len() <= (job.segment_length() - first) as usize);
-    reference_positions(job, lane, first, out);
-}
-
-// Two blocks a segment. The first block of the third slice, in the second pass, may refer in
-// another lane to the columns 6 and 7 of the first pass and to 0, 1 and 2 of its own.
-#[test]
-fn picks_among_the_blocks_of_another_lane(rt: HostRuntime) -> Result<(), Fail> {
-    let job = job(
-        &rt,
-        config(Variant::Argon2d, 2, 16),
-        b"password",
-        b"somesalt",
-        1,
-        2,
-    )?;
+    assert!(rt; first.passes() == 2);
+    let job = first.at(1, 2);
     assert!(rt; job.lanes() == 2 && job.segment_length() == 2);
     assert!(rt; job.pass() == 1 && job.slice() == 2);
     assert_eq!(rt; allowed_count(&job, false, 0), 5);
@@ -70,62 +92,5 @@ fn picks_among_the_blocks_of_another_lane(rt: HostRuntime) -> Result<(), Fail> {
     let other_lane = 1 << 32;
     assert_eq!(rt; pick(&job, 0, 0, other_lane), (1, 2));
     assert_eq!(rt; pick(&job, 0, 0, other_lane + 4294967295), (1, 6));
-    Ok(())
-}
-
-#[test]
-fn refers_to_the_only_block_there_is(rt: HostRuntime) -> Result<(), Fail> {
-    let first = job(
-        &rt,
-        config(Variant::Argon2i, 1, 12),
-        b"password",
-        b"somesalt",
-        0,
-        0,
-    )?;
-    let mut one = [(9, 9)];
-    positions(&rt, &first, 0, 2, &mut one);
-    assert_eq!(rt; one, [(0, 0)]);
-    let second = job(
-        &rt,
-        config(Variant::Argon2i, 1, 8),
-        b"password",
-        b"somesalt",
-        0,
-        1,
-    )?;
-    let mut one = [(9, 9)];
-    positions(&rt, &second, 0, 0, &mut one);
-    assert_eq!(rt; one, [(0, 0)]);
-    let first = job(
-        &rt,
-        config(Variant::Argon2i, 1, 8),
-        b"password",
-        b"somesalt",
-        0,
-        0,
-    )?;
-    let mut none: [(u32, u32); 0] = [];
-    positions(&rt, &first, 0, 2, &mut none);
-    assert_eq!(rt; none.len(), 0);
-    Ok(())
-}
-
-// 256 positions asked at once, in two halves, and of a job with another password and salt.
-#[test]
-fn positions_rest_on_no_password(rt: HostRuntime) -> Result<(), Fail> {
-    let config = config(Variant::Argon2i, 4, 4096);
-    let one = job(&rt, config, b"password", b"somesalt", 1, 3)?;
-    let other = job(&rt, config, b"other", b"othersalt", 1, 3)?;
-    let mut all = [(0, 0); 256];
-    positions(&rt, &one, 2, 0, &mut all);
-    let mut halves = [(0, 0); 256];
-    positions(&rt, &one, 2, 0, &mut halves[..128]);
-    positions(&rt, &one, 2, 128, &mut halves[128..]);
-    assert!(rt; all == halves);
-    let mut others = [(0, 0); 256];
-    positions(&rt, &other, 2, 0, &mut others);
-    assert!(rt; all == others);
-    assert!(rt; one != other);
     Ok(())
 }

@@ -2,11 +2,13 @@
 
 use argon2_blocks::blake2b::{blake2b, hprime};
 use argon2_blocks::block::Block;
-use argon2_settings::config::Config;
-use argon2_settings::context::{Context, Job};
-use argon2_settings::thread_mode::ThreadMode;
-use argon2_settings::variant::Variant;
-use argon2_settings::version::Version;
+use argon2_fill::fill::write_first_blocks;
+use argon2_memory::job::Job;
+use argon2_settings::context::Context;
+use argon2_standard::config::Config;
+use argon2_standard::thread_mode::ThreadMode;
+use argon2_standard::variant::Variant;
+use argon2_standard::version::Version;
 use std::test::Fail;
 
 // The bytes, in hexadecimal, that are hashed first for 2 lanes, a hash of 32 bytes, 256 KiB and 2
@@ -43,7 +45,8 @@ fn hashes_the_stated_inputs_first(rt: HostRuntime) -> Result<(), Fail> {
     let job = Job::new(&context);
     assert_eq!(rt; job.lanes(), 2);
     let mut block = Block::zero();
-    job.first_block(1, 0, &mut block);
+    let mut second = Block::zero();
+    write_first_blocks(&job, 1, &mut block, &mut second);
     assert!(rt; block.as_u8() == bytes);
     Ok(())
 }

@@ -16,15 +16,16 @@ use argon2_fill::fill::{fill_slice_in_turn, initialize, prepare_memory};
 use argon2_fill::workers::{
     Board, Claim, Event, Filled, NoGate, Permit, Place, board_of, fill_slice, fill_slice_with,
 };
+use argon2_memory::job::{Job, recall_context, recall_job};
 use argon2_memory::memory::{Memory, Segment, Slices, others, take_slices};
 use argon2_memory::segment::Snapshot;
-use argon2_settings::config::Config;
-use argon2_settings::context::{Context, Job, recall_context, recall_job};
-use argon2_settings::error::Error;
-use argon2_settings::result::Result;
-use argon2_settings::thread_mode::ThreadMode;
-use argon2_settings::variant::Variant;
-use argon2_settings::version::Version;
+use argon2_settings::context::Context;
+use argon2_standard::config::Config;
+use argon2_standard::error::Error;
+use argon2_standard::result::Result;
+use argon2_standard::thread_mode::ThreadMode;
+use argon2_standard::variant::Variant;
+use argon2_standard::version::Version;
 use std::alloc::Global;
 use std::marker::Sync;
 use std::process::Abort;

@@ -1,5 +1,5 @@
 -- One more block of a segment: what it is made of stands where a lane sees it.
-use Rattle.std.proofs.Common.{◌≡◌, ℕ, zero, suc, ◌+◌, ◌-◌, ◌*◌, ◌/◌, ◌%◌, ◌<◌, ◌≤◌, ◌⊎◌, Bool, false, List, [], length, get_or, set, refl, arith}
+use Rattle.std.proofs.Common.{◌≡◌, ℕ, zero, suc, ◌+◌, ◌-◌, ◌*◌, ◌/◌, ◌%◌, ◌<◌, ◌≤◌, ◌⊎◌, Bool, false, List, [], get_or, set, refl, arith}
 use Rattle.std.proofs.Common.{cond, inl, inr, sym, ◌∙◌, ap}
 use Rattle.std.specs.Prelude.{◌==◌, ◌&&◌, nat_lt, slice_index}
 use Rattle.std.proofs.lemmas.Bool.Decides.{eqb_tells}
@@ -10,14 +10,15 @@ use Rattle.std.proofs.Math.Nat.{div-add-mod, mod-lt, div-lt_iff_lt-mul}
 use Rattle.std.proofs.lemmas.Nat.{div-mul-add}
 use Rattle.argon2_blocks.specs.Standard.Block.{xor}
 use Rattle.argon2_blocks.specs.Standard.Compression.{compress_g}
-use Rattle.argon2_settings.specs.Standard.Setting.{Setting, Position, lane_length, slice_of}
-use Rattle.argon2_settings.specs.Views.Jobs.{IsSetting, IsPosition, Job, IsJob, first_index}
-use Rattle.argon2_settings.specs.Standard.Reference.{is_data_independent, previous, pick}
-use Rattle.argon2_settings.specs.Standard.Recurrence.{block_at, drawn_word, address_word, combines, made_block}
-use Rattle.argon2_memory.specs.Views.Segments.{SegmentValue, segment_at, segment_block, IsReady}
+use Rattle.argon2_standard.specs.Standard.Setting.{Setting, Position, lane_length, slice_of}
+use Rattle.argon2_memory.specs.Views.Jobs.{IsSetting, IsPosition, Job, IsJob, first_index}
+use Rattle.argon2_standard.specs.Standard.Reference.{is_data_independent, previous, pick}
+use Rattle.argon2_standard.specs.Standard.Recurrence.{block_at, drawn_word, address_word, combines, made_block}
+use Rattle.argon2_memory.specs.Views.Segments.{segment_at, segment_block, IsReady}
 use Rattle.argon2_memory.specs.Views.Filling.{position_of, SnapshotValue, IsSnapshot}
-use Rattle.argon2_memory.specs.Views.Filling.{other_blocks, block_seen, IsFilledTo, reference_of}
-use Rattle.argon2_settings.proofs.Settings.Jobs.{start_fits, later_index}
+use Rattle.argon2_memory.specs.Views.Beside.{IsPicked}
+use Rattle.argon2_memory.specs.Views.Filling.{other_blocks, block_seen, IsFilledTo, pick_of, reference_of}
+use Rattle.argon2_memory.proofs.Recurrence.Jobs.{start_fits, later_index}
 use Rattle.argon2_memory.proofs.Recurrence.Recurrences.{same_choice, both-true, block_at-recurrence}
 use Rattle.argon2_memory.proofs.Schedules.AnyOrder.{pick-lane_fits, recurrence_later, slice_of_sum}
 use Rattle.argon2_memory.proofs.Schedules.SliceToSlice.{no_skip}
@@ -31,7 +32,7 @@ div_below c len q h k = (div-lt_iff_lt-mul h).1 k
 div_above : (c len q : ℕ) → 0 < len → q * len ≤ c → q ≤ c / len
 div_above c len q h k = elim (cases_lt (c / len) q) [ inl w ↦ absurd (let b = (div-lt_iff_lt-mul h).0 w in omega (arith, b)) | inr w ↦ w ]
 
-module _ (v : SnapshotValue) (snapshot : IsSnapshot v) (lane index : ℕ) (lane_fits : lane < v.job.setting.lanes)
+module _ (v : SnapshotValue) (job : IsJob v.job) (lane index : ℕ) (lane_fits : lane < v.job.setting.lanes)
     (index_fits : index < v.job.setting.segment_length)
     (later : first_index v.job ≤ index) where
   abbrev s : Setting
@@ -41,7 +42,7 @@ module _ (v : SnapshotValue) (snapshot : IsSnapshot v) (lane index : ℕ) (lane_
   at = position_of v.job lane index
 
   good : IsSetting s
-  good = snapshot.job.setting
+  good = job.setting
 
   some : 0 < s.segment_length
   some = omega (arith, good.long_segments)
@@ -50,7 +51,7 @@ module _ (v : SnapshotValue) (snapshot : IsSnapshot v) (lane index : ℕ) (lane_
   later_place = later_index v.job.pass v.job.slice s.segment_length index later good.long_segments
 
   pub here : IsPosition s at
-  here = record { lane_fits = lane_fits; column_fits = let m = start_fits s v.job.slice good snapshot.job.slice_fits in omega (arith, m, index_fits) }
+  here = record { lane_fits = lane_fits; column_fits = let m = start_fits s v.job.slice good job.slice_fits in omega (arith, m, index_fits) }
 
   same_slice : slice_of s at.column ≡ v.job.slice
   same_slice = slice_of_sum s.segment_length v.job.slice index some index_fits
@@ -64,21 +65,6 @@ module _ (v : SnapshotValue) (snapshot : IsSnapshot v) (lane index : ℕ) (lane_
       rw (other, e) (get_or-map-range_with_len (segment_block s r (c / s.segment_length) l) 0 s.segment_length (c % s.segment_length)
       (c % s.segment_length) [] (mod-lt c some) (omega arith)
       ∙ ap (λ n. block_at s (record { pass = r; lane = l; column = n })) column)
-
-  seen_upper : (r l c : ℕ) (blocks : List (List ℕ)) → l < s.lanes → suc r ≡ v.job.pass → (v.job.slice + 1) * s.segment_length ≤ c → c < lane_length s →
-      block_seen v blocks l c ≡ block_at s (record { pass = r; lane = l; column = c })
-  seen_upper r l c blocks fits e above below =
-      let up = div_above c s.segment_length (v.job.slice + 1) some above in
-      let low = div_below c s.segment_length 4 some below in
-      at_other r l c blocks (elim (eqb_tells (c / s.segment_length) v.job.slice) [ inl w ↦ absurd (omega (arith, up, w.1)) | inr w ↦ w.0 ])
-      (snapshot.upper (c / s.segment_length) l r (omega (arith, up)) low fits e)
-
-  seen_lower : (l c : ℕ) (blocks : List (List ℕ)) → l < s.lanes → c < v.job.slice * s.segment_length →
-      block_seen v blocks l c ≡ block_at s (record { pass = v.job.pass; lane = l; column = c })
-  seen_lower l c blocks fits below =
-      let low = div_below c s.segment_length v.job.slice some below in
-      at_other v.job.pass l c blocks (elim (eqb_tells (c / s.segment_length) v.job.slice) [ inl w ↦ absurd (omega (arith, low, w.1)) | inr w ↦ w.0 ])
-      (snapshot.lower (c / s.segment_length) l low fits)
 
   -- a column of the slice is its start and an index
   own_index : (c : ℕ) → c / s.segment_length ≡ v.job.slice → v.job.slice * s.segment_length + c % s.segment_length ≡ c
@@ -99,107 +85,128 @@ module _ (v : SnapshotValue) (snapshot : IsSnapshot v) (lane index : ℕ) (lane_
         | inr w ↦ rw w.0 (elim (eqb_tells (c / s.segment_length) v.job.slice) [ inl z ↦ rw (z.0, r) refl | inr z ↦ absurd (omega (arith, z.1, q)) ])
       ]
 
-  module _ (blocks : List (List ℕ)) (filled : IsFilledTo v.job lane index blocks) where
-    seen_own : (c : ℕ) → c < at.column → block_seen v blocks lane c ≡ block_at s (record { pass = v.job.pass; lane = lane; column = c })
-    seen_own c below = elim (eqb_tells (c / s.segment_length) v.job.slice) [
-      | inl w ↦ let o = own_index c w.1 in rw w.0 (filled.new (c % s.segment_length) (omega (arith, o, below))
-          ∙ ap (λ n. block_at s (record { pass = v.job.pass; lane = lane; column = n })) o)
-      | inr w ↦
-          let q : c / s.segment_length < v.job.slice + 1 = div_below c s.segment_length (v.job.slice + 1) some (omega (arith, below, index_fits)) in
-          at_other v.job.pass lane c blocks w.0 (snapshot.lower (c / s.segment_length) lane (omega (arith, q, w.1)) lane_fits)
-    ]
+  module _ (snapshot : IsSnapshot v) where
+    seen_upper : (r l c : ℕ) (blocks : List (List ℕ)) → l < s.lanes → suc r ≡ v.job.pass → (v.job.slice + 1) * s.segment_length ≤ c → c < lane_length s →
+        block_seen v blocks l c ≡ block_at s (record { pass = r; lane = l; column = c })
+    seen_upper r l c blocks fits e above below =
+        let up = div_above c s.segment_length (v.job.slice + 1) some above in
+        let low = div_below c s.segment_length 4 some below in
+        at_other r l c blocks (elim (eqb_tells (c / s.segment_length) v.job.slice) [ inl w ↦ absurd (omega (arith, up, w.1)) | inr w ↦ w.0 ])
+        (snapshot.upper (c / s.segment_length) l r (omega (arith, up)) low fits e)
 
-    seen_readable : (r l c : ℕ) → l < s.lanes → IsReadable s at l (r, c) → block_seen v blocks l c ≡ block_at s (record { pass = r; lane = l; column = c })
-    seen_readable r l c fits (inl w) =
-        seen_upper r l c blocks fits w.0 (rw same_slice at w.1) w.2
-    seen_readable r l c fits (inr (inl w)) = ap (λ p. block_seen v blocks l c) w.0 ∙ seen_lower l c blocks fits (rw same_slice at w.1)
-        ∙ ap (λ p. block_at s (record { pass = p; lane = l; column = c })) (sym w.0)
-    seen_readable r l c fits (inr (inr w)) = ap (λ n. block_seen v blocks n c) w.1 ∙ seen_own c w.2
-        ∙ ap (λ p. block_at s (record { pass = p; lane = lane; column = c })) (sym w.0)
-        ∙ ap (λ n. block_at s (record { pass = r; lane = n; column = c })) (sym w.1)
+    seen_lower : (l c : ℕ) (blocks : List (List ℕ)) → l < s.lanes → c < v.job.slice * s.segment_length →
+        block_seen v blocks l c ≡ block_at s (record { pass = v.job.pass; lane = l; column = c })
+    seen_lower l c blocks fits below =
+        let low = div_below c s.segment_length v.job.slice some below in
+        at_other v.job.pass l c blocks (elim (eqb_tells (c / s.segment_length) v.job.slice) [ inl w ↦ absurd (omega (arith, low, w.1)) | inr w ↦ w.0 ])
+        (snapshot.lower (c / s.segment_length) l low fits)
 
-    previous_readable : IsReadable s at lane ((previous s at).pass, (previous s at).column)
-    previous_readable = elim (eqb_tells at.column 0) [
-      | inl w ↦ rw w.0 (inl (
-        elim later_place [ inl h ↦ omega arith | inr h ↦ absurd (omega (arith, w.1)) ],
-        (let z : v.job.slice * s.segment_length ≡ 0 = omega (arith, w.1) in rw same_slice (omega (arith, z, good.long_segments))),
-        omega (arith, good.long_segments),
-      ))
-      | inr w ↦ rw w.0 (inr (inr (refl, refl, omega (arith, w.1))))
-    ]
+    module _ (blocks : List (List ℕ)) (filled : IsFilledTo v.job lane index blocks) where
+      seen_own : (c : ℕ) → c < at.column → block_seen v blocks lane c ≡ block_at s (record { pass = v.job.pass; lane = lane; column = c })
+      seen_own c below = elim (eqb_tells (c / s.segment_length) v.job.slice) [
+        | inl w ↦ let o = own_index c w.1 in rw w.0 (filled.new (c % s.segment_length) (omega (arith, o, below))
+            ∙ ap (λ n. block_at s (record { pass = v.job.pass; lane = lane; column = n })) o)
+        | inr w ↦
+            let q : c / s.segment_length < v.job.slice + 1 = div_below c s.segment_length (v.job.slice + 1) some (omega (arith, below, index_fits)) in
+            at_other v.job.pass lane c blocks w.0 (snapshot.lower (c / s.segment_length) lane (omega (arith, q, w.1)) lane_fits)
+      ]
 
-    pub seen_previous : block_seen v blocks lane (previous s at).column ≡ block_at s (previous s at)
-    seen_previous = seen_readable (previous s at).pass lane (previous s at).column lane_fits previous_readable
-        ∙ elim (eqb_tells at.column 0) [ inl w ↦ rw w.0 refl | inr w ↦ rw w.0 refl ]
+      seen_readable : (r l c : ℕ) → l < s.lanes → IsReadable s at l (r, c) → block_seen v blocks l c ≡ block_at s (record { pass = r; lane = l; column = c })
+      seen_readable r l c fits (inl w) =
+          seen_upper r l c blocks fits w.0 (rw same_slice at w.1) w.2
+      seen_readable r l c fits (inr (inl w)) = ap (λ p. block_seen v blocks l c) w.0 ∙ seen_lower l c blocks fits (rw same_slice at w.1)
+          ∙ ap (λ p. block_at s (record { pass = p; lane = l; column = c })) (sym w.0)
+      seen_readable r l c fits (inr (inr w)) = ap (λ n. block_seen v blocks n c) w.1 ∙ seen_own c w.2
+          ∙ ap (λ p. block_at s (record { pass = p; lane = lane; column = c })) (sym w.0)
+          ∙ ap (λ n. block_at s (record { pass = r; lane = n; column = c })) (sym w.1)
 
-    pub seen_pick : (word : ℕ) → block_seen v blocks (pick s word at).lane (pick s word at).column ≡ block_at s (pick s word at)
-    seen_pick word = seen_readable (pick s word at).pass (pick s word at).lane (pick s word at).column (pick-lane_fits s word at good here)
-        (pick-readable s word at good here later_place)
+      previous_readable : IsReadable s at lane ((previous s at).pass, (previous s at).column)
+      previous_readable = elim (eqb_tells at.column 0) [
+        | inl w ↦ rw w.0 (inl (
+          elim later_place [ inl h ↦ omega arith | inr h ↦ absurd (omega (arith, w.1)) ],
+          (let z : v.job.slice * s.segment_length ≡ 0 = omega (arith, w.1) in rw same_slice (omega (arith, z, good.long_segments))),
+          omega (arith, good.long_segments),
+        ))
+        | inr w ↦ rw w.0 (inr (inr (refl, refl, omega (arith, w.1))))
+      ]
 
-    -- the block that is made of what the lane sees is the recurrence's
-    pub made_next : (chosen : ℕ × ℕ) → chosen ≡ reference_of v.job lane index →
-        made_block (block_seen v blocks lane (previous s at).column) (block_seen v blocks chosen.0 chosen.1) (get_or blocks index [])
-        (combines s.version && nat_lt 0 v.job.pass)
-        ≡ block_at s at
-    made_next chosen e =
-        let word = drawn_word s (block_at s) at in
-        let read : block_seen v blocks chosen.0 chosen.1 ≡ block_at s (pick s word at) = rw e (seen_pick word) in
-        rw (seen_previous, read)
-        (same_choice (combines s.version && nat_lt 0 v.job.pass) _ _ _ _
-        (λ h. ap (λ old. xor (compress_g (block_at s (previous s at)) (block_at s (pick s word at))) old)
-        (filled.old (v.job.pass - 1) index (let p = ltb-true 0 v.job.pass (both-true (combines s.version) _ h) in omega (arith, p)) (omega arith) index_fits))
-        (λ h. refl)
-        ∙ sym (recurrence_later s (block_at s) at later_place) ∙ sym (block_at-recurrence s good at here))
+      pub seen_previous : block_seen v blocks lane (previous s at).column ≡ block_at s (previous s at)
+      seen_previous = seen_readable (previous s at).pass lane (previous s at).column lane_fits previous_readable
+          ∙ elim (eqb_tells at.column 0) [ inl w ↦ rw w.0 refl | inr w ↦ rw w.0 refl ]
 
-    -- one more block is filled
-    pub filled_more : (block : List ℕ) → block ≡ block_at s at → IsFilledTo v.job lane (index + 1) (set blocks index block)
-    filled_more block e = record {
-      count = length-set blocks index block ∙ filled.count;
-      new = λ k h. elim (eqb_tells k index) [
-        | inl w ↦ rw w.1 (get_or-set_same blocks index block [] (omega (arith, filled.count)) ∙ e)
-        | inr w ↦ get_or-set_other blocks index k block [] w.1 ∙ filled.new k (omega (arith, w.1))
-      ];
-      old = λ last k p h fits. get_or-set_other blocks index k block [] (λ n. absurd (omega arith)) ∙ filled.old last k p (omega arith) fits;
-    }
+      pub seen_pick : (word : ℕ) → block_seen v blocks (pick s word at).lane (pick s word at).column ≡ block_at s (pick s word at)
+      seen_pick word = seen_readable (pick s word at).pass (pick s word at).lane (pick s word at).column (pick-lane_fits s word at good here)
+          (pick-readable s word at good here later_place)
 
-    pub write_filled : (p r : List ℕ) (x : Bool) (chosen : ℕ × ℕ) → chosen ≡ reference_of v.job lane index →
-        p ≡ block_seen v blocks lane (previous s at).column → r ≡ block_seen v blocks chosen.0 chosen.1 → x ≡ (combines s.version && nat_lt 0 v.job.pass) →
-        IsFilledTo v.job lane (index + 1) (set blocks index (made_block p r (get_or blocks index []) x))
-    write_filled p r x chosen e ps rs xs = filled_more _ (rw (ps, rs, xs) (made_next chosen e))
+      -- the block that is made of what the lane sees is the recurrence's
+      pub made_next : (chosen : ℕ × ℕ) → chosen ≡ reference_of v.job lane index →
+          made_block (block_seen v blocks lane (previous s at).column) (block_seen v blocks chosen.0 chosen.1) (get_or blocks index [])
+          (combines s.version && nat_lt 0 v.job.pass)
+          ≡ block_at s at
+      made_next chosen e =
+          let word = drawn_word s (block_at s) at in
+          let read : block_seen v blocks chosen.0 chosen.1 ≡ block_at s (pick s word at) = rw e (seen_pick word) in
+          rw (seen_previous, read)
+          (same_choice (combines s.version && nat_lt 0 v.job.pass) _ _ _ _
+          (λ h. ap (λ old. xor (compress_g (block_at s (previous s at)) (block_at s (pick s word at))) old)
+          (filled.old (v.job.pass - 1) index (let p = ltb-true 0 v.job.pass (both-true (combines s.version) _ h) in omega (arith, p)) (omega arith) index_fits))
+          (λ h. refl)
+          ∙ sym (recurrence_later s (block_at s) at later_place) ∙ sym (block_at-recurrence s good at here))
 
-    -- a word that is drawn from the block before
-    pub drawn_from_previous : (word : ℕ) → is_data_independent s.variant v.job.pass v.job.slice ≡ false →
-        word ≡ slice_index (block_seen v blocks lane (previous s at).column) 0 → word ≡ drawn_word s (block_at s) at
-    drawn_from_previous word e h = h ∙ ap (λ b. slice_index b 0) seen_previous
-        ∙ ap (λ (b : Bool). cond b (address_word s at) (slice_index (block_at s (previous s at)) 0)) (sym (ap (λ
-        (n : ℕ). is_data_independent s.variant v.job.pass n) same_slice ∙ e))
+      -- one more block is filled
+      pub filled_more : (block : List ℕ) → block ≡ block_at s at → IsFilledTo v.job lane (index + 1) (set blocks index block)
+      filled_more block e = record {
+        count = length-set blocks index block ∙ filled.count;
+        new = λ k h. elim (eqb_tells k index) [
+          | inl w ↦ rw w.1 (get_or-set_same blocks index block [] (omega (arith, filled.count)) ∙ e)
+          | inr w ↦ get_or-set_other blocks index k block [] w.1 ∙ filled.new k (omega (arith, w.1))
+        ];
+        old = λ last k p h fits. get_or-set_other blocks index k block [] (λ n. absurd (omega arith)) ∙ filled.old last k p (omega arith) fits;
+      }
+
+      pub write_filled : (p r : List ℕ) (x : Bool) (chosen : ℕ × ℕ) → chosen ≡ reference_of v.job lane index →
+          p ≡ block_seen v blocks lane (previous s at).column → r ≡ block_seen v blocks chosen.0 chosen.1 → x ≡ (combines s.version && nat_lt 0 v.job.pass) →
+          IsFilledTo v.job lane (index + 1) (set blocks index (made_block p r (get_or blocks index []) x))
+      write_filled p r x chosen e ps rs xs = filled_more _ (rw (ps, rs, xs) (made_next chosen e))
+
+      -- a word that is drawn from the block before
+      pub drawn_from_previous : (word : ℕ) → is_data_independent s.variant v.job.pass v.job.slice ≡ false →
+          word ≡ slice_index (block_seen v blocks lane (previous s at).column) 0 → word ≡ drawn_word s (block_at s) at
+      drawn_from_previous word e h = h ∙ ap (λ b. slice_index b 0) seen_previous
+          ∙ ap (λ (b : Bool). cond b (address_word s at) (slice_index (block_at s (previous s at)) 0)) (sym (ap (λ
+          (n : ℕ). is_data_independent s.variant v.job.pass n) same_slice ∙ e))
 
   -- where a reference may lie
-  reference_readable : (chosen : ℕ × ℕ) → chosen ≡ reference_of v.job lane index →
-      IsReadable s at chosen.0 ((pick s (drawn_word s (block_at s) at) at).pass, chosen.1)
-  reference_readable chosen e = rw e (pick-readable s (drawn_word s (block_at s) at) at good here later_place)
+  reference_readable : (chosen : ℕ × ℕ) (word : ℕ) → chosen ≡ pick_of v.job lane index word → IsReadable s at chosen.0 ((pick s word at).pass, chosen.1)
+  reference_readable chosen word e = rw e (pick-readable s word at good here later_place)
 
-  pub reference_lane : (chosen : ℕ × ℕ) → chosen ≡ reference_of v.job lane index → chosen.0 < s.lanes
-  reference_lane chosen e = rw e (pick-lane_fits s (drawn_word s (block_at s) at) at good here)
+  pub reference_lane : (chosen : ℕ × ℕ) → IsPicked v.job lane index chosen → chosen.0 < s.lanes
+  reference_lane chosen (word, e) = rw e (pick-lane_fits s word at good here)
 
   column_of_readable : (l r c : ℕ) → IsReadable s at l (r, c) → c < lane_length s
   column_of_readable l r c (inl w) = w.2
-  column_of_readable l r c (inr (inl w)) = let m = start_fits s v.job.slice good snapshot.job.slice_fits in let b = rw same_slice at w.1 in omega (arith, m, b)
+  column_of_readable l r c (inr (inl w)) = let m = start_fits s v.job.slice good job.slice_fits in let b = rw same_slice at w.1 in omega (arith, m, b)
   column_of_readable l r c (inr (inr w)) = let h = here.column_fits in omega (arith, w.2, h)
 
-  pub reference_column : (chosen : ℕ × ℕ) → chosen ≡ reference_of v.job lane index → chosen.1 < lane_length s
-  reference_column chosen e = column_of_readable chosen.0 _ chosen.1 (reference_readable chosen e)
+  pub reference_column : (chosen : ℕ × ℕ) → IsPicked v.job lane index chosen → chosen.1 < lane_length s
+  reference_column chosen (word, e) = column_of_readable chosen.0 _ chosen.1 (reference_readable chosen word e)
 
   before_of_readable : (l r c : ℕ) → IsReadable s at l (r, c) → c / s.segment_length ≡ v.job.slice → c % s.segment_length < index
   before_of_readable l r c (inl w) e = absurd (let a = div_above c s.segment_length (v.job.slice + 1) some (rw same_slice at w.1) in omega (arith, a, e))
   before_of_readable l r c (inr (inl w)) e = absurd (let b = div_below c s.segment_length v.job.slice some (rw same_slice at w.1) in omega (arith, b, e))
   before_of_readable l r c (inr (inr w)) e = let o = own_index c e in omega (arith, o, w.2)
 
-  pub reference_before : (chosen : ℕ × ℕ) → chosen ≡ reference_of v.job lane index → chosen.1 / s.segment_length ≡ v.job.slice
+  pub reference_before : (chosen : ℕ × ℕ) → IsPicked v.job lane index chosen → chosen.1 / s.segment_length ≡ v.job.slice
       → chosen.1 % s.segment_length < index
-  reference_before chosen e = before_of_readable chosen.0 _ chosen.1 (reference_readable chosen e)
+  reference_before chosen (word, e) = before_of_readable chosen.0 _ chosen.1 (reference_readable chosen word e)
 
 -- ---- begin and end
+
+-- a segment has the blocks that are there before a fill
+pub first_fits : (pass slice len : ℕ) → 2 ≤ len → cond ((pass == 0) && (slice == 0)) 2 0 ≤ len
+first_fits zero zero len h = h
+first_fits zero (suc slice) len h = rw (no_skip 0 (suc slice) (inr (omega arith))) (omega arith)
+first_fits (suc pass) slice len h = rw (no_skip (suc pass) slice (inl (omega arith))) (omega arith)
 
 -- what stands before a fill
 begin_by : (j : Job) → (pass slice : ℕ) → pass ≡ j.pass → slice ≡ j.slice → IsSetting j.setting → (lane : ℕ) (blocks : List (List ℕ)) →

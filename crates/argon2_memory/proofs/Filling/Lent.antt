@@ -1,24 +1,102 @@
--- What a snapshot lends: a segment of another slice.
-use Rattle.std.proofs.Common.{◌≡◌, ℕ, ◌<◌, List, [], length, map, get_or, arith, sym, ◌∙◌, ap}
-use Rattle.std.proofs.lemmas.List.{get_or-map, get_or_default, length-map}
+-- The blocks of a slice that is lent, lane after lane.
+use Rattle.std.proofs.Common.{◌≡◌, ℕ, zero, suc, ◌+◌, ◌*◌, ◌<◌, ◌≤◌, List, [], ◌∷◌, length, get_or, drop, arith, inl, inr, refl, sym, ◌∙◌, ap}
+use Rattle.std.proofs.Math.Nat.{mul-le-mul_right}
+use Rattle.std.proofs.lemmas.Bool.{cases_lt, lt-ltb, le-ltb}
+use Rattle.std.proofs.lemmas.List.{get_or-map, get_or_default, get_or-take, get_or-drop, length-take, length-drop}
+use Rattle.std.proofs.lemmas.List.FromFn.{get_or-map-range_with_len, length-map-range_with_len}
 use Rattle.std.specs.Borrow.{Bor}
+use Rattle.argon2_standard.specs.Standard.Setting.{Setting}
 use Rattle.argon2_memory.specs.Views.Segments.{SegmentValue}
-use Rattle.argon2_memory.specs.Views.Filling.{SnapshotValue, IsSnapshot, no_segment, rank_among, other_blocks}
+use Rattle.argon2_memory.specs.Views.Jobs.{Job, IsJob}
+use Rattle.argon2_memory.specs.Views.Filling.{SnapshotValue, IsSnapshot, no_segment, other_blocks, rank_among}
+use Rattle.argon2_memory.specs.Views.Beside.{IsBeside, lent_blocks, lent_segment, lent_slice, lent_slices}
+use Rattle.argon2_memory.specs.Views.Lent.{AreLent}
 
--- the value of the borrow that is read at a place stands there among the values of all three
-pub read_lent : (others : List (Bor (List SegmentValue))) (i : ℕ) (o : Bor (List SegmentValue))
-    → length (map (λ (b : Bor (List SegmentValue)). b.now) others) ≡ 3 → i < 3 →
-    o ≡ get_or others i o → get_or (map (λ (b : Bor (List SegmentValue)). b.now) others) i [] ≡ o.now
-read_lent others i o n h e =
-    get_or-map (λ (b : Bor (List SegmentValue)). b.now) others i o [] (let l = simp length-map at n in omega (arith, l))
-    ∙ ap (λ (b : Bor (List SegmentValue)). b.now) (sym e)
+module _ (s : Setting) (others : List (Bor (List (List ℕ)))) (at lane index : ℕ) (o : Bor (List (List ℕ))) (three : length others ≡ 3) (at_fits : at < 3)
+    (lane_fits : lane < s.lanes) (is : o ≡ get_or others at o) where
+  -- the segment of a lane in the slice that is read
+  pub segment-is : get_or (get_or (lent_slices s others) at []) lane no_segment ≡ lent_segment s o.now lane
+  segment-is =
+      ap (λ (l : List SegmentValue). get_or l lane no_segment)
+      (get_or-map (λ (b : Bor (List (List ℕ))). lent_slice s b.now) others at o [] (omega (arith, three))
+      ∙ ap (λ (b : Bor (List (List ℕ))). lent_slice s b.now) (sym is))
+      ∙ get_or-map-range_with_len (lent_segment s o.now) 0 s.lanes lane lane no_segment lane_fits (omega arith)
 
--- the segment that is read is that of the slice and lane
-pub read_segment : (v : SnapshotValue) → IsSnapshot v → (slice lane at : ℕ) (segments : List SegmentValue) (segment : SegmentValue) →
-    lane < v.job.setting.lanes → at ≡ rank_among v.job slice → at < 3 → get_or v.others at [] ≡ segments → segment ≡ get_or segments lane segment →
-    segment.blocks ≡ other_blocks v slice lane
-read_segment v snapshot slice lane at segments segment fits e h es is =
-    let n : lane < length segments = let l = snapshot.lanes at h in let k = rw es at l in omega (arith, k, fits) in
-    let d : segment ≡ get_or segments lane no_segment = is ∙ get_or_default segments lane segment no_segment n in
-    let q : get_or v.others (rank_among v.job slice) [] ≡ segments = rw e at es in
-    ap (λ (x : SegmentValue). x.blocks) (d ∙ ap (λ l. get_or l lane no_segment) (sym q))
+  pub place_fits : index < length (get_or (get_or (lent_slices s others) at []) lane no_segment).blocks → lane * s.segment_length + index < length o.now
+  place_fits made =
+      let e = ap (λ (x : SegmentValue). length x.blocks) segment-is in
+      let t = length-take s.segment_length (drop (lane * s.segment_length) o.now) in
+      let d = length-drop (lane * s.segment_length) o.now in
+      omega (arith, e, t, d, made)
+
+  pub block-is : index < s.segment_length → (place : ℕ) → place ≡ lane * s.segment_length + index → place < length o.now → (block : List ℕ) →
+      block ≡ get_or o.now place block → block ≡ get_or (get_or (get_or (lent_slices s others) at []) lane no_segment).blocks index []
+  block-is index_fits place e fits block read =
+      read ∙ get_or_default o.now place block [] fits ∙ ap (λ n. get_or o.now n []) e
+      ∙ sym (get_or-drop (lane * s.segment_length) o.now index [])
+      ∙ sym (get_or-take s.segment_length (drop (lane * s.segment_length) o.now) index [] index_fits)
+      ∙ sym (ap (λ (x : SegmentValue). get_or x.blocks index []) segment-is)
+
+-- a lane's part of a slice of p * L blocks has L blocks
+pub length-lent : (s : Setting) (blocks : List (List ℕ)) (lane : ℕ) → length blocks ≡ s.lanes * s.segment_length → lane < s.lanes →
+    length (lent_blocks s blocks lane) ≡ s.segment_length
+length-lent s blocks lane long fits =
+    let next : lane + 1 ≤ s.lanes = omega arith in
+    let m = mul-le-mul_right s.segment_length next in
+    let t = length-take s.segment_length (drop (lane * s.segment_length) blocks) in
+    let d = length-drop (lane * s.segment_length) blocks in
+    omega (arith, long, m, t, d)
+
+module _ (j : Job) (good : IsJob j) (a b c : List (List ℕ)) (long-a : length a ≡ j.setting.lanes * j.setting.segment_length)
+    (long-b : length b ≡ j.setting.lanes * j.setting.segment_length) (long-c : length c ≡ j.setting.lanes * j.setting.segment_length) where
+  -- the three slices as a snapshot has them
+  abbrev v : SnapshotValue
+  v = record { job = j; others = lent_slice j.setting a ∷ lent_slice j.setting b ∷ lent_slice j.setting c ∷ [] }
+
+  abbrev lists : List (List (List ℕ))
+  lists = a ∷ b ∷ c ∷ []
+
+  slice-at : (at : ℕ) → at < 3 → get_or v.others at [] ≡ lent_slice j.setting (get_or lists at [])
+  slice-at zero h = refl
+  slice-at (suc zero) h = refl
+  slice-at (suc (suc zero)) h = refl
+  slice-at (suc (suc (suc at))) h = absurd (omega arith)
+
+  long-at : (at : ℕ) → at < 3 → length (get_or lists at []) ≡ j.setting.lanes * j.setting.segment_length
+  long-at zero h = long-a
+  long-at (suc zero) h = long-b
+  long-at (suc (suc zero)) h = long-c
+  long-at (suc (suc (suc at))) h = absurd (omega arith)
+
+  rank_fits : (slice : ℕ) → slice < 4 → rank_among j slice < 3
+  rank_fits slice h = elim (cases_lt slice j.slice) [
+    | inl w ↦ rw (lt-ltb slice j.slice w) (let g = good.slice_fits in omega (arith, w, g))
+    | inr w ↦ rw (le-ltb slice j.slice w) (omega arith)
+  ]
+
+  other-is : (slice lane : ℕ) → slice < 4 → lane < j.setting.lanes →
+      other_blocks v slice lane ≡ lent_blocks j.setting (get_or lists (rank_among j slice) []) lane
+  other-is slice lane h fits =
+      ap (λ (l : List SegmentValue). (get_or l lane no_segment).blocks) (slice-at (rank_among j slice) (rank_fits slice h))
+      ∙ ap (λ (x : SegmentValue). x.blocks) (get_or-map-range_with_len (lent_segment j.setting (get_or lists (rank_among j slice) [])) 0
+      j.setting.lanes lane lane no_segment fits (omega arith))
+
+  pub beside_lent : IsBeside v
+  beside_lent = record {
+    job = good;
+    slices = refl;
+    lanes = λ at h. ap (λ (l : List SegmentValue). length l) (slice-at at h)
+        ∙ length-map-range_with_len (lent_segment j.setting (get_or lists at [])) 0 j.setting.lanes;
+    blocks = λ slice lane h ne fits. ap (λ (l : List (List ℕ)). length l) (other-is slice lane h fits)
+        ∙ length-lent j.setting (get_or lists (rank_among j slice) []) lane (long-at (rank_among j slice) (rank_fits slice h)) fits;
+  }
+
+  pub snapshot_lent : AreLent j lists → IsSnapshot v
+  snapshot_lent lent = record {
+    job = good;
+    slices = refl;
+    lanes = beside_lent.lanes;
+    blocks = beside_lent.blocks;
+    lower = λ slice lane h fits. other-is slice lane (let g = good.slice_fits in omega (arith, h, g)) fits ∙ lent.lower slice h lane fits;
+    upper = λ slice lane last low high fits p. other-is slice lane high fits ∙ lent.upper slice last low high p lane fits;
+  }

@@ -2,7 +2,7 @@
 use Rattle.std.proofs.Common.{◌≡◌, ℕ, zero, suc, ◌<◌, Bool, List, [], ◌∷◌, ◌++◌, length, set, get_or, refl, ap, ◌∙◌, arith}
 use Rattle.argon2_memory.specs.declared.memory.segment.Source.{Source}
 use Rattle.argon2_memory.specs.declared.memory.segment.Source.TheVariants.{Own, Other}
-use Rattle.argon2_settings.specs.Standard.Recurrence.{made_block}
+use Rattle.argon2_standard.specs.Standard.Recurrence.{made_block}
 use Rattle.argon2_memory.specs.Views.Sources.{source_block, IsBefore}
 
 -- a block that is made is written and read in front of the zeros

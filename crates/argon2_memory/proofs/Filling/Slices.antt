@@ -12,7 +12,7 @@ use Rattle.std.specs.List.{remove}
 use Rattle.std.proofs.lemmas.List.{map-set}
 use Rattle.argon2_memory.specs.declared.memory.segment.Segment.{Segment}
 use Rattle.argon2_memory.specs.Views.SliceLists.{segments_of}
-use Rattle.argon2_settings.specs.Views.Jobs.{Job, IsJob}
+use Rattle.argon2_memory.specs.Views.Jobs.{Job, IsJob}
 use Rattle.argon2_memory.specs.Views.Segments.{SegmentValue, segment_at, segment_block}
 use Rattle.argon2_memory.specs.Views.Filling.{no_segment, rank_among, IsSnapshot}
 use Rattle.argon2_memory.specs.Views.Memories.{segment_in, AreSlices, IsFilledBelow, slice_writes, writes_in, zero_segment}

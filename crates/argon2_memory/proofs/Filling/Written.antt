@@ -3,7 +3,7 @@ use Rattle.std.proofs.Common.{◌≡◌, ℕ, zero, suc, ◌<◌, Bool, List, []
 use Rattle.std.proofs.lemmas.List.{get_or-take}
 use Rattle.argon2_memory.specs.declared.memory.segment.Source.{Source}
 use Rattle.argon2_memory.specs.declared.memory.segment.Source.TheVariants.{Own, Other}
-use Rattle.argon2_settings.specs.Standard.Recurrence.{made_block}
+use Rattle.argon2_standard.specs.Standard.Recurrence.{made_block}
 use Rattle.argon2_memory.specs.Views.Sources.{source_block, IsBefore}
 
 -- a source before an index names the same block in the part before that index

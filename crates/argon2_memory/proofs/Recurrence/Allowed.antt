@@ -7,11 +7,11 @@ use Rattle.std.proofs.lemmas.Bool.{cases_lt, lt-ltb, le-ltb}
 use Rattle.std.proofs.lemmas.List.{length-append, length-take, get_or-take, get_or_append_left, get_or-append_right}
 use Rattle.std.proofs.lemmas.List.FromFn.{get_or-map-range_with_len}
 use Rattle.std.proofs.Math.Nat.{div-add-mod}
-use Rattle.argon2_settings.specs.Standard.Setting.{Setting, Position, lane_length, slice_of, index_of}
-use Rattle.argon2_settings.specs.Views.Jobs.{IsPosition, Job, IsJob, first_index}
-use Rattle.argon2_settings.specs.Standard.Reference.{columns_between, columns_of_last_pass, without_last, reference_window, window_index, drawn_lane, pick}
+use Rattle.argon2_standard.specs.Standard.Setting.{Setting, Position, lane_length, slice_of, index_of}
+use Rattle.argon2_memory.specs.Views.Jobs.{IsPosition, Job, IsJob, first_index}
+use Rattle.argon2_standard.specs.Standard.Reference.{columns_between, columns_of_last_pass, without_last, reference_window, window_index, drawn_lane, pick}
 use Rattle.argon2_memory.specs.Views.Filling.{position_of, left_columns, window_length, window_column, pick_of}
-use Rattle.argon2_settings.proofs.Settings.Jobs.{start_fits, later_index}
+use Rattle.argon2_memory.proofs.Recurrence.Jobs.{start_fits, later_index}
 use Rattle.argon2_memory.proofs.Recurrence.References.{length-columns, some_allowed, own_lane_first, drawn_place_fits}
 use Rattle.argon2_memory.proofs.Schedules.AnyOrder.{slice_of_sum}
 

@@ -6,10 +6,10 @@ use Rattle.std.proofs.lemmas.Bool.{ltb-true, ltb-false}
 use Rattle.std.proofs.Math.Nat.{mul-le-mul_right}
 use Rattle.argon2_blocks.specs.Standard.Block.{xor}
 use Rattle.argon2_blocks.specs.Standard.Compression.{compress_g}
-use Rattle.argon2_settings.specs.Standard.Setting.{Setting, Position, lane_length}
-use Rattle.argon2_settings.specs.Views.Jobs.{IsSetting, IsPosition}
-use Rattle.argon2_settings.specs.Standard.Reference.{previous, pick}
-use Rattle.argon2_settings.specs.Standard.Recurrence.{Blocks, drawn_word, next_block, recurrence, unroll, rank, block_at, combines}
+use Rattle.argon2_standard.specs.Standard.Setting.{Setting, Position, lane_length}
+use Rattle.argon2_memory.specs.Views.Jobs.{IsSetting, IsPosition}
+use Rattle.argon2_standard.specs.Standard.Reference.{previous, pick}
+use Rattle.argon2_standard.specs.Standard.Recurrence.{Blocks, drawn_word, next_block, recurrence, unroll, rank, block_at, combines}
 use Rattle.argon2_memory.proofs.Recurrence.References.{IsBefore, pick-before, drawn_lane_fits}
 
 -- the same choice between values that agree where they are chosen

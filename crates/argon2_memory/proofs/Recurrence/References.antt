@@ -8,9 +8,9 @@ use Rattle.std.proofs.Math.Nat.{div-add-mod, mod-lt, mul-le-mul_left, div-lt_iff
 use Rattle.std.specs.Prelude.{◌==◌, ◌||◌, ◌&&◌}
 use Rattle.argon2_blocks.specs.Standard.Word.{high_half}
 use Rattle.std.specs.List.{AllByRecursion, range_with_len}
-use Rattle.argon2_settings.specs.Standard.Setting.{Setting, Position, lane_length, slice_of, index_of}
-use Rattle.argon2_settings.specs.Views.Jobs.{IsSetting, IsPosition}
-use Rattle.argon2_settings.specs.Standard.Reference.{columns_between, columns_of_last_pass, without_last, reference_window, window_index, drawn_lane, pick}
+use Rattle.argon2_standard.specs.Standard.Setting.{Setting, Position, lane_length, slice_of, index_of}
+use Rattle.argon2_memory.specs.Views.Jobs.{IsSetting, IsPosition}
+use Rattle.argon2_standard.specs.Standard.Reference.{columns_between, columns_of_last_pass, without_last, reference_window, window_index, drawn_lane, pick}
 
 module _ (P : ℕ × ℕ → Type 0) where
   pub all-append : (xs ys : List (ℕ × ℕ)) → AllByRecursion P xs → AllByRecursion P ys → AllByRecursion P (xs ++ ys)

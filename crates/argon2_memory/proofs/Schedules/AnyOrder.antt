@@ -9,14 +9,14 @@ use Rattle.std.proofs.lemmas.List.Sums.{sum_by-cons}
 use Rattle.std.proofs.Math.Nat.{mul-le-mul_right, add-mul-div_right, div-eq_of_lt}
 use Rattle.argon2_blocks.specs.Standard.Block.{xor}
 use Rattle.argon2_blocks.specs.Standard.Compression.{compress_g}
-use Rattle.argon2_settings.specs.Standard.Setting.{Setting, Position, lane_length, slice_of}
-use Rattle.argon2_settings.specs.Views.Jobs.{IsSetting, IsPosition}
-use Rattle.argon2_settings.specs.Standard.Reference.{previous, pick}
-use Rattle.argon2_settings.specs.Standard.Recurrence.{Blocks, drawn_word, next_block, recurrence, block_at, first_block, combines}
+use Rattle.argon2_standard.specs.Standard.Setting.{Setting, Position, lane_length, slice_of}
+use Rattle.argon2_memory.specs.Views.Jobs.{IsSetting, IsPosition}
+use Rattle.argon2_standard.specs.Standard.Reference.{previous, pick}
+use Rattle.argon2_standard.specs.Standard.Recurrence.{Blocks, drawn_word, next_block, recurrence, block_at, first_block, combines}
 use Rattle.argon2_memory.specs.Laws.Matrix.{Matrix, matrix_with}
 use Rattle.argon2_memory.specs.Laws.Schedule.{Progress, blocks_in_slice, block_from, next_column, step}
 use Rattle.argon2_memory.proofs.Recurrence.References.{pick-readable, drawn_lane_fits}
-use Rattle.argon2_settings.proofs.Settings.Jobs.{later_index}
+use Rattle.argon2_memory.proofs.Recurrence.Jobs.{later_index}
 use Rattle.argon2_memory.proofs.Recurrence.Recurrences.{same_choice, both-true, block_at-recurrence}
 
 -- the lane that a word picks is one of the setting's lanes

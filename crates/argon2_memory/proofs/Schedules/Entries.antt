@@ -3,10 +3,10 @@ use Rattle.std.proofs.Common.{◌≡◌, ◌≢◌, ℕ, ◌+◌, ◌*◌, ◌/�
 use Rattle.std.specs.Prelude.{◌==◌}
 use Rattle.std.specs.List.{AllByRecursion, count_by}
 use Rattle.std.proofs.lemmas.List.Sums.{sum_by-cons}
-use Rattle.argon2_settings.specs.Standard.Setting.{Setting, Position, slice_of}
-use Rattle.argon2_settings.specs.Standard.Reference.{previous}
+use Rattle.argon2_standard.specs.Standard.Setting.{Setting, Position, slice_of}
+use Rattle.argon2_standard.specs.Standard.Reference.{previous}
 use Rattle.std.proofs.lemmas.Bool.Decides.{eqb_tells}
-use Rattle.argon2_settings.specs.Standard.Recurrence.{block_at}
+use Rattle.argon2_standard.specs.Standard.Recurrence.{block_at}
 use Rattle.argon2_memory.specs.Laws.Matrix.{Matrix}
 use Rattle.argon2_memory.specs.Laws.Schedule.{Progress, IsSchedule, IsWrittenIn, after_slices, blocks_in_slice, pick_from, reads_from, word_from}
 use Rattle.argon2_memory.specs.Laws.AnyOrder.{IsRun, IsEntry, progress_before, entry_position, NoEntryReadsOthers, PicksHoldTheirBlocks}

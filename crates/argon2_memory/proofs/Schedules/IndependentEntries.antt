@@ -1,9 +1,9 @@
 -- The references of an independent segment rest on neither prehash nor version, and what a write reads of other lanes no write of the slice changes.
 use Rattle.std.proofs.Common.{◌≡◌, ℕ, ◌+◌, ◌*◌, ◌<◌, ◌≤◌, ◌⊎◌, refl, inl, inr}
-use Rattle.argon2_settings.specs.Standard.Setting.{Setting, Position, slice_of}
-use Rattle.argon2_settings.specs.Views.Jobs.{IsSetting, IsPosition}
-use Rattle.argon2_settings.specs.Standard.Reference.{reference_window, pick}
-use Rattle.argon2_settings.specs.Standard.Recurrence.{address_word}
+use Rattle.argon2_standard.specs.Standard.Setting.{Setting, Position, slice_of}
+use Rattle.argon2_memory.specs.Views.Jobs.{IsSetting, IsPosition}
+use Rattle.argon2_standard.specs.Standard.Reference.{reference_window, pick}
+use Rattle.argon2_standard.specs.Standard.Recurrence.{address_word}
 use Rattle.argon2_memory.specs.Views.Positions.{positions_in, reference_positions_of}
 use Rattle.argon2_memory.proofs.Recurrence.References.{pick-readable}
 

@@ -4,9 +4,9 @@ use Rattle.std.proofs.Common.{inl, inr, sym, ◌∙◌, ap}
 use Rattle.std.specs.Prelude.{◌==◌, ◌&&◌}
 use Rattle.std.proofs.lemmas.Bool.Decides.{eqb_tells}
 use Rattle.std.proofs.lemmas.List.{append-nil}
-use Rattle.argon2_settings.specs.Standard.Setting.{Setting}
-use Rattle.argon2_settings.specs.Views.Jobs.{IsSetting}
-use Rattle.argon2_settings.specs.Standard.Recurrence.{block_at}
+use Rattle.argon2_standard.specs.Standard.Setting.{Setting}
+use Rattle.argon2_memory.specs.Views.Jobs.{IsSetting}
+use Rattle.argon2_standard.specs.Standard.Recurrence.{block_at}
 use Rattle.argon2_memory.specs.Laws.Matrix.{Matrix, IsBegun}
 use Rattle.argon2_memory.specs.Laws.Schedule.{IsSchedule, blocks_in_slice, next_column, after_slice, after_slices}
 use Rattle.argon2_memory.specs.Laws.AnyOrder.{EveryOrderAgrees}

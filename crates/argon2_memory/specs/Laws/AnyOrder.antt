@@ -1,10 +1,10 @@
 -- Every order of the single writes leads to the blocks of the recurrence.
 use Rattle.std.specs.Prelude.{◌≡◌, ◌≢◌, ℕ, ◌*◌, ◌/◌, ◌%◌, ◌<◌, List, ◌∷◌, ◌++◌}
 use Rattle.std.specs.List.{AllByRecursion}
-use Rattle.argon2_settings.specs.Standard.Setting.{Setting, Position}
-use Rattle.argon2_settings.specs.Views.Jobs.{IsSetting}
+use Rattle.argon2_standard.specs.Standard.Setting.{Setting, Position}
+use Rattle.argon2_memory.specs.Views.Jobs.{IsSetting}
 use Rattle.argon2_memory.specs.Laws.Matrix.{Matrix, IsBegun, HoldsLastPass}
-use Rattle.argon2_settings.specs.Standard.Recurrence.{block_at}
+use Rattle.argon2_standard.specs.Standard.Recurrence.{block_at}
 use Rattle.argon2_memory.specs.Laws.Schedule.{IsSchedule, IsWrittenIn, Progress, after_slices, next_position, pick_from, progress, reads_from}
 
 -- a run of a setting: a schedule for each slice, over a matrix that holds the first two blocks of

@@ -1,7 +1,8 @@
 -- What a memory holds at each lane and column, whatever the pass.
-use Rattle.std.specs.Prelude.{◌≡◌, ℕ, ◌-◌, ◌<◌, ◌==◌, ◌&&◌, if◌then◌else◌, List}
-use Rattle.argon2_settings.specs.Standard.Setting.{Setting, lane_length}
-use Rattle.argon2_settings.specs.Standard.Recurrence.{block_at, first_block}
+use Rattle.std.specs.Prelude.{◌≡◌, ℕ, ◌<◌, ◌==◌, ◌&&◌, if◌then◌else◌, List}
+use Rattle.argon2_standard.specs.Standard.Setting.{Setting}
+use Rattle.argon2_standard.specs.Standard.Recurrence.{first_block}
+pub use Rattle.argon2_memory.specs.Standard.Kept.{HoldsLastPass}
 
 abbrev pub Matrix : Type 0
 Matrix = ℕ → ℕ → List ℕ
@@ -14,8 +15,3 @@ matrix_with matrix lane column block = λ l c. if (l == lane) && (c == column) t
 abbrev pub IsBegun : Setting → Matrix → Type 0
 IsBegun s matrix = (lane column : ℕ) → lane < s.lanes → column < 2 →
     matrix lane column ≡ first_block s (record { pass = 0; lane = lane; column = column })
-
--- each place holds its block of the last pass
-abbrev pub HoldsLastPass : Setting → Matrix → Type 0
-HoldsLastPass s matrix = (lane column : ℕ) → lane < s.lanes → column < lane_length s →
-    matrix lane column ≡ block_at s (record { pass = s.passes - 1; lane = lane; column = column })

@@ -2,10 +2,10 @@
 use Rattle.std.specs.Prelude.{◌≡◌, ℕ, zero, suc, ◌+◌, ◌-◌, ◌*◌, ◌/◌, ◌%◌, ◌<◌, ◌≤◌, ◌==◌, ◌&&◌, nat_lt, if◌then◌else◌, List, [], ◌∷◌, slice_index}
 use Rattle.std.specs.List.{fold, count_by, AllByRecursion}
 use Rattle.argon2_memory.specs.Laws.Matrix.{Matrix, matrix_with}
-use Rattle.argon2_settings.specs.Standard.Setting.{Setting, Position, slice_of}
-use Rattle.argon2_settings.specs.Views.Jobs.{first_written}
-use Rattle.argon2_settings.specs.Standard.Reference.{is_data_independent, previous, pick}
-use Rattle.argon2_settings.specs.Standard.Recurrence.{address_word, combines, made_block}
+use Rattle.argon2_standard.specs.Standard.Setting.{Setting, Position, slice_of}
+use Rattle.argon2_memory.specs.Views.Jobs.{first_written}
+use Rattle.argon2_standard.specs.Standard.Reference.{is_data_independent, previous, pick}
+use Rattle.argon2_standard.specs.Standard.Recurrence.{address_word, combines, made_block}
 
 -- how many blocks each lane writes in a slice
 abbrev pub blocks_in_slice : Setting → ℕ → ℕ → ℕ

@@ -1,10 +1,11 @@
 -- A segment while it is filled, from the other slices and from its own blocks so far.
 use Rattle.std.specs.Prelude.{◌≡◌, ◌≢◌, ℕ, suc, ◌+◌, ◌-◌, ◌*◌, ◌/◌, ◌%◌, ◌<◌, ◌≤◌, Bool, ◌==◌, nat_lt, if◌then◌else◌, List, [], length, slice_index_or}
-use Rattle.argon2_settings.specs.Standard.Setting.{Position, lane_length}
-use Rattle.argon2_settings.specs.Views.Jobs.{Job, IsJob}
-use Rattle.argon2_settings.specs.Standard.Reference.{pick}
-use Rattle.argon2_settings.specs.Standard.Recurrence.{block_at, drawn_word, address_word}
+use Rattle.argon2_standard.specs.Standard.Setting.{Position, lane_length}
+use Rattle.argon2_memory.specs.Views.Jobs.{Job, IsJob}
+use Rattle.argon2_standard.specs.Standard.Reference.{pick}
+use Rattle.argon2_standard.specs.Standard.Recurrence.{block_at, drawn_word, address_word}
 use Rattle.argon2_memory.specs.Views.Segments.{SegmentValue, segment_at, segment_block}
+pub use Rattle.argon2_memory.specs.Standard.Kept.{no_segment}
 
 -- the place of an index of the job's segment of a lane
 abbrev pub position_of : Job → ℕ → ℕ → Position
@@ -15,9 +16,6 @@ position_of j lane index =
 pub record SnapshotValue : Type 0 where
   pub job : Job
   pub others : List (List SegmentValue)
-
-abbrev pub no_segment : SegmentValue
-no_segment = record { blocks = []; tally = 0 }
 
 -- the place of a slice among the three that are not the job's
 abbrev pub rank_among : Job → ℕ → ℕ

@@ -1,20 +1,11 @@
 -- What a contract sees of a memory.
-use Rattle.std.specs.Prelude.{◌≡◌, ℕ, ◌*◌, ◌/◌, ◌%◌, ◌^◌, ◌<◌, ◌≤◌, ◌-◌, ◌==◌, if◌then◌else◌, List, [], length, map, replicate, slice_index_or, slice_set}
+use Rattle.std.specs.Prelude.{◌≡◌, ℕ, ◌*◌, ◌%◌, ◌^◌, ◌<◌, ◌≤◌, ◌-◌, ◌==◌, if◌then◌else◌, List, [], length, map, replicate, slice_index_or, slice_set}
 use Rattle.std.specs.List.{sum_by, range_with_len}
 use Rattle.argon2_blocks.specs.Standard.Block.{zero_block}
 use Rattle.argon2_memory.specs.Views.Sources.{with_block}
-use Rattle.argon2_settings.specs.Standard.Setting.{Setting}
+use Rattle.argon2_standard.specs.Standard.Setting.{Setting}
 use Rattle.argon2_memory.specs.Views.Segments.{SegmentValue, IsReady, segment_at}
-use Rattle.argon2_memory.specs.Views.Filling.{no_segment}
-
--- the number of lanes, the length of a segment, and the segments: slice by slice, and there lane by lane
-pub record MemoryValue : Type 0 where
-  pub lanes : ℕ
-  pub segment_length : ℕ
-  pub slices : List (List SegmentValue)
-
-abbrev pub segment_in : List (List SegmentValue) → ℕ → ℕ → SegmentValue
-segment_in slices slice lane = slice_index_or (slice_index_or slices slice []) lane no_segment
+pub use Rattle.argon2_memory.specs.Standard.Kept.{MemoryValue, HasShape, block_of, no_memory, segment_in}
 
 -- four slices, each with a segment of L blocks for each of p lanes
 pub record AreSlices (p len : ℕ) (slices : List (List SegmentValue)) : Type 0 where
@@ -27,11 +18,6 @@ pub record IsMemory (m : MemoryValue) : Type 0 where
   pub fits : 4 * m.lanes * m.segment_length < 2 ^ 32
   pub lane_fits : 4 * m.segment_length < 2 ^ 32
 
--- the block at a lane and column
-abbrev pub block_of : MemoryValue → ℕ → ℕ → List ℕ
-block_of m lane column =
-    slice_index_or (segment_in m.slices (column / m.segment_length) lane).blocks (column % m.segment_length) []
-
 -- the sum of the tallies of a slice
 abbrev pub slice_writes : List SegmentValue → ℕ
 slice_writes segments = sum_by (λ (segment : SegmentValue). segment.tally) segments
@@ -42,11 +28,6 @@ writes_in slices = sum_by slice_writes slices % 2 ^ 64
 
 abbrev pub writes : MemoryValue → ℕ
 writes m = writes_in m.slices
-
--- a memory of the setting's lanes and segments
-pub record HasShape (s : Setting) (m : MemoryValue) : Type 0 where
-  pub lanes : m.lanes ≡ s.lanes
-  pub segment_length : m.segment_length ≡ s.segment_length
 
 -- in each lane the slices below the stated one hold the pass's blocks, and the others wait for it
 pub record IsFilledBelow (s : Setting) (pass slice : ℕ) (slices : List (List SegmentValue)) : Type 0 where
@@ -67,10 +48,6 @@ zero_memory lanes segment_length = record {
   segment_length = segment_length;
   slices = replicate 4 (replicate lanes (zero_segment segment_length));
 }
-
--- a memory without lanes, which a refusal leaves
-abbrev pub no_memory : MemoryValue
-no_memory = record { lanes = 0; segment_length = 0; slices = replicate 4 [] }
 
 -- the last block of each lane
 abbrev pub last_blocks_of : MemoryValue → List (List ℕ)

@@ -2,12 +2,12 @@
 -- memory and the number of passes alone, and on no password, salt or block (RFC 9106, 3.4.1.2).
 use Rattle.std.specs.Prelude.{ℕ, ◌+◌, ◌-◌, ◌*◌, List, [], map}
 use Rattle.std.specs.List.{range_with_len}
-use Rattle.argon2_settings.specs.declared.variant.Variant.{Variant}
-use Rattle.argon2_settings.specs.declared.version.Version.TheVariants.{Version13}
-use Rattle.argon2_settings.specs.Standard.Setting.{Setting, Position}
-use Rattle.argon2_settings.specs.Views.Jobs.{first_written}
-use Rattle.argon2_settings.specs.Standard.Reference.{pick}
-use Rattle.argon2_settings.specs.Standard.Recurrence.{address_word}
+use Rattle.argon2_standard.specs.declared.variant.Variant.{Variant}
+use Rattle.argon2_standard.specs.declared.version.Version.TheVariants.{Version13}
+use Rattle.argon2_standard.specs.Standard.Setting.{Setting, Position}
+use Rattle.argon2_memory.specs.Views.Jobs.{first_written}
+use Rattle.argon2_standard.specs.Standard.Reference.{pick}
+use Rattle.argon2_standard.specs.Standard.Recurrence.{address_word}
 
 -- the lane and column of each reference of a segment, by index, from 2 in the first slice
 abbrev pub positions_in : Setting → ℕ → ℕ → ℕ → List (ℕ × ℕ)

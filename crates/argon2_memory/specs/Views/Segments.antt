@@ -1,8 +1,9 @@
 -- What a segment, one lane's part of a slice, holds.
 use Rattle.std.specs.Prelude.{◌≡◌, ℕ, zero, suc, ◌+◌, ◌*◌, List, map, length, take}
 use Rattle.std.specs.List.{range_with_len}
-use Rattle.argon2_settings.specs.Standard.Setting.{Setting}
-use Rattle.argon2_settings.specs.Standard.Recurrence.{block_at}
+use Rattle.argon2_standard.specs.Standard.Setting.{Setting}
+use Rattle.argon2_standard.specs.Standard.Recurrence.{block_at}
+pub use Rattle.argon2_memory.specs.Standard.Kept.{SegmentValue}
 
 -- the block at an index of a lane's segment, as a pass leaves it
 abbrev pub segment_block : Setting → ℕ → ℕ → ℕ → ℕ → List ℕ
@@ -19,8 +20,3 @@ abbrev pub IsReady : Setting → ℕ → ℕ → ℕ → List (List ℕ) → Typ
 IsReady s zero zero lane blocks = (length blocks ≡ s.segment_length) × (take 2 blocks ≡ take 2 (segment_at s 0 0 lane))
 IsReady s zero (suc slice) lane blocks = length blocks ≡ s.segment_length
 IsReady s (suc last) slice lane blocks = blocks ≡ segment_at s last slice lane
-
--- what a contract sees of a segment: its blocks, and how many were written modulo 2 ^ 64
-pub record SegmentValue : Type 0 where
-  pub blocks : List (List ℕ)
-  pub tally : ℕ

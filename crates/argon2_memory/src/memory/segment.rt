@@ -1,11 +1,14 @@
 //! A segment: the blocks of one lane in one slice.
 
-ghost use Rattle.std.specs.Prelude.{◌≡◌, ◌+◌, ◌^◌, ◌<◌, [], IfOk, length, slice_index_or, vec_capacity, vec_len};
+ghost use Rattle.std.specs.Prelude.{◌≡◌, ◌+◌, ◌%◌, ◌^◌, ◌<◌, ◌≤◌, [], IfOk, length, slice_index_or, slice_set, vec_capacity, vec_len};
 ghost use Rattle.argon2_memory.specs.Views.Memories.{zero_segment};
-ghost use Rattle.argon2_settings.specs.Standard.Recurrence.{made_block};
+ghost use Rattle.argon2_standard.specs.Standard.Recurrence.{made_block};
 ghost use Rattle.argon2_memory.specs.Views.Sources.{IsBefore, source_block, with_block};
 ghost use Rattle.argon2_memory.specs.Views.Made.{IsMadeInPart, with_zeros};
+ghost use Rattle.argon2_memory.specs.Views.Filling.{IsFilledTo, IsSnapshot};
+ghost use Rattle.argon2_memory.specs.Views.Jobs.{first_index};
 
+use crate::segment::{Beside, fill_blocks};
 use argon2_blocks::block::{Block, fill_block};
 use std::alloc::{AllocError, Global};
 use std::marker::Model;
@@ -70,7 +73,8 @@ pub fn recall_segment(segment: &Segment)
     let _tally = segment.tally();
 }
 
-fn named_among<'a>(before: &'a [Block], source: Source<'a>) -> &'a Block
+/// The block that a source names, where it is one of these or another.
+pub(crate) fn named_among<'a>(before: &'a [Block], source: Source<'a>) -> &'a Block
     requires { IsBefore (length before.now) source }
     ensures { result.now ≡ source_block before.now source.entry }
 {
@@ -78,6 +82,34 @@ fn named_among<'a>(before: &'a [Block], source: Source<'a>) -> &'a Block
         Source::Own(index) => &before[index],
         Source::Other(block) => block,
     }
+}
+
+/// Writes one of these blocks from two sources, in place, and counts the write. It is the one
+/// function that makes a block from others.
+pub(crate) fn write_among(
+    blocks: &mut [Block],
+    tally: &mut u64,
+    index: usize,
+    prev: Source<'_>,
+    reference: Source<'_>,
+    with_xor: bool,
+)
+    requires index_fits { index < length blocks.old }
+    requires prev_before { IsBefore index prev }
+    requires reference_before { IsBefore index reference }
+    ensures written { blocks.new ≡ slice_set blocks.old index (made_block
+        (source_block blocks.old prev.entry) (source_block blocks.old reference.entry)
+        (slice_index_or blocks.old index []) with_xor) }
+    ensures counted { tally.new ≡ (tally.old + 1) % 2 ^ 64 }
+{
+    let (before, rest) = blocks.split_at_mut(index);
+    fill_block(
+        named_among(before, prev),
+        named_among(before, reference),
+        &mut rest[0],
+        with_xor,
+    );
+    *tally = tally.wrapping_add(1);
 }
 
 impl Segment {
@@ -127,17 +159,6 @@ impl Segment {
         }
     }
 
-    /// The block that a source names.
-    pub(crate) fn named<'a>(&'a self, source: Source<'a>) -> &'a Block
-        requires { IsBefore (length self.now.blocks) source }
-        ensures { result.now ≡ source_block self.now.blocks source.entry }
-    {
-        match source {
-            Source::Own(index) => self.block(index),
-            Source::Other(block) => block,
-        }
-    }
-
     /// Writes the block at the index from two sources, in place, and counts the write: their
     /// compression or, with `with_xor`, that combined with the old block (RFC 9106, 3.2). A source
     /// of the same segment comes before the index.
@@ -151,13 +172,39 @@ impl Segment {
             (slice_index_or old index []) with_xor) }
     {
         make_up_to(&mut self.blocks, &mut self.zeros, index);
-        let (before, rest) = self.blocks.split_at_mut(index);
-        fill_block(
-            named_among(before, prev),
-            named_among(before, reference),
-            &mut rest[0],
+        write_among(
+            &mut self.blocks,
+            &mut self.tally,
+            index,
+            prev,
+            reference,
             with_xor,
         );
-        self.tally = self.tally.wrapping_add(1);
+    }
+
+    /// Fills some blocks from an index on, and counts them.
+    pub(crate) fn fill(&mut self, beside: &Beside<'_>, lane: u32, first: u32, count: u32)
+        requires lane_fits { lane < beside.now.job.setting.lanes }
+        requires later { first_index beside.now.job ≤ first }
+        requires some { 0 < count }
+        requires few { count ≤ 128 }
+        requires indexes_fit { first + count ≤ beside.now.job.setting.segment_length }
+        requires long { length self.old.blocks ≡ beside.now.job.setting.segment_length }
+        ensures long { length self.new.blocks ≡ beside.now.job.setting.segment_length }
+        ensures filled { IsSnapshot beside.now
+            → IsFilledTo beside.now.job lane first self.old.blocks
+            → IsFilledTo beside.now.job lane (first + count) self.new.blocks }
+        ensures tally { self.new.tally ≡ (self.old.tally + count) % 2 ^ 64 }
+    {
+        let last = first as usize + count as usize - 1;
+        make_up_to(&mut self.blocks, &mut self.zeros, last);
+        fill_blocks(
+            beside,
+            lane,
+            first,
+            count,
+            &mut self.blocks,
+            &mut self.tally,
+        );
     }
 }

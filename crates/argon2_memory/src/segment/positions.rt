@@ -2,15 +2,15 @@
 
 ghost use Rattle.std.specs.Prelude.{◌≡◌, ℕ, ◌+◌, ◌-◌, ◌*◌, ◌/◌, ◌%◌, ◌^◌, ◌<◌, ◌≤◌, length, take, drop, true, false};
 ghost use Rattle.argon2_memory.specs.Views.Filling.{window_column, window_length, left_columns, pick_of, position_of};
-ghost use Rattle.argon2_settings.specs.Views.Jobs.{first_index, IsJob};
+ghost use Rattle.argon2_memory.specs.Views.Jobs.{first_index, IsJob};
 ghost use Rattle.argon2_memory.specs.Views.Positions.{reference_positions_of};
-ghost use Rattle.argon2_settings.specs.Standard.Recurrence.{addresses};
-ghost use Rattle.argon2_settings.specs.Standard.Reference.{drawn_lane, window_index, is_data_independent};
-ghost use Rattle.argon2_settings.specs.Standard.Setting.{lane_length};
+ghost use Rattle.argon2_standard.specs.Standard.Recurrence.{addresses};
+ghost use Rattle.argon2_standard.specs.Standard.Reference.{drawn_lane, window_index, is_data_independent};
+ghost use Rattle.argon2_standard.specs.Standard.Setting.{lane_length};
 
+use crate::job::{Job, recall_job};
 use argon2_blocks::block::{Block, fill_block};
 use argon2_blocks::common::{ADDRESSES_IN_BLOCK, QWORDS_IN_BLOCK, SYNC_POINTS};
-use argon2_settings::context::{Job, recall_job};
 
 /// A word has two halves of 32 bits.
 const HALF: u64 = 1 << 32;

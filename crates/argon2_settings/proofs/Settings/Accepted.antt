@@ -1,24 +1,20 @@
--- Settings that are not refused make a setting.
+-- What settings keep to that are not refused, and what H0 is the hash of.
 use Rattle.std.proofs.Common.{◌≡◌, ℕ, ◌*◌, ◌/◌, ◌^◌, ◌<◌, ◌≤◌, Bool, true, false, List, [], length, Option, Some, refl, arith, cond, inl, inr, ◌∙◌}
 use Rattle.std.proofs.Common.{ap, ◌++◌, append_assoc, append-nil}
 use Rattle.std.specs.Prelude.{◌==◌, ◌||◌, nat_lt, IsNone, min}
 use Rattle.std.proofs.lemmas.Bool.{ltb-false, cases_lt, le-leb, lt-leb}
 use Rattle.std.proofs.Math.Nat.{div-lt_iff_lt-mul, le-min, min-le_left}
 use Rattle.std.proofs.lemmas.Bool.Decides.{eqb_tells}
-use Rattle.argon2_settings.specs.declared.config.Config.{Config}
-use Rattle.argon2_settings.specs.declared.thread_mode.ThreadMode.{ThreadMode}
-use Rattle.argon2_settings.specs.declared.thread_mode.ThreadMode.TheVariants.{Sequential, Parallel, AtMost}
-use Rattle.argon2_settings.specs.Standard.ThreadModes.{fills_alone}
-use Rattle.argon2_settings.specs.Views.Presets.{worker_count, workers_of}
-use Rattle.argon2_settings.specs.declared.error.Error.{Error}
-use Rattle.argon2_settings.specs.declared.context.Context.{Context}
-use Rattle.argon2_settings.specs.Views.Contexts.{setting_of_context}
-use Rattle.argon2_settings.specs.Views.Jobs.{IsSetting}
-use Rattle.argon2_settings.proofs.Settings.HashLengths.{length-blake2b}
-use Rattle.argon2_settings.specs.Standard.Prehash.{le32, hashed_inputs, prehash_of, setting_of}
-use Rattle.argon2_settings.specs.Standard.Variant.{variant_number}
-use Rattle.argon2_settings.specs.Standard.Version.{version_number}
-use Rattle.argon2_settings.specs.Standard.SettingsTable.{refusal_of, max_lanes, max_length}
+use Rattle.argon2_standard.specs.declared.config.Config.{Config}
+use Rattle.argon2_standard.specs.declared.thread_mode.ThreadMode.{ThreadMode}
+use Rattle.argon2_standard.specs.declared.thread_mode.ThreadMode.TheVariants.{Sequential, Parallel, AtMost}
+use Rattle.argon2_standard.specs.Standard.ThreadModes.{fills_alone}
+use Rattle.argon2_standard.specs.Views.Presets.{worker_count, workers_of}
+use Rattle.argon2_standard.specs.declared.error.Error.{Error}
+use Rattle.argon2_standard.specs.Standard.Prehash.{le32, hashed_inputs}
+use Rattle.argon2_standard.specs.Standard.Variant.{variant_number}
+use Rattle.argon2_standard.specs.Standard.Version.{version_number}
+use Rattle.argon2_standard.specs.Standard.SettingsTable.{refusal_of, max_lanes, max_length}
 
 -- where a table refuses nothing, its first row does not apply and the rest refuses nothing
 none_next : (b : Bool) (r : Error) (rest : Option Error) → IsNone (cond b (Some r) rest) → (b ≡ false) × IsNone rest
@@ -100,27 +96,6 @@ pub inputs_joined : (pwd salt : List ℕ) (config : Config) (len : ℕ) (a b c d
 inputs_joined pwd salt config len a b c d e f g i k m pa pb pc pd pe pf pg pi pk pm =
     joined a b c d e f g pwd i salt k config.secret.now m config.ad.now
     ∙ rw (pa, pb, pc, pd, pe, pf, pg, pi, pk, pm) refl
-
--- the setting of an accepted call, whose passes and blocks fit 32 bits
-setting_that_fits : (pwd salt : List ℕ) (config : Config) → IsNone (refusal_of config (length pwd) (length salt) config.hash_length) →
-    config.time_cost < 2 ^ 32 → 4 * config.lanes * (config.mem_cost / (4 * config.lanes)) < 2 ^ 32 → IsSetting (setting_of pwd salt config config.hash_length)
-unfolding setting_of prehash_of
-setting_that_fits pwd salt config none few fits =
-    let a = accepted config (length pwd) (length salt) config.hash_length none in
-    record {
-      prehash_length = length-blake2b 64 (hashed_inputs pwd salt config config.hash_length) (omega arith);
-      some_lane = a.some_lane;
-      few_lanes = a.few_lanes;
-      long_segments = long_segment config.mem_cost config.lanes a.some_lane a.much;
-      some_pass = a.some_pass;
-      few_passes = few;
-      fits = fits;
-    }
-
--- the setting of a context; that its numbers fit is known of the code's types
-pub context_setting : (x : Context) → x.config.time_cost < 2 ^ 32 → x.memory_blocks < 2 ^ 32 → IsSetting (setting_of_context x)
-context_setting x few fits =
-    setting_that_fits x.pwd.now x.salt.now x.config x.accepted few (rw (← x.segment) (omega (arith, x.memory, fits)))
 
 -- how many workers an accepted configuration asks for
 workers_fit_in : (mode : ThreadMode) (lanes : ℕ) → 0 < lanes → lanes ≤ 16777215 →

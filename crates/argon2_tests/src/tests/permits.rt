@@ -2,11 +2,15 @@
 
 ghost use Rattle.std.specs.Prelude.{◌==◌, not, true};
 
+use super::settings::{rfc9106, small};
 use argon2::parts::board::{NoGate, Permit};
 use argon2::parts::context::Context;
+use argon2::parts::encoding::decode_string;
 use argon2::parts::fill::{fill_parallel_with, finalize, initialize, prepare_memory};
 use argon2::parts::memory::Memory;
-use argon2::{Config, Error, ThreadMode, Variant, Version};
+use argon2::{
+    Config, Error, ThreadMode, Variant, Version, hash_encoded_sequential, verify_encoded,
+};
 use std::sync::atomic::{AtomicU64, Ordering};
 use std::test::Fail;
 
@@ -49,15 +53,8 @@ impl Permit for Asked {
 /// The settings of RFC 9106, section 5, for Argon2d: 4 lanes, 3 passes.
 fn config(thread_mode: ThreadMode) -> Config<'static> {
     Config {
-        ad: &[4; 12],
-        hash_length: 32,
-        lanes: 4,
-        mem_cost: 32,
-        secret: &[3; 8],
         thread_mode,
-        time_cost: 3,
-        variant: Variant::Argon2d,
-        version: Version::Version13,
+        ..rfc9106(Variant::Argon2d)
     }
 }
 
@@ -93,21 +90,17 @@ fn refuses_a_fill_with_any_start_missing(rt: HostRuntime) -> std::result::Result
     Ok(())
 }
 
-// 2 passes of 4 slices with 16 workers for 20 lanes.
+// A text of 20 lanes, as it is verified: 2 passes of 4 slices with 16 workers ask for the numbers from 0 to
+// 127 and for no other.
 #[test]
-fn asks_for_each_start_of_at_most_16(rt: HostRuntime) -> std::result::Result<(), Fail> {
+fn starts_sixteen_workers_for_twenty_lanes(rt: HostRuntime) -> std::result::Result<(), Fail> {
     let alloc = rt.alloc();
     let config = Config {
-        ad: b"",
-        hash_length: 32,
-        lanes: 20,
-        mem_cost: 256,
-        secret: b"",
         thread_mode: ThreadMode::AtMost(16),
-        time_cost: 2,
-        variant: Variant::Argon2id,
-        version: Version::Version13,
+        ..small(Variant::Argon2id, Version::Version13, 20)
     };
+    let text = hash_encoded_sequential(alloc, b"password", b"somesalt", &config)?;
+    let stored = decode_string(alloc, text.as_str())?;
     let Ok(context) = Context::new(config, b"password", b"somesalt") else {
         return Err(Fail::from("the settings are accepted"));
     };
@@ -123,5 +116,7 @@ fn asks_for_each_start_of_at_most_16(rt: HostRuntime) -> std::result::Result<(),
     assert_eq!(rt; permit.low.load(Ordering::SeqCst), u64::MAX);
     assert_eq!(rt; permit.high.load(Ordering::SeqCst), u64::MAX);
     assert_eq!(rt; permit.other.load(Ordering::SeqCst), 0);
+    assert!(rt; finalize(alloc, &context, &memory)? == stored.hash);
+    assert!(rt; verify_encoded(&rt, alloc, text.as_str(), b"password")?);
     Ok(())
 }

@@ -1,5 +1,5 @@
 -- Cutting at a byte and behind a front, both ways, and what std's methods give in these words.
-use Rattle.std.proofs.Common.{◌≡◌, ◌≢◌, ℕ, zero, suc, ◌+◌, ◌<◌, ◌≤◌, ◌==◌, Bool, true, false, List, [], ◌∷◌, ◌++◌, length, get_or, drop, Option, Some}
+use Rattle.std.proofs.Common.{◌≡◌, ◌≢◌, ℕ, zero, suc, ◌+◌, ◌<◌, ◌≤◌, ◌==◌, Bool, true, false, List, [], ◌∷◌, ◌++◌, length, get_or, take, drop, Option, Some}
 use Rattle.std.proofs.Common.{None, refl, sym, ap, ◌∙◌, arith, inl, inr, eq-eqb}
 use Rattle.std.specs.Prelude.{option_map, MatchOption, MatchBool}
 use Rattle.std.specs.List.{list_any}
@@ -8,7 +8,7 @@ use Rattle.std.specs.Str.Pattern.{FindsChar, FindsTextPrefix}
 use Rattle.std.proofs.lemmas.Bool.{ne_eqb, cases_eq, or_right}
 use Rattle.std.proofs.lemmas.Option.{some_pair_parts}
 use Rattle.std.proofs.lemmas.Str.Pattern.{IsSplitOnceResult, split_parts, contains_char}
-use Rattle.argon2_text.specs.Standard.Grammar.{Lacks}
+use Rattle.argon2_standard.specs.Standard.Grammar.{Lacks}
 use Rattle.argon2_text.specs.Views.Cutting.{strip, cut}
 use Rattle.argon2_text.specs.Views.Texts.{two_texts}
 
@@ -70,13 +70,13 @@ strip_gives front text (Some x) h =
     let whole : text ≡ front ++ x.now = rw h.2 h.1.1 in
     sym (ap (strip front) whole ∙ strip-again front x.now)
 
--- at an ASCII mark, an answer that meets the contract of `split_once` is what cut gives
-pub cut_gives : (mark : ℕ) (text : List ℕ) (r : Option (Bor (List ℕ) × Bor (List ℕ))) → IsSplitOnceResult mark text r → mark < 128
-    → option_map two_texts r ≡ cut mark text
-cut_gives mark text None h small = sym (cut_none mark text (Lacks-from_places mark text (split_parts mark text None h small)))
-cut_gives mark text (Some x) h small =
-    let parts = split_parts mark text (Some x) h small in
-    sym (ap (cut mark) parts.0 ∙ cut-again mark x.0.now x.1.now (Lacks-from_places mark x.0.now parts.1))
+-- a text is cut at the place of its first mark
+pub cut_at : (mark : ℕ) (text : List ℕ) (at : ℕ) → at < length text → get_or text at 0 ≡ mark → ((i : ℕ) → i < at → get_or text i 0 ≢ mark)
+    → cut mark text ≡ Some (take at text, drop 1 (drop at text))
+cut_at mark [] at lt is before = absurd (omega arith)
+cut_at mark (b ∷ text) zero lt is before = rw (eq-eqb b mark is) refl
+cut_at mark (b ∷ text) (suc at) lt is before =
+    rw (ne_eqb b mark (before 0 (omega arith)), cut_at mark text at (omega arith) is (λ i small. before (suc i) (omega arith))) refl
 
 -- a list with c at one of its places is told to hold c
 any_at : (c : ℕ) (bs : List ℕ) (i : ℕ) → i < length bs → get_or bs i 0 ≡ c → list_any (λ b. b == c) bs ≡ true
@@ -92,17 +92,6 @@ any_lacks c bs h = Lacks-from_places c bs (λ i lt e. let yes = any_at c bs i lt
 pub lacks_any : (c : ℕ) (bs : List ℕ) → Lacks c bs → list_any (λ b. b == c) bs ≡ false
 lacks_any c [] h = refl
 lacks_any c (b ∷ bs) h = rw (ne_eqb b c h.0) (lacks_any c bs h.1)
-
--- an answer that meets the contract of `contains` tells whether an ASCII mark is in the text
-pub holds_gives : (mark : ℕ) (text : List ℕ) (r : Bool)
-    → MatchBool r ((i : ℕ) × (j : ℕ) × FindsChar mark text (Some (i, j)) × (i ≤ j) × (j ≤ length text)) (FindsChar mark text None) → mark < 128
-    → r ≡ list_any (λ b. b == mark) text
-holds_gives mark text true h small =
-    let found = (contains_char mark text true h small).0 refl in
-    sym (any_at mark text found.0 found.1 found.2)
-holds_gives mark text false h small =
-    let none = (contains_char mark text false h small).1 in
-    sym (lacks_any mark text (Lacks-from_places mark text (λ i lt e. let bad = none i lt e in absurd (cc))))
 
 abbrev Two : Type 0
 Two = List ℕ × List ℕ

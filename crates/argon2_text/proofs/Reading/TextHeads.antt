@@ -2,23 +2,23 @@
 use Rattle.std.proofs.Common.{◌≡◌, ℕ, List, Option, Some, None, Result, Ok, Err, refl, sym, ap, subst, ◌∙◌, arith, inl, inr}
 use Rattle.std.specs.Prelude.{codes, IfErr, IfOk, IfSome, MatchOption}
 use Rattle.std.specs.Option.{ok_or}
-use Rattle.argon2_settings.specs.declared.variant.Variant.{Variant}
-use Rattle.argon2_settings.specs.declared.variant.Variant.TheVariants.{Argon2d, Argon2i, Argon2id}
-use Rattle.argon2_settings.specs.declared.version.Version.{Version}
-use Rattle.argon2_settings.specs.declared.version.Version.TheVariants.{Version10, Version13}
+use Rattle.argon2_standard.specs.declared.variant.Variant.{Variant}
+use Rattle.argon2_standard.specs.declared.variant.Variant.TheVariants.{Argon2d, Argon2i, Argon2id}
+use Rattle.argon2_standard.specs.declared.version.Version.{Version}
+use Rattle.argon2_standard.specs.declared.version.Version.TheVariants.{Version10, Version13}
 use Rattle.argon2_text.specs.declared.decoded.Decoded.{Decoded}
 use Rattle.argon2_text.specs.declared.encoding.reading.Head.{Head}
-use Rattle.argon2_settings.specs.declared.error.Error.{Error}
-use Rattle.argon2_settings.specs.declared.error.Error.TheVariants.{DecodingFail, OutOfMemory}
-use Rattle.argon2_settings.specs.Standard.Variant.{lowercase_name, uppercase_name, IsName}
-use Rattle.argon2_settings.specs.Standard.Version.{version_text}
-use Rattle.argon2_text.specs.Standard.Grammar.{Pieces, Lacks, IsVersion, IsCut, IsHead, IsItem, Spells, SpellsNothing}
-use Rattle.argon2_text.specs.Standard.Text.{Spelled}
-use Rattle.argon2_text.specs.Views.Faults.{HasHead, IsSomeItem, Refuses}
+use Rattle.argon2_standard.specs.declared.error.Error.{Error}
+use Rattle.argon2_standard.specs.declared.error.Error.TheVariants.{DecodingFail, OutOfMemory}
+use Rattle.argon2_standard.specs.Standard.Variant.{lowercase_name, uppercase_name, IsName}
+use Rattle.argon2_standard.specs.Standard.Version.{version_text}
+use Rattle.argon2_standard.specs.Standard.Grammar.{Pieces, Lacks, IsVersion, IsCut, IsHead, IsItem, Spells, SpellsNothing}
+use Rattle.argon2_standard.specs.Standard.Text.{Spelled}
+use Rattle.argon2_text.specs.Views.Faults.{HasSplit, IsSomeItem, IsSplit, Refuses}
 use Rattle.argon2_text.specs.Views.Cutting.{pieces_of}
 use Rattle.argon2_text.specs.Views.Texts.{IsHeadOf, IsSpellingOf, settings_of, spelled_by, spelled_with}
 use Rattle.argon2_text.proofs.Reading.TextCuts.{any_lacks}
-use Rattle.argon2_text.proofs.Reading.TextItems.{item_unique}
+use Rattle.argon2_text.proofs.Reading.TextItems.{base64_lacks, item_unique}
 use Rattle.argon2_text.proofs.Reading.TextNumbers.{number_lacks}
 use Rattle.argon2_text.proofs.Reading.TextPieces.{IsClean, pieces-again}
 
@@ -49,8 +49,12 @@ version_lacks : (piece : Option (List ℕ)) (version : Version) → IsVersion pi
 version_lacks None version h = tt
 version_lacks (Some number) version h = rw h (number_of_lacks version)
 
--- pieces that are cut from a text and spell a head are clean
-pub head_clean : (text : List ℕ) (p : Pieces) (d : Spelled) → IsCut text p → IsHead p d → IsClean p
+-- a cut text is a split one
+pub split_of : (text : List ℕ) (p : Pieces) → IsCut text p → IsSplit text p
+split_of text p cut = record { whole = cut.whole; salt = cut.salt }
+
+-- pieces that are split from a text and spell a head are clean
+pub head_clean : (text : List ℕ) (p : Pieces) (d : Spelled) → IsSplit text p → IsHead p d → IsClean p
 head_clean text p d cut head = record {
   name = name_lacks p.name d.variant head.name;
   version = version_lacks p.version d.version head.version;
@@ -58,27 +62,26 @@ head_clean text p d cut head = record {
   time = number_lacks 44 p.time d.time_cost (λ h. omega arith) (λ h. omega arith) head.time;
   lanes = number_lacks 36 p.lanes d.parallelism (λ h. omega arith) (λ h. omega arith) head.lanes;
   salt = cut.salt;
-  hash = cut.hash;
 }
 
 -- the pieces of a spelled head are those that are cut
-pub head_cut : (text : List ℕ) (p : Pieces) (d : Spelled) → IsCut text p → IsHead p d → pieces_of text ≡ Some p
+pub head_cut : (text : List ℕ) (p : Pieces) (d : Spelled) → IsSplit text p → IsHead p d → pieces_of text ≡ Some p
 head_cut text p d cut head = ap pieces_of cut.whole ∙ pieces-again p (head_clean text p d cut head)
 
--- two cuts of one text that each spell a head have the same pieces
-pub pieces_unique : (text : List ℕ) (p q : Pieces) (d e : Spelled) → IsCut text p → IsHead p d → IsCut text q → IsHead q e → p ≡ q
+-- two splits of one text that each spell a head have the same pieces
+pub pieces_unique : (text : List ℕ) (p q : Pieces) (d e : Spelled) → IsSplit text p → IsHead p d → IsSplit text q → IsHead q e → p ≡ q
 pieces_unique text p q d e cut_p head_p cut_q head_q =
     let both = sym (head_cut text p d cut_p head_p) ∙ head_cut text q e cut_q head_q in
     cc
 
 -- what is not cut has no head
-pub no_head : (text : List ℕ) → None ≡ pieces_of text → HasHead text → ⊥
+pub no_head : (text : List ℕ) → None ≡ pieces_of text → HasSplit text → ⊥
 no_head text none (p, d, cut, head) =
     let e = none ∙ head_cut text p d cut head in
     cc
 
 -- what is cut has the head of its pieces
-pub head_at : (text : List ℕ) (p : Pieces) → Some p ≡ pieces_of text → HasHead text → (d : Spelled) × IsHead p d
+pub head_at : (text : List ℕ) (p : Pieces) → Some p ≡ pieces_of text → HasSplit text → (d : Spelled) × IsHead p d
 head_at text p some (q, d, cut, head) =
     let e = some ∙ head_cut text q d cut head in
     let same : q ≡ p = cc in
@@ -89,14 +92,14 @@ head_at text p some (q, d, cut, head) =
 -- any spelling of the text has the salt and the hash of its head
 pub items_at : (text : List ℕ) (h : Head) (d : Spelled) → IsHeadOf text h → Spells text d → IsItem h.salt.now d.salt × IsItem h.hash.now d.hash
 items_at text h d head s =
-    let same : s.pieces ≡ head.pieces = pieces_unique text s.pieces head.pieces d (settings_of h) s.cut s.head head.cut head.head in
+    let same : s.pieces ≡ head.pieces = pieces_unique text s.pieces head.pieces d (settings_of h) (split_of text s.pieces s.cut) s.head head.cut head.head in
     let salt : s.pieces.salt ≡ h.salt.now = ap (λ (p : Pieces). p.salt) same ∙ head.salt in
     let hash : s.pieces.hash ≡ h.hash.now = ap (λ (p : Pieces). p.hash) same ∙ head.hash in
     (subst (λ (t : List ℕ). IsItem t d.salt) salt s.salt, subst (λ (t : List ℕ). IsItem t d.hash) hash s.hash)
 
 -- where no salt or no hash stands behind the head, the text spells nothing
-pub headless : (text : List ℕ) → (HasHead text → ⊥) → SpellsNothing text
-headless text none d s = none (s.pieces, d, s.cut, s.head)
+pub headless : (text : List ℕ) → (HasSplit text → ⊥) → SpellsNothing text
+headless text none d s = none (s.pieces, d, split_of text s.pieces s.cut, s.head)
 
 -- a text spells nothing where what stands for its salt is no item
 pub saltless : (text : List ℕ) (h : Head) → IsHeadOf text h → (IsSomeItem h.salt.now → ⊥) → SpellsNothing text
@@ -114,7 +117,7 @@ spelling_at text h head (salt, salt_item) (hash, hash_item) = (
   record {
     spells = record {
       pieces = head.pieces;
-      cut = head.cut;
+      cut = record { whole = head.cut.whole; salt = head.cut.salt; hash = rw (head.hash, hash_item.encoded) (base64_lacks hash) };
       head = record { name = head.head.name; version = head.head.version; memory = head.head.memory; time = head.head.time; lanes = head.head.lanes };
       salt = subst (λ (t : List ℕ). IsItem t salt) (sym head.salt) salt_item;
       hash = subst (λ (t : List ℕ). IsItem t hash) (sym head.hash) hash_item;

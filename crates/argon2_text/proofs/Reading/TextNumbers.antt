@@ -5,7 +5,7 @@ use Rattle.std.specs.Str.Parse.{IsNumeral, AllDigits, ParsesUnsigned, digits_val
 use Rattle.std.specs.Result.{result_ok}
 use Rattle.std.proofs.lemmas.Bool.{cases_eq}
 use Rattle.std.proofs.lemmas.Str.Parse.{digit_from_value, without_leading_plus_none, without_leading_plus_plus}
-use Rattle.argon2_text.specs.Standard.Grammar.{Lacks, IsNumber}
+use Rattle.argon2_standard.specs.Standard.Grammar.{Lacks, IsNumber}
 use Rattle.argon2_text.specs.Views.Faults.{IsNoNumber}
 
 -- a decimal numeral does not begin with a plus

@@ -1,11 +1,11 @@
 -- The two laws of cutting: the pieces that are found are the text's, and clean pieces are found again.
 use Rattle.std.proofs.Common.{◌≡◌, ℕ, ◌==◌, Bool, true, false, cond, List, ◌∷◌, ◌++◌, Option, Some, None, refl, sym, ap, subst, ◌∙◌, append_assoc}
 use Rattle.std.specs.Prelude.{codes, IfSome}
-use Rattle.std.specs.List.{list_any}
 use Rattle.std.proofs.lemmas.Option.{some_pair_parts, same_Some}
-use Rattle.argon2_text.specs.Standard.Grammar.{Pieces, text_of_pieces, Lacks, IsCut}
+use Rattle.argon2_standard.specs.Standard.Grammar.{Pieces, text_of_pieces, Lacks}
+use Rattle.argon2_text.specs.Views.Faults.{IsSplit}
 use Rattle.argon2_text.specs.Views.Cutting.{◌>>=◌, strip, cut, piece, version_behind, version_piece, pieces_of}
-use Rattle.argon2_text.proofs.Reading.TextCuts.{strip-again, strip_found, cut-again, cut_found, cut_lacks, any_lacks, lacks_any}
+use Rattle.argon2_text.proofs.Reading.TextCuts.{strip-again, strip_found, cut-again, cut_found, cut_lacks}
 
 -- the value of a step that did not fail
 bind_some : {A B : Type 0} (o : Option A) (f : A → Option B) (y : B) → (o >>= f) ≡ Some y → (x : A) × (o ≡ Some x) × (f x ≡ Some y)
@@ -79,7 +79,7 @@ joined_nested_at name (Some number) memory time lanes salt hash = simp append_as
 joined-nested : (p : Pieces) → text_of_pieces p ≡ nested p
 joined-nested p = joined_nested_at p.name p.version p.memory p.time p.lanes p.salt p.hash
 
--- no piece but the last holds the mark that ends it, and the last none at all
+-- no piece but the last holds the mark that ends it
 pub record IsClean (p : Pieces) : Type 0 where
   pub name : Lacks 36 p.name
   pub version : IfSome p.version (Lacks 36)
@@ -87,7 +87,6 @@ pub record IsClean (p : Pieces) : Type 0 where
   pub time : Lacks 44 p.time
   pub lanes : Lacks 36 p.lanes
   pub salt : Lacks 36 p.salt
-  pub hash : Lacks 36 p.hash
 
 -- clean pieces are found again in their text
 pub pieces-again : (p : Pieces) → IsClean p → pieces_of (text_of_pieces p) ≡ Some p
@@ -104,13 +103,7 @@ pieces-again p clean =
       piece-again (codes "t=") 44 p.time after_time clean.time,
       piece-again (codes "p=") 36 p.lanes after_lanes clean.lanes,
       cut-again 36 p.salt p.hash clean.salt,
-      lacks_any 36 p.hash clean.hash,
     ) refl
-
--- where a test lets a value through, the test is false and the value is the same
-guard_some : {A : Type 0} (b : Bool) (x y : A) → cond b None (Some x) ≡ Some y → (b ≡ false) × (x ≡ y)
-guard_some true x y e = absurd cc
-guard_some false x y e = (refl, cc)
 
 -- each step's text, in that of the step before it
 nested_from : (p : Pieces) (text after_name after_version after_memory after_time after_lanes : List ℕ) → text ≡ codes "$" ++ (p.name ++ 36 ∷ after_name)
@@ -119,8 +112,8 @@ nested_from : (p : Pieces) (text after_name after_version after_memory after_tim
     → after_lanes ≡ p.salt ++ 36 ∷ p.hash → text ≡ nested p
 nested_from p text after_name after_version after_memory after_time after_lanes e1 e2 e3 e4 e5 e6 = rw (e1, e2, e3, e4, e5, e6) refl
 
--- the pieces that are found in a text are a cut of it
-pub pieces_found : (text : List ℕ) (p : Pieces) → pieces_of text ≡ Some p → IsCut text p
+-- the pieces that are found in a text are a split of it
+pub pieces_found : (text : List ℕ) (p : Pieces) → pieces_of text ≡ Some p → IsSplit text p
 unfolding pieces_of
 pieces_found text p e =
     let name = bind_some _ _ p e in
@@ -138,13 +131,12 @@ pieces_found text p e =
       salt = items.0.0;
       hash = items.0.1;
     } in
-    let free = guard_some (list_any (λ b. b == 36) items.0.1) found p items.2 in
+    let same = same_Some found p items.2 in
     let whole = nested_from found text name.0.1 version.0.1 memory.0.1 time.0.1 lanes.0.1 (piece_found (codes "$") 36 text name.0.0 name.0.1 name.1)
     (version_piece_found name.0.1 version.0.0 version.0.1 version.1) (piece_found (codes "m=") 44 version.0.1 memory.0.0 memory.0.1 memory.1)
     (piece_found (codes "t=") 44 memory.0.1 time.0.0 time.0.1 time.1) (piece_found (codes "p=") 36 time.0.1 lanes.0.0 lanes.0.1 lanes.1)
     (cut_found 36 lanes.0.1 items.0.0 items.0.1 items.1) in
-    subst (IsCut text) free.1 (record {
+    subst (IsSplit text) same (record {
       whole = whole ∙ sym (joined-nested found);
       salt = cut_lacks 36 lanes.0.1 items.0.0 items.0.1 items.1;
-      hash = any_lacks 36 items.0.1 free.0;
     })

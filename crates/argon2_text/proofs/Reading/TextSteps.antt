@@ -4,11 +4,11 @@ use Rattle.std.specs.Prelude.{codes, MatchOption, MatchResult}
 use Rattle.std.specs.Result.{result_ok}
 use Rattle.std.specs.Fmt.{decimal}
 use Rattle.std.proofs.lemmas.Fmt.{decimal_digit, decimal_step}
-use Rattle.argon2_settings.specs.declared.version.Version.{Version}
-use Rattle.argon2_settings.specs.declared.version.Version.TheVariants.{Version10, Version13}
-use Rattle.argon2_settings.specs.Standard.Variant.{lowercase_name}
-use Rattle.argon2_settings.specs.Standard.Version.{version_number, version_text}
-use Rattle.argon2_text.specs.Standard.Text.{Spelled, base64, text_of}
+use Rattle.argon2_standard.specs.declared.version.Version.{Version}
+use Rattle.argon2_standard.specs.declared.version.Version.TheVariants.{Version10, Version13}
+use Rattle.argon2_standard.specs.Standard.Variant.{lowercase_name}
+use Rattle.argon2_standard.specs.Standard.Version.{version_number, version_text}
+use Rattle.argon2_standard.specs.Standard.Text.{Spelled, base64, text_of}
 
 -- the number of a version, in decimal, is its text
 decimal-version : (version : Version) → decimal (version_number version) ≡ version_text version

@@ -2,13 +2,13 @@
 use Rattle.std.proofs.Common.{◌≡◌, ℕ, ◌+◌, ◌^◌, ◌/◌, ◌%◌, ◌<◌, ◌≤◌, [], ◌∷◌, length, refl, ap, ◌∙◌, arith, length-append}
 use Rattle.std.specs.Fmt.{decimal}
 use Rattle.std.proofs.lemmas.Fmt.{decimal_step}
-use Rattle.argon2_settings.specs.declared.variant.Variant.{Variant}
-use Rattle.argon2_settings.specs.declared.variant.Variant.TheVariants.{Argon2d, Argon2i, Argon2id}
-use Rattle.argon2_settings.specs.declared.version.Version.{Version}
-use Rattle.argon2_settings.specs.declared.version.Version.TheVariants.{Version10, Version13}
-use Rattle.argon2_settings.specs.Standard.Variant.{lowercase_name}
-use Rattle.argon2_settings.specs.Standard.Version.{version_text}
-use Rattle.argon2_text.specs.Standard.Text.{Spelled, base64, text_of}
+use Rattle.argon2_standard.specs.declared.variant.Variant.{Variant}
+use Rattle.argon2_standard.specs.declared.variant.Variant.TheVariants.{Argon2d, Argon2i, Argon2id}
+use Rattle.argon2_standard.specs.declared.version.Version.{Version}
+use Rattle.argon2_standard.specs.declared.version.Version.TheVariants.{Version10, Version13}
+use Rattle.argon2_standard.specs.Standard.Variant.{lowercase_name}
+use Rattle.argon2_standard.specs.Standard.Version.{version_text}
+use Rattle.argon2_standard.specs.Standard.Text.{Spelled, base64, text_of}
 
 -- a number from 10 on has one digit more than its tenth
 pub length_step : (n : ℕ) → 10 ≤ n → n < 2 ^ 64 → length (decimal n) ≡ length (decimal (n / 10)) + 1

@@ -1,7 +1,6 @@
 -- Cutting a text into its pieces from left to right, as the code does.
 use Rattle.std.specs.Prelude.{ℕ, ◌==◌, if◌then◌else◌, List, [], ◌∷◌, codes, Option, Some, None, option_map}
-use Rattle.std.specs.List.{list_any}
-use Rattle.argon2_text.specs.Standard.Grammar.{Pieces, dollar}
+use Rattle.argon2_standard.specs.Standard.Grammar.{Pieces, dollar}
 use Rattle.argon2_text.specs.Views.Faults.{comma}
 
 infixl 10 ◌>>=◌
@@ -32,7 +31,7 @@ version_behind text (Some rest) = cut dollar rest >>= λ x. Some (Some x.0, x.1)
 unfoldable pub version_piece : List ℕ → Option (Option (List ℕ) × List ℕ)
 version_piece text = version_behind text (strip (codes "v=") text)
 
--- all pieces, where the text has them and no further `$`
+-- all pieces, where the text has them: the hash is what is left, whatever stands in it
 unfoldable pub pieces_of : List ℕ → Option Pieces
 pieces_of text = do
   name ← piece (codes "$") dollar text
@@ -41,7 +40,7 @@ pieces_of text = do
   time ← piece (codes "t=") comma memory.1
   lanes ← piece (codes "p=") dollar time.1
   items ← cut dollar lanes.1
-  if list_any (λ b. b == dollar) items.1 then None else Some (record {
+  Some (record {
     name = name.0;
     version = version.0;
     memory = memory.0;

@@ -1,10 +1,10 @@
 -- What a text lacks that spells nothing.
 use Rattle.std.specs.Prelude.{◌≡◌, ◌⊎◌, ℕ, List, Option}
-use Rattle.argon2_settings.specs.declared.version.Version.{Version}
-use Rattle.argon2_settings.specs.declared.error.Error.{Error}
-use Rattle.argon2_settings.specs.declared.error.Error.TheVariants.{DecodingFail, OutOfMemory}
-use Rattle.argon2_text.specs.Standard.Text.{Spelled}
-use Rattle.argon2_text.specs.Standard.Grammar.{Pieces, IsVersion, IsNumber, IsItem, IsCut, IsHead, Spells, SpellsNothing}
+use Rattle.argon2_standard.specs.declared.version.Version.{Version}
+use Rattle.argon2_standard.specs.declared.error.Error.{Error}
+use Rattle.argon2_standard.specs.declared.error.Error.TheVariants.{DecodingFail, OutOfMemory}
+use Rattle.argon2_standard.specs.Standard.Text.{Spelled}
+use Rattle.argon2_standard.specs.Standard.Grammar.{Pieces, text_of_pieces, dollar, Lacks, IsVersion, IsNumber, IsItem, IsCut, IsHead, Spells, SpellsNothing}
 
 -- the mark `,` between the costs of a text
 abbrev pub comma : ℕ
@@ -22,9 +22,18 @@ IsSomeItem text = (bytes : List ℕ) × IsItem text bytes
 abbrev pub SpellsSome : List ℕ → Type 0
 SpellsSome text = (d : Spelled) × Spells text d
 
+-- the text is these pieces, and the salt has no `$`; the hash is all that is behind it, letters or not
+pub record IsSplit (text : List ℕ) (pieces : Pieces) : Type 0 where
+  pub whole : text ≡ text_of_pieces pieces
+  pub salt : Lacks dollar pieces.salt
+
 -- the text has all its pieces, and those before the salt are spelled, whatever the salt and the hash are
 abbrev pub HasHead : List ℕ → Type 0
 HasHead text = (pieces : Pieces) × (d : Spelled) × IsCut text pieces × IsHead pieces d
+
+-- the same, where the hash may have a `$`
+abbrev pub HasSplit : List ℕ → Type 0
+HasSplit text = (pieces : Pieces) × (d : Spelled) × IsSplit text pieces × IsHead pieces d
 
 -- what a refusal says: the text spells nothing, or it spells a value and memory was refused
 abbrev pub Refuses : List ℕ → Error → Type 0

@@ -4,8 +4,9 @@ use Rattle.std.specs.Borrow.{Bor}
 use Rattle.argon2_text.specs.declared.encoding.reading.Pieces.{Pieces as PiecesInText}
 use Rattle.argon2_text.specs.declared.encoding.reading.Head.{Head}
 use Rattle.argon2_text.specs.declared.decoded.Decoded.{Decoded}
-use Rattle.argon2_text.specs.Standard.Grammar.{Pieces, IsCut, IsHead, IsItem, Spells}
-use Rattle.argon2_text.specs.Standard.Text.{Spelled}
+use Rattle.argon2_standard.specs.Standard.Grammar.{Pieces, IsHead, IsItem, Spells}
+use Rattle.argon2_text.specs.Views.Faults.{IsSplit}
+use Rattle.argon2_standard.specs.Standard.Text.{Spelled}
 
 -- a decoded value, without its place in memory
 abbrev pub spelled_by : Decoded → Spelled
@@ -60,7 +61,7 @@ settings_of h = spelled_with h [] []
 -- h is the head of the text, with the salt and the hash as they are written there
 pub record IsHeadOf (text : List ℕ) (h : Head) : Type 0 where
   pub pieces : Pieces
-  pub cut : IsCut text pieces
+  pub cut : IsSplit text pieces
   pub head : IsHead pieces (settings_of h)
   pub salt : pieces.salt ≡ h.salt.now
   pub hash : pieces.hash ≡ h.hash.now

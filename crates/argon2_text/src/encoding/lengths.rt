@@ -3,10 +3,10 @@
 ghost use Rattle.std.specs.Prelude.{◌≡◌, ℕ, List, length};
 ghost use Rattle.std.specs.Fmt.{decimal};
 ghost use Rattle.base64.specs.Rfc4648.{unpadded_len};
-ghost use Rattle.argon2_text.specs.Standard.Text.{base64, text_of};
-ghost use Rattle.argon2_settings.specs.declared.version.Version.{Version};
+ghost use Rattle.argon2_standard.specs.Standard.Text.{base64, text_of};
+ghost use Rattle.argon2_standard.specs.declared.version.Version.{Version};
 
-use argon2_settings::variant::Variant;
+use argon2_standard::variant::Variant;
 
 /// The length of what each written text has: its marks and the two digits of its version.
 const FIXED_LEN: u64 = "$$v=19$m=,t=,p=$$".len() as u64;

@@ -1,17 +1,16 @@
 //! The pieces of an encoded text, cut and read from left to right. Nothing here takes memory.
 
-ghost use Rattle.std.specs.Prelude.{◌≡◌, ◌<◌, ◌==◌, MatchOption, option_map};
-ghost use Rattle.std.specs.List.{list_any};
+ghost use Rattle.std.specs.Prelude.{◌≡◌, ◌≢◌, ◌<◌, ℕ, MatchOption, length, option_map, slice_index};
 ghost use Rattle.argon2_text.specs.Views.Cutting.{cut, piece, pieces_of, strip, version_piece};
-ghost use Rattle.argon2_text.specs.Views.Faults.{HasHead, IsNoNumber, IsNoVersion};
-ghost use Rattle.argon2_text.specs.Standard.Grammar.{IsNumber, IsVersion, SpellsNothing};
+ghost use Rattle.argon2_text.specs.Views.Faults.{HasSplit, IsNoNumber, IsNoVersion};
+ghost use Rattle.argon2_standard.specs.Standard.Grammar.{IsNumber, IsVersion, SpellsNothing};
 ghost use Rattle.argon2_text.specs.Views.Texts.{IsHeadOf, IsSpellingOf, pieces_view, two_texts, version_and_rest, version_text_of};
-ghost use Rattle.argon2_settings.specs.Standard.Variant.{IsName};
-ghost use Rattle.argon2_settings.specs.Views.Names.{IsNoName};
+ghost use Rattle.argon2_standard.specs.Standard.Variant.{IsName};
+ghost use Rattle.argon2_standard.specs.Views.Names.{IsNoName};
 
 use super::items::is_item;
-use argon2_settings::variant::Variant;
-use argon2_settings::version::Version;
+use argon2_standard::variant::Variant;
+use argon2_standard::version::Version;
 
 /// The pieces of a text, as they are written there.
 #[derive(Clone, Copy)]
@@ -51,7 +50,7 @@ pub fn spelling_of(text: &str) -> Option<Head<'_>>
 
 /// The head of a text that has all its pieces, where those before the salt spell what they should.
 fn head_of(text: &str) -> Option<Head<'_>>
-    ensures { MatchOption result (HasHead text.now → ⊥) (IsHeadOf text.now) }
+    ensures { MatchOption result (HasSplit text.now → ⊥) (IsHeadOf text.now) }
 {
     let pieces = pieces_of(text)?;
     Some(Head {
@@ -65,20 +64,18 @@ fn head_of(text: &str) -> Option<Head<'_>>
     })
 }
 
-/// The pieces of a text, where it has all of them but the version, and no further `$`.
+/// The pieces of a text, where it has all of them but the version. The hash is all that is left: no
+/// byte of it is looked at here.
 #[tactic(auto)]
 fn pieces_of(text: &str) -> Option<Pieces<'_>>
     ensures { option_map pieces_view result ≡ pieces_of text.now }
 {
-    let (name, rest) = piece(text, "$", '$')?;
+    let (name, rest) = piece(text, "$", b'$')?;
     let (version, rest) = version_piece(rest)?;
-    let (memory, rest) = piece(rest, "m=", ',')?;
-    let (time, rest) = piece(rest, "t=", ',')?;
-    let (lanes, rest) = piece(rest, "p=", '$')?;
-    let (salt, hash) = cut(rest, '$')?;
-    if holds(hash, '$') {
-        return None;
-    }
+    let (memory, rest) = piece(rest, "m=", b',')?;
+    let (time, rest) = piece(rest, "t=", b',')?;
+    let (lanes, rest) = piece(rest, "p=", b'$')?;
+    let (salt, hash) = cut(rest, b'$')?;
     Some(Pieces {
         name,
         version,
@@ -92,7 +89,7 @@ fn pieces_of(text: &str) -> Option<Pieces<'_>>
 
 /// Behind `front`, the piece up to the first `mark`, and what is after the mark.
 #[tactic(auto)]
-fn piece<'a>(text: &'a str, front: &str, mark: char) -> Option<(&'a str, &'a str)>
+fn piece<'a>(text: &'a str, front: &str, mark: u8) -> Option<(&'a str, &'a str)>
     requires { mark < 128 }
     ensures { option_map two_texts result ≡ piece front.now mark text.now }
 {
@@ -107,7 +104,7 @@ fn version_piece(text: &str) -> Option<(Option<&str>, &str)>
     let Some(rest) = strip(text, "v=") else {
         return Some((None, text));
     };
-    let (version, rest) = cut(rest, '$')?;
+    let (version, rest) = cut(rest, b'$')?;
     Some((Some(version), rest))
 }
 
@@ -119,19 +116,28 @@ fn strip<'a>(text: &'a str, front: &str) -> Option<&'a str>
 }
 
 /// What is before the first `mark`, and what is after it.
-fn cut(text: &str, mark: char) -> Option<(&str, &str)>
+fn cut(text: &str, mark: u8) -> Option<(&str, &str)>
     requires { mark < 128 }
     ensures { option_map two_texts result ≡ cut mark text.now }
 {
-    text.split_once(mark)
+    let at = first(text.as_bytes(), mark)?;
+    let (before, rest) = text.split_at(at);
+    Some((before, &rest[1..]))
 }
 
-/// Whether the text has a `mark`.
-fn holds(text: &str, mark: char) -> bool
-    requires { mark < 128 }
-    ensures { result ≡ list_any (λ b. b == mark) text.now }
+/// Where the first `mark` is. It looks at no byte behind it, as a search of many bytes at a time would.
+fn first(bytes: &[u8], mark: u8) -> Option<usize>
+    ensures { MatchOption result
+        ((i : ℕ) → i < length bytes.now → slice_index bytes.now i ≢ mark)
+        (λ at. (at < length bytes.now) × (slice_index bytes.now at ≡ mark)
+        × ((i : ℕ) → i < at → slice_index bytes.now i ≢ mark)) }
 {
-    text.contains(mark)
+    for (at, byte) in bytes.iter().enumerate() {
+        if *byte == mark {
+            return Some(at);
+        }
+    }
+    None
 }
 
 /// The variant that a piece names, in lower case or with a capital.

@@ -23,7 +23,7 @@ pub returns-in_err-encoded : goal.returns-in_err-encoded
 returns-in_err-encoded c =
     let p = err_from_is_err_and c.from_residual-in_err-encoded.result c.from_residual-in_err-encoded.ensures.1 in
     let accepted = sym c.refused.ensures ∙ c.in_default.is in
-    let memory = shortage _ _ c.in_err-encoded.field-0.0 accepted c.in_err-encoded.ensures in
+    let memory = shortage _ _ c.in_err-encoded.field-0.0 accepted c.in_err-encoded.ensures.answer in
     rw (p.1, p.2) (lacks_memory _ c.in_ok-config.config c.args.pwd.now c.args.salt.now c.text_len.result (sym c.in_ok-config.ensures) accepted
     c.text_len.ensures c.args.text.now c.in_err-encoded.field-0.0 c.if-text-text_len.false memory)
 
@@ -32,7 +32,7 @@ returns c =
     let config = c.in_ok-config.config in
     let accepted = sym c.refused.ensures ∙ c.in_default.is in
     let encoded = accepted_value _ (λ text. string_bytes text ≡ hash_text c.args.pwd.now c.args.salt.now config) c.in_ok-encoded.encoded
-    c.in_ok-encoded.ensures in
+    c.in_ok-encoded.ensures.answer in
     takes_text _ config c.args.pwd.now c.args.salt.now c.text_len.result (sym c.in_ok-config.ensures) accepted c.text_len.ensures c.args.text.now
     c.write_text.new.buffer c.write_text.result c.if-text-text_len.false
     (subst (λ text. WritesText text c.args.text.now c.write_text.new.buffer c.write_text.result) (cc encoded) c.write_text.ensures)

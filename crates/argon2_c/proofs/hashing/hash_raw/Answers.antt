@@ -9,12 +9,12 @@ use Rattle.argon2_c.proofs.hashing.hash_raw.Goals as goal
 pub copy_from_slice-requires : goal.copy_from_slice-requires
 copy_from_slice-requires c =
     let config = c.in_ok-config.config in
-    let items = accepted_value _ (λ tag. tag.items ≡ tag_of c.args.pwd.now c.args.salt.now config config.hash_length) c.in_ok-tag.tag c.in_ok-tag.ensures in
+    let items = accepted_value _ (λ tag. tag.items ≡ tag_of c.args.pwd.now c.args.salt.now config config.hash_length) c.in_ok-tag.tag c.in_ok-tag.ensures.answer in
     c.if-out-config.false ∙ sym (ap length (c.deref.ensures.value ∙ items) ∙ length-tag_of c.args.pwd.now c.args.salt.now config config.hash_length)
 
 pub returns : goal.returns
 returns c =
     let config = c.in_ok-config.config in
-    let items = accepted_value _ (λ tag. tag.items ≡ tag_of c.args.pwd.now c.args.salt.now config config.hash_length) c.in_ok-tag.tag c.in_ok-tag.ensures in
+    let items = accepted_value _ (λ tag. tag.items ≡ tag_of c.args.pwd.now c.args.salt.now config config.hash_length) c.in_ok-tag.tag c.in_ok-tag.ensures.answer in
     takes_tag _ config c.args.pwd.now c.args.salt.now c.args.out.now _ (sym c.in_ok-config.ensures) (sym c.refused.ensures ∙ c.in_default.is)
     c.if-out-config.false (cc items)

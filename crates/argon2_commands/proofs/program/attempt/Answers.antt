@@ -1,9 +1,11 @@
-use Rattle.std.proofs.Common.{Err, ap, inr, sym, subst, ◌∙◌}
+use Rattle.std.proofs.Common.{◌≡◌, Err, ap, sym, subst, ◌∙◌}
 use Rattle.std.specs.Io.KnownBytes.{Appends}
 use Rattle.std.proofs.lemmas.Result.{IfOk-from_err, err_from_is_err_and}
+use Rattle.argon2_commands.specs.Fault.{IsBeforeOutput}
 use Rattle.argon2_commands.specs.Words.{texts_of}
-use Rattle.argon2_commands.proofs.Attempts.{a_command, answer_is_no_usage, no_command, same_error, status_is_no_usage, stream_is_no_usage, usage_is_no_refusal}
-use Rattle.argon2_commands.proofs.Refusals.{is_refused, untouched, passed_on}
+use Rattle.argon2_commands.specs.declared.fault.Fault.TheVariants.{Usage, Refused}
+use Rattle.argon2_commands.proofs.Attempts.{a_command, answer_is_no_usage, no_command, output_is_not, same_error, status_is_no_usage}
+use Rattle.argon2_commands.proofs.Refusals.{is_no_output, is_refused, untouched, passed_on}
 use Rattle.argon2_commands.proofs.program.attempt.Goals as goal
 
 -- ---- words of no command
@@ -20,7 +22,12 @@ returns-in_err-command-clause-usage g c =
 pub returns-in_err-command-clause-refused : goal.returns-in_err-command-clause-refused
 returns-in_err-command-clause-refused g c =
     let none = no_command (texts_of c.args.words.now) c.from_words.result c.in_err-command.field-0.0 c.from_words.ensures c.in_err-command.ensures.value in
-    passed_on c.from_residual.result c.in_err-command.field-0.0 _ c.from_residual.ensures (λ two. usage_is_no_refusal c.in_err-command.field-0.0 none.1 two)
+    passed_on c.from_residual.result c.in_err-command.field-0.0 _ c.from_residual.ensures (λ refusal refused. absurd (cc (none.1, refused)))
+
+pub returns-in_err-command-clause-short : goal.returns-in_err-command-clause-short
+returns-in_err-command-clause-short g c =
+    let none = no_command (texts_of c.args.words.now) c.from_words.result c.in_err-command.field-0.0 c.from_words.ensures c.in_err-command.ensures.value in
+    passed_on c.from_residual.result c.in_err-command.field-0.0 _ c.from_residual.ensures (λ short. absurd (cc (none.1, short)))
 
 pub returns-in_err-command-clause-unwritten : goal.returns-in_err-command-clause-unwritten
 returns-in_err-command-clause-unwritten g c =
@@ -46,8 +53,13 @@ pub returns-in_err-answer-clause-refused : goal.returns-in_err-answer-clause-ref
 returns-in_err-answer-clause-refused g c =
     let is = a_command (texts_of c.args.words.now) c.from_words.result c.in_ok-command.command c.from_words.ensures c.in_ok-command.ensures.value in
     passed_on c.from_residual-in_err-answer.result c.in_err-answer.field-0.0 _ c.from_residual-in_err-answer.ensures
-    (is_refused (texts_of c.args.words.now) (g.I.Read.remaining c.args.input.now) (g.O.Write.contents c.args.output.now) c.in_ok-command.command
-    c.in_err-answer.field-0.0 is c.in_err-answer.ensures.fault)
+    (is_refused (texts_of c.args.words.now) (g.I.Read.remaining c.args.input.now) c.in_ok-command.command c.in_err-answer.field-0.0 is
+    c.in_err-answer.ensures.fault)
+
+pub returns-in_err-answer-clause-short : goal.returns-in_err-answer-clause-short
+returns-in_err-answer-clause-short g c =
+    passed_on c.from_residual-in_err-answer.result c.in_err-answer.field-0.0 _ c.from_residual-in_err-answer.ensures
+    (is_no_output c.in_err-answer.field-0.0 _ c.in_err-answer.ensures.fault)
 
 pub returns-in_err-answer-clause-unwritten : goal.returns-in_err-answer-clause-unwritten
 returns-in_err-answer-clause-unwritten g c =
@@ -88,20 +100,26 @@ returns-in-Ok-clause-unread g c need =
 pub returns-clause-usage : goal.returns-clause-usage
 returns-clause-usage g c =
     let is = a_command (texts_of c.args.words.now) c.from_words.result c.in_ok-command.command c.from_words.ensures c.in_ok-command.ensures.value in (
-      λ usage. stream_is_no_usage c.of_stream.result _ c.of_stream.ensures.short c.of_stream.ensures.other (same_error _ _ usage),
+      λ usage. output_is_not c.of_stream.result (λ fault. fault ≡ Usage) c.of_stream.ensures.short c.of_stream.ensures.other (λ e. cc (e)) (λ e. cc (e))
+          (same_error _ _ usage),
       λ none. absurd (none c.in_ok-command.command is),
     )
 
 pub returns-clause-refused : goal.returns-clause-refused
-returns-clause-refused g c two = inr (record {
+returns-clause-refused g c refusal =
+    output_is_not c.of_stream.result (λ fault. fault ≡ Refused refusal) c.of_stream.ensures.short c.of_stream.ensures.other (λ e. cc (e)) (λ e. cc (e))
+
+pub returns-clause-short : goal.returns-clause-short
+returns-clause-short g c _ = record {
   command = c.in_ok-command.command;
   answer = c.in_ok-answer.answer;
   is_command = a_command (texts_of c.args.words.now) c.from_words.result c.in_ok-command.command c.from_words.ensures c.in_ok-command.ensures.value;
   is_answer = c.in_ok-answer.ensures.answer;
-})
+}
 
 pub returns-clause-unwritten : goal.returns-clause-unwritten
-returns-clause-unwritten g c usage = stream_is_no_usage c.of_stream.result _ c.of_stream.ensures.short c.of_stream.ensures.other usage
+returns-clause-unwritten g c =
+    output_is_not c.of_stream.result IsBeforeOutput c.of_stream.ensures.short c.of_stream.ensures.other (λ wrote. wrote) (λ wrote. wrote)
 
 pub returns-clause-unread : goal.returns-clause-unread
 returns-clause-unread g c need =

@@ -1,6 +1,7 @@
-use Rattle.std.proofs.Common.{sym, arith, ◌∙◌}
+use Rattle.std.proofs.Common.{sym, subst, arith}
+use Rattle.argon2_commands.specs.Fault.{IsBeforeOutput}
 use Rattle.argon2_commands.proofs.Refusals.{untouched}
-use Rattle.argon2_commands.proofs.Statuses.{answered_bounded, answered_not, answered_usage, at_three, fault_bounded, no_fault, usage_status}
+use Rattle.argon2_commands.proofs.Statuses.{answered_bounded, answered_not, answered_usage, at_three, at_two, fault_bounded, no_fault, usage_status}
 use Rattle.argon2_commands.proofs.program.run.Goals as goal
 
 -- src/program.rt:68:1
@@ -35,10 +36,12 @@ pub returns-in-Err-clause-usage : goal.returns-in-Err-clause-usage
 returns-in-Err-clause-usage g c = usage_status c.in-Err.fault c.report.result _ c.report.ensures c.in-Err.ensures.usage
 
 pub returns-in-Err-clause-refused : goal.returns-in-Err-clause-refused
-returns-in-Err-clause-refused g c two = c.in-Err.ensures.refused (sym c.report.ensures ∙ two)
+returns-in-Err-clause-refused g c =
+    at_two c.in-Err.fault c.report.result _ _ _ _ c.report.ensures c.in-Err.ensures.refused c.in-Err.ensures.short c.in-Err.ensures.unwritten
 
 pub returns-in-Err-clause-unwritten : goal.returns-in-Err-clause-unwritten
-returns-in-Err-clause-unwritten g c three = c.in-Err.ensures.unwritten (at_three c.in-Err.fault c.report.result c.report.ensures three)
+returns-in-Err-clause-unwritten g c three =
+    c.in-Err.ensures.unwritten (subst IsBeforeOutput (sym (at_three c.in-Err.fault c.report.result c.report.ensures three)) tt)
 
 pub returns-in-Err-clause-unread : goal.returns-in-Err-clause-unread
 returns-in-Err-clause-unread g c = c.in-Err.ensures.unread

@@ -1,7 +1,7 @@
 use Rattle.std.proofs.Common.{◌≡◌, ℕ, ◌+◌, ◌-◌, ◌*◌, ◌%◌, ◌^◌, List, refl, ap, ◌∙◌}
-use Rattle.argon2_settings.specs.Views.Contexts.{setting_of_context}
-use Rattle.argon2_settings.specs.Views.Jobs.{Job}
-use Rattle.argon2_settings.specs.Standard.Setting.{memory_blocks}
+use Rattle.argon2_memory.specs.Views.Jobs.{setting_of_context}
+use Rattle.argon2_memory.specs.Views.Jobs.{Job}
+use Rattle.argon2_standard.specs.Standard.Setting.{memory_blocks}
 use Rattle.argon2_memory.specs.Views.Memories.{HasShape, blocks_written, writes_in}
 use Rattle.argon2_memory.specs.Views.Segments.{SegmentValue}
 use Rattle.argon2_fill.proofs.Filling.First.{filled_begun}

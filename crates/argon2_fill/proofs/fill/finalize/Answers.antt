@@ -2,8 +2,8 @@ use Rattle.std.proofs.Common.{◌≡◌, ℕ, List, length, arith, ap, ◌∙◌
 use Rattle.std.proofs.lemmas.List.{with_items_is}
 use Rattle.argon2_blocks.specs.Standard.Block.{block_bytes}
 use Rattle.argon2_blocks.specs.Standard.Hprime.{hprime}
-use Rattle.argon2_settings.specs.Views.Contexts.{setting_of_context}
-use Rattle.argon2_settings.specs.Standard.Tag.{tag_from, tag_of}
+use Rattle.argon2_memory.specs.Views.Jobs.{setting_of_context}
+use Rattle.argon2_standard.specs.Standard.Tag.{tag_from, tag_of}
 use Rattle.argon2_fill.proofs.Filling.Passes.{last_blocks-are}
 use Rattle.argon2_fill.proofs.fill.finalize.Goals as goal
 

@@ -1,6 +1,6 @@
 use Rattle.std.proofs.Common.{◌≡◌, ℕ, ◌<◌, ◌≤◌, arith, ap}
-use Rattle.argon2_settings.specs.Views.Contexts.{setting_of_context}
-use Rattle.argon2_settings.specs.Views.Jobs.{Job}
+use Rattle.argon2_memory.specs.Views.Jobs.{setting_of_context}
+use Rattle.argon2_memory.specs.Views.Jobs.{Job}
 use Rattle.argon2_fill.proofs.fill.initialize.Goals as goal
 
 -- a number below another is below any that is as large

@@ -2,7 +2,7 @@
 
 ghost use Rattle.std.specs.Prelude.{IfOk};
 ghost use Rattle.argon2_memory.specs.Views.Memories.{HasShape};
-ghost use Rattle.argon2_settings.specs.Views.Contexts.{setting_of_context};
+ghost use Rattle.argon2_memory.specs.Views.Jobs.{setting_of_context};
 
 use super::overlap::reaches;
 use super::two_lanes;
@@ -10,9 +10,9 @@ use argon2_fill::fill::{finalize, initialize, prepare_memory};
 use argon2_fill::workers::{AllPermitted, Claim, Filled, Gate, fill_parallel, fill_parallel_with};
 use argon2_memory::memory::Memory;
 use argon2_memory::segment::Snapshot;
-use argon2_settings::config::Config;
 use argon2_settings::context::Context;
-use argon2_settings::result::Result;
+use argon2_standard::config::Config;
+use argon2_standard::result::Result;
 use std::alloc::Global;
 use std::marker::Sync;
 use std::process::Abort;

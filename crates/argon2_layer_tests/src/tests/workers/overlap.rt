@@ -3,7 +3,7 @@
 use super::{four_lanes, second_board, snapshot_of, two_lanes};
 use argon2_fill::workers::{Claim, Event, Filled, Gate, fill_slice};
 use argon2_memory::segment::Snapshot;
-use argon2_settings::config::Config;
+use argon2_standard::config::Config;
 use std::alloc::Global;
 use std::marker::Sync;
 use std::process::Abort;

@@ -3,7 +3,7 @@
 use super::{AllBut, four_lanes, second_board, snapshot_of, two_lanes};
 use argon2_fill::workers::{Claim, Filled, Gate, Permit, fill_slice, fill_slice_with};
 use argon2_memory::segment::Snapshot;
-use argon2_settings::error::Error;
+use argon2_standard::error::Error;
 use std::marker::Sync;
 use std::sync::atomic::{AtomicU64, Ordering};
 use std::test::Fail;

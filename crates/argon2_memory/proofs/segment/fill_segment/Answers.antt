@@ -1,16 +1,23 @@
-use Rattle.argon2_memory.proofs.Filling.Filled.{filled_none, filled_all}
+use Rattle.std.proofs.Common.{◌≡◌, arith, ap, ◌∙◌}
+use Rattle.argon2_memory.specs.Views.Jobs.{Job, first_index}
+use Rattle.argon2_memory.proofs.Filling.Filled.{filled_none, filled_all, first_fits}
 use Rattle.argon2_memory.proofs.segment.fill_segment.Goals as goal
 
-pub fill_independent-requires-clause-filled : goal.fill_independent-requires-clause-filled
-fill_independent-requires-clause-filled c = filled_none c.args.snapshot.now.job c.job.ensures.snapshot.job c.args.lane c.args.segment.now.blocks
-    c.requires.ready
+pub loop-index-init : goal.loop-index-init
+loop-index-init c =
+    let j = c.args.snapshot.now.job in
+    let good = c.job-job.ensures.snapshot.job in
+    let e : c.first_index-index.result ≡ first_index j = c.first_index-index.ensures ∙ ap (λ (x : Job). first_index x) c.job-job.ensures.value in
+    record {
+      filled = rw e (filled_none j good c.args.lane c.args.segment.now.blocks c.requires.ready);
+      later = omega (arith, e);
+      within = rw e (first_fits j.pass j.slice j.setting.segment_length good.setting.long_segments);
+      tally = omega (arith, e, c.recall_segment.ensures);
+    }
 
-pub fill_dependent-requires-clause-filled : goal.fill_dependent-requires-clause-filled
-fill_dependent-requires-clause-filled c = filled_none c.args.snapshot.now.job c.job.ensures.snapshot.job c.args.lane c.args.segment.now.blocks c.requires.ready
-
-pub returns-then-is_independent-clause-filled : goal.returns-then-is_independent-clause-filled
-returns-then-is_independent-clause-filled c = filled_all c.args.snapshot.now.job c.args.lane c.fill_independent.new.segment.blocks
-    c.fill_independent.ensures.filled
-
-pub returns-else-is_independent-clause-filled : goal.returns-else-is_independent-clause-filled
-returns-else-is_independent-clause-filled c = filled_all c.args.snapshot.now.job c.args.lane c.fill_dependent.new.segment.blocks c.fill_dependent.ensures.filled
+pub returns-clause-filled : goal.returns-clause-filled
+returns-clause-filled c =
+    let j = c.args.snapshot.now.job in
+    let l = c.segment_length.ensures.value ∙ ap (λ (x : Job). x.setting.segment_length) c.job-job.ensures.value in
+    let whole : c.loop-index.index ≡ j.setting.segment_length = omega (arith, l, c.loop-index.invariant.within, c.loop-index-test.false) in
+    filled_all j c.args.lane c.loop-index.segment.blocks (rw whole at c.loop-index.invariant.filled)

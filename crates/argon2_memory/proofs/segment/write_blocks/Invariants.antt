@@ -1,9 +1,10 @@
 use Rattle.std.proofs.Common.{◌≡◌, ◌+◌, ◌%◌, ◌^◌}
-use Rattle.argon2_memory.specs.Views.Filling.{IsFilledTo}
+use Rattle.argon2_memory.specs.Views.Beside.{FillsOn, IsSameFrom}
 use Rattle.argon2_memory.proofs.segment.write_blocks.Given as goal
 
 abbrev pub invariant-loop-k : goal.invariant-loop-k
 invariant-loop-k l = record {
-  filled : IsFilledTo l.snapshot.job l.lane (l.first + l.k) l.segment.blocks;
-  tally : l.segment.tally ≡ (l.initial.segment.tally + l.k) % 2 ^ 64;
+  filled : FillsOn l.beside l.lane l.first (l.first + l.k) l.initial.own l.own;
+  behind : IsSameFrom (l.first + l.k) l.initial.own l.own;
+  tally : l.tally ≡ (l.initial.tally + l.k) % 2 ^ 64;
 }

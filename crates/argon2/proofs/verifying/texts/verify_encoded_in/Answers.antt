@@ -1,8 +1,12 @@
 -- What was decoded is the value that the text spells.
-use Rattle.std.proofs.Common.{◌≡◌, length, ap, sym, ◌∙◌}
-use Rattle.argon2_settings.specs.declared.config.Config.{Config}
+use Rattle.std.proofs.Common.{◌≡◌, length, ap, inr, subst, sym, ◌∙◌}
+use Rattle.std.specs.Prelude.{OnErr, nat_lt}
+use Rattle.argon2_standard.specs.Standard.Prehash.{setting_of}
+use Rattle.argon2_memory.specs.Standard.Kept.{IsLeft}
+use Rattle.argon2_standard.specs.declared.config.Config.{Config}
 use Rattle.argon2_text.specs.Views.Texts.{spelled_by}
-use Rattle.argon2.proofs.Verification.StoredTexts.{accepted_value, own_length, stored_accepted, stored_verdict}
+use Rattle.argon2.proofs.Verification.Memories.{stored_leaves}
+use Rattle.argon2.proofs.Verification.StoredTexts.{accepted_value, own_length, stored_accepted, stored_verdict, stored_workers}
 use Rattle.argon2.proofs.verifying.texts.verify_encoded_in.Goals as goal
 
 pub stored_context-context-requires : goal.stored_context-context-requires
@@ -21,6 +25,18 @@ pub returns-clause-spelled : goal.returns-clause-spelled
 returns-clause-spelled g c d config spells stored =
     let same = accepted_value _ (λ x. spelled_by x ≡ d) c.in_ok-stored.stored (c.in_ok-stored.ensures.spelled d config spells stored) in
     let is = c.stored_context-context.ensures in
-    let verdict = rw (is.pwd, is.salt, is.config, c.deref.ensures.value) at c.is_tag.ensures in
+    let verdict = rw (is.pwd, is.salt, is.config, c.deref.ensures.value) at c.is_tag.ensures.answer in
     stored_verdict c.in_ok-stored.stored d c.args.pwd.now c.args.secret.now c.args.ad.now c.config_of-config.result config c.is_tag.result same
     c.config_of-config.ensures stored verdict
+
+pub returns-clause-memory : goal.returns-clause-memory
+returns-clause-memory g c d config spells stored =
+    let v = spelled_by c.in_ok-stored.stored in
+    let used = c.config_of-config.result in
+    let same = accepted_value _ (λ x. spelled_by x ≡ d) c.in_ok-stored.stored (c.in_ok-stored.ensures.spelled d config spells stored) in
+    let is = c.stored_context-context.ensures in
+    let filled = rw (is.pwd, is.salt, is.config) at c.is_tag.ensures.filled in
+    let left = subst (λ w. OnErr c.is_tag.result (IsLeft w (setting_of c.args.pwd.now v.salt used used.hash_length) c.args.memory.now c.is_tag.new.memory)) (stored_workers c.in_ok-stored.stored c.args.secret.now c.args.ad.now used c.config_of-config.ensures)
+    (rw (is.pwd, is.salt, is.config) at c.is_tag.ensures.left) in
+    inr (stored_leaves v d c.args.pwd.now c.args.secret.now c.args.ad.now used config (λ v. nat_lt 1 v.parallelism) c.args.memory.now c.is_tag.new.memory c.is_tag.result same
+    c.config_of-config.ensures stored c.in_ok-stored.ensures.accepted filled left)

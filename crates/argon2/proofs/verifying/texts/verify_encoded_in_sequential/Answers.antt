@@ -1,7 +1,8 @@
 -- What was decoded is the value that the text spells.
-use Rattle.std.proofs.Common.{◌≡◌, length, ap, sym, ◌∙◌}
-use Rattle.argon2_settings.specs.declared.config.Config.{Config}
+use Rattle.std.proofs.Common.{◌≡◌, length, ap, false, inr, sym, ◌∙◌}
+use Rattle.argon2_standard.specs.declared.config.Config.{Config}
 use Rattle.argon2_text.specs.Views.Texts.{spelled_by}
+use Rattle.argon2.proofs.Verification.Memories.{stored_leaves}
 use Rattle.argon2.proofs.Verification.StoredTexts.{accepted_value, own_length, stored_accepted, stored_verdict_alone}
 use Rattle.argon2.proofs.verifying.texts.verify_encoded_in_sequential.Goals as goal
 
@@ -23,6 +24,17 @@ pub returns-clause-spelled : goal.returns-clause-spelled
 returns-clause-spelled c d config spells stored =
     let same = accepted_value _ (λ x. spelled_by x ≡ d) c.in_ok-stored.stored (c.in_ok-stored.ensures.spelled d config spells stored) in
     let is = c.stored_context-context.ensures in
-    let verdict = rw (is.pwd, is.salt, is.config, c.deref.ensures.value) at c.is_tag_sequential.ensures in
+    let verdict = rw (is.pwd, is.salt, is.config, c.deref.ensures.value) at c.is_tag_sequential.ensures.answer in
     stored_verdict_alone c.in_ok-stored.stored d c.args.pwd.now c.args.secret.now c.args.ad.now c.config_of-config.result config c.is_tag_sequential.result same
     c.config_of-config.ensures stored verdict
+
+pub returns-clause-memory : goal.returns-clause-memory
+returns-clause-memory c d config spells stored =
+    let v = spelled_by c.in_ok-stored.stored in
+    let used = c.config_of-config.result in
+    let same = accepted_value _ (λ x. spelled_by x ≡ d) c.in_ok-stored.stored (c.in_ok-stored.ensures.spelled d config spells stored) in
+    let is = c.stored_context-context.ensures in
+    let filled = rw (is.pwd, is.salt, is.config) at c.is_tag_sequential.ensures.filled in
+    let left = rw (is.pwd, is.salt, is.config) at c.is_tag_sequential.ensures.left in
+    inr (stored_leaves v d c.args.pwd.now c.args.secret.now c.args.ad.now used config (λ v. false) c.args.memory.now c.is_tag_sequential.new.memory c.is_tag_sequential.result same
+    c.config_of-config.ensures stored c.in_ok-stored.ensures.accepted filled left)

@@ -4,7 +4,7 @@ use Rattle.argon2_commands.proofs.fault.Fault.status.Goals as goal
 
 -- src/fault.rt:44:5
 pub returns-in-Refused : goal.returns-in-Refused
-returns-in-Refused c = sym (ap fault_status c.in-Refused.is)
+returns-in-Refused c = elim c.in-Refused.is [ inl (refusal, refused) ↦ sym (ap fault_status refused) | inr short ↦ sym (ap fault_status short) ]
 
 pub returns-in-Usage : goal.returns-in-Usage
 returns-in-Usage c = sym (ap fault_status c.in-Usage.is)

@@ -1,6 +1,6 @@
 use Rattle.std.proofs.Common.{◌≡◌, ℕ, ◌+◌, ◌*◌, ◌≤◌, ◌<◌, ◌/◌, ◌%◌, ◌^◌, ◌-◌, Bool, arith, inl, inr, refl, ap, ◌∙◌}
-use Rattle.argon2_settings.specs.Views.Contexts.{setting_of_context}
-use Rattle.argon2_settings.specs.Views.Jobs.{Job}
+use Rattle.argon2_memory.specs.Views.Jobs.{setting_of_context}
+use Rattle.argon2_memory.specs.Views.Jobs.{Job}
 use Rattle.argon2_memory.specs.Views.Memories.{HasShape}
 use Rattle.std.proofs.Math.Nat.{mul-le-mul_right}
 use Rattle.std.proofs.lemmas.Bool.{cases_lt}

@@ -1,6 +1,6 @@
 use Rattle.std.proofs.Common.{ℕ, sym, ◌∙◌, ap}
 use Rattle.argon2_memory.specs.Views.Filling.{window_column}
-use Rattle.argon2_settings.specs.Standard.Reference.{window_index}
+use Rattle.argon2_standard.specs.Standard.Reference.{window_index}
 use Rattle.argon2_memory.proofs.Recurrence.Allowed.{some-picked, pick-is}
 use Rattle.argon2_memory.proofs.segment.positions.pick.Goals as goal
 

@@ -1,6 +1,6 @@
 use Rattle.std.proofs.Common.{◌≡◌, ℕ, ◌+◌, ◌-◌, ◌/◌, ◌<◌, get_or}
 use Rattle.argon2_memory.specs.Views.Filling.{independent_reference}
-use Rattle.argon2_settings.specs.Standard.Recurrence.{addresses}
+use Rattle.argon2_standard.specs.Standard.Recurrence.{addresses}
 use Rattle.argon2_memory.proofs.segment.positions.reference_positions.Given as goal
 
 abbrev pub invariant-loop-k : goal.invariant-loop-k

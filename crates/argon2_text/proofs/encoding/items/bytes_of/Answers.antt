@@ -1,23 +1,26 @@
--- The vector has room for what any text of this length decodes to, so a refusal is the text's.
-use Rattle.std.proofs.Common.{◌≡◌, ◌≤◌, length, drop, sym, arith}
-use Rattle.std.proofs.lemmas.List.{take_at}
-use Rattle.base64.specs.Decode.{decoded_estimate}
-use Rattle.argon2_text.proofs.Reading.TextItems.{slice_found, slice_refused}
+use Rattle.std.proofs.Common.{◌≡◌, ◌++◌, [], length, take-append-drop, append_assoc, sym, subst, ap, ◌∙◌, arith, refl, List, ℕ}
+use Rattle.base64.specs.GeneralPurpose.{IsBytes}
+use Rattle.argon2_text.specs.Views.Letters.{bytes_read}
+use Rattle.argon2_standard.specs.Standard.Grammar.{IsItem}
+use Rattle.argon2_text.proofs.Letters.LetterSums.{item_read, read_behind}
 use Rattle.argon2_text.proofs.encoding.items.bytes_of.Goals as goal
 
-pub returns-in_default-clause-refused : goal.returns-in_default-clause-refused
-returns-in_default-clause-refused c =
-    let room : decoded_estimate (length c.as_bytes-text.result.now) ≤ length c.as_mut_slice.result.now = omega (arith, c.in_ok-bytes.ensures.len) in
-    let item = c.requires in
-    absurd (slice_refused c.as_bytes-text.result.now item.0 (length c.as_mut_slice.result.now) c.decode_slice.result c.in_default.field-0 room
-    c.decode_slice.ensures.value c.in_default.is (rw c.as_bytes-text.ensures.value item.1))
+pub loop-rest-init : goal.loop-rest-init
+loop-rest-init c = rw (c.in_ok-bytes.ensures.items, c.as_bytes-rest.ensures.value) refl
 
-pub returns-clause-item : goal.returns-clause-item
-returns-clause-item c =
-    let room : decoded_estimate (length c.as_bytes-text.result.now) ≤ length c.as_mut_slice.result.now = omega (arith, c.in_ok-bytes.ensures.len) in
-    let item = slice_found c.as_bytes-text.result.now c.as_mut_slice.result.now c.decode_slice.new.output c.decode_slice.result c.in-Ok.len
-    (λ i. let f = c.type_inv.text i in rw c.as_bytes-text.ensures.value (omega (arith, f))) room
-    c.decode_slice.ensures.value c.decode_slice.ensures.written c.decode_slice.ensures.bytes c.in-Ok.is in
-    let len : length c.decode_slice.new.output ≡ c.in_ok-bytes.bytes.len = omega arith in
-    let whole = take_at c.decode_slice.new.output (drop (length c.decode_slice.new.output) c.in_ok-bytes.bytes.items) c.in_ok-bytes.bytes.len len in
-    rw (sym c.as_bytes-text.ensures.value, c.truncate.ensures.items, whole) item
+pub loop-rest-preserved : goal.loop-rest-preserved
+loop-rest-preserved c =
+    let group = c.split_at.result.0.now in
+    let behind = c.split_at.result.1.now in
+    let whole : group ++ behind ≡ c.loop-rest.rest.now = rw (c.split_at.ensures.front, c.split_at.ensures.back) (take-append-drop 4 c.loop-rest.rest.now) in
+    let parts : bytes_read c.loop-rest.rest.now ≡ bytes_read group ++ bytes_read behind =
+    ap bytes_read (sym whole) ∙ read_behind group behind c.split_at.ensures.front_len in
+    let so_far : c.loop-rest.bytes.items ++ bytes_read c.loop-rest.rest.now ≡ bytes_read c.args.text.now = c.loop-rest.invariant in
+    rw (c.in_ok-extend_from_slice.ensures.items, c.three_bytes.ensures, append_assoc, ← parts) so_far
+
+pub returns : goal.returns
+returns c =
+    let fits : IsBytes c.args.text.now = λ i. let f = c.type_inv.text i in omega (arith, f) in
+    let all : c.push_tail.new.bytes.items ≡ bytes_read c.args.text.now = c.in_ok-push_tail.ensures ∙ c.loop-rest.invariant in
+    let item : IsItem c.args.text.now c.push_tail.new.bytes.items = rw all (item_read c.args.text.now fits c.requires) in
+    record { item = item; refused = tt }

@@ -1,10 +1,10 @@
-use Rattle.std.specs.Prelude.{◌↔◌, length}
-use Rattle.argon2_text.specs.Views.Faults.{IsSomeItem}
+use Rattle.std.proofs.Common.{◌≡◌, ◌+◌, ◌≤◌, length}
+use Rattle.argon2_text.specs.Views.Letters.{faults_of}
 use Rattle.argon2_text.proofs.encoding.items.is_item.Given as goal
 
--- what is left is an item exactly where the whole is one
+-- the faults so far and those of what is left are those of the text, and no letter has more than one so far
 abbrev pub invariant-loop-rest : goal.invariant-loop-rest
-invariant-loop-rest l = IsSomeItem l.fn.text ↔ IsSomeItem l.rest
+invariant-loop-rest l = record { all : l.faults + faults_of l.rest ≡ faults_of l.fn.text; fits : l.faults + length l.rest ≤ length l.fn.text }
 
 abbrev pub decreases-loop-rest : goal.decreases-loop-rest
 decreases-loop-rest l = length l.rest

@@ -46,20 +46,6 @@ returns-in_err-salt c =
       ← c.in_err-salt.ensures,
     ) refl
 
-pub returns-then-holds : goal.returns-then-holds
-unfolding pieces_of
-returns-then-holds c =
-    rw (
-      ← c.in_ok-name.ensures,
-      ← c.in_ok-version.ensures,
-      ← c.in_ok-memory.ensures,
-      ← c.in_ok-time.ensures,
-      ← c.in_ok-lanes.ensures,
-      ← c.in_ok-salt.ensures,
-      ← c.holds.ensures,
-      c.if-holds.true,
-    ) refl
-
 pub returns : goal.returns
 unfolding pieces_of
 returns c =
@@ -70,6 +56,4 @@ returns c =
       ← c.in_ok-time.ensures,
       ← c.in_ok-lanes.ensures,
       ← c.in_ok-salt.ensures,
-      ← c.holds.ensures,
-      c.if-holds.false,
     ) refl

@@ -1,7 +1,7 @@
 use Rattle.std.proofs.Common.{◌∙◌, ap, refl, arith, map}
 use Rattle.argon2_fill.specs.declared.workers.event.Place.TheVariants as place
 use Rattle.argon2_fill.specs.declared.workers.slot.Slot.TheVariants as slot
-use Rattle.argon2_settings.specs.Views.Jobs.{Job}
+use Rattle.argon2_memory.specs.Views.Jobs.{Job}
 use Rattle.argon2_memory.specs.Views.Segments.{segment_at}
 use Rattle.argon2_fill.specs.Views.Slots.{place_in}
 use Rattle.argon2_fill.proofs.BoardFacts.Boards.{left-set, out-read, read-out, place_at, lanes-put}

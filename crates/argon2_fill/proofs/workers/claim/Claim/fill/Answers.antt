@@ -1,5 +1,5 @@
 use Rattle.std.proofs.Common.{◌∙◌, sym, refl, subst, ap}
-use Rattle.argon2_settings.specs.Views.Jobs.{Job}
+use Rattle.argon2_memory.specs.Views.Jobs.{Job}
 use Rattle.argon2_memory.specs.Views.Segments.{IsReady, segment_at}
 use Rattle.argon2_fill.proofs.BoardFacts.Jobs.{no_other_job}
 use Rattle.argon2_fill.proofs.workers.claim.Claim.fill.Goals as goal

@@ -1,0 +1,224 @@
+"""Judges the edits of one crate: what has to be refused is, at the goal that it names, and what has to be proved is."""
+
+import hashlib
+import os
+import re
+import shutil
+import signal
+import subprocess
+import tempfile
+from pathlib import Path
+
+from copies import BY_A_CALL, Copy, Report, can_be_copied, clause_of, texts_with
+from toolchain import load_rt
+
+rt = load_rt()
+room = tempfile.mkdtemp(prefix='edits-')
+
+
+def checked(crate, texts, kept, jobs):
+    """What the checker says of a copy of a crate with these texts in it, over the work in `kept`, which it adds to."""
+    with tempfile.TemporaryDirectory(dir=room) as at:
+        for part in rt.rtlib.PARTS:
+            if os.path.isdir(f'{crate.folder}/{part}'):
+                shutil.copytree(f'{crate.folder}/{part}', f'{at}/{part}')
+        for path, text in texts.items():
+            Path(at, path).parent.mkdir(parents=True, exist_ok=True)
+            Path(at, path).write_text(text, encoding='utf-8')
+        words = [*rt.rtlib.guarded(), rt.rtlib.RATTLE, 'check', *crate.words(['--jobs', str(jobs)], keeps=False),
+                 '--incremental', kept]
+        how = {'cwd': at, 'stdin': subprocess.DEVNULL, 'stdout': subprocess.PIPE, 'stderr': subprocess.STDOUT}
+        ran = subprocess.run(words, errors='replace', **how)
+        if ran.returncode == -signal.SIGKILL:  # most likely for memory
+            ran = subprocess.run(words, errors='replace', **how)
+    return Report(ran.stdout)
+
+
+class Crate:
+    """The edits of a crate, and the kept work over which they are judged."""
+
+    def __init__(self, crate, found, words, jobs):
+        self.crate, self.jobs, self.folder = crate, jobs, Path(crate.folder)
+        self.copies = [Copy(edit) for edit in found if can_be_copied(edit, self.folder)]
+        copied = {copy.edit for copy in self.copies}
+        self.in_place = [edit for edit in found if edit not in copied]
+        self.kept, self.words = tempfile.mkdtemp(dir=room), words
+
+    def judged(self):
+        """Each edit with whether it passed, and why."""
+        fault = self.start()
+        if fault:
+            yield from self.failed(fault)
+            return
+        while True:
+            texts, spans = texts_with(self.copies, self.folder)
+            report = checked(self.crate, texts, self.kept, self.jobs)
+            if report.is_told:
+                break
+            blamed = blamed_by(report, spans)
+            if not blamed:
+                fault = f'the crate is not read without its edits: {report.first_error()}'
+                break
+            for copy, why in blamed.items():
+                yield copy.edit, False, f'it does not compile: {why}'
+                self.copies.remove(copy)
+        fault = fault or fault_of_the_rest(report, self.copies, spans)
+        if fault:
+            yield from self.failed(fault)
+            return
+        for copy in self.copies:
+            yield copy.edit, *judge(copy.edit, [*filter(copy.is_called, report.verdicts)], report)
+        yield from self.judged_in_place()
+
+    def failed(self, fault):
+        """All that are left, where the crate itself has a fault."""
+        for edit in [*(copy.edit for copy in self.copies), *self.in_place]:
+            yield edit, False, fault
+
+    def start(self):
+        """Finds kept work to begin with, or says why there is none. Without any the first check proves the crate."""
+        if self.words.kept:
+            found = Path(self.words.kept, self.crate.name, contents_of(self.crate))
+            if not found.is_dir():
+                return self.keep(found)
+        elif self.words.words:
+            found = self.folder / 'out/incremental'
+            if not found.is_dir():
+                return self.keep(found)
+        else:
+            return None
+        shutil.copytree(found, self.kept, dirs_exist_ok=True)
+        return None
+
+    def keep(self, found):
+        """Keeps the work of a check without edits, which begins with what was kept of the crate before."""
+        older = sorted(found.parent.glob('[!.]*'), key=os.path.getmtime)[-1:] if self.words.kept else []
+        for it in older:
+            shutil.copytree(it, self.kept, dirs_exist_ok=True)
+        report = checked(self.crate, {}, self.kept, self.jobs)
+        if not report.last.startswith('logic=proved'):
+            return f'the crate is not proved without its edits: {report.first_error()}'
+        found.parent.mkdir(parents=True, exist_ok=True)
+        part = tempfile.mkdtemp(dir=found.parent, prefix='.')
+        shutil.copytree(self.kept, part, dirs_exist_ok=True)
+        os.rename(part, found)
+        for it in older:
+            shutil.rmtree(it)
+        return None
+
+    def judged_in_place(self):
+        """Those that no copy shows: of different functions together, and what a check cannot tell alone."""
+        waiting = together(self.in_place)
+        while waiting:
+            group = waiting.pop()
+            report = self.checked_apart(group)
+            edited = {edit: places_of(edit, report) for edit in group}
+            mine = {place for places in edited.values() for place in places}
+            stray = next((it for it in report.verdicts if report.is_refused(it) and it not in mine), None)
+            by_a_call = [it for it in mine if BY_A_CALL.match(report.verdicts[it])]
+            if len(group) > 1 and (stray or by_a_call or not report.is_told or not all(edited.values())):
+                waiting += [[edit] for edit in group]
+                continue
+            for edit in group:
+                if not report.is_told:
+                    yield edit, False, f'it does not compile: {report.first_error()}'
+                elif stray:
+                    yield edit, False, f'another function is refused: {stray}'
+                else:
+                    yield edit, *judge(edit, edited[edit], report)
+
+    def checked_apart(self, group):
+        """A check of edits in place, over a copy of what the first check kept."""
+        texts = {}
+        for edit in group:
+            for file, old, new in edit.pairs:
+                path = file.relative_to(self.folder).as_posix()
+                texts[path] = (texts.get(path) or file.read_text(encoding='utf-8')).replace(old, new)
+        with tempfile.TemporaryDirectory(dir=room) as copy:
+            shutil.copytree(self.kept, copy, dirs_exist_ok=True)
+            return checked(self.crate, texts, copy, self.jobs)
+
+
+def contents_of(crate):
+    """A sum of a crate's files, of those below it, and of the kit."""
+    kit = Path(rt.KIT, 'KIT-ID').read_text(encoding='utf-8')
+    return hashlib.sha256(f'{kit}{crate.stamp()}'.encode()).hexdigest()
+
+
+def blamed_by(report, spans):
+    """The copies in whose lines the compiler finds faults."""
+    found = {}
+    for path, line, _, why in report.errors:
+        for copy, (file, first, last) in spans.items():
+            if file == path and first <= line <= last:
+                found.setdefault(copy, why)
+    return found
+
+
+def fault_of_the_rest(report, copies, spans):
+    """What is not proved of a crate beside the copies, or None."""
+    of_copies = [place for place in report.verdicts if any(copy.is_called(place) for copy in copies)]
+    for place, said in report.verdicts.items():
+        if place not in of_copies and not said.startswith(('proved', 'assumed')):
+            return f'the crate is not proved without its edits: {place}: {said}'
+    theirs = {id(it) for place in of_copies for it in report.errors_of(place)}
+    for it in report.errors:
+        if id(it) not in theirs and not any(it[0] == file and first <= it[1] <= last
+                                               for file, first, last in spans.values()):
+            return f'the crate is not proved without its edits: {it[0]}:{it[1]}: {it[3]}'
+    return None
+
+
+def together(found):
+    """Groups of edits to put in place at once: they change different functions' bodies, and no constant."""
+    groups = []
+    for edit in found:
+        for group in groups:
+            if not any(map(is_apart, [edit, *group])) and not any({*it.functions} & {*edit.functions} for it in group):
+                group.append(edit)
+                break
+        else:
+            groups.append([edit])
+    return groups
+
+
+def is_apart(edit):
+    """Whether others could rest on what an edit changes: it is no function's body, or that of a constant function."""
+    lines = [f.module.text.split('\n')[f.first - 1] for f in edit.functions if f]
+    return is_outside(edit) or any(re.search(r'\bconst fn\b', line) for line in lines)
+
+
+def is_outside(edit):
+    """Whether an edit changes a text that is in no function."""
+    return None in edit.functions
+
+
+def places_of(edit, report):
+    """What the checker calls the functions of an edit in place. One outside a function's body may break any."""
+    if is_outside(edit):
+        return [place for place in report.verdicts if report.is_refused(place)]
+    return [place for place in report.verdicts if any(f.is_called(place) for f in edit.functions)]
+
+
+def judge(edit, places, report):
+    """Whether an edit passes, and why."""
+    refused = [place for place in places if report.is_refused(place)]
+    said = '; '.join(report.verdicts[place] for place in places) or 'the check refuses no function'
+    if edit.is_equal:
+        return bool(places) and all(report.verdicts[it].startswith('proved') for it in places), said
+    if not refused:
+        return False, f'not refused: {said}'
+    left, gone = {}, {}
+    for place in refused:
+        ours, named = report.goals_left(place)
+        path = place.partition('::')[2] + ' ' if is_outside(edit) else ''
+        if path and not any(goal.startswith(path) for goal in edit.goals):
+            return False, f'another function is refused: {place}: {", ".join(map(clause_of, [*ours, *named]))}'
+        left.update((path + clause_of(goal), why) for goal, why in ours.items())
+        gone.update((path + clause_of(goal), why) for goal, why in named.items())
+    if edit.goals and all(goal in left for goal in edit.goals):
+        return True, f'{edit.goals[0]}: {left[edit.goals[0]]}'
+    if not left and gone:
+        return False, f'refused only since a proof names what the edit took away: {next(iter(gone.values()))}'
+    where = f'not at {", ".join(goal for goal in edit.goals if goal not in left)}' if edit.goals else 'it names no goal'
+    return False, f'refused, but {where}; left unproved: {", ".join(left) or said}'

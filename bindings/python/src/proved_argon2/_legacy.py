@@ -1,0 +1,57 @@
+"""The calls that argon2-cffi had before `PasswordHasher`. Each warns that it is deprecated, as there."""
+import os
+import warnings
+from typing import Literal, Optional
+
+from ._password_hasher import (
+    DEFAULT_HASH_LENGTH,
+    DEFAULT_MEMORY_COST,
+    DEFAULT_PARALLELISM,
+    DEFAULT_RANDOM_SALT_LENGTH,
+    DEFAULT_TIME_COST,
+)
+from .low_level import Type, hash_secret, hash_secret_raw, verify_secret
+
+_INSTEAD = "argon2-cffi has deprecated this call: use PasswordHasher for passwords"
+
+
+def _warn() -> None:
+    warnings.warn(_INSTEAD, DeprecationWarning, stacklevel=3)
+
+
+def _salt_or_random(salt: Optional[bytes]) -> bytes:
+    return os.urandom(DEFAULT_RANDOM_SALT_LENGTH) if salt is None else salt
+
+
+def hash_password(
+    password: bytes,
+    salt: Optional[bytes] = None,
+    time_cost: int = DEFAULT_TIME_COST,
+    memory_cost: int = DEFAULT_MEMORY_COST,
+    parallelism: int = DEFAULT_PARALLELISM,
+    hash_len: int = DEFAULT_HASH_LENGTH,
+    type: Type = Type.I,
+) -> bytes:
+    """`low_level.hash_secret` with defaults, and a random salt where none is given. Its variant is Argon2i."""
+    _warn()
+    return hash_secret(password, _salt_or_random(salt), time_cost, memory_cost, parallelism, hash_len, type)
+
+
+def hash_password_raw(
+    password: bytes,
+    salt: Optional[bytes] = None,
+    time_cost: int = DEFAULT_TIME_COST,
+    memory_cost: int = DEFAULT_MEMORY_COST,
+    parallelism: int = DEFAULT_PARALLELISM,
+    hash_len: int = DEFAULT_HASH_LENGTH,
+    type: Type = Type.I,
+) -> bytes:
+    """`low_level.hash_secret_raw` with defaults, and a random salt where none is given."""
+    _warn()
+    return hash_secret_raw(password, _salt_or_random(salt), time_cost, memory_cost, parallelism, hash_len, type)
+
+
+def verify_password(hash: bytes, password: bytes, type: Type = Type.I) -> Literal[True]:
+    """`low_level.verify_secret`, of Argon2i where no variant is named."""
+    _warn()
+    return verify_secret(hash, password, type)

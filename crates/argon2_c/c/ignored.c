@@ -1,0 +1,27 @@
+/*
+ * One call of the header, CALL, with its answer looked at or, with IGNORED, not: that must not compile. With PLAIN it
+ * is the library's own function and not the inline one.
+ */
+#ifdef PLAIN
+#include "plain.h"
+#else
+#include "proved_argon2.h"
+#endif
+
+static uint8_t room[PROVED_ARGON2_TEXT_SIZE];
+static char text[PROVED_ARGON2_TEXT_SIZE];
+static const uint8_t *const it = room;
+static proved_argon2_settings settings;
+static proved_argon2_stored stored;
+static proved_argon2_memory memory;
+
+int main(void)
+{
+    (void)it, (void)text, (void)settings, (void)stored, (void)memory;
+#ifdef IGNORED
+    CALL;
+    return 0;
+#else
+    return (CALL) != 0;
+#endif
+}

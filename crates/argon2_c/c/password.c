@@ -1,0 +1,137 @@
+/*
+ * A password in one call each, null pointers that promise bytes, and the numbers that the header alone answers. It
+ * is linked with --wrap=getentropy, so that the salt is known.
+ */
+#include "checks.h"
+
+int __wrap_getentropy(void *buffer, size_t length);
+
+static int no_random_bytes;
+static size_t asked_for;
+
+/* 0x80, 0x81 and so on. */
+int __wrap_getentropy(void *buffer, size_t length)
+{
+    asked_for = length;
+    if (no_random_bytes) {
+        return -1;
+    }
+    fill_bytes((uint8_t *)buffer, length, 0x80);
+    return 0;
+}
+
+/* ---- passwords */
+
+static void check_password(void)
+{
+    static const char beginning[] = "$argon2id$v=19$m=19456,t=2,p=1$gIGCg4SFhoeIiYqLjI2Ojw$";
+    const proved_argon2_settings settings = proved_argon2_owasp2();
+    char text[PROVED_ARGON2_TEXT_SIZE], other[PROVED_ARGON2_TEXT_SIZE];
+    uint8_t salt[16];
+    memset(text, 7, sizeof text);
+    check_code(proved_argon2_password_hash(text, "pass\0word", 9), PROVED_ARGON2_OK, "a password is hashed");
+    check(asked_for == 16 && strncmp(text, beginning, strlen(beginning)) == 0, "its settings and its salt");
+    fill_bytes(salt, sizeof salt, 0x80);
+    uint32_t code = proved_argon2_hash_encoded(bytes_of("pass\0word"), 9, salt, 16, NULL, 0, NULL, 0, &settings,
+                                               (uint8_t *)other, sizeof other);
+    check(code == PROVED_ARGON2_OK && memcmp(text, other, sizeof text) == 0, "it is as hash_encoded writes it");
+    check_code(proved_argon2_password_verify(text, "pass\0word", 9), PROVED_ARGON2_OK, "it verifies");
+    check_code(proved_argon2_password_verify(text, "pass\0wore", 9), PROVED_ARGON2_MISMATCH, "another one does not");
+    check_code(proved_argon2_password_verify(text, "pass", 4), PROVED_ARGON2_MISMATCH, "its beginning does not");
+    check_code(proved_argon2_password_verify(text, NULL, 0), PROVED_ARGON2_MISMATCH, "no password does not");
+    check_code(proved_argon2_password_verify("x", "pass", 4), PROVED_ARGON2_DECODING_FAIL, "what is no text");
+    code = proved_argon2_password_hash(text, NULL, 0);
+    check(code == PROVED_ARGON2_OK && proved_argon2_password_verify(text, "", 0) == PROVED_ARGON2_OK, "the empty one");
+    memcpy(other, text, sizeof text);
+    no_random_bytes = 1;
+    code = proved_argon2_password_hash(text, "password", 8);
+    no_random_bytes = 0;
+    check_code(code, PROVED_ARGON2_NO_RANDOM_BYTES, "no random bytes");
+    check(memcmp(text, other, sizeof text) == 0, "the text is as it was");
+}
+
+/* ---- null pointers that promise bytes */
+
+static const proved_argon2_settings small = {PROVED_ARGON2_ID, PROVED_ARGON2_VERSION_13, 8, 1, 1, 32};
+static uint8_t room[128];
+static proved_argon2_memory memory;
+static proved_argon2_stored stored;
+
+#define REFUSES(call) check_code(proved_argon2_##call, PROVED_ARGON2_NULL_POINTER, #call)
+
+/* What the calls with an output have in common: NAME(ARGUMENTS before the inputs, the output). */
+#define REFUSE_EACH(name, before, out) \
+    REFUSES(name(before NULL, 1, room, 8, NULL, 0, NULL, 0, &small, out, 32)); \
+    REFUSES(name(before NULL, 0, NULL, 8, NULL, 0, NULL, 0, &small, out, 32)); \
+    REFUSES(name(before NULL, 0, room, 8, NULL, 1, NULL, 0, &small, out, 32)); \
+    REFUSES(name(before NULL, 0, room, 8, NULL, 0, NULL, 1, &small, out, 32)); \
+    REFUSES(name(before NULL, 0, room, 8, NULL, 0, NULL, 0, NULL, out, 32)); \
+    REFUSES(name(before NULL, 0, room, 8, NULL, 0, NULL, 0, &small, NULL, 32))
+
+#define OF_NONE
+#define OF_MEMORY &memory,
+
+static void check_tags(void)
+{
+    REFUSE_EACH(hash_raw, OF_NONE, room);
+    REFUSE_EACH(hash_encoded, OF_NONE, room);
+    REFUSE_EACH(verify_raw, OF_NONE, room);
+    REFUSE_EACH(hash_raw_in, OF_MEMORY, room);
+    REFUSE_EACH(hash_encoded_in, OF_MEMORY, room);
+    REFUSE_EACH(verify_raw_in, OF_MEMORY, room);
+    REFUSES(hash_raw_in(NULL, room, 1, room, 8, NULL, 0, NULL, 0, &small, room, 32));
+    REFUSES(hash_encoded_in(NULL, room, 1, room, 8, NULL, 0, NULL, 0, &small, room, 32));
+    REFUSES(verify_raw_in(NULL, room, 1, room, 8, NULL, 0, NULL, 0, &small, room, 32));
+}
+
+static void check_stored_texts(void)
+{
+    REFUSES(verify_encoded(NULL, 1, room, 1, NULL, 0, NULL, 0));
+    REFUSES(verify_encoded(room, 1, NULL, 1, NULL, 0, NULL, 0));
+    REFUSES(verify_encoded(room, 1, room, 1, NULL, 1, NULL, 0));
+    REFUSES(verify_encoded(room, 1, room, 1, NULL, 0, NULL, 1));
+    REFUSES(verify_encoded_in(NULL, room, 1, room, 1, NULL, 0, NULL, 0));
+    REFUSES(verify_encoded_in(&memory, NULL, 1, room, 1, NULL, 0, NULL, 0));
+    REFUSES(verify_encoded_in(&memory, room, 1, NULL, 1, NULL, 0, NULL, 0));
+    REFUSES(verify_encoded_in(&memory, room, 1, room, 1, NULL, 1, NULL, 0));
+    REFUSES(verify_encoded_in(&memory, room, 1, room, 1, NULL, 0, NULL, 1));
+    REFUSES(read(NULL, 1, &stored));
+    REFUSES(read(room, 1, NULL));
+    REFUSES(needs_rehash(NULL, 1, &small));
+    REFUSES(needs_rehash(room, 1, NULL));
+    REFUSES(message(20, NULL, 1));
+    REFUSES(password_hash(NULL, "password", 8));
+    REFUSES(password_hash((char *)room, NULL, 1));
+    REFUSES(password_verify(NULL, "password", 8));
+    REFUSES(password_verify("$argon2id$", NULL, 1));
+}
+
+/* ---- the header's own numbers */
+
+static void check_message(uint32_t number, const char *expected)
+{
+    static const uint8_t zeros[PROVED_ARGON2_MESSAGE_SIZE];
+    uint8_t text[PROVED_ARGON2_MESSAGE_SIZE];
+    const size_t len = strlen(expected);
+    memset(text, 7, sizeof text);
+    uint32_t shorter = proved_argon2_message(number, text, len);
+    check(shorter == PROVED_ARGON2_WRONG_LENGTH && text[0] == 7, "a message without room for a zero");
+    uint32_t code = proved_argon2_message(number, text, sizeof text);
+    check(code == PROVED_ARGON2_OK && memcmp(text, expected, len) == 0 &&
+              memcmp(text + len, zeros, sizeof text - len) == 0,
+          expected);
+}
+
+int main(void)
+{
+    uint8_t before[sizeof room];
+    memset(room, 7, sizeof room);
+    memcpy(before, room, sizeof room);
+    check_password();
+    check_tags();
+    check_stored_texts();
+    check(memcmp(room, before, sizeof room) == 0 && memory.kept == NULL, "nothing was written");
+    check_message(PROVED_ARGON2_NULL_POINTER, "A pointer is null");
+    check_message(PROVED_ARGON2_NO_RANDOM_BYTES, "There are no random bytes");
+    return checks_failed != 0;
+}

@@ -1,0 +1,14 @@
+/* The header, with the names of the library's own functions in place of the inline ones. */
+#include "proved_argon2.h"
+
+#undef proved_argon2_hash_raw
+#undef proved_argon2_hash_encoded
+#undef proved_argon2_verify_raw
+#undef proved_argon2_verify_encoded
+#undef proved_argon2_read
+#undef proved_argon2_needs_rehash
+#undef proved_argon2_message
+#undef proved_argon2_hash_raw_in
+#undef proved_argon2_hash_encoded_in
+#undef proved_argon2_verify_raw_in
+#undef proved_argon2_verify_encoded_in

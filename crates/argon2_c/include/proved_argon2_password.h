@@ -1,0 +1,79 @@
+/*
+ * Passwords in one call each: a part of proved_argon2.h, which includes it.
+ *
+ *     char text[PROVED_ARGON2_TEXT_SIZE];
+ *     if (proved_argon2_password_hash(text, password, strlen(password)) != PROVED_ARGON2_OK) ..
+ *     if (proved_argon2_password_verify(text, guess, strlen(guess)) == PROVED_ARGON2_OK) ..
+ */
+#ifndef PROVED_ARGON2_PASSWORD_H
+#define PROVED_ARGON2_PASSWORD_H
+
+#include "proved_argon2.h"
+
+#include <string.h>
+#include <sys/random.h>
+
+/* Room for a text that proved_argon2_password_hash writes, and for the zero behind it. */
+#define PROVED_ARGON2_TEXT_SIZE 128
+
+/* The bytes of a salt (RFC 9106, 3.1). */
+#define PROVED_ARGON2_SALT_SIZE 16
+
+/* The bytes of characters, to read. */
+static inline const uint8_t *proved_argon2_bytes(const char *text)
+{
+#ifdef __cplusplus
+    return reinterpret_cast<const uint8_t *>(text);
+#else
+    return (const uint8_t *)text;
+#endif
+}
+
+/* The bytes of characters, to write. */
+static inline uint8_t *proved_argon2_room(char *text)
+{
+#ifdef __cplusplus
+    return reinterpret_cast<uint8_t *>(text);
+#else
+    return (uint8_t *)text;
+#endif
+}
+
+/*
+ * Writes the text to keep of a password of length bytes, and zeros behind it, up to PROVED_ARGON2_TEXT_SIZE bytes:
+ * the settings are proved_argon2_owasp2's, and the salt is 16 random bytes of the system. The password may hold
+ * zero bytes. Where it answers another number than PROVED_ARGON2_OK, text is as it was.
+ */
+PROVED_ARGON2_CHECKED
+static inline uint32_t proved_argon2_password_hash(
+    char text[PROVED_ARGON2_TEXT_SIZE], const char *password, size_t length)
+{
+    uint8_t salt[PROVED_ARGON2_SALT_SIZE];
+    const proved_argon2_settings settings = proved_argon2_owasp2();
+    if (text == NULL || proved_argon2_is_missing(password, length)) {
+        return PROVED_ARGON2_NULL_POINTER;
+    }
+    if (getentropy(salt, sizeof salt) != 0) {
+        return PROVED_ARGON2_NO_RANDOM_BYTES;
+    }
+    return proved_argon2_hash_encoded(
+        proved_argon2_bytes(password), length, salt, sizeof salt, NULL, 0, NULL, 0, &settings,
+        proved_argon2_room(text), PROVED_ARGON2_TEXT_SIZE);
+}
+
+/*
+ * Whether a stored text, which a zero ends, is that of a password of length bytes: PROVED_ARGON2_OK only where it
+ * is, and PROVED_ARGON2_MISMATCH only where it is not. The settings are those of the text, as with
+ * proved_argon2_verify_encoded.
+ */
+PROVED_ARGON2_CHECKED
+static inline uint32_t proved_argon2_password_verify(const char *text, const char *password, size_t length)
+{
+    if (text == NULL) {
+        return PROVED_ARGON2_NULL_POINTER;
+    }
+    return proved_argon2_verify_encoded(
+        proved_argon2_bytes(text), strlen(text), proved_argon2_bytes(password), length, NULL, 0, NULL, 0);
+}
+
+#endif

@@ -1,0 +1,31 @@
+//! A stored text as C passes it.
+
+ghost use Rattle.std.specs.Prelude.{◌≡◌, IsUtf8, MatchResult, bit_or};
+ghost use Rattle.std.specs.List.{fold};
+ghost use Rattle.argon2_c.specs.declared.refusal.Refusal.TheVariants.{NotUtf8};
+
+use crate::refusal::Refusal;
+
+/// The text of some bytes. Bytes that are not UTF-8 are `NotUtf8`.
+///
+/// Whether all bytes are ASCII is gathered to the last byte and answered once, so that no branch looks
+/// at a letter of the hash. Only other bytes, which spell nothing, are looked at one by one.
+pub fn text_of(bytes: &[u8]) -> Result<&str, Refusal>
+    ensures cases { MatchResult result (λ text. (text.now ≡ bytes.now) × IsUtf8 bytes.now)
+        (λ refusal. (refusal ≡ NotUtf8) × (IsUtf8 bytes.now → ⊥)) }
+{
+    if all_bits(bytes) < 128 {
+        return Ok(unsafe { std::str::from_utf8_unchecked(bytes) });
+    }
+    match std::str::from_utf8(bytes) {
+        Ok(text) => Ok(text),
+        Err(_) => Err(Refusal::NotUtf8),
+    }
+}
+
+/// The bits that any byte has.
+fn all_bits(bytes: &[u8]) -> u8
+    ensures { result ≡ fold (λ bits byte. bit_or bits byte) 0 bytes.now }
+{
+    bytes.iter().fold(0, |bits, byte| bits | byte)
+}

@@ -1,0 +1,224 @@
+//! The steps of a hash over a memory that is lent, whatever stands in it: four slices of blocks,
+//! each lane after lane.
+
+ghost use Rattle.std.specs.Prelude.{◌≡◌, ◌≢◌, ℕ, ◌+◌, ◌-◌, ◌*◌, ◌^◌, ◌<◌, ◌≤◌, [], ◌∷◌, length, slice_index_or};
+ghost use Rattle.std.specs.List.{fold};
+ghost use Rattle.argon2_blocks.specs.Standard.Block.{xor, zero_block};
+ghost use Rattle.argon2_fill.specs.Views.Lent.{IsLentBegun, IsLentBelow, last_lent};
+ghost use Rattle.argon2_memory.specs.Views.Beside.{lent_blocks};
+ghost use Rattle.argon2_memory.specs.Views.Lent.{AreLent, FillsLent, HoldsSlice};
+ghost use Rattle.argon2_memory.specs.Views.Segments.{IsReady};
+ghost use Rattle.argon2_fill.specs.Laws.Lent.{EveryLentRunAgrees};
+ghost use Rattle.argon2_standard.specs.Standard.Tag.{last_blocks, tag_from, tag_of};
+
+use crate::fill::write_first_blocks;
+use crate::walk::{numbered_slice, slice_count};
+use argon2_blocks::blake2b::hprime;
+use argon2_blocks::block::Block;
+use argon2_blocks::common::SYNC_POINTS;
+use argon2_memory::job::{Job, recall_context, recall_job};
+use argon2_memory::segment::fill_lent_segment;
+use argon2_settings::context::Context;
+
+/// Writes a lane's first two blocks (RFC 9106, 3.2, steps 3 and 4) into its segment of slice 0,
+/// and no others.
+pub fn write_first_lent(job: &Job, lane: u32, own: &mut [Block])
+    requires lane_fits { lane < job.now.setting.lanes }
+    requires own_fits { length own.old ≡ job.now.setting.segment_length }
+    ensures { IsReady job.now.setting 0 0 lane own.new }
+{
+    recall_job(job);
+    let (first, rest) = own.split_at_mut(1);
+    write_first_blocks(job, lane, &mut first[0], &mut rest[0]);
+}
+
+/// The place of a lane's first block in a slice.
+fn place_of_lane(job: &Job, lane: u32) -> usize
+    requires { lane < job.now.setting.lanes }
+    ensures value { result ≡ lane * job.now.setting.segment_length }
+    ensures fits { result + job.now.setting.segment_length
+        ≤ job.now.setting.lanes * job.now.setting.segment_length }
+{
+    (lane * job.segment_length()) as usize
+}
+
+/// Writes a lane's first two blocks into slice 0.
+fn begin_lane(job: &Job, lane: u32, slice: &mut [Block])
+    requires lane_fits { lane < job.now.setting.lanes }
+    requires slice_fits { length slice.old ≡ job.now.setting.lanes * job.now.setting.segment_length }
+    ensures begun { IsReady job.now.setting 0 0 lane (lent_blocks job.now.setting slice.new lane) }
+    ensures others { (l : ℕ) → l < job.now.setting.lanes → l ≢ lane
+        → lent_blocks job.now.setting slice.new l ≡ lent_blocks job.now.setting slice.old l }
+{
+    let length = job.segment_length() as usize;
+    let (_before, rest) = slice.split_at_mut(place_of_lane(job, lane));
+    let (own, _after) = rest.split_at_mut(length);
+    write_first_lent(job, lane, own);
+}
+
+/// Writes the first two blocks of each lane into slice 0, and no others.
+pub fn initialize_lent(job: &Job, slice: &mut [Block])
+    requires slice_fits { length slice.old ≡ job.now.setting.lanes * job.now.setting.segment_length }
+    ensures { IsLentBegun job.now.setting slice.new }
+{
+    for lane in 0..job.lanes() {
+        begin_lane(job, lane, slice);
+    }
+}
+
+/// Fills a lane's segment of a slice that is lent whole.
+fn fill_lane(
+    job: &Job,
+    lane: u32,
+    first: &[Block],
+    second: &[Block],
+    third: &[Block],
+    slice: &mut [Block],
+)
+    requires lane_fits { lane < job.now.setting.lanes }
+    requires first_fits { length first.now ≡ job.now.setting.lanes * job.now.setting.segment_length }
+    requires second_fits { length second.now
+        ≡ job.now.setting.lanes * job.now.setting.segment_length }
+    requires third_fits { length third.now ≡ job.now.setting.lanes * job.now.setting.segment_length }
+    requires slice_fits { length slice.old ≡ job.now.setting.lanes * job.now.setting.segment_length }
+    ensures filled { let j = job.now in
+        FillsLent j lane (first.now ∷ second.now ∷ third.now ∷ [])
+        (lent_blocks j.setting slice.old lane) (lent_blocks j.setting slice.new lane) }
+    ensures others { (l : ℕ) → l < job.now.setting.lanes → l ≢ lane
+        → lent_blocks job.now.setting slice.new l ≡ lent_blocks job.now.setting slice.old l }
+{
+    let length = job.segment_length() as usize;
+    let (_before, rest) = slice.split_at_mut(place_of_lane(job, lane));
+    let (own, _after) = rest.split_at_mut(length);
+    fill_lent_segment(job, lane, first, second, third, own);
+}
+
+/// Fills the job's slice, lane after lane, beside the other three in rising order.
+pub fn fill_lent_slice(
+    job: &Job,
+    first: &[Block],
+    second: &[Block],
+    third: &[Block],
+    slice: &mut [Block],
+)
+    requires first_fits { length first.now ≡ job.now.setting.lanes * job.now.setting.segment_length }
+    requires second_fits { length second.now
+        ≡ job.now.setting.lanes * job.now.setting.segment_length }
+    requires third_fits { length third.now ≡ job.now.setting.lanes * job.now.setting.segment_length }
+    requires slice_fits { length slice.old ≡ job.now.setting.lanes * job.now.setting.segment_length }
+    ensures { let j = job.now in AreLent j (first.now ∷ second.now ∷ third.now ∷ [])
+        → ((lane : ℕ) → lane < j.setting.lanes
+        → IsReady j.setting j.pass j.slice lane (lent_blocks j.setting slice.old lane))
+        → HoldsSlice j.setting j.pass j.slice slice.new }
+{
+    for lane in 0..job.lanes() {
+        fill_lane(job, lane, first, second, third, slice);
+    }
+}
+
+/// Fills the job's slice of four.
+fn fill_one_of_four(
+    job: &Job,
+    first: &mut [Block],
+    second: &mut [Block],
+    third: &mut [Block],
+    fourth: &mut [Block],
+)
+    requires first_fits { length first.old ≡ job.now.setting.lanes * job.now.setting.segment_length }
+    requires second_fits { length second.old
+        ≡ job.now.setting.lanes * job.now.setting.segment_length }
+    requires third_fits { length third.old ≡ job.now.setting.lanes * job.now.setting.segment_length }
+    requires fourth_fits { length fourth.old
+        ≡ job.now.setting.lanes * job.now.setting.segment_length }
+    ensures { let j = job.now in IsLentBelow j.setting j.pass j.slice
+        (first.old ∷ second.old ∷ third.old ∷ fourth.old ∷ [])
+        → IsLentBelow j.setting j.pass (j.slice + 1)
+        (first.new ∷ second.new ∷ third.new ∷ fourth.new ∷ []) }
+{
+    recall_job(job);
+    match job.slice() {
+        0 => fill_lent_slice(job, second, third, fourth, first),
+        1 => fill_lent_slice(job, first, third, fourth, second),
+        2 => fill_lent_slice(job, first, second, fourth, third),
+        _ => fill_lent_slice(job, first, second, third, fourth),
+    }
+}
+
+/// Fills all slices of all passes, one after another and lane after lane, in the caller's thread.
+pub fn fill_lent(
+    job: &Job,
+    first: &mut [Block],
+    second: &mut [Block],
+    third: &mut [Block],
+    fourth: &mut [Block],
+)
+    requires first_fits { length first.old ≡ job.now.setting.lanes * job.now.setting.segment_length }
+    requires second_fits { length second.old
+        ≡ job.now.setting.lanes * job.now.setting.segment_length }
+    requires third_fits { length third.old ≡ job.now.setting.lanes * job.now.setting.segment_length }
+    requires fourth_fits { length fourth.old
+        ≡ job.now.setting.lanes * job.now.setting.segment_length }
+    ensures { let s = job.now.setting in IsLentBegun s first.old
+        → HoldsSlice s (s.passes - 1) 3 fourth.new }
+{
+    recall_job(job);
+    for n in 0..slice_count(job) {
+        fill_one_of_four(&numbered_slice(job, n), first, second, third, fourth);
+    }
+}
+
+/// The exclusive or of the last blocks of all lanes.
+fn combine_last_lent(job: &Job, slice: &[Block], out: &mut Block)
+    requires zero { out.old ≡ zero_block }
+    requires slice_fits { length slice.now ≡ job.now.setting.lanes * job.now.setting.segment_length }
+    ensures { out.new ≡ fold xor zero_block (last_lent job.now.setting slice.now) }
+{
+    let length = job.segment_length() as usize;
+    for lane in 0..job.lanes() {
+        let last = place_of_lane(job, lane) + (length - 1);
+        *out ^= &slice[last];
+    }
+}
+
+/// Writes the hash of the last blocks of all lanes, combined (RFC 9106, 3.2, steps 7 and 8): the
+/// tag, where slice 3 holds the blocks of the last pass.
+pub fn finalize_lent(job: &Job, slice: &[Block], out: &mut [u8])
+    requires slice_fits { length slice.now ≡ job.now.setting.lanes * job.now.setting.segment_length }
+    requires some { 0 < length out.old }
+    requires few { length out.old < 2 ^ 32 }
+    ensures { let s = job.now.setting in HoldsSlice s (s.passes - 1) 3 slice.now
+        → out.new ≡ tag_from (last_blocks s) (length out.old) }
+{
+    recall_job(job);
+    let mut block = Block::zero();
+    combine_last_lent(job, slice, &mut block);
+    hprime(out, &block.as_u8());
+}
+
+/// The tag of an accepted call, computed in the caller's thread over a memory that is lent whole,
+/// slice after slice. It takes no memory and always succeeds.
+#[tactic(auto, unfolding(argon2_standard::specs::Standard::SettingsTable::refusal_of))]
+pub fn hash_lent(context: &Context<'_>, blocks: &mut [Block], out: &mut [u8])
+    requires blocks_fit { length blocks.old ≡ context.now.memory_blocks }
+    requires out_fits { length out.old ≡ context.now.config.hash_length }
+    ensures { let c = context.now in
+        out.new ≡ tag_of c.pwd.now c.salt.now c.config c.config.hash_length }
+{
+    recall_context(context);
+    let _hash_length = context.config.hash_length;
+    let job = Job::new(context);
+    let length = blocks.len() / SYNC_POINTS as usize;
+    let (first, rest) = blocks.split_at_mut(length);
+    let (second, rest) = rest.split_at_mut(length);
+    let (third, fourth) = rest.split_at_mut(length);
+    initialize_lent(&job, first);
+    fill_lent(&job, first, second, third, fourth);
+    finalize_lent(&job, fourth, out);
+}
+
+/// Whatever the order of the fills of lanes within each slice, and also at the same time: where the
+/// first blocks are there, and each lane of each slice of each pass is filled once in the order of
+/// passes and slices, slice 3 ends with the blocks of the last pass, whose hash is the tag.
+pub fn any_order_lent()
+    ensures { EveryLentRunAgrees }
+{}

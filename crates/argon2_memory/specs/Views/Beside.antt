@@ -1,0 +1,48 @@
+-- The slices beside the one that is filled, whatever their blocks hold, and a fill over them.
+use Rattle.std.specs.Prelude.{◌≡◌, ◌≢◌, ℕ, ◌*◌, ◌<◌, ◌≤◌, Bool, true, false, List, [], ◌++◌, length, map, slice_index_or, take, drop}
+use Rattle.std.specs.Borrow.{Bor}
+use Rattle.std.specs.List.{range_with_len}
+use Rattle.argon2_standard.specs.Standard.Setting.{Setting}
+use Rattle.argon2_memory.specs.Views.Jobs.{Job, IsJob}
+use Rattle.argon2_memory.specs.Views.Segments.{SegmentValue}
+use Rattle.argon2_memory.specs.Views.Filling.{SnapshotValue, IsSnapshot, IsFilledTo, other_blocks, pick_of}
+
+-- the shape of a job's other slices: three, each with a segment of L blocks for each lane
+pub record IsBeside (v : SnapshotValue) : Type 0 where
+  pub job : IsJob v.job
+  pub slices : length v.others ≡ 3
+  pub lanes : (at : ℕ) → at < 3 → length (slice_index_or v.others at []) ≡ v.job.setting.lanes
+  pub blocks : (slice lane : ℕ) → slice < 4 → slice ≢ v.job.slice → lane < v.job.setting.lanes →
+      length (other_blocks v slice lane) ≡ v.job.setting.segment_length
+
+-- the lane and column that some word picks for the block at an index
+abbrev pub IsPicked : Job → ℕ → ℕ → ℕ × ℕ → Type 0
+IsPicked j lane index reference = (word : ℕ) × (reference ≡ pick_of j lane index word)
+
+-- where the other slices hold their blocks, a segment that was filled up to the first index is filled up
+-- to the end; `rest` is what stands behind the blocks that are made
+abbrev pub FillsOn : SnapshotValue → ℕ → ℕ → ℕ → List (List ℕ) → List (List ℕ) → Type 0
+FillsOn v lane first end old new =
+    (rest : List (List ℕ)) → IsSnapshot v → IsFilledTo v.job lane first (old ++ rest) → IsFilledTo v.job lane end (new ++ rest)
+
+-- from an index on the blocks are as they were
+abbrev pub IsSameFrom : ℕ → List (List ℕ) → List (List ℕ) → Type 0
+IsSameFrom end old new = (k : ℕ) → end ≤ k → slice_index_or new k [] ≡ slice_index_or old k []
+
+-- the blocks of a lane in a slice that is lent, lane after lane
+abbrev pub lent_blocks : Setting → List (List ℕ) → ℕ → List (List ℕ)
+lent_blocks s blocks lane = take s.segment_length (drop (lane * s.segment_length) blocks)
+
+abbrev pub lent_segment : Setting → List (List ℕ) → ℕ → SegmentValue
+lent_segment s blocks lane = record { blocks = lent_blocks s blocks lane; tally = 0 }
+
+abbrev pub lent_slice : Setting → List (List ℕ) → List SegmentValue
+lent_slice s blocks = map (lent_segment s blocks) (range_with_len 0 s.lanes)
+
+abbrev pub lent_slices : Setting → List (Bor (List (List ℕ))) → List (List SegmentValue)
+lent_slices s others = map (λ (o : Bor (List (List ℕ))). lent_slice s o.now) others
+
+-- the segments of the other slices, wherever they are
+abbrev pub others_of : Bool → Setting → List (Bor (List SegmentValue)) → List (Bor (List (List ℕ))) → List (List SegmentValue)
+others_of true s segments blocks = lent_slices s blocks
+others_of false s segments blocks = map (λ (o : Bor (List SegmentValue)). o.now) segments

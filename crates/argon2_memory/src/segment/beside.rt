@@ -1,0 +1,173 @@
+//! The slices beside the one that is filled, whatever their blocks hold.
+
+ghost use Rattle.std.specs.Prelude.{◌≡◌, ◌≢◌, ℕ, ◌+◌, ◌*◌, ◌/◌, ◌%◌, ◌^◌, ◌<◌, ◌≤◌, List, [], length, map, slice_index_or};
+ghost use Rattle.argon2_memory.specs.Views.Beside.{IsBeside, lent_slices, others_of};
+ghost use Rattle.argon2_memory.specs.Views.Filling.{SnapshotValue, other_blocks, rank_among, block_seen, no_segment};
+ghost use Rattle.argon2_memory.specs.Views.Sources.{IsBefore, source_block};
+ghost use Rattle.argon2_standard.specs.Standard.Setting.{lane_length};
+
+use crate::job::Job;
+use crate::memory::{Segment, Source};
+use argon2_blocks::block::Block;
+use argon2_blocks::common::SYNC_POINTS;
+use std::marker::Model;
+
+/// A job and the three slices beside its own, whatever they hold: segments of a memory, or blocks
+/// that are lent, lane after lane. The others of the two are empty.
+#[derive(Drop)]
+pub(crate) struct Beside<'a> {
+    job: Job,
+    are_lent: bool,
+    segments: [&'a [Segment]; 3],
+    blocks: [&'a [Block]; 3],
+}
+
+impl<'a> Model for Beside<'a> {
+    ghost Value = { SnapshotValue };
+
+    ghost view = { λ b. record {
+      job = b.job;
+      others = others_of b.are_lent b.job.setting b.segments b.blocks;
+    } };
+
+    ghost invariant = { λ b. IsBeside (record {
+      job = b.job;
+      others = others_of b.are_lent b.job.setting b.segments b.blocks;
+    }) };
+}
+
+/// The place of a slice among the three that are not the job's.
+fn place_among(job: &Job, slice: u32) -> usize
+    requires slice_fits { slice < 4 }
+    requires other_slice { slice ≢ job.now.slice }
+    ensures value { result ≡ rank_among job.now slice }
+    ensures fits { result < 3 }
+{
+    if slice < job.slice() {
+        slice as usize
+    } else {
+        slice as usize - 1
+    }
+}
+
+/// The block at an index of a lane, in one of three slices of segments.
+fn block_of_segments<'a>(slices: &[&'a [Segment]; 3], at: usize, lane: u32, index: u32) -> &'a Block
+    requires at_fits { at < 3 }
+    requires lane_fits { lane < length (slice_index_or (map (λ o. o.now) slices.now) at []) }
+    requires index_fits { index < length (slice_index_or (slice_index_or
+        (map (λ o. o.now) slices.now) at []) lane no_segment).blocks }
+    ensures { result.now ≡ slice_index_or (slice_index_or (slice_index_or
+        (map (λ o. o.now) slices.now) at []) lane no_segment).blocks index [] }
+{
+    let slices = &slices[..];
+    let segments = slices[at];
+    segments[lane as usize].block(index as usize)
+}
+
+/// The place of a block in a slice that is lent, lane after lane.
+fn place_in_slice(job: &Job, lane: u32, index: u32) -> usize
+    requires lane_fits { lane < job.now.setting.lanes }
+    requires index_fits { index < job.now.setting.segment_length }
+    ensures value { result ≡ lane * job.now.setting.segment_length + index }
+    ensures fits { result < job.now.setting.lanes * job.now.setting.segment_length }
+    ensures few { result < 2 ^ 32 }
+{
+    (lane * job.segment_length() + index) as usize
+}
+
+/// The block at an index of a lane, in one of three slices that are lent.
+fn block_of_lent<'a>(
+    slices: &[&'a [Block]; 3],
+    job: &Job,
+    at: usize,
+    lane: u32,
+    index: u32,
+) -> &'a Block
+    requires three { length slices.now ≡ 3 }
+    requires at_fits { at < 3 }
+    requires lane_fits { lane < job.now.setting.lanes }
+    requires index_fits { index < job.now.setting.segment_length }
+    requires made { index < length (slice_index_or (slice_index_or
+        (lent_slices job.now.setting slices.now) at []) lane no_segment).blocks }
+    ensures { result.now ≡ slice_index_or (slice_index_or (slice_index_or
+        (lent_slices job.now.setting slices.now) at []) lane no_segment).blocks index [] }
+{
+    let place = place_in_slice(job, lane, index);
+    let slices = &slices[..];
+    let blocks = slices[at];
+    &blocks[place]
+}
+
+impl<'a> Beside<'a> {
+    /// The slices of a memory beside the job's, in rising order.
+    pub(super) fn of_segments(job: Job, others: [&'a [Segment]; 3]) -> Beside<'a>
+        requires { IsBeside (record { job = job; others = map (λ o. o.now) others }) }
+        ensures { result ≡ record { job = job; others = map (λ o. o.now) others.entry } }
+    {
+        let blocks: &[Block] = &[];
+        Beside {
+            job,
+            are_lent: false,
+            segments: others,
+            blocks: [blocks, blocks, blocks],
+        }
+    }
+
+    /// The slices beside the job's, in rising order, each lent lane after lane.
+    pub(super) fn of_blocks(job: Job, others: [&'a [Block]; 3]) -> Beside<'a>
+        requires { IsBeside (record { job = job; others = lent_slices job.setting others }) }
+        ensures { result ≡ record { job = job; others = lent_slices job.setting others.entry } }
+    {
+        let segments: &[Segment] = &[];
+        Beside {
+            job,
+            are_lent: true,
+            segments: [segments, segments, segments],
+            blocks: others,
+        }
+    }
+
+    /// The job.
+    pub(super) fn job(&self) -> &Job
+        ensures value { result.now ≡ self.now.job }
+        ensures beside { IsBeside self.now }
+    {
+        &self.job
+    }
+
+    fn block(&self, slice: u32, lane: u32, index: u32) -> &Block
+        requires slice_fits { slice < 4 }
+        requires other_slice { slice ≢ self.now.job.slice }
+        requires lane_fits { lane < self.now.job.setting.lanes }
+        requires index_fits { index < self.now.job.setting.segment_length }
+        ensures { result.now ≡ slice_index_or (other_blocks self.now slice lane) index [] }
+    {
+        let at = place_among(&self.job, slice);
+        if self.are_lent {
+            block_of_lent(&self.blocks, &self.job, at, lane, index)
+        } else {
+            block_of_segments(&self.segments, at, lane, index)
+        }
+    }
+
+    /// The block at a lane and column, as the lane that is filled up to an index sees it.
+    pub(super) fn source(&self, lane: u32, column: u32, index: u32) -> Source<'_>
+        requires lane_fits { lane < self.now.job.setting.lanes }
+        requires column_fits { column < lane_length self.now.job.setting }
+        requires own_before { column / self.now.job.setting.segment_length ≡ self.now.job.slice
+            → column % self.now.job.setting.segment_length < index }
+        ensures value { (blocks : List (List ℕ))
+            → source_block blocks result ≡ block_seen self.now blocks lane column }
+        ensures beside { IsBeside self.now }
+        ensures before { (end : ℕ) → index ≤ end → IsBefore end result }
+    {
+        let job = self.job();
+        let slice = column / job.segment_length();
+        let at = column % job.segment_length();
+        if slice == job.slice() {
+            Source::Own(at as usize)
+        } else {
+            Source::Other(self.block(slice, lane, at))
+        }
+    }
+}

@@ -1,0 +1,15 @@
+-- The definitions of RFC 9106 above its hashes and its compression, and then those of the text, in the
+-- order in which to read them. With `argon2_blocks` they are all that the clauses of the root calls use.
+pub mod Variant
+pub mod Version
+pub mod SettingsTable
+pub mod Setting
+pub mod Prehash
+pub mod Reference
+pub mod Recurrence
+pub mod Tag
+pub mod ThreadModes
+pub mod Outcome
+pub mod Text
+pub mod Grammar
+pub mod Stored

@@ -1,0 +1,32 @@
+-- What the calls of the crate's root answer.
+use Rattle.std.specs.Prelude.{◌≡◌, ◌⊎◌, Option, Some, None, Result, Ok, Err, Bool, true, false, List, ℕ, length, ◌↔◌, IsTrue}
+use Rattle.argon2_standard.specs.declared.error.Error.{Error}
+use Rattle.argon2_standard.specs.declared.error.Error.TheVariants.{OutOfMemory, WorkerRefused}
+use Rattle.argon2_standard.specs.declared.config.Config.{Config}
+use Rattle.argon2_standard.specs.Standard.SettingsTable.{refusal_of}
+use Rattle.argon2_standard.specs.Standard.Tag.{tag_of}
+
+-- the error may come where no refusal does: memory was refused or, with workers, a worker
+abbrev pub IsShortage : Bool → Error → Type 0
+IsShortage true e = (e ≡ OutOfMemory) ⊎ (e ≡ WorkerRefused)
+IsShortage false e = e ≡ OutOfMemory
+
+-- the refusal, where there is one; else a value for which P holds, or a shortage
+abbrev pub IsOutcome : {A : Type 0} → Option Error → Bool → (A → Type 0) → Result A Error → Type 0
+IsOutcome (Some refusal) workers P result = result ≡ Err refusal
+IsOutcome None workers P (Ok value) = P value
+IsOutcome None workers P (Err e) = IsShortage workers e
+
+-- the first refusal of the settings table or, where there is none, a value that shows the tag, or a
+-- shortage; `workers` says whether a worker may be lacking
+abbrev pub IsHash : {A : Type 0} → List ℕ → List ℕ → Config → Bool → (A → List ℕ → Type 0) → Result A Error → Type 0
+IsHash pwd salt config workers Shows answer =
+    IsOutcome (refusal_of config (length pwd) (length salt) config.hash_length) workers
+    (λ value. Shows value (tag_of pwd salt config config.hash_length)) answer
+
+-- the first refusal of the settings at the hash's own length, or whether the hash is the tag of that
+-- length; `workers` says whether a worker may be lacking
+abbrev pub IsVerdict : List ℕ → List ℕ → List ℕ → Config → Bool → Result Bool Error → Type 0
+IsVerdict pwd salt hash config workers answer =
+    IsOutcome (refusal_of config (length pwd) (length salt) (length hash)) workers
+    (λ same. IsTrue same ↔ (hash ≡ tag_of pwd salt config (length hash))) answer

@@ -1,0 +1,67 @@
+-- Which block a new block refers to (RFC 9106, 3.4).
+use Rattle.std.specs.Prelude.{ℕ, zero, suc, ◌+◌, ◌-◌, ◌*◌, ◌/◌, ◌%◌, ◌^◌, Bool, true, false, ◌==◌, ◌&&◌, ◌||◌, nat_lt, if◌then◌else◌, List, [], ◌++◌}
+use Rattle.std.specs.Prelude.{map, length, take, slice_index_or}
+use Rattle.std.specs.List.{range_with_len}
+use Rattle.argon2_blocks.specs.Standard.Word.{low_half, high_half}
+use Rattle.argon2_standard.specs.declared.variant.Variant.{Variant}
+use Rattle.argon2_standard.specs.declared.variant.Variant.TheVariants.{Argon2d, Argon2i, Argon2id}
+use Rattle.argon2_standard.specs.Standard.Setting.{Setting, Position, lane_length, slice_of, index_of}
+
+-- whether the words of a segment are drawn from no block (3.4.1)
+abbrev pub is_data_independent : Variant → ℕ → ℕ → Bool
+is_data_independent Argon2d pass slice = false
+is_data_independent Argon2i pass slice = true
+is_data_independent Argon2id pass slice = (pass == 0) && nat_lt slice 2
+
+-- the block before the one at a place: for column 0 it is that lane's last of the pass before. A
+-- lane's first two blocks are made from none (3.2).
+abbrev pub previous : Setting → Position → Position
+previous s at =
+    if at.column == 0 then record at { pass = at.pass - 1; column = lane_length s - 1 }
+    else record at { column = at.column - 1 }
+
+-- the columns of a pass from the first on and before the end, each beside the pass
+abbrev pub columns_between : ℕ → ℕ → ℕ → List (ℕ × ℕ)
+columns_between pass first end = map (λ column. (pass, column)) (range_with_len first (end - first))
+
+-- the columns that are as the pass before left them: those after the slice
+abbrev pub columns_of_last_pass : Setting → ℕ → ℕ → List (ℕ × ℕ)
+columns_of_last_pass s zero slice = []
+columns_of_last_pass s (suc last) slice = columns_between last ((slice + 1) * s.segment_length) (lane_length s)
+
+-- the list without its last element
+abbrev pub without_last : List (ℕ × ℕ) → List (ℕ × ℕ)
+without_last xs = take (length xs - 1) xs
+
+-- W: the passes and columns of a lane that the block at a place may refer to, in order: what the
+-- last pass left, the slices of this pass before the present one and, in the own lane, the segment
+-- so far. The last of them is left out in the own lane, and for a segment's first block (3.4.2).
+unfoldable pub reference_window : Setting → Position → ℕ → List (ℕ × ℕ)
+reference_window s at lane =
+    let slice = slice_of s at.column in
+    let start = slice * s.segment_length in
+    let is_own = lane == at.lane in
+    let all = columns_of_last_pass s at.pass slice
+    ++ columns_between at.pass 0 start
+    ++ (if is_own then columns_between at.pass start at.column else []) in
+    if is_own || index_of s at.column == 0 then without_last all else all
+
+-- the place in a list of n elements that the lower half of a word draws (3.4.2)
+abbrev pub window_index : ℕ → ℕ → ℕ
+window_index n word =
+    let x = low_half word * low_half word / 2 ^ 32 in
+    let y = n * x / 2 ^ 32 in
+    n - 1 - y
+
+-- the lane that the upper half of a word draws, but the own lane in the first slice (3.4.2)
+abbrev pub drawn_lane : Setting → ℕ → Position → ℕ
+drawn_lane s word at =
+    if (at.pass == 0) && (slice_of s at.column == 0) then at.lane else high_half word % s.lanes
+
+-- the place that a drawn word picks for the block at a place
+unfoldable pub pick : Setting → ℕ → Position → Position
+pick s word at =
+    let lane = drawn_lane s word at in
+    let w = reference_window s at lane in
+    let chosen = slice_index_or w (window_index (length w) word) (0, 0) in
+    record { pass = chosen.0; lane = lane; column = chosen.1 }

@@ -1,0 +1,18 @@
+-- Names, numbers and texts of no variant or version.
+use Rattle.std.specs.Prelude.{◌≡◌, ℕ, List}
+use Rattle.argon2_standard.specs.declared.variant.Variant.{Variant}
+use Rattle.argon2_standard.specs.Standard.Variant.{variant_number, IsName}
+use Rattle.argon2_standard.specs.declared.version.Version.{Version}
+use Rattle.argon2_standard.specs.Standard.Version.{version_number, version_text}
+
+abbrev pub IsNoVariantNumber : ℕ → Type 0
+IsNoVariantNumber number = (variant : Variant) → variant_number variant ≡ number → ⊥
+
+abbrev pub IsNoName : List ℕ → Type 0
+IsNoName name = (variant : Variant) → IsName name variant → ⊥
+
+abbrev pub IsNoVersionNumber : ℕ → Type 0
+IsNoVersionNumber number = (version : Version) → version_number version ≡ number → ⊥
+
+abbrev pub IsNoVersionText : List ℕ → Type 0
+IsNoVersionText number = (version : Version) → number ≡ version_text version → ⊥

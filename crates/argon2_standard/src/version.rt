@@ -1,0 +1,112 @@
+//! The versions of Argon2 and their numbers.
+
+ghost use Rattle.std.specs.Prelude.{◌≡◌, MatchResult, Some};
+ghost use Rattle.std.proofs.Common.{refl, rules};
+ghost use Rattle.std.specs.Cmp.{nat_cmp_total, on_total, partial_order_from_agreeing_total};
+ghost use Rattle.std.specs.Cmp.Rules.{comparing};
+ghost use Rattle.std.specs.Fmt.{decimal};
+ghost use Rattle.std.specs.Ordering.{as_partial_cmp, nat_cmp, on};
+ghost use Rattle.argon2_standard.specs.Views.Names.{IsNoVersionNumber, IsNoVersionText};
+ghost use Rattle.argon2_standard.specs.Standard.Version.{version_number, version_text};
+ghost use Rattle.argon2_standard.specs.declared.version.Version.{Version};
+
+use crate::error::Error;
+use crate::result::Result;
+use std::cmp::Ordering;
+use std::fmt;
+
+/// The version of Argon2.
+#[derive(Clone, Copy, Debug, Eq, PartialEq)]
+pub enum Version {
+    /// Version 0x10: a later pass writes over the blocks of the pass before.
+    Version10 = 0x10,
+
+    /// Version 0x13, that of RFC 9106: a later pass combines its blocks with those of the pass
+    /// before. The one to choose.
+    Version13 = 0x13,
+}
+
+impl Version {
+    /// The number: 16 or 19.
+    pub fn as_u32(&self) -> u32
+        ensures { result ≡ version_number self.now }
+    {
+        *self as u32
+    }
+
+    /// The version of the text `16` or `19`. Any other text is `DecodingFail`.
+    #[tactic(auto, using(crate::proofs::Versions::decimal_of_version))]
+    pub fn from_str(number: &str) -> Result<Version>
+        ensures read { MatchResult result (λ version. number.now ≡ version_text version)
+            (λ e. (e ≡ Error.DecodingFail) × IsNoVersionText number.now) }
+        ensures undoes { (version : Version) → number.now ≡ version_text version
+            → result ≡ Ok version }
+        ensures printed { (version : Version) → number.now ≡ decimal (version_number version)
+            → result ≡ Ok version }
+    {
+        match number {
+            "16" => Ok(Version::Version10),
+            "19" => Ok(Version::Version13),
+            _ => Err(Error::DecodingFail),
+        }
+    }
+
+    /// The version of the number 16 or 19. Any other number is `IncorrectVersion`.
+    pub fn from_u32(number: u32) -> Result<Version>
+        ensures read { MatchResult result (λ version. version_number version ≡ number)
+            (λ e. (e ≡ Error.IncorrectVersion) × IsNoVersionNumber number) }
+        ensures undoes { (version : Version) → version_number version ≡ number
+            → result ≡ Ok version }
+    {
+        match number {
+            0x10 => Ok(Version::Version10),
+            0x13 => Ok(Version::Version13),
+            _ => Err(Error::IncorrectVersion),
+        }
+    }
+}
+
+impl Default for Version {
+    ghost use Rattle.argon2_standard.specs.declared.version.Version.TheVariants.{Version13};
+
+    ghost is_default = { λ version. version ≡ Version13 };
+
+    fn default() -> Version {
+        Version::Version13
+    }
+}
+
+/// By the numbers: 16 comes before 19.
+impl PartialOrd for Version {
+    ghost partial_cmp = { as_partial_cmp (on version_number nat_cmp) };
+
+    ghost laws = { partial_order_from_agreeing_total (on version_number nat_cmp)
+        (on_total version_number nat_cmp_total) (λ _ _. refl) (Prim.search (comparing, rules)) };
+
+    fn partial_cmp(&self, other: &Version) -> Option<Ordering> {
+        Some(self.cmp(other))
+    }
+}
+
+impl Ord for Version {
+    ghost cmp = { on version_number nat_cmp };
+
+    ghost total = { on_total version_number nat_cmp_total };
+
+    ghost matches_partial_cmp = { Prim.search (comparing, rules) };
+
+    ghost matches_eq = { Prim.search (comparing, rules) };
+
+    fn cmp(&self, other: &Version) -> Ordering {
+        self.as_u32().cmp(&other.as_u32())
+    }
+}
+
+/// The decimal number.
+impl fmt::Display for Version {
+    ghost output = { λ version. Some (decimal (version_number version)) };
+
+    fn fmt<W: fmt::Write>(&self, f: &mut fmt::Formatter<W>) -> fmt::Result {
+        write!(f, "{}", self.as_u32())
+    }
+}

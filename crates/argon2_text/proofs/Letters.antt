@@ -1,0 +1,2 @@
+-- The letters of base64 by sums.
+pub mod LetterSums

@@ -1,0 +1,355 @@
+-- The sums of letters are those of base64, and a text without faults is the base64 of the bytes that are read of it.
+use Rattle.std.proofs.Common.{◌≡◌, ℕ, zero, suc, ◌+◌, ◌*◌, ◌/◌, ◌%◌, ◌<◌, ◌==◌, Bool, true, false, not, ◌||◌, ◌&&◌, ◌≤◌, nat_lt, List, [], ◌∷◌, ◌++◌, length, get_or, slice_index, refl, sym, ap, ◌∙◌, arith, inl, inr}
+use Rattle.std.specs.Prelude.{◌↔◌, if◌then◌else◌}
+use Rattle.std.proofs.Common.{Result, Ok, Err}
+use Rattle.std.specs.Result.{OnOk, is_ok}
+use Rattle.std.proofs.lemmas.Bool.{and_parts, eqb-true, eq-eqb, ltb-true, or_cases, not-true}
+use Rattle.std.proofs.lemmas.List.{append-nil}
+use Rattle.base64.specs.Rfc4648.{encode_symbols}
+use Rattle.base64.specs.Tables.{all_below}
+use Rattle.base64.specs.Engines.{standard_no_pad}
+use Rattle.base64.specs.GeneralPurpose.{IsBytes, engine_symbols}
+use Rattle.base64.proofs.EngineFacts.{IsAscii-encode_of, encode_of-append}
+use Rattle.base64.proofs.Tables.{all_below_at}
+use Rattle.std.proofs.Common.{subst}
+use Rattle.std.specs.Str.{IsAscii}
+use Rattle.argon2_standard.specs.Standard.Grammar.{IsItem}
+use Rattle.argon2_standard.specs.Standard.Text.{base64}
+use Rattle.argon2_text.specs.Views.Faults.{IsSomeItem}
+use Rattle.argon2_text.specs.Views.Letters.{bits_of, bytes_read, fault_of, faults_of, first_byte, letter_of, reaches, second_byte, third_byte}
+
+-- the 64 letters
+abbrev pub alphabet : List ℕ
+alphabet = engine_symbols standard_no_pad
+
+-- ---- one letter, for each of the 64 and each of the 256 bytes
+
+-- the letter of six bits is the one that stands in the alphabet at their place
+pub letter_at : (bits : ℕ) → bits < 64 → letter_of bits ≡ slice_index alphabet bits
+letter_at bits small =
+    let test = λ (v : ℕ). letter_of v == slice_index alphabet v in
+    eqb-true (letter_of bits) (slice_index alphabet bits) (all_below_at test 64 bits refl small)
+
+-- a letter of the alphabet gives its place
+bits_at : (bits : ℕ) → bits < 64 → bits_of (slice_index alphabet bits) ≡ bits
+bits_at bits small =
+    let test = λ (v : ℕ). bits_of (slice_index alphabet v) == v in
+    eqb-true (bits_of (slice_index alphabet bits)) bits (all_below_at test 64 bits refl small)
+
+-- a letter of the alphabet is no fault
+fault_at : (bits : ℕ) → bits < 64 → fault_of (slice_index alphabet bits) ≡ 0
+fault_at bits small =
+    let test = λ (v : ℕ). fault_of (slice_index alphabet v) == 0 in
+    eqb-true (fault_of (slice_index alphabet bits)) 0 (all_below_at test 64 bits refl small)
+
+-- a byte that is no fault
+pub record IsLetter (byte : ℕ) : Type 0 where
+  pub small : bits_of byte < 64
+  pub same : slice_index alphabet (bits_of byte) ≡ byte
+
+-- a byte that is no fault is a letter of the alphabet, at the place of its bits
+letter_from : (byte : ℕ) → byte < 256 → fault_of byte ≡ 0 → IsLetter byte
+letter_from byte small none =
+    let test = λ (b : ℕ). not (fault_of b == 0) || (nat_lt (bits_of b) 64 && (slice_index alphabet (bits_of b) == b)) in
+    elim (or_cases (not (fault_of byte == 0)) (nat_lt (bits_of byte) 64 && (slice_index alphabet (bits_of byte) == byte)) (all_below_at test 256 byte refl small)) [
+      | inl fault ↦
+          let same = eq-eqb (fault_of byte) 0 none in
+          let other = not-true (fault_of byte == 0) fault in
+          absurd (cc)
+      | inr good ↦
+          let parts = and_parts (nat_lt (bits_of byte) 64) (slice_index alphabet (bits_of byte) == byte) good in
+          record { small = ltb-true (bits_of byte) 64 parts.0; same = eqb-true (slice_index alphabet (bits_of byte)) byte parts.1 }
+    ]
+
+-- ---- a whole text
+
+-- base64 without padding is the symbols alone
+base64-symbols : (bytes : List ℕ) → base64 bytes ≡ encode_symbols alphabet bytes
+base64-symbols bytes = append-nil (encode_symbols alphabet bytes)
+
+-- no bytes have no symbols
+no_symbols : [] ≡ encode_symbols alphabet []
+unfolding encode_symbols
+no_symbols = refl
+
+-- two letters with no bits left over are the symbols of their byte
+one_again : (a b : ℕ) → IsLetter a → IsLetter b → bits_of b % 16 ≡ 0 → a ∷ b ∷ [] ≡ encode_symbols alphabet (first_byte a b ∷ [])
+unfolding encode_symbols
+one_again a b x y none =
+    let sa = x.small in
+    let sb = y.small in
+    let e0 : first_byte a b / 4 ≡ bits_of a = omega arith in
+    let e1 : first_byte a b % 4 * 16 ≡ bits_of b = omega arith in
+    rw (e0, e1, x.same, y.same) refl
+
+-- three letters with no bits left over are the symbols of their two bytes
+two_again : (a b c : ℕ) → IsLetter a → IsLetter b → IsLetter c → bits_of c % 4 ≡ 0
+    → a ∷ b ∷ c ∷ [] ≡ encode_symbols alphabet (first_byte a b ∷ second_byte b c ∷ [])
+unfolding encode_symbols
+two_again a b c x y z none =
+    let sa = x.small in
+    let sb = y.small in
+    let sc = z.small in
+    let e0 : first_byte a b / 4 ≡ bits_of a = omega arith in
+    let e1 : first_byte a b % 4 * 16 + second_byte b c / 16 ≡ bits_of b = omega arith in
+    let e2 : second_byte b c % 16 * 4 ≡ bits_of c = omega arith in
+    rw (e0, e1, e2, x.same, y.same, z.same) refl
+
+-- four letters and the symbols of a rest are the symbols of their three bytes and the rest
+three_again : (a b c d : ℕ) (rest : List ℕ) → IsLetter a → IsLetter b → IsLetter c → IsLetter d
+    → a ∷ b ∷ c ∷ d ∷ encode_symbols alphabet rest ≡ encode_symbols alphabet (first_byte a b ∷ second_byte b c ∷ third_byte c d ∷ rest)
+unfolding encode_symbols
+three_again a b c d rest x y z w =
+    let sa = x.small in
+    let sb = y.small in
+    let sc = z.small in
+    let sd = w.small in
+    let e0 : first_byte a b / 4 ≡ bits_of a = omega arith in
+    let e1 : first_byte a b % 4 * 16 + second_byte b c / 16 ≡ bits_of b = omega arith in
+    let e2 : second_byte b c % 16 * 4 + third_byte c d / 64 ≡ bits_of c = omega arith in
+    let e3 : third_byte c d % 64 ≡ bits_of d = omega arith in
+    rw (e0, e1, e2, e3, x.same, y.same, z.same, w.same) refl
+
+-- what is read of any text is bytes
+read_bytes : (text : List ℕ) → IsBytes (bytes_read text)
+unfolding bytes_read
+read_bytes [] i = omega arith
+read_bytes (a ∷ []) i = omega arith
+read_bytes (a ∷ b ∷ []) zero = omega arith
+read_bytes (a ∷ b ∷ []) (suc i) = omega arith
+read_bytes (a ∷ b ∷ c ∷ []) zero = omega arith
+read_bytes (a ∷ b ∷ c ∷ []) (suc zero) = omega arith
+read_bytes (a ∷ b ∷ c ∷ []) (suc (suc i)) = omega arith
+read_bytes (a ∷ b ∷ c ∷ d ∷ rest) zero = omega arith
+read_bytes (a ∷ b ∷ c ∷ d ∷ rest) (suc zero) = omega arith
+read_bytes (a ∷ b ∷ c ∷ d ∷ rest) (suc (suc zero)) = omega arith
+read_bytes (a ∷ b ∷ c ∷ d ∷ rest) (suc (suc (suc i))) = read_bytes rest i
+
+-- a text without faults is the symbols of what is read of it
+symbols_again : (text : List ℕ) → IsBytes text → faults_of text ≡ 0 → text ≡ encode_symbols alphabet (bytes_read text)
+unfolding faults_of bytes_read
+symbols_again [] fits none = no_symbols
+symbols_again (a ∷ []) fits none = absurd (omega arith)
+symbols_again (a ∷ b ∷ []) fits none =
+    one_again a b (letter_from a (fits 0) (omega arith)) (letter_from b (fits 1) (omega arith)) (omega arith)
+symbols_again (a ∷ b ∷ c ∷ []) fits none =
+    two_again a b c (letter_from a (fits 0) (omega arith)) (letter_from b (fits 1) (omega arith)) (letter_from c (fits 2) (omega arith)) (omega arith)
+symbols_again (a ∷ b ∷ c ∷ d ∷ rest) fits none =
+    let behind : faults_of rest ≡ 0 = omega arith in
+    let tail = symbols_again rest (λ i. fits (suc (suc (suc (suc i))))) behind in
+    ap (λ (t : List ℕ). a ∷ b ∷ c ∷ d ∷ t) tail ∙ three_again a b c d (bytes_read rest) (letter_from a (fits 0) (omega arith)) (letter_from b (fits 1) (omega arith))
+    (letter_from c (fits 2) (omega arith)) (letter_from d (fits 3) (omega arith))
+
+-- the symbols of bytes have no faults
+symbols_right : (bytes : List ℕ) → IsBytes bytes → faults_of (encode_symbols alphabet bytes) ≡ 0
+unfolding encode_symbols faults_of
+symbols_right [] fits = refl
+symbols_right (a ∷ []) fits =
+    let x : a < 256 = fits 0 in
+    rw (fault_at (a / 4) (omega arith), fault_at (a % 4 * 16) (omega arith), bits_at (a % 4 * 16) (omega arith)) (omega arith)
+symbols_right (a ∷ b ∷ []) fits =
+    let x : a < 256 = fits 0 in
+    let y : b < 256 = fits 1 in
+    rw (
+      fault_at (a / 4) (omega arith),
+      fault_at (a % 4 * 16 + b / 16) (omega arith),
+      fault_at (b % 16 * 4) (omega arith),
+      bits_at (b % 16 * 4) (omega arith),
+    ) (omega arith)
+symbols_right (a ∷ b ∷ c ∷ rest) fits =
+    let x : a < 256 = fits 0 in
+    let y : b < 256 = fits 1 in
+    let z : c < 256 = fits 2 in
+    rw (
+      fault_at (a / 4) (omega arith),
+      fault_at (a % 4 * 16 + b / 16) (omega arith),
+      fault_at (b % 16 * 4 + c / 64) (omega arith),
+      fault_at (c % 64) (omega arith),
+    ) (omega (arith, symbols_right rest (λ i. fits (suc (suc (suc i))))))
+
+-- a text is an item exactly where it has no faults
+pub faults_tell : (text : List ℕ) → IsBytes text → (faults_of text ≡ 0) ↔ IsSomeItem text
+faults_tell text fits = (
+  λ none. (bytes_read text, record { encoded = symbols_again text fits none ∙ sym (base64-symbols (bytes_read text)); bytes_fit = read_bytes text }),
+  λ (bytes, item). ap faults_of (item.encoded ∙ base64-symbols bytes) ∙ symbols_right bytes item.bytes_fit,
+)
+
+-- an item's bytes are those that are read of it
+pub item_read : (text : List ℕ) → IsBytes text → IsSomeItem text → IsItem text (bytes_read text)
+item_read text fits some =
+    let none = (faults_tell text fits).1 some in
+    record { encoded = symbols_again text fits none ∙ sym (base64-symbols (bytes_read text)); bytes_fit = read_bytes text }
+
+-- ---- a text in groups of four letters
+
+-- the faults of four letters are those of each
+pub group_faults : (group : List ℕ) → length group ≡ 4
+    → faults_of group ≡ fault_of (get_or group 0 0) + fault_of (get_or group 1 0) + fault_of (get_or group 2 0) + fault_of (get_or group 3 0)
+unfolding faults_of
+group_faults [] four = absurd (omega arith)
+group_faults (a ∷ []) four = absurd (omega arith)
+group_faults (a ∷ b ∷ []) four = absurd (omega arith)
+group_faults (a ∷ b ∷ c ∷ []) four = absurd (omega arith)
+group_faults (a ∷ b ∷ c ∷ d ∷ []) four = omega arith
+group_faults (a ∷ b ∷ c ∷ d ∷ e ∷ rest) four = absurd (omega arith)
+
+-- a byte has one fault at most
+one_fault : (byte : ℕ) → byte < 256 → fault_of byte ≤ 1
+one_fault byte small = omega arith
+
+-- four letters have four faults at most
+pub few_faults : (group : List ℕ) → length group ≡ 4 → IsBytes group → faults_of group ≤ 4
+few_faults group four fits =
+    omega (arith, group_faults group four, one_fault (get_or group 0 0) (fits 0), one_fault (get_or group 1 0) (fits 1), one_fault (get_or group 2 0) (fits 2), one_fault (get_or group 3 0) (fits 3))
+
+-- behind four letters the faults are those of the rest
+pub faults_behind : (group rest : List ℕ) → length group ≡ 4 → faults_of (group ++ rest) ≡ faults_of group + faults_of rest
+unfolding faults_of
+faults_behind [] rest four = absurd (omega arith)
+faults_behind (a ∷ []) rest four = absurd (omega arith)
+faults_behind (a ∷ b ∷ []) rest four = absurd (omega arith)
+faults_behind (a ∷ b ∷ c ∷ []) rest four = absurd (omega arith)
+faults_behind (a ∷ b ∷ c ∷ d ∷ []) rest four = omega arith
+faults_behind (a ∷ b ∷ c ∷ d ∷ e ∷ more) rest four = absurd (omega arith)
+
+-- the faults of no letter, of one, of two and of three
+pub no_faults : (tail : List ℕ) → length tail < 1 → 0 ≡ faults_of tail
+unfolding faults_of
+no_faults [] short = refl
+no_faults (a ∷ rest) short = absurd (omega arith)
+
+pub faults_of_one : (tail : List ℕ) → 1 ≤ length tail → length tail < 2 → 1 ≡ faults_of tail
+unfolding faults_of
+faults_of_one [] long short = absurd (omega arith)
+faults_of_one (a ∷ []) long short = refl
+faults_of_one (a ∷ b ∷ rest) long short = absurd (omega arith)
+
+pub faults_of_two : (tail : List ℕ) → 2 ≤ length tail → length tail < 3
+    → fault_of (get_or tail 0 0) + fault_of (get_or tail 1 0) + bits_of (get_or tail 1 0) % 16 ≡ faults_of tail
+unfolding faults_of
+faults_of_two [] long short = absurd (omega arith)
+faults_of_two (a ∷ []) long short = absurd (omega arith)
+faults_of_two (a ∷ b ∷ []) long short = refl
+faults_of_two (a ∷ b ∷ c ∷ rest) long short = absurd (omega arith)
+
+pub faults_of_three : (tail : List ℕ) → 3 ≤ length tail → length tail < 4
+    → fault_of (get_or tail 0 0) + fault_of (get_or tail 1 0) + fault_of (get_or tail 2 0) + bits_of (get_or tail 2 0) % 4 ≡ faults_of tail
+unfolding faults_of
+faults_of_three [] long short = absurd (omega arith)
+faults_of_three (a ∷ []) long short = absurd (omega arith)
+faults_of_three (a ∷ b ∷ []) long short = absurd (omega arith)
+faults_of_three (a ∷ b ∷ c ∷ []) long short = refl
+faults_of_three (a ∷ b ∷ c ∷ d ∷ rest) long short = absurd (omega arith)
+
+-- ---- the bytes, group by group
+
+-- the bytes of four letters
+pub group_read : (group : List ℕ) → length group ≡ 4 → first_byte (get_or group 0 0) (get_or group 1 0) ∷ second_byte (get_or group 1 0) (get_or group 2 0)
+    ∷ third_byte (get_or group 2 0) (get_or group 3 0) ∷ [] ≡ bytes_read group
+unfolding bytes_read
+group_read [] four = absurd (omega arith)
+group_read (a ∷ []) four = absurd (omega arith)
+group_read (a ∷ b ∷ []) four = absurd (omega arith)
+group_read (a ∷ b ∷ c ∷ []) four = absurd (omega arith)
+group_read (a ∷ b ∷ c ∷ d ∷ []) four = refl
+group_read (a ∷ b ∷ c ∷ d ∷ e ∷ rest) four = absurd (omega arith)
+
+-- behind four letters the bytes are those of the rest
+pub read_behind : (group rest : List ℕ) → length group ≡ 4 → bytes_read (group ++ rest) ≡ bytes_read group ++ bytes_read rest
+unfolding bytes_read
+read_behind [] rest four = absurd (omega arith)
+read_behind (a ∷ []) rest four = absurd (omega arith)
+read_behind (a ∷ b ∷ []) rest four = absurd (omega arith)
+read_behind (a ∷ b ∷ c ∷ []) rest four = absurd (omega arith)
+read_behind (a ∷ b ∷ c ∷ d ∷ []) rest four = refl
+read_behind (a ∷ b ∷ c ∷ d ∷ e ∷ more) rest four = absurd (omega arith)
+
+-- fewer than two letters have no byte, two have one, and three have two
+pub none_read : (tail : List ℕ) → length tail < 2 → [] ≡ bytes_read tail
+unfolding bytes_read
+none_read [] short = refl
+none_read (a ∷ []) short = refl
+none_read (a ∷ b ∷ rest) short = absurd (omega arith)
+
+pub one_read : (tail : List ℕ) → 2 ≤ length tail → length tail < 3 → first_byte (get_or tail 0 0) (get_or tail 1 0) ∷ [] ≡ bytes_read tail
+unfolding bytes_read
+one_read [] long short = absurd (omega arith)
+one_read (a ∷ []) long short = absurd (omega arith)
+one_read (a ∷ b ∷ []) long short = refl
+one_read (a ∷ b ∷ c ∷ rest) long short = absurd (omega arith)
+
+pub two_read : (tail : List ℕ) → 3 ≤ length tail → length tail < 4
+    → first_byte (get_or tail 0 0) (get_or tail 1 0) ∷ second_byte (get_or tail 1 0) (get_or tail 2 0) ∷ [] ≡ bytes_read tail
+unfolding bytes_read
+two_read [] long short = absurd (omega arith)
+two_read (a ∷ []) long short = absurd (omega arith)
+two_read (a ∷ b ∷ []) long short = absurd (omega arith)
+two_read (a ∷ b ∷ c ∷ []) long short = refl
+two_read (a ∷ b ∷ c ∷ d ∷ rest) long short = absurd (omega arith)
+
+-- where an append went well, what was appended stands behind, in whatever words
+pub appended : {A E : Type 0} → (r : Result A E) (new old more same : List ℕ) → new ≡ (if is_ok r then old ++ more else old) → more ≡ same
+    → OnOk r (new ≡ old ++ same)
+appended (Ok a) new old more same is e = is ∙ ap (λ (x : List ℕ). old ++ x) e
+appended (Err f) new old more same is e = tt
+
+-- ---- the letters, group by group
+
+-- base64 of three bytes, of two and of one, and of three bytes and a rest
+pub three_written : (group : List ℕ) → length group ≡ 3 → IsBytes group → letter_of (get_or group 0 0 / 4)
+    ∷ letter_of (get_or group 0 0 % 4 * 16 + get_or group 1 0 / 16) ∷ letter_of (get_or group 1 0 % 16 * 4 + get_or group 2 0 / 64)
+    ∷ letter_of (get_or group 2 0 % 64) ∷ [] ≡ base64 group
+unfolding encode_symbols
+three_written [] three fits = absurd (omega arith)
+three_written (a ∷ []) three fits = absurd (omega arith)
+three_written (a ∷ b ∷ []) three fits = absurd (omega arith)
+three_written (a ∷ b ∷ c ∷ []) three fits =
+    let x : a < 256 = fits 0 in
+    let y : b < 256 = fits 1 in
+    let z : c < 256 = fits 2 in
+    rw (
+      letter_at (a / 4) (omega arith),
+      letter_at (a % 4 * 16 + b / 16) (omega arith),
+      letter_at (b % 16 * 4 + c / 64) (omega arith),
+      letter_at (c % 64) (omega arith),
+    ) refl
+three_written (a ∷ b ∷ c ∷ d ∷ rest) three fits = absurd (omega arith)
+
+pub none_written : (tail : List ℕ) → length tail < 1 → [] ≡ base64 tail
+unfolding encode_symbols
+none_written [] short = refl
+none_written (a ∷ rest) short = absurd (omega arith)
+
+pub one_written : (tail : List ℕ) → 1 ≤ length tail → length tail < 2 → IsBytes tail
+    → letter_of (get_or tail 0 0 / 4) ∷ letter_of (get_or tail 0 0 % 4 * 16) ∷ [] ≡ base64 tail
+unfolding encode_symbols
+one_written [] long short fits = absurd (omega arith)
+one_written (a ∷ []) long short fits =
+    let x : a < 256 = fits 0 in
+    rw (letter_at (a / 4) (omega arith), letter_at (a % 4 * 16) (omega arith)) refl
+one_written (a ∷ b ∷ rest) long short fits = absurd (omega arith)
+
+pub two_written : (tail : List ℕ) → 2 ≤ length tail → length tail < 3 → IsBytes tail → letter_of (get_or tail 0 0 / 4)
+    ∷ letter_of (get_or tail 0 0 % 4 * 16 + get_or tail 1 0 / 16) ∷ letter_of (get_or tail 1 0 % 16 * 4) ∷ [] ≡ base64 tail
+unfolding encode_symbols
+two_written [] long short fits = absurd (omega arith)
+two_written (a ∷ []) long short fits = absurd (omega arith)
+two_written (a ∷ b ∷ []) long short fits =
+    let x : a < 256 = fits 0 in
+    let y : b < 256 = fits 1 in
+    rw (letter_at (a / 4) (omega arith), letter_at (a % 4 * 16 + b / 16) (omega arith), letter_at (b % 16 * 4) (omega arith)) refl
+two_written (a ∷ b ∷ c ∷ rest) long short fits = absurd (omega arith)
+
+-- letters are ASCII
+pub base64_ascii : (letters bytes : List ℕ) → letters ≡ base64 bytes → IsAscii letters
+base64_ascii letters bytes is = subst IsAscii (sym is) (IsAscii-encode_of standard_no_pad bytes)
+
+-- behind three bytes base64 begins afresh
+pub written_behind : (group rest : List ℕ) → length group ≡ 3 → base64 (group ++ rest) ≡ base64 group ++ base64 rest
+written_behind group rest three = encode_of-append standard_no_pad group rest (omega (arith, three))
+
+-- where an append went well, what was appended may be said in other words
+pub appended_same : {A E : Type 0} → (r : Result A E) (new old more same : List ℕ) → OnOk r (new ≡ old ++ more) → more ≡ same
+    → OnOk r (new ≡ old ++ same)
+appended_same (Ok a) new old more same is e = is ∙ ap (λ (x : List ℕ). old ++ x) e
+appended_same (Err f) new old more same is e = tt

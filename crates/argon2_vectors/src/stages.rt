@@ -1,0 +1,93 @@
+//! Questions on the stages of a hash: what is refused, the context, its job, and what blocks refer to.
+
+use crate::inputs::Inputs;
+use crate::question::refused;
+use crate::words::Words;
+use anyhow::{Result, anyhow, ensure};
+use argon2::parts::context::{Context, Job, first_refusal};
+use argon2::parts::fill::{fill_sequential, initialize, prepare_memory};
+use argon2::parts::memory::Memory;
+use argon2::parts::segment::reference_positions;
+use std::alloc::Global;
+
+/// The first refusal of settings for a password, a salt and a hash of these lengths.
+pub fn refusal(alloc: Global, words: &mut Words<'_>) -> Result<String> {
+    let inputs = Inputs::read(alloc, words)?;
+    let (password, salt) = (words.long_number()?, words.long_number()?);
+    let hash = words.long_number()?;
+    match first_refusal(&inputs.own_config(), password, salt, hash) {
+        None => Ok(String::from_str(alloc, "None")?),
+        Some(refusal) => refused(alloc, &refusal),
+    }
+}
+
+/// What a context shows, or why there is none.
+pub fn context(alloc: Global, words: &mut Words<'_>) -> Result<String> {
+    let inputs = Inputs::read(alloc, words)?;
+    let config = inputs.own_config();
+    match Context::new(config, inputs.password.as_slice(), inputs.salt.as_slice()) {
+        Ok(context) => Ok(format!(in alloc; "{context:?}")?),
+        Err(refusal) => refused(alloc, &refusal),
+    }
+}
+
+/// The first job of some inputs that are accepted.
+fn job_of(inputs: &Inputs) -> Result<Job> {
+    let config = inputs.own_config();
+    match Context::new(config, inputs.password.as_slice(), inputs.salt.as_slice()) {
+        Ok(context) => Ok(Job::new(&context)),
+        Err(refusal) => Err(anyhow!("{refusal}")),
+    }
+}
+
+/// What a job shows.
+pub fn job(alloc: Global, words: &mut Words<'_>) -> Result<String> {
+    let job = job_of(&Inputs::read(alloc, words)?)?;
+    Ok(format!(in alloc; "{job:?}")?)
+}
+
+/// How many blocks are written first, and then by a fill in one thread.
+pub fn writes(alloc: Global, words: &mut Words<'_>) -> Result<String> {
+    let inputs = Inputs::read(alloc, words)?;
+    let config = inputs.own_config();
+    let context = match Context::new(config, inputs.password.as_slice(), inputs.salt.as_slice()) {
+        Ok(context) => context,
+        Err(refusal) => return refused(alloc, &refusal),
+    };
+    let mut memory = Memory::empty(alloc);
+    if let Err(refusal) = prepare_memory(alloc, &context, &mut memory) {
+        return refused(alloc, &refusal);
+    }
+    initialize(&context, &mut memory);
+    let first = memory.writes();
+    fill_sequential(&context, &mut memory);
+    Ok(format!(in alloc; "{first} {}", memory.writes().wrapping_sub(first))?)
+}
+
+/// The lanes and columns that blocks of a segment refer to, from an index on.
+pub fn positions(alloc: Global, words: &mut Words<'_>) -> Result<String> {
+    let job = job_of(&Inputs::read(alloc, words)?)?;
+    let (pass, slice, lane) = (words.number()?, words.number()?, words.number()?);
+    let (first, count) = (words.number()?, words.number()?);
+    ensure!(pass < job.passes() && slice < 4, "the pass or the slice");
+    let job = job.at(pass, slice);
+    ensure!(
+        lane < job.lanes() && job.is_independent(),
+        "the lane or the variant"
+    );
+    ensure!(
+        job.first_index() <= first && first <= job.segment_length(),
+        "the first index"
+    );
+    ensure!(count <= job.segment_length() - first, "how many");
+    let mut out = vec![in alloc; (0, 0); count as usize]?;
+    reference_positions(&job, lane, first, out.as_mut_slice());
+    let mut text = String::new(alloc);
+    for (lane, column) in out.iter() {
+        if !text.is_empty() {
+            text.push(' ')?;
+        }
+        text.push_str(format!(in alloc; "{lane},{column}")?.as_str())?;
+    }
+    Ok(text)
+}

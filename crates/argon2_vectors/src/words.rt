@@ -1,0 +1,94 @@
+//! The words of a line.
+
+use anyhow::{Context, Result, bail, ensure};
+use std::alloc::Global;
+use std::str::FromStr;
+
+/// What is still to be read of a line, in which single blanks stand between words.
+#[derive(Drop)]
+pub struct Words<'a>(Option<&'a str>);
+
+impl<'a> Words<'a> {
+    /// The words of a line behind its first.
+    pub fn new(rest: Option<&'a str>) -> Words<'a> {
+        Words(rest)
+    }
+
+    /// The next word.
+    pub fn word(&mut self) -> Result<&'a str> {
+        let Some(rest) = self.0 else {
+            bail!("a word is missing");
+        };
+        match rest.split_once(' ') {
+            Some((word, others)) => {
+                self.0 = Some(others);
+                Ok(word)
+            }
+            None => {
+                self.0 = None;
+                Ok(rest)
+            }
+        }
+    }
+
+    /// The number of the next word.
+    pub fn number(&mut self) -> Result<u32> {
+        let word = self.word()?;
+        word.parse::<u32>()
+            .context(format_args!("reading {word:?}"))
+    }
+
+    /// The number of 64 bits of the next word.
+    pub fn long_number(&mut self) -> Result<u64> {
+        let word = self.word()?;
+        word.parse::<u64>()
+            .context(format_args!("reading {word:?}"))
+    }
+
+    /// The bytes of the next word.
+    pub fn bytes(&mut self, alloc: Global) -> Result<Vec<u8>> {
+        bytes_of(alloc, self.word()?)
+    }
+
+    /// The text that all others are, blanks included, or whose bytes follow `hex` in hexadecimal.
+    pub fn text(&mut self, alloc: Global) -> Result<String> {
+        let Some(rest) = self.0.take() else {
+            bail!("the text is missing");
+        };
+        match rest.strip_prefix("hex ") {
+            Some(digits) => Ok(String::from_utf8(bytes_of(alloc, digits)?)?),
+            None => Ok(String::from_str(alloc, rest)?),
+        }
+    }
+
+    /// What is left, to be cut by others.
+    pub fn others(&mut self) -> &'a str {
+        self.0.take().unwrap_or("")
+    }
+
+    /// Whether no word is left.
+    pub fn end(&self) -> Result<()> {
+        ensure!(self.0.is_none(), "it has too many words");
+        Ok(())
+    }
+}
+
+/// The bytes of a word: none for `-`, text behind a `'`, else hexadecimal digits, in parts that are joined
+/// by `+` and may stand behind a number and `*`, which repeats them.
+pub fn bytes_of(alloc: Global, word: &str) -> Result<Vec<u8>> {
+    let mut bytes = Vec::new(alloc);
+    if word == "-" {
+        return Ok(bytes);
+    }
+    if let Some(text) = word.strip_prefix("'") {
+        return Ok(text.as_bytes().to_vec(alloc)?);
+    }
+    for part in word.split('+') {
+        let (count, digits) = part.split_once('*').unwrap_or(("1", part));
+        let piece = hex::decode(alloc, digits).context(format_args!("reading {word:?}"))?;
+        for _ in 0..count.parse::<u32>().context("how often")? {
+            bytes.extend_from_slice(piece.as_slice())?;
+        }
+    }
+    Ok(bytes)
+}
