@@ -3,10 +3,14 @@
  * Each round runs every implementation once, so that a slow moment of the machine falls on all of
  * them; the least time of all rounds counts. Every tag is compared before it is timed.
  *
- * usage: driver OURS.so OURS-V3.so COMPRESS.so COMPRESS-V3.so [SECONDS [PROGRAM PROGRAM-V3 [RUST-ARGON2.so]]]
+ * usage: driver table|plots SECONDS FOLDER
  *
- * SECONDS is how long each case runs. The programs are `argon2_program` in its two builds: only a
- * program has threads, so the cases with threads time whole processes, the peers' too. */
+ * SECONDS is how long each case runs. The folder is what bench/run builds: our library, the compression and
+ * `argon2_program`, each in two builds, and the peers that it builds itself. Only a program has threads, so the
+ * cases with threads time whole processes, the peers' too.
+ *
+ * Each line is what was measured, of which case, of whom, and a number: nanoseconds a block of 1 KiB where it is a
+ * time. bench/figures makes the tables and the plots of them. */
 #include "hashers.h"
 
 #include <gcrypt.h>
@@ -19,15 +23,15 @@
 #include <time.h>
 #include <unistd.h>
 
-enum { MOST_HASHERS = 10 };
+enum { MOST_HASHERS = 12 };
 
 static const struct input the_input = { "password", 8, "somesaltsomesalt" };
 
 static struct hasher hashers[MOST_HASHERS];
 static int hasher_count;
 
-/* Where the tables compare: libargon2 and libsodium stand behind our two builds. */
-enum { OURS, OURS_V3, FIRST_PEER, AFTER_COMPARED = FIRST_PEER + 2 };
+/* The peers stand behind our two builds. */
+enum { OURS, OURS_V3, FIRST_PEER };
 
 static double nanoseconds(void)
 {
@@ -90,40 +94,24 @@ static void time_hashes(const struct cost *cost, const int answers[MOST_HASHERS]
     }
 }
 
-static void print_heads(void)
+/* A line for each implementation that answered: the least time in nanoseconds, divided by the case's blocks. */
+static void print_times(const char *what, const struct cost *cost, const int answers[MOST_HASHERS],
+    const double least[MOST_HASHERS])
 {
-    printf("%-20s", "(m KiB, t, p)");
     for (int i = 0; i < hasher_count; i++)
-        printf(" %11s", hashers[i].name);
-    printf("\n");
+        if (answers[i])
+            printf("%s\t(%u, %u, %u) x %u\t%s\t%.1f\n", what, cost->memory, cost->passes, cost->lanes, cost->threads,
+                hashers[i].name, least[i] / blocks(cost));
+    fflush(stdout);
 }
 
-/* Nanoseconds a block, and below them each time as a part of libargon2's and of libsodium's. */
-static void print_times(const struct cost *cost, const int answers[MOST_HASHERS], const double least[MOST_HASHERS])
-{
-    char name[40];
-    snprintf(name, sizeof name, "(%u, %u, %u) x %u", cost->memory, cost->passes, cost->lanes, cost->threads);
-    printf("%-20s", name);
-    for (int i = 0; i < hasher_count; i++)
-        answers[i] ? printf(" %8.1f ns", least[i] / blocks(cost)) : printf(" %11s", "-");
-    printf("\n");
-    for (int peer = FIRST_PEER; peer < AFTER_COMPARED; peer++) {
-        if (!answers[peer])
-            continue;
-        printf("  of %-15s", hashers[peer].name);
-        for (int i = 0; i < hasher_count; i++)
-            answers[i] ? printf(" %11.2f", least[i] / least[peer]) : printf(" %11s", "-");
-        printf("\n");
-    }
-}
-
-static void run_case(const struct cost *cost, double seconds)
+static void run_case(const char *what, const struct cost *cost, double seconds)
 {
     int answers[MOST_HASHERS];
     double least[MOST_HASHERS];
     compare_tags(cost, answers);
     time_hashes(cost, answers, seconds, least);
-    print_times(cost, answers, least);
+    print_times(what, cost, answers, least);
 }
 
 static double least_compression(compress_function *compress)
@@ -175,20 +163,19 @@ static long memory_beside(int i, const struct cost *cost)
 /* The least of several processes, since the system gives memory in pieces of its own choice. */
 static void print_memory(const struct cost *cost)
 {
-    printf("memory beside %6u ", cost->memory);
     for (int i = 0; i < hasher_count; i++) {
         long least = memory_beside(i, cost);
         for (int run = 1; run < 10 && least >= 0; run++) {
             const long raised = memory_beside(i, cost);
             least = raised < least ? raised : least;
         }
-        least >= 0 ? printf(" %7ld KiB", least) : printf(" %11s", "-");
+        if (least >= 0)
+            printf("memory\t%u\t%s\t%ld\n", cost->memory, hashers[i].name, least);
     }
-    printf("\n");
 }
 
-/* The two builds of the program, which hash with threads; NULL where there are none. */
-static const char *programs[2];
+/* The two builds of the program, which hash with threads. */
+static char programs[2][4096];
 
 static void run_program(const char *program, const struct cost *cost, int tag_end)
 {
@@ -224,8 +211,6 @@ static double time_process(int i, const struct cost *cost, char tag[2 * TAG_LENG
     int ends[2], status;
     size_t got = 0;
     ssize_t more;
-    if (i < FIRST_PEER && programs[i] == NULL)
-        return -1;
     fflush(stdout);
     const double begin = nanoseconds();
     if (pipe(ends) != 0)
@@ -243,13 +228,14 @@ static double time_process(int i, const struct cost *cost, char tag[2 * TAG_LENG
     return WIFEXITED(status) && WEXITSTATUS(status) == 0 && got == 2 * TAG_LENGTH ? nanoseconds() - begin : -1;
 }
 
-static void run_threads(const struct cost *cost, double seconds)
+static void run_threads(const char *what, const struct cost *cost, double seconds)
 {
     char first[2 * TAG_LENGTH], tag[2 * TAG_LENGTH];
     int answers[MOST_HASHERS] = { 0 };
     double least[MOST_HASHERS];
     const double end = nanoseconds() + seconds * 1e9;
-    time_process(FIRST_PEER, cost, first);
+    if (time_process(OURS, cost, first) < 0)
+        exit(1);
     for (int round = 0; round < 3 || nanoseconds() < end; round++) {
         for (int i = 0; i < hasher_count; i++) {
             const double spent = time_process(i, cost, tag);
@@ -264,31 +250,45 @@ static void run_threads(const struct cost *cost, double seconds)
             answers[i] = 1;
         }
     }
-    print_times(cost, answers, least);
+    print_times(what, cost, answers, least);
+}
+
+/* The cases of docs/PERFORMANCE.md's table. */
+static void measure_table(double seconds)
+{
+    print_memory(&(struct cost) { 65536, 1, 1, 1 });
+    printf("compression\twarm\tours\t%.1f\n", least_compression(compress_default));
+    printf("compression\twarm\tours-v3\t%.1f\n", least_compression(compress_v3));
+    run_case("hash", &(struct cost) { 256, 2, 1, 1 }, seconds);
+    run_case("hash", &(struct cost) { 19456, 2, 1, 1 }, seconds);
+    run_case("hash", &(struct cost) { 65536, 3, 1, 1 }, seconds);
+    run_case("hash", &(struct cost) { 65536, 3, 4, 1 }, seconds);
+    run_threads("process", &(struct cost) { 65536, 3, 4, 4 }, seconds);
+    run_threads("process", &(struct cost) { 262144, 1, 4, 4 }, seconds);
+}
+
+/* The points of its plots: two passes over 64 KiB to 1 GiB, and as many threads as lanes over 64 MiB in three passes. */
+static void measure_plots(double seconds)
+{
+    for (uint32_t memory = 64; memory <= 1048576; memory *= 4)
+        run_case("memory-plot", &(struct cost) { memory, 2, 1, 1 }, seconds);
+    for (uint32_t threads = 1; threads <= 8; threads *= 2)
+        run_threads("thread-plot", &(struct cost) { 65536, 3, threads, threads }, seconds);
 }
 
 int main(int argc, char **argv)
 {
-    const double seconds = argc > 5 ? atof(argv[5]) : 5.0;
-    for (int i = 0; i < 2 && argc > 7; i++)
-        programs[i] = argv[6 + i];
-    if (argc < 5 || load_ours(argv + 1) || sodium_init() < 0 || gcry_check_version(NULL) == NULL)
+    if (argc != 4 || load_ours(argv[3]) || sodium_init() < 0 || gcry_check_version(NULL) == NULL)
         return 1;
-    if (argc > 8)
-        load_rust_argon2(argv[8]);
+    snprintf(programs[OURS], sizeof programs[OURS], "%s/program", argv[3]);
+    snprintf(programs[OURS_V3], sizeof programs[OURS_V3], "%s/program-v3", argv[3]);
+    load_peers(argv[3]);
     gcry_control(GCRYCTL_DISABLE_SECMEM, 0);
     gcry_control(GCRYCTL_INITIALIZATION_FINISHED, 0);
     name_hashers();
-    print_heads();
-    print_memory(&(struct cost) { 65536, 1, 1, 1 });
-    printf("%-20s %8.1f ns %8.1f ns\n", "compression, warm", least_compression(compress_default),
-        least_compression(compress_v3));
-    run_case(&(struct cost) { 256, 2, 1, 1 }, seconds);
-    run_case(&(struct cost) { 19456, 2, 1, 1 }, seconds);
-    run_case(&(struct cost) { 65536, 3, 1, 1 }, seconds);
-    run_case(&(struct cost) { 65536, 3, 4, 1 }, seconds);
-    printf("whole processes, with threads:\n");
-    run_threads(&(struct cost) { 65536, 3, 4, 4 }, seconds);
-    run_threads(&(struct cost) { 262144, 1, 4, 4 }, seconds);
+    if (strcmp(argv[1], "plots") == 0)
+        measure_plots(atof(argv[2]));
+    else
+        measure_table(atof(argv[2]));
     return 0;
 }

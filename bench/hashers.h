@@ -33,12 +33,12 @@ struct hasher {
 extern const struct hasher peers[];
 
 /* Our library and the compression alone, each as it was built for the default processor and for
- * x86-64-v3 (ours.c). Not 0 where one of the four libraries lacks. */
-int load_ours(char *const paths[4]);
+ * x86-64-v3 (ours.c), from the folder that bench/run builds. Not 0 where one of the four libraries lacks. */
+int load_ours(const char *folder);
 hash_function ours_default, ours_v3, ours_kept, ours_v3_kept;
 
-/* rust-argon2 by a library of its own; where there is none, its column stays empty. */
-void load_rust_argon2(const char *path);
+/* The peers that bench/run builds into the folder; one that lacks has no figures. */
+void load_peers(const char *folder);
 
 /* Compresses 2 * count blocks that stay in the cache, by each build. */
 typedef uint64_t compress_function(uint32_t count, uint64_t seed);

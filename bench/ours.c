@@ -71,9 +71,11 @@ int ours_v3_kept(const struct cost *cost, const struct input *input, uint8_t tag
     return call_in(hash_in_v3, &memory, cost, input, tag);
 }
 
-/* The function of a name in a library, or NULL where there is none, which is told. */
-static void *loaded(const char *path, const char *name)
+/* The function of a name in a library of a folder, or NULL where there is none, which is told. */
+static void *loaded(const char *folder, const char *library_name, const char *name)
 {
+    char path[4096];
+    snprintf(path, sizeof path, "%s/%s", folder, library_name);
     void *library = dlopen(path, RTLD_NOW | RTLD_LOCAL);
     void *function = library == NULL ? NULL : dlsym(library, name);
     if (function == NULL)
@@ -81,14 +83,14 @@ static void *loaded(const char *path, const char *name)
     return function;
 }
 
-int load_ours(char *const paths[4])
+int load_ours(const char *folder)
 {
-    hash_default = (hash_raw *)loaded(paths[0], "proved_argon2_hash_raw");
-    hash_v3 = (hash_raw *)loaded(paths[1], "proved_argon2_hash_raw");
-    compress_default = (compress_function *)loaded(paths[2], "bench_compress");
-    compress_v3 = (compress_function *)loaded(paths[3], "bench_compress");
-    hash_in_default = (hash_raw_in *)loaded(paths[0], "proved_argon2_hash_raw_in");
-    hash_in_v3 = (hash_raw_in *)loaded(paths[1], "proved_argon2_hash_raw_in");
+    hash_default = (hash_raw *)loaded(folder, "argon2_c.so", "proved_argon2_hash_raw");
+    hash_v3 = (hash_raw *)loaded(folder, "argon2_c-v3.so", "proved_argon2_hash_raw");
+    compress_default = (compress_function *)loaded(folder, "bench_compression.so", "bench_compress");
+    compress_v3 = (compress_function *)loaded(folder, "bench_compression-v3.so", "bench_compress");
+    hash_in_default = (hash_raw_in *)loaded(folder, "argon2_c.so", "proved_argon2_hash_raw_in");
+    hash_in_v3 = (hash_raw_in *)loaded(folder, "argon2_c-v3.so", "proved_argon2_hash_raw_in");
     if (hash_in_default == NULL || hash_in_v3 == NULL)
         return 1;
     return hash_default == NULL || hash_v3 == NULL || compress_default == NULL || compress_v3 == NULL;

@@ -1,4 +1,4 @@
-/* The peers, from Debian's packages. */
+/* The peers: libraries of Debian's packages, and those that bench/run builds from sources. */
 #include "hashers.h"
 
 #include <argon2.h>
@@ -7,9 +7,12 @@
 #include <gcrypt.h>
 #include <pthread.h>
 #include <sodium.h>
+#include <stdio.h>
 #include <stdlib.h>
 
-static int libargon2(const struct cost *cost, const struct input *input, uint8_t tag[TAG_LENGTH])
+typedef int argon2_call(argon2_context *context, argon2_type type);
+
+static int by_argon2(argon2_call *call, const struct cost *cost, const struct input *input, uint8_t *tag)
 {
     argon2_context context = {
         .out = tag,
@@ -24,7 +27,20 @@ static int libargon2(const struct cost *cost, const struct input *input, uint8_t
         .threads = cost->threads,
         .version = ARGON2_VERSION_13,
     };
-    return argon2_ctx(&context, Argon2_id) != ARGON2_OK;
+    return call(&context, Argon2_id) != ARGON2_OK;
+}
+
+static int libargon2(const struct cost *cost, const struct input *input, uint8_t tag[TAG_LENGTH])
+{
+    return by_argon2(argon2_ctx, cost, input, tag);
+}
+
+static argon2_call *vector_call;
+
+/* The same library from upstream's newest source, with the vectors of its opt.c. */
+static int upstream_v3(const struct cost *cost, const struct input *input, uint8_t tag[TAG_LENGTH])
+{
+    return vector_call == NULL || by_argon2(vector_call, cost, input, tag);
 }
 
 /* It has one lane. */
@@ -37,10 +53,10 @@ static int libsodium(const struct cost *cost, const struct input *input, uint8_t
         != 0;
 }
 
-/* It has one thread. */
+/* It starts its own threads, where there are several lanes. */
 static int botan(const struct cost *cost, const struct input *input, uint8_t tag[TAG_LENGTH])
 {
-    if (cost->threads != 1)
+    if (cost->threads != cost->lanes)
         return 1;
     return botan_pwdhash("Argon2id", cost->memory, cost->passes, cost->lanes, tag, TAG_LENGTH, input->password,
                input->password_length, input->salt, SALT_LENGTH)
@@ -104,26 +120,49 @@ static int libgcrypt(const struct cost *cost, const struct input *input, uint8_t
     return refused;
 }
 
-static hash_function *rust_argon2_hash;
+static hash_function *rust_argon2_1_hash, *rust_argon2_3_hash;
 
-/* rust-argon2, where bench/run could build it; it takes threads by its own choice of a mode. */
-static int rust_argon2(const struct cost *cost, const struct input *input, uint8_t tag[TAG_LENGTH])
+/* It takes one thread, or as many as lanes. */
+static int rust_argon2(hash_function *hash, const struct cost *cost, const struct input *input, uint8_t *tag)
 {
-    return rust_argon2_hash == NULL || rust_argon2_hash(cost, input, tag);
+    if (hash == NULL || (cost->threads != 1 && cost->threads != cost->lanes))
+        return 1;
+    return hash(cost, input, tag);
 }
 
-void load_rust_argon2(const char *path)
+static int rust_argon2_1(const struct cost *cost, const struct input *input, uint8_t tag[TAG_LENGTH])
 {
+    return rust_argon2(rust_argon2_1_hash, cost, input, tag);
+}
+
+static int rust_argon2_3(const struct cost *cost, const struct input *input, uint8_t tag[TAG_LENGTH])
+{
+    return rust_argon2(rust_argon2_3_hash, cost, input, tag);
+}
+
+/* The function of a name in a library of a folder, or NULL where bench/run could not build it. */
+static void *loaded(const char *folder, const char *library_name, const char *name)
+{
+    char path[4096];
+    snprintf(path, sizeof path, "%s/%s", folder, library_name);
     void *library = dlopen(path, RTLD_NOW | RTLD_LOCAL);
-    if (library != NULL)
-        rust_argon2_hash = (hash_function *)dlsym(library, "bench_rust_argon2");
+    return library == NULL ? NULL : dlsym(library, name);
+}
+
+void load_peers(const char *folder)
+{
+    vector_call = (argon2_call *)loaded(folder, "upstream-v3.so", "argon2_ctx");
+    rust_argon2_1_hash = (hash_function *)loaded(folder, "rust-argon2-1.0.0.so", "bench_rust_argon2");
+    rust_argon2_3_hash = (hash_function *)loaded(folder, "rust-argon2-3.0.0.so", "bench_rust_argon2");
 }
 
 const struct hasher peers[] = {
-    { "libargon2", libargon2 },
     { "libsodium", libsodium },
+    { "upstream-v3", upstream_v3 },
+    { "libargon2", libargon2 },
     { "botan", botan },
     { "libgcrypt", libgcrypt },
-    { "rust-argon2", rust_argon2 },
+    { "rust-argon2-1", rust_argon2_1 },
+    { "rust-argon2-3", rust_argon2_3 },
     { NULL, NULL },
 };

@@ -17,7 +17,8 @@ use std::random::RandomSource;
 use std::sync::Wait;
 use std::thread::Threads;
 
-/// The text to keep of a password, with 16 random bytes of salt, which stand in it.
+/// The text to keep of a password, with 16 random bytes of salt, which stand in it. No clause says that they are random:
+/// a body with a fixed salt would be proved too.
 pub fn register<R: RandomSource + Threads + Wait + Sync>(
     rt: &R,
     alloc: Global,
