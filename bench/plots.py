@@ -20,9 +20,10 @@ STYLES = {
     'rust-argon2-1': ('#c98b1b', '', 'triangle'),
     'rust-argon2-3': ('#c98b1b', '6 3', 'diamond'),
 }
-SHEET = '''text { font: 13px system-ui, sans-serif; fill: #24292f }
+SHEET = '''text { font: 13px system-ui, sans-serif; fill: #6e7781 }
 .title { font-size: 15px; font-weight: 600 }
 .grid { stroke: #8b949e; stroke-opacity: 0.35 }
+@media (prefers-color-scheme: light) { text { fill: #24292f } }
 @media (prefers-color-scheme: dark) { text { fill: #d0d7de } }'''
 
 
