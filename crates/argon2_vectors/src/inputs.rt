@@ -5,7 +5,6 @@ use anyhow::{Context, Result, anyhow, bail};
 use argon2::{Config, ThreadMode, Variant, Version};
 use std::alloc::Global;
 
-/// All inputs of a hash.
 #[derive(Drop)]
 pub struct Inputs {
     variant: Variant,
@@ -40,7 +39,6 @@ impl Inputs {
         })
     }
 
-    /// The configuration in a thread mode.
     pub fn config(&self, thread_mode: ThreadMode) -> Config<'_> {
         Config {
             ad: self.ad.as_slice(),

@@ -24,7 +24,6 @@ use std::marker::Sync;
 use std::sync::Wait;
 use std::thread::Threads;
 
-/// The answer to a line on a run.
 pub fn answer<R: Threads + Wait + Sync>(
     rt: &R,
     alloc: Global,
@@ -47,7 +46,6 @@ pub fn answer<R: Threads + Wait + Sync>(
     }
 }
 
-/// The words of a command line.
 fn words_of(alloc: Global, line: &str) -> Result<Vec<String>> {
     let mut words = Vec::new(alloc);
     for word in line.split_whitespace() {
@@ -63,7 +61,6 @@ fn told(alloc: Global, status: u8, written: &[u8], errors: &[u8]) -> Result<Stri
     Ok(format!(in alloc; "{status} {written:?} {errors:?}")?)
 }
 
-/// A run whose outputs are kept in memory.
 fn in_memory<R: Threads + Wait + Sync, I: Read>(
     rt: &R,
     alloc: Global,
@@ -111,7 +108,6 @@ fn in_little_room<R: Threads + Wait + Sync>(
     )
 }
 
-/// A run whose output has no memory.
 fn without_memory<R: Threads + Wait + Sync>(
     rt: &R,
     alloc: Global,
@@ -131,7 +127,6 @@ fn without_memory<R: Threads + Wait + Sync>(
     told(alloc, status, &[], errors.as_slice())
 }
 
-/// A run whose output fails once.
 fn failing_once<R: Threads + Wait + Sync>(
     rt: &R,
     alloc: Global,
@@ -166,7 +161,6 @@ fn failing_once<R: Threads + Wait + Sync>(
     told(alloc, status, written.taken.as_slice(), errors.as_slice())
 }
 
-/// The arguments of a line.
 fn given(alloc: Global, line: &str) -> Result<Vec<Vec<u8>>> {
     let mut arguments = Vec::new(alloc);
     for word in line.split_whitespace() {

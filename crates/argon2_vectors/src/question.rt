@@ -13,7 +13,6 @@ use std::marker::Sync;
 use std::sync::Wait;
 use std::thread::Threads;
 
-/// The answer to a line.
 pub fn answer<R: Threads + Wait + Sync>(rt: &R, alloc: Global, line: &str) -> Result<String> {
     let (call, rest) = match line.split_once(' ') {
         Some((call, rest)) => (call, Some(rest)),
@@ -73,7 +72,6 @@ fn answer_alone(alloc: Global, call: &str, words: &mut Words<'_>) -> Result<Stri
     }
 }
 
-/// How a refusal is printed.
 pub fn refused(alloc: Global, refusal: &argon2::Error) -> Result<String>
     ensures { IfOk result (λ text. string_bytes text ≡ codes "ERR " ++ message_of refusal.now) }
 {

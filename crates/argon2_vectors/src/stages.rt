@@ -31,7 +31,6 @@ pub fn context(alloc: Global, words: &mut Words<'_>) -> Result<String> {
     }
 }
 
-/// The first job of some inputs that are accepted.
 fn job_of(inputs: &Inputs) -> Result<Job> {
     let config = inputs.own_config();
     match Context::new(config, inputs.password.as_slice(), inputs.salt.as_slice()) {
@@ -40,7 +39,6 @@ fn job_of(inputs: &Inputs) -> Result<Job> {
     }
 }
 
-/// What a job shows.
 pub fn job(alloc: Global, words: &mut Words<'_>) -> Result<String> {
     let job = job_of(&Inputs::read(alloc, words)?)?;
     Ok(format!(in alloc; "{job:?}")?)

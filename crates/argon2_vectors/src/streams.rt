@@ -31,7 +31,6 @@ pub struct Full {
 }
 
 impl Full {
-    /// A writer with room for so many bytes.
     pub fn new(alloc: Global, room: usize) -> Full {
         Full {
             room,

@@ -120,7 +120,6 @@ pub fn rehash(alloc: Global, words: &mut Words<'_>) -> Result<String> {
     )
 }
 
-/// What a text spells.
 pub fn decoded(alloc: Global, words: &mut Words<'_>) -> Result<String> {
     let text = words.text(alloc)?;
     match decode_string(alloc, text.as_str()) {
@@ -129,7 +128,6 @@ pub fn decoded(alloc: Global, words: &mut Words<'_>) -> Result<String> {
     }
 }
 
-/// The text of a hash.
 pub fn encoded(alloc: Global, words: &mut Words<'_>) -> Result<String> {
     let inputs = Inputs::read(alloc, words)?;
     let hash = words.bytes(alloc)?;
@@ -140,7 +138,6 @@ pub fn encoded(alloc: Global, words: &mut Words<'_>) -> Result<String> {
     }
 }
 
-/// The length of a text.
 pub fn text_length(alloc: Global, words: &mut Words<'_>) -> Result<String> {
     let variant = Variant::from_str(words.word()?).map_err(|_| anyhow!("the variant"))?;
     let (memory, passes, lanes) = (words.number()?, words.number()?, words.number()?);
@@ -149,12 +146,10 @@ pub fn text_length(alloc: Global, words: &mut Words<'_>) -> Result<String> {
     Ok(format!(in alloc; "{length}")?)
 }
 
-/// The length of so many bytes in base64.
 pub fn item_length(alloc: Global, words: &mut Words<'_>) -> Result<String> {
     Ok(format!(in alloc; "{}", base64_len(words.number()?))?)
 }
 
-/// How many digits a number has.
 pub fn digits(alloc: Global, words: &mut Words<'_>) -> Result<String> {
     Ok(format!(in alloc; "{}", num_len(words.number()?))?)
 }

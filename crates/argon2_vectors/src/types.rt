@@ -42,7 +42,6 @@ fn variant(alloc: Global, read: argon2::Result<Variant>) -> Result<String> {
     Ok(format!(in alloc; "{variant:?} {variant} {lower} {upper} {numbers:?} {above_d} {above_i}")?)
 }
 
-/// How a version is shown, and its number.
 fn version(alloc: Global, read: argon2::Result<Version>) -> Result<String> {
     let version = match read {
         Ok(version) => version,
@@ -52,7 +51,6 @@ fn version(alloc: Global, read: argon2::Result<Version>) -> Result<String> {
     Ok(format!(in alloc; "{version:?} {version} {} {is_above}", version.as_u32())?)
 }
 
-/// How a thread mode is shown.
 fn mode(alloc: Global, mode: ThreadMode) -> Result<String> {
     Ok(format!(in alloc; "{mode:?}")?)
 }

@@ -14,7 +14,6 @@ impl<'a> Words<'a> {
         Words(rest)
     }
 
-    /// The next word.
     pub fn word(&mut self) -> Result<&'a str> {
         let Some(rest) = self.0 else {
             bail!("a word is missing");
@@ -31,7 +30,6 @@ impl<'a> Words<'a> {
         }
     }
 
-    /// The number of the next word.
     pub fn number(&mut self) -> Result<u32> {
         let word = self.word()?;
         word.parse::<u32>()
@@ -45,7 +43,6 @@ impl<'a> Words<'a> {
             .context(format_args!("reading {word:?}"))
     }
 
-    /// The bytes of the next word.
     pub fn bytes(&mut self, alloc: Global) -> Result<Vec<u8>> {
         bytes_of(alloc, self.word()?)
     }
@@ -66,7 +63,6 @@ impl<'a> Words<'a> {
         self.0.take().unwrap_or("")
     }
 
-    /// Whether no word is left.
     pub fn end(&self) -> Result<()> {
         ensure!(self.0.is_none(), "it has too many words");
         Ok(())
