@@ -53,10 +53,10 @@ static int libsodium(const struct cost *cost, const struct input *input, uint8_t
         != 0;
 }
 
-/* It starts its own threads, where there are several lanes. */
+/* Where there are several lanes it hashes with threads of its own, which a process that was forked lacks. */
 static int botan(const struct cost *cost, const struct input *input, uint8_t tag[TAG_LENGTH])
 {
-    if (cost->threads != cost->lanes)
+    if (cost->lanes != 1)
         return 1;
     return botan_pwdhash("Argon2id", cost->memory, cost->passes, cost->lanes, tag, TAG_LENGTH, input->password,
                input->password_length, input->salt, SALT_LENGTH)
