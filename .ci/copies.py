@@ -99,7 +99,7 @@ class Report:
         return said.startswith(('not proved', 'no proof')) and not BY_A_CALL.match(said)
 
     def errors_of(self, place):
-        return [it for it in self.errors if it[0].startswith(folder_of(place))]
+        return [it for it in self.errors if it[0].startswith(folders_of(place))]
 
     def goals_left(self, place):
         """The goals of a function that are left unproved and why, and those of which a proof only names what is gone."""
@@ -118,6 +118,7 @@ def clause_of(goal):
     return head[0] + (clause[0] if clause else '') if head else goal
 
 
-def folder_of(place):
-    """Where the proofs of a function stand in its crate."""
-    return 'proofs/' + '/'.join(place.split('::')[1:]) + '/'
+def folders_of(place):
+    """Where the proofs of a function stand in its crate: one that calls itself has a mark before its name."""
+    *above, name = place.split('::')[1:]
+    return tuple('/'.join(['proofs', *above, mark + name, '']) for mark in ('', '+'))
