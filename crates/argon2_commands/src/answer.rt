@@ -86,7 +86,6 @@ impl Answer {
     }
 }
 
-/// All bytes of the input.
 fn read_password<I: Read>(alloc: Global, input: &mut I) -> Result<Vec<u8>, Fault>
     ensures bytes { IfOk result (λ password. IsPassword (I.remaining input.old) password.items) }
     ensures fault { IfErr result (λ fault. (fault ≡ Fault.Input)
@@ -103,7 +102,8 @@ fn read_password<I: Read>(alloc: Global, input: &mut I) -> Result<Vec<u8>, Fault
     }
 }
 
-/// The tag of an accepted call in lower-case hexadecimal and its encoded text, a line each.
+/// The tag of an accepted call in lower-case hexadecimal and its encoded text, a line each. It goes
+/// by `tag` and not by `hash_encoded`, so that one computation gives both lines.
 fn tag_lines<R: Threads + Wait + Sync>(
     rt: &R,
     alloc: Global,
@@ -119,7 +119,7 @@ fn tag_lines<R: Threads + Wait + Sync>(
     Ok(format!(in alloc; "{hexadecimal}\n{text}\n")?)
 }
 
-/// The tag of a password in lower-case hexadecimal and its encoded text, a line each.
+/// The same of a password, whose settings are judged first.
 fn hash_lines<R: Threads + Wait + Sync>(
     rt: &R,
     alloc: Global,

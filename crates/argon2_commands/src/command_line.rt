@@ -26,7 +26,8 @@ pub trait CommandLine {
 pub struct OfProcess<'a, R>(pub &'a R);
 
 impl<R: Env> CommandLine for OfProcess<'_, R> {
-    /// The room for it is doubled, from 256 bytes on, until it fits.
+    /// Nothing says how long an argument is, so the room for it is doubled, from 256 bytes on, until
+    /// it fits.
     fn argument(&self, alloc: Global, index: usize) -> Result<Option<Vec<u8>>, Fault> {
         for bits in 8..usize::BITS {
             let mut bytes = vec![in alloc; 0u8; 1usize << bits]?;

@@ -120,7 +120,7 @@ pub fn attempt<R: Threads + Wait + Sync, I: Read, O: Write>(
     }
 }
 
-/// Writes all lines, so that they have left the program.
+/// Writes all lines, and flushes them: an output may take them and fail only when it is flushed.
 fn write_lines<O: Write>(output: &mut O, lines: &str) -> io::Result<()>
     ensures { OnOk result (Appends (O.contents output.old) (O.contents output.new) lines.now) }
 {

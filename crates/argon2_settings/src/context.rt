@@ -50,7 +50,8 @@ pub fn first_refusal(config: &Config, pwd_len: u64, salt_len: u64, hash_len: u64
     }
 }
 
-/// H0, the hash of all inputs (RFC 9106, 3.2, step 1).
+/// H0, the hash of all inputs (RFC 9106, 3.2, step 1). They go to BLAKE2b as pieces, so that no
+/// memory is asked for.
 #[tactic(auto, unfolding(argon2_standard::specs::Standard::Prehash::prehash_of, argon2_standard::specs::Standard::SettingsTable::refusal_of))]
 fn prehash<'a>(config: &Config<'a>, pwd: &'a [u8], salt: &'a [u8]) -> [u8; PREHASH_DIGEST_LENGTH]
     requires { IsNone (refusal_of config.now (length pwd.now)
@@ -127,7 +128,8 @@ impl<'a> Context<'a> {
     }
 }
 
-/// The context of settings that were judged before and not refused.
+/// The context of settings that were judged before and not refused. The verifying calls judge them
+/// for the hash's own length, and come here without a second judgement.
 #[tactic(auto, unfolding(argon2_standard::specs::Standard::SettingsTable::refusal_of))]
 pub fn accepted_context<'a>(config: Config<'a>, pwd: &'a [u8], salt: &'a [u8]) -> Context<'a>
     requires { IsNone (refusal_of config (length pwd.now) (length salt.now) config.hash_length) }

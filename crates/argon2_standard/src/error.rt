@@ -9,7 +9,8 @@ use serde::{Deserialize, Serialize};
 use std::alloc::{AllocError, AllocFailed};
 use std::fmt;
 
-/// Why a call was refused.
+/// Why a call was refused. The cases that never come are those of rust-argon2, for programs that
+/// name them.
 #[derive(Clone, Debug, Drop, PartialEq, Serialize, Deserialize)]
 #[serde(rename_all = "snake_case")]
 pub enum Error {

@@ -5,7 +5,7 @@ use std::env::{Env, FillError};
 use std::io;
 use std::io::{Error, ErrorKind, Read, Write};
 
-/// A reader that gives its bytes one at a time, and then fails.
+/// A reader that gives its bytes one at a time, so that its failure comes between two reads.
 #[derive(Drop)]
 pub struct Broken<'a>(pub &'a [u8]);
 

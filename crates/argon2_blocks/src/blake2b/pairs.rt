@@ -1,5 +1,6 @@
 //! BLAKE2b's rounds on two states at once, of which each has a lane of the vectors (RFC 7693, 3.1
-//! and 3.2).
+//! and 3.2). A lane of Argon2 begins with two chains of hashes that do not wait for each other, so
+//! both go on in one vector.
 
 ghost use Rattle.std.specs.Prelude.{◌≡◌, ◌<◌, ℕ, List, IsTrue, map, length, nat_lt, slice_index};
 ghost use Rattle.std.specs.List.{fold, list_all, range_with_len};
@@ -97,7 +98,7 @@ fn round(v: &mut [u64x2; 16], m: &[u64x2; 16], s: &[usize; 16])
     mix_diagonals(v, m, s);
 }
 
-/// The twelve rounds in both lanes.
+/// The twelve rounds in both lanes, written out as those of one state are.
 #[inline(always)]
 fn rounds(v: &mut [u64x2; 16], m: &[u64x2; 16])
     ensures { (i : ℕ) → i < 2 → lane i v.new

@@ -8,16 +8,13 @@ ghost use Rattle.argon2_blocks.specs.Standard.Blake2b.{Four, compress_f, half_g,
 /// How many values a word has: 2^64.
 const WORD_VALUES: u128 = 1 << 64;
 
-/// R1: the first of the four numbers of bits that G rotates by (RFC 7693, 2.1).
+/// R1 to R4, the numbers of bits that G rotates by (RFC 7693, 2.1).
 pub(super) const R1: u32 = 32;
 
-/// R2: the second.
 pub(super) const R2: u32 = 24;
 
-/// R3: the third.
 pub(super) const R3: u32 = 16;
 
-/// R4: the fourth.
 pub(super) const R4: u32 = 63;
 
 /// The initialization vector (RFC 7693, 2.6).
@@ -116,6 +113,9 @@ fn round(v: &mut [u64; 16], m: &[u64; 16], s: &[usize; 16])
 }
 
 /// The twelve rounds: the last two take the first two orders again (RFC 7693, 3.2).
+///
+/// They are written out, and `round` is inlined, so that each order of the words is known when this
+/// is compiled. That saves a third of the instructions.
 fn rounds(v: &mut [u64; 16], m: &[u64; 16])
     ensures { v.new
         ≡ fold (λ v i. round m.now v (sigma_row i)) v.old (range_with_len 0 round_count) }

@@ -30,7 +30,8 @@ fn next_link(v: &mut [u8; BLAKE2B_OUT_LENGTH])
     blake2b(v, &[&before]);
 }
 
-/// The words of a block whose second half is zeros.
+/// The words of a block whose second half is zeros. A V is half a block, so the next V is one F of
+/// this, without a hasher.
 fn half_block(bytes: &[u8; BLAKE2B_OUT_LENGTH]) -> [u64; 16]
     ensures { result ≡ words_of 8 bytes.now ++ replicate 8 0 }
 {
