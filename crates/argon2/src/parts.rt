@@ -6,6 +6,7 @@ pub mod encoding;
 pub mod fill;
 pub mod memory;
 pub mod segment;
+pub mod stored;
 mod theorems;
 
 pub use argon2_blocks::{blake2b, block, common};

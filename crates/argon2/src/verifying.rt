@@ -21,8 +21,8 @@ use std::marker::Sync;
 use std::sync::Wait;
 use std::thread::Threads;
 pub use texts::{
-    verify_encoded, verify_encoded_ext, verify_encoded_in, verify_encoded_in_sequential,
-    verify_encoded_sequential,
+    accepted_text, config_of, stored_context, verify_encoded, verify_encoded_ext,
+    verify_encoded_in, verify_encoded_in_sequential, verify_encoded_sequential,
 };
 
 /// The bits in which two hashes of one length differ at any place.
@@ -36,7 +36,7 @@ fn difference(one: &[u8], other: &[u8]) -> u8
 
 /// Whether two hashes of one length are equal. It goes on to the last byte, where `==` may stop at
 /// the first difference.
-fn are_equal(one: &[u8], other: &[u8]) -> bool
+pub fn are_equal(one: &[u8], other: &[u8]) -> bool
     requires { length one.now ≡ length other.now }
     ensures { IsTrue result ↔ (one.now ≡ other.now) }
 {

@@ -12,3 +12,10 @@
 #undef proved_argon2_hash_encoded_in
 #undef proved_argon2_verify_raw_in
 #undef proved_argon2_verify_encoded_in
+#undef proved_argon2_job_make
+#undef proved_argon2_job_read
+#undef proved_argon2_job_begin
+#undef proved_argon2_job_fill
+#undef proved_argon2_job_finish
+#undef proved_argon2_job_verify
+#undef proved_argon2_encode

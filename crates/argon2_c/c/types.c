@@ -17,15 +17,29 @@ AT(proved_argon2_settings, hash_length, 20, 4);
 AT(proved_argon2_stored, settings, 0, 24);
 AT(proved_argon2_stored, salt_length, 24, 4);
 AT(proved_argon2_memory, kept, 0, 8);
+AT(proved_argon2_block, words, 0, 1024);
+AT(proved_argon2_job, prehash, 0, 64);
+AT(proved_argon2_job, variant, 64, 4);
+AT(proved_argon2_job, version, 68, 4);
+AT(proved_argon2_job, lanes, 72, 4);
+AT(proved_argon2_job, segment_length, 76, 4);
+AT(proved_argon2_job, passes, 80, 4);
+AT(proved_argon2_job, hash_length, 84, 4);
 _Static_assert(sizeof(proved_argon2_settings) == 24, "proved_argon2_settings");
 _Static_assert(sizeof(proved_argon2_stored) == 28, "proved_argon2_stored");
 _Static_assert(sizeof(proved_argon2_memory) == 8, "proved_argon2_memory");
+_Static_assert(sizeof(proved_argon2_block) == 1024, "proved_argon2_block");
+_Static_assert(sizeof(proved_argon2_job) == 88, "proved_argon2_job");
 
 /* What the functions take: bytes, settings, room to write to, and a memory. */
 #define BYTES const uint8_t *, size_t
 #define ROOM uint8_t *, size_t
 #define INPUTS BYTES, BYTES, BYTES, BYTES, const proved_argon2_settings *
 #define KEPT proved_argon2_memory *
+#define JOB const proved_argon2_job *
+#define BLOCKS const proved_argon2_block *, size_t
+#define OWN proved_argon2_block *, size_t
+#define MAKES BYTES, BYTES, BYTES, BYTES, const proved_argon2_settings *, proved_argon2_job *
 
 #define IS(name, result, ...) \
     check(_Generic(&proved_argon2_##name, result (*)(__VA_ARGS__): true, default: false), "the type of " #name)
@@ -62,6 +76,24 @@ static void check_functions(void)
     IS(memory_new, proved_argon2_memory, void);
 }
 
+static void check_steps(void)
+{
+    IS(job_make, uint32_t, MAKES);
+    IS(job_read, uint32_t, BYTES, BYTES, BYTES, BYTES, proved_argon2_job *, ROOM);
+    IS(job_begin, uint32_t, JOB, uint32_t, OWN);
+    IS(job_fill, uint32_t, JOB, uint32_t, uint32_t, uint32_t, BLOCKS, BLOCKS, BLOCKS, OWN);
+    IS(job_finish, uint32_t, JOB, BLOCKS, ROOM);
+    IS(job_verify, uint32_t, JOB, BLOCKS, BYTES, ROOM);
+    IS(encode, uint32_t, BYTES, const proved_argon2_settings *, BYTES, ROOM);
+    IS(nullable_job_make, uint32_t, MAKES);
+    IS(nullable_job_read, uint32_t, BYTES, BYTES, BYTES, BYTES, proved_argon2_job *, ROOM);
+    IS(nullable_job_begin, uint32_t, JOB, uint32_t, OWN);
+    IS(nullable_job_fill, uint32_t, JOB, uint32_t, uint32_t, uint32_t, BLOCKS, BLOCKS, BLOCKS, OWN);
+    IS(nullable_job_finish, uint32_t, JOB, BLOCKS, ROOM);
+    IS(nullable_job_verify, uint32_t, JOB, BLOCKS, BYTES, ROOM);
+    IS(nullable_encode, uint32_t, BYTES, const proved_argon2_settings *, BYTES, ROOM);
+}
+
 static void check_presets(void)
 {
     IS(owasp1, proved_argon2_settings, void);
@@ -76,6 +108,7 @@ static void check_presets(void)
 int main(void)
 {
     check_functions();
+    check_steps();
     check_presets();
     return checks_failed != 0;
 }

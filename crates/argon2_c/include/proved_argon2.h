@@ -114,6 +114,9 @@ enum proved_argon2_code {
     PROVED_ARGON2_NOT_UTF8 = 66,       /* the text is not UTF-8 */
     PROVED_ARGON2_UNKNOWN_NUMBER = 67, /* proved_argon2_message: no refusal has this number */
     PROVED_ARGON2_NEEDS_REHASH = 68,   /* proved_argon2_needs_rehash: the text has other settings */
+    PROVED_ARGON2_NO_JOB = 70,         /* proved_argon2_jobs.h: no accepted call has a job of these numbers */
+    PROVED_ARGON2_NO_PLACE = 71,       /* the job has no such pass, slice or lane */
+    PROVED_ARGON2_WRONG_BLOCKS = 72,   /* a slice or a segment of the job has more or fewer blocks */
     /* Answered by the inline functions of the header, and by no function of the library: */
     PROVED_ARGON2_NULL_POINTER = 128,   /* a pointer is null, and its length is not 0 */
     PROVED_ARGON2_NO_RANDOM_BYTES = 129 /* proved_argon2_password_hash: the system gave no salt */
@@ -323,6 +326,7 @@ uint32_t proved_argon2_verify_encoded_in(
 #ifdef __cplusplus
 }
 #endif
+#include "proved_argon2_jobs.h"
 #include "proved_argon2_null.h"
 #include "proved_argon2_password.h"
 #endif

@@ -10,6 +10,7 @@
 #define PROVED_ARGON2_NULL_H
 
 #include "proved_argon2.h"
+#include "proved_argon2_jobs.h"
 
 #include <string.h>
 
@@ -274,6 +275,141 @@ static inline uint32_t proved_argon2_nullable_verify_encoded_in(
         proved_argon2_readable(ad, ad_len), ad_len);
 }
 
+/* Blocks to read or to write, or the address of spare for none. */
+static inline const proved_argon2_block *proved_argon2_readable_blocks(
+    const proved_argon2_block *blocks, size_t len, const proved_argon2_block *spare)
+{
+    return len == 0 ? spare : blocks;
+}
+
+static inline proved_argon2_block *proved_argon2_writable_blocks(
+    proved_argon2_block *blocks, size_t len, proved_argon2_block *spare)
+{
+    return len == 0 ? spare : blocks;
+}
+
+PROVED_ARGON2_CHECKED
+static inline uint32_t proved_argon2_nullable_job_make(
+    const uint8_t *pwd, size_t pwd_len,
+    const uint8_t *salt, size_t salt_len,
+    const uint8_t *secret, size_t secret_len,
+    const uint8_t *ad, size_t ad_len,
+    const proved_argon2_settings *settings,
+    proved_argon2_job *job)
+{
+    if (proved_argon2_are_missing(pwd, pwd_len, salt, salt_len, secret, secret_len, ad, ad_len, settings)
+        || job == NULL) {
+        return PROVED_ARGON2_NULL_POINTER;
+    }
+    return proved_argon2_job_make(
+        proved_argon2_readable(pwd, pwd_len), pwd_len,
+        proved_argon2_readable(salt, salt_len), salt_len,
+        proved_argon2_readable(secret, secret_len), secret_len,
+        proved_argon2_readable(ad, ad_len), ad_len,
+        settings, job);
+}
+
+PROVED_ARGON2_CHECKED
+static inline uint32_t proved_argon2_nullable_job_read(
+    const uint8_t *text, size_t text_len,
+    const uint8_t *pwd, size_t pwd_len,
+    const uint8_t *secret, size_t secret_len,
+    const uint8_t *ad, size_t ad_len,
+    proved_argon2_job *job,
+    uint8_t *hash, size_t hash_len)
+{
+    uint8_t spare;
+    if (proved_argon2_is_missing(text, text_len) || proved_argon2_is_missing(pwd, pwd_len)
+        || proved_argon2_is_missing(secret, secret_len) || proved_argon2_is_missing(ad, ad_len) || job == NULL
+        || proved_argon2_is_missing(hash, hash_len)) {
+        return PROVED_ARGON2_NULL_POINTER;
+    }
+    return proved_argon2_job_read(
+        proved_argon2_readable(text, text_len), text_len,
+        proved_argon2_readable(pwd, pwd_len), pwd_len,
+        proved_argon2_readable(secret, secret_len), secret_len,
+        proved_argon2_readable(ad, ad_len), ad_len,
+        job, proved_argon2_writable(hash, hash_len, &spare), hash_len);
+}
+
+PROVED_ARGON2_CHECKED
+static inline uint32_t proved_argon2_nullable_job_begin(
+    const proved_argon2_job *job, uint32_t lane, proved_argon2_block *own, size_t own_len)
+{
+    proved_argon2_block spare;
+    if (job == NULL || proved_argon2_is_missing(own, own_len)) {
+        return PROVED_ARGON2_NULL_POINTER;
+    }
+    return proved_argon2_job_begin(job, lane, proved_argon2_writable_blocks(own, own_len, &spare), own_len);
+}
+
+PROVED_ARGON2_CHECKED
+static inline uint32_t proved_argon2_nullable_job_fill(
+    const proved_argon2_job *job, uint32_t pass, uint32_t slice, uint32_t lane,
+    const proved_argon2_block *first, size_t first_len,
+    const proved_argon2_block *second, size_t second_len,
+    const proved_argon2_block *third, size_t third_len,
+    proved_argon2_block *own, size_t own_len)
+{
+    static const proved_argon2_block none = {{0}};
+    proved_argon2_block spare;
+    if (job == NULL || proved_argon2_is_missing(first, first_len) || proved_argon2_is_missing(second, second_len)
+        || proved_argon2_is_missing(third, third_len) || proved_argon2_is_missing(own, own_len)) {
+        return PROVED_ARGON2_NULL_POINTER;
+    }
+    return proved_argon2_job_fill(
+        job, pass, slice, lane,
+        proved_argon2_readable_blocks(first, first_len, &none), first_len,
+        proved_argon2_readable_blocks(second, second_len, &none), second_len,
+        proved_argon2_readable_blocks(third, third_len, &none), third_len,
+        proved_argon2_writable_blocks(own, own_len, &spare), own_len);
+}
+
+PROVED_ARGON2_CHECKED
+static inline uint32_t proved_argon2_nullable_job_finish(
+    const proved_argon2_job *job, const proved_argon2_block *last, size_t last_len, uint8_t *out, size_t out_len)
+{
+    static const proved_argon2_block none = {{0}};
+    uint8_t spare;
+    if (job == NULL || proved_argon2_is_missing(last, last_len) || proved_argon2_is_missing(out, out_len)) {
+        return PROVED_ARGON2_NULL_POINTER;
+    }
+    return proved_argon2_job_finish(
+        job, proved_argon2_readable_blocks(last, last_len, &none), last_len,
+        proved_argon2_writable(out, out_len, &spare), out_len);
+}
+
+PROVED_ARGON2_CHECKED
+static inline uint32_t proved_argon2_nullable_job_verify(
+    const proved_argon2_job *job, const proved_argon2_block *last, size_t last_len,
+    const uint8_t *hash, size_t hash_len, uint8_t *tag, size_t tag_len)
+{
+    static const proved_argon2_block none = {{0}};
+    uint8_t spare;
+    if (job == NULL || proved_argon2_is_missing(last, last_len) || proved_argon2_is_missing(hash, hash_len)
+        || proved_argon2_is_missing(tag, tag_len)) {
+        return PROVED_ARGON2_NULL_POINTER;
+    }
+    return proved_argon2_job_verify(
+        job, proved_argon2_readable_blocks(last, last_len, &none), last_len,
+        proved_argon2_readable(hash, hash_len), hash_len, proved_argon2_writable(tag, tag_len, &spare), tag_len);
+}
+
+PROVED_ARGON2_CHECKED
+static inline uint32_t proved_argon2_nullable_encode(
+    const uint8_t *salt, size_t salt_len, const proved_argon2_settings *settings,
+    const uint8_t *tag, size_t tag_len, uint8_t *text, size_t text_len)
+{
+    uint8_t spare;
+    if (proved_argon2_is_missing(salt, salt_len) || settings == NULL || proved_argon2_is_missing(tag, tag_len)
+        || proved_argon2_is_missing(text, text_len)) {
+        return PROVED_ARGON2_NULL_POINTER;
+    }
+    return proved_argon2_encode(
+        proved_argon2_readable(salt, salt_len), salt_len, settings, proved_argon2_readable(tag, tag_len), tag_len,
+        proved_argon2_writable(text, text_len, &spare), text_len);
+}
+
 #define proved_argon2_hash_raw proved_argon2_nullable_hash_raw
 #define proved_argon2_hash_encoded proved_argon2_nullable_hash_encoded
 #define proved_argon2_verify_raw proved_argon2_nullable_verify_raw
@@ -285,5 +421,12 @@ static inline uint32_t proved_argon2_nullable_verify_encoded_in(
 #define proved_argon2_hash_encoded_in proved_argon2_nullable_hash_encoded_in
 #define proved_argon2_verify_raw_in proved_argon2_nullable_verify_raw_in
 #define proved_argon2_verify_encoded_in proved_argon2_nullable_verify_encoded_in
+#define proved_argon2_job_make proved_argon2_nullable_job_make
+#define proved_argon2_job_read proved_argon2_nullable_job_read
+#define proved_argon2_job_begin proved_argon2_nullable_job_begin
+#define proved_argon2_job_fill proved_argon2_nullable_job_fill
+#define proved_argon2_job_finish proved_argon2_nullable_job_finish
+#define proved_argon2_job_verify proved_argon2_nullable_job_verify
+#define proved_argon2_encode proved_argon2_nullable_encode
 
 #endif

@@ -15,7 +15,7 @@ pub length-hash_text : (config : Config) (pwd salt : List ℕ) (salt_len len : �
 length-hash_text config pwd salt salt_len len e is = is salt (tag_of pwd salt config config.hash_length) e (length-tag_of pwd salt config config.hash_length)
 
 -- where a table refuses nothing, its first row does not apply and the rest refuses nothing
-later_row : (b : Bool) (r : Error) (rest : Option Error) → cond b (Some r) rest ≡ None → (b ≡ false) × (rest ≡ None)
+pub later_row : (b : Bool) (r : Error) (rest : Option Error) → cond b (Some r) rest ≡ None → (b ≡ false) × (rest ≡ None)
 later_row true r rest h = absurd (cc)
 later_row false r rest h = (refl, h)
 

@@ -4,4 +4,8 @@ pub mod Verdicts
 pub mod HashTexts
 pub mod Comparisons
 pub mod Presets
+pub mod JobNumbers
+pub mod TagTexts
+pub mod StoredJobs
+pub mod Runs
 mod KeptValues

@@ -6,3 +6,5 @@ pub mod Answers
 pub mod Reading
 pub mod Ownership
 pub mod Kept
+pub mod Jobs
+pub mod Runs

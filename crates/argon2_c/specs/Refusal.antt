@@ -6,7 +6,7 @@ use Rattle.argon2.specs.ErrorType.TheVariants.{AdTooLong, SecretTooShort, Secret
 use Rattle.argon2.specs.ErrorType.TheVariants.{LanesTooFew, LanesTooMany, IncorrectType, IncorrectVersion, DecodingFail, OutOfMemory, WorkerRefused}
 use Rattle.argon2.specs.Messages.{message_of as library_message}
 use Rattle.argon2_c.specs.declared.refusal.Refusal.{Refusal}
-use Rattle.argon2_c.specs.declared.refusal.Refusal.TheVariants.{Library, Mismatch, WrongLength, NotUtf8, UnknownNumber, NeedsRehash}
+use Rattle.argon2_c.specs.declared.refusal.Refusal.TheVariants.{Library, Mismatch, WrongLength, NotUtf8, UnknownNumber, NeedsRehash, NoJob, NoPlace, WrongBlocks}
 
 -- the library's refusals, from 1 in their order
 abbrev pub library_number : Error → ℕ
@@ -40,6 +40,9 @@ number_of WrongLength = 65
 number_of NotUtf8 = 66
 number_of UnknownNumber = 67
 number_of NeedsRehash = 68
+number_of NoJob = 70
+number_of NoPlace = 71
+number_of WrongBlocks = 72
 
 abbrev pub IsNoNumber : ℕ → Type 0
 IsNoNumber number = (refusal : Refusal) → number_of refusal ≡ number → ⊥
@@ -51,6 +54,9 @@ message_of WrongLength = codes "The buffer has the wrong length"
 message_of NotUtf8 = codes "The text is not UTF-8"
 message_of UnknownNumber = codes "There is no refusal of this number"
 message_of NeedsRehash = codes "The text was made with other settings"
+message_of NoJob = codes "The job is none"
+message_of NoPlace = codes "The job has no such pass, slice or lane"
+message_of WrongBlocks = codes "There are too many or too few blocks"
 
 -- what a call returns to C: 0, or the number of the refusal
 abbrev pub code_of : Result (Unit {0}) Refusal → ℕ

@@ -14,21 +14,30 @@ ghost use Rattle.argon2_c.specs.Settings.{config_of};
 
 mod buffer;
 mod hashing;
+mod jobs;
 mod keeping;
 mod kept;
+mod lending;
 mod reading;
 mod recommended;
 mod refusal;
 mod settings;
+mod steps;
 mod stored_text;
 mod verifying;
 
 use argon2::parts::memory::Memory;
+pub use jobs::LentJob;
 pub use keeping::{
     proved_argon2_hash_encoded_in, proved_argon2_hash_raw_in, proved_argon2_memory_free,
     proved_argon2_verify_encoded_in, proved_argon2_verify_raw_in,
 };
 pub use kept::KeptMemory;
+pub use lending::{
+    any_order_of_steps, proved_argon2_encode, proved_argon2_job_begin, proved_argon2_job_fill,
+    proved_argon2_job_finish, proved_argon2_job_make, proved_argon2_job_read,
+    proved_argon2_job_verify,
+};
 pub use reading::Stored;
 pub use recommended::{
     proved_argon2_owasp1, proved_argon2_owasp2, proved_argon2_owasp3, proved_argon2_owasp4,

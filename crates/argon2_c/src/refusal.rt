@@ -30,6 +30,15 @@ pub enum Refusal {
 
     /// The text was made with other settings.
     NeedsRehash,
+
+    /// The numbers are those of no job.
+    NoJob,
+
+    /// The job has no such pass, slice or lane.
+    NoPlace,
+
+    /// There are more or fewer blocks than the job's slice or segment has.
+    WrongBlocks,
 }
 
 impl From<Error> for Refusal {
@@ -112,6 +121,9 @@ impl Refusal {
             Refusal::NotUtf8 => 66,
             Refusal::UnknownNumber => 67,
             Refusal::NeedsRehash => 68,
+            Refusal::NoJob => 70,
+            Refusal::NoPlace => 71,
+            Refusal::WrongBlocks => 72,
         }
     }
 
@@ -126,6 +138,9 @@ impl Refusal {
             66 => Some(Refusal::NotUtf8),
             67 => Some(Refusal::UnknownNumber),
             68 => Some(Refusal::NeedsRehash),
+            70 => Some(Refusal::NoJob),
+            71 => Some(Refusal::NoPlace),
+            72 => Some(Refusal::WrongBlocks),
             _ => library_refusal(number).map(Refusal::Library),
         }
     }
@@ -141,6 +156,9 @@ impl Refusal {
             Refusal::NotUtf8 => "The text is not UTF-8",
             Refusal::UnknownNumber => "There is no refusal of this number",
             Refusal::NeedsRehash => "The text was made with other settings",
+            Refusal::NoJob => "The job is none",
+            Refusal::NoPlace => "The job has no such pass, slice or lane",
+            Refusal::WrongBlocks => "There are too many or too few blocks",
         }
     }
 }

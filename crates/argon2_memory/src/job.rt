@@ -97,6 +97,49 @@ pub fn prehash_of_job(job: &Job) -> [u8; PREHASH_DIGEST_LENGTH]
     job.prehash
 }
 
+/// The first slice of the first pass of a setting, which is told in its numbers. A function and no
+/// method, since `Job` is seen by users.
+pub fn job_of_setting(
+    prehash: &[u8; PREHASH_DIGEST_LENGTH],
+    variant: Variant,
+    version: Version,
+    lanes: u32,
+    segment_length: u32,
+    passes: u32,
+) -> Job
+    requires { IsSetting (record {
+      prehash = prehash.now;
+      variant = variant;
+      version = version;
+      lanes = lanes;
+      segment_length = segment_length;
+      passes = passes;
+    }) }
+    ensures { result ≡ record {
+      setting = record {
+        prehash = prehash.now;
+        variant = variant;
+        version = version;
+        lanes = lanes;
+        segment_length = segment_length;
+        passes = passes;
+      };
+      pass = 0;
+      slice = 0;
+    } }
+{
+    Job {
+        prehash: *prehash,
+        variant,
+        version,
+        lanes,
+        segment_length,
+        passes,
+        pass: 0,
+        slice: 0,
+    }
+}
+
 impl Job {
     /// The first slice of the first pass. All inputs were hashed when the context was made.
     #[tactic(auto, unfolding(argon2_standard::specs::Standard::Prehash::setting_of))]

@@ -139,7 +139,7 @@ pub fn verify_encoded_in_sequential(
 }
 
 /// What a stored text spells, where its settings are accepted for a password of this length.
-fn accepted_text(
+pub fn accepted_text(
     alloc: Global,
     encoded: &str,
     pwd_len: u64,
@@ -180,7 +180,7 @@ fn refusal(head: &Head<'_>, pwd_len: u64, secret: &[u8], ad: &[u8]) -> Option<Er
 }
 
 /// The configuration that a stored text is verified with.
-fn config_of<'a>(stored: &Decoded, secret: &'a [u8], ad: &'a [u8]) -> Config<'a>
+pub fn config_of<'a>(stored: &Decoded, secret: &'a [u8], ad: &'a [u8]) -> Config<'a>
     ensures { IsConfigOf (spelled_by stored.now) secret.entry.now ad.entry.now result }
 {
     let hash_length = stored.hash.len().min(MAX_HASH_LENGTH as usize) as u32;
@@ -203,7 +203,7 @@ fn config_of<'a>(stored: &Decoded, secret: &'a [u8], ad: &'a [u8]) -> Config<'a>
 }
 
 /// The context that an accepted text is verified with, by its own configuration.
-fn stored_context<'a>(stored: &'a Decoded, config: &'a Config<'a>, pwd: &'a [u8]) -> Context<'a>
+pub fn stored_context<'a>(stored: &'a Decoded, config: &'a Config<'a>, pwd: &'a [u8]) -> Context<'a>
     requires { IsNone (refusal_of config.now (length pwd.now)
         (length stored.now.salt.items) config.now.hash_length) }
     ensures config { result.config ≡ config.entry.now }

@@ -1,0 +1,107 @@
+-- The setting of a job's numbers.
+use Rattle.std.proofs.Common.{◌≡◌, ℕ, ◌+◌, ◌*◌, ◌/◌, ◌^◌, ◌<◌, ◌≤◌, Bool, false, true, List, length, Option, None, Some, refl, arith, ap, inl, inr, ◌∙◌}
+use Rattle.std.specs.Prelude.{◌==◌, ◌||◌, nat_lt, IsNone}
+use Rattle.std.proofs.Math.Nat.{mul-div-le}
+use Rattle.std.proofs.lemmas.Bool.{le-ltb, ltb-false, ne_eqb}
+use Rattle.std.proofs.lemmas.Bool.Decides.{eqb_tells}
+use Rattle.argon2.specs.ConfigType.{Config}
+use Rattle.argon2.specs.Jobs.{IsSetting}
+use Rattle.argon2.specs.Prehash.{hashed_inputs, prehash_of, setting_of}
+use Rattle.argon2.specs.Setting.{Setting}
+use Rattle.argon2.specs.SettingsTable.{max_length, max_lanes, refusal_of}
+use Rattle.argon2_settings.proofs.Settings.Accepted.{accepted, long_segment}
+use Rattle.argon2_settings.proofs.Settings.HashLengths.{length-blake2b}
+use Rattle.argon2.specs.VariantType.{Variant}
+use Rattle.argon2.specs.VersionType.{Version}
+use Rattle.argon2_c.specs.Jobs.{is_out_of_bounds, job_of, setting_at, setting_of_job, setting_with}
+use Rattle.argon2_c.specs.declared.jobs.LentJob.{LentJob}
+use Rattle.argon2_c.proofs.Lengths.{later_row}
+use Rattle.argon2_c.proofs.Numbers.{variant_of-number, version_of-number}
+
+-- the numbers of a setting are those of no other
+pub recovered : (s : Setting) (len : ℕ) → IsSetting s → 4 ≤ len → setting_of_job (job_of s len) ≡ Some s
+recovered s len good long =
+    let variant = variant_of-number s.variant _ refl in
+    let version = version_of-number s.version _ refl in
+    let none : (s.lanes == 0) ≡ false = ne_eqb s.lanes 0 (omega (arith, good.some_lane)) in
+    let many : nat_lt max_lanes s.lanes ≡ false = le-ltb max_lanes s.lanes good.few_lanes in
+    let short : nat_lt s.segment_length 2 ≡ false = le-ltb s.segment_length 2 good.long_segments in
+    let much : nat_lt 1073741823 (s.lanes * s.segment_length) ≡ false =
+    le-ltb 1073741823 (s.lanes * s.segment_length) (omega (arith, good.fits)) in
+    let passes : (s.passes == 0) ≡ false = ne_eqb s.passes 0 (omega (arith, good.some_pass)) in
+    let tag : nat_lt len 4 ≡ false = le-ltb len 4 long in
+    rw (variant, version, none, many, short, much, passes, tag) refl
+
+-- the table's row on a short hash
+pub accepted_hash : (config : Config) (p s h : ℕ) → refusal_of config p s h ≡ None → 4 ≤ h
+unfolding refusal_of
+accepted_hash config p s h none =
+    let a = later_row (config.lanes == 0) _ _ none in
+    let b = later_row (nat_lt max_lanes config.lanes) _ _ a.1 in
+    let c = later_row (nat_lt config.mem_cost 8 || nat_lt config.mem_cost (8 * config.lanes)) _ _ b.1 in
+    let d = later_row (config.time_cost == 0) _ _ c.1 in
+    let e = later_row (nat_lt max_length p) _ _ d.1 in
+    let f = later_row (nat_lt s 8) _ _ e.1 in
+    let g = later_row (nat_lt max_length s) _ _ f.1 in
+    let i = later_row (nat_lt max_length (length config.secret.now)) _ _ g.1 in
+    let j = later_row (nat_lt max_length (length config.ad.now)) _ _ i.1 in
+    let k = later_row (nat_lt h 4) _ _ j.1 in
+    ltb-false h 4 k.0
+
+-- an option that equals None holds nothing
+none_holds : {A : Type 0} {o : Option A} → o ≡ None → IsNone o
+none_holds e = rw e refl
+
+-- the setting of an accepted call, whose costs fit 32 bits
+pub setting_that_fits : (pwd salt : List ℕ) (config : Config) (len : ℕ) → refusal_of config (length pwd) (length salt) len ≡ None
+    → config.time_cost < 2 ^ 32 → config.mem_cost < 2 ^ 32 → IsSetting (setting_of pwd salt config len)
+unfolding setting_of prehash_of
+setting_that_fits pwd salt config len none few little =
+    let a = accepted config (length pwd) (length salt) len (none_holds none) in
+    let m = mul-div-le config.mem_cost (4 * config.lanes) in
+    record {
+      prehash_length = length-blake2b 64 (hashed_inputs pwd salt config len) (omega arith);
+      some_lane = a.some_lane;
+      few_lanes = a.few_lanes;
+      long_segments = long_segment config.mem_cost config.lanes a.some_lane a.much;
+      some_pass = a.some_pass;
+      few_passes = few;
+      fits = omega (arith, m, little);
+    }
+
+-- where the `or` of two truth values is false, each of them is false
+neither : (a b : Bool) → (a || b) ≡ false → (a ≡ false) × (b ≡ false)
+neither true b h = absurd (cc)
+neither false b h = (refl, h)
+
+-- a number that is told not to be 0 is greater than 0
+some : (n : ℕ) → (n == 0) ≡ false → 0 < n
+some n h = elim (eqb_tells n 0) [ inl w ↦ absurd (cc (w.0)) | inr w ↦ omega (arith, w.1) ]
+
+-- numbers within their bounds are those of a setting
+pub bounded : (job : LentJob) (v : Variant) (w : Version) → length job.prehash ≡ 64 → job.passes < 2 ^ 32 → is_out_of_bounds job ≡ false
+    → IsSetting (setting_with job v w)
+bounded job v w prehash few h =
+    let a = neither _ _ h in
+    let b = neither _ _ a.0 in
+    let c = neither _ _ b.0 in
+    let d = neither _ _ c.0 in
+    let e = neither _ _ d.0 in
+    let fits = ltb-false 1073741823 (job.lanes * job.segment_length) c.1 in
+    record {
+      prehash_length = prehash;
+      some_lane = some job.lanes e.0;
+      few_lanes = ltb-false max_lanes job.lanes e.1;
+      long_segments = ltb-false job.segment_length 2 d.1;
+      some_pass = some job.passes b.1;
+      few_passes = few;
+      fits = omega (arith, fits);
+    }
+
+-- and leave that setting
+pub kept : (job : LentJob) (v : Variant) (w : Version) → is_out_of_bounds job ≡ false → setting_at job (Some v) (Some w) ≡ Some (setting_with job v w)
+kept job v w h = rw h refl
+
+-- others leave none
+pub lost : (job : LentJob) (v : Variant) (w : Version) → is_out_of_bounds job ≡ true → setting_at job (Some v) (Some w) ≡ None
+lost job v w h = rw h refl

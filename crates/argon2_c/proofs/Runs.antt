@@ -1,0 +1,132 @@
+-- From the answers of the steps to the tag.
+use Rattle.std.proofs.Common.{◌≡◌, ℕ, zero, suc, ◌+◌, ◌-◌, ◌*◌, ◌/◌, ◌%◌, ◌<◌, ◌≤◌, List, [], ◌∷◌, length, get_or, Some, Result, Ok, Err, refl, arith, ap, subst, sym, inl, inr, ◌∙◌}
+use Rattle.std.specs.List.{remove}
+use Rattle.std.proofs.lemmas.Bool.Decides.{eqb_tells}
+use Rattle.std.proofs.lemmas.List.Edits.{length-remove}
+use Rattle.argon2.specs.ConfigType.{Config}
+use Rattle.argon2.specs.Jobs.{IsSetting}
+use Rattle.argon2.specs.Prehash.{setting_of}
+use Rattle.argon2.specs.Setting.{Setting}
+use Rattle.argon2.specs.Tag.{tag_of}
+use Rattle.argon2_memory.specs.Views.Lent.{FillsLent, HoldsSlice}
+use Rattle.argon2_memory.specs.Views.Segments.{IsReady}
+use Rattle.argon2_fill.specs.Laws.Lent.{IsLentRun}
+use Rattle.argon2_fill.proofs.Filling.Lent.{run_agrees}
+use Rattle.argon2_c.specs.Jobs.{Begins, BeginsAt, Fills, FillsAt, Finishes, FinishesAt, IsPlace, IsTagOf, Tells, Verifies, VerifiesAt, job_of, setting_of_job}
+use Rattle.argon2_c.specs.Runs.{IsRun, slice_at}
+use Rattle.argon2_c.specs.declared.jobs.LentJob.{LentJob}
+use Rattle.argon2_c.specs.declared.refusal.Refusal.{Refusal}
+use Rattle.argon2_c.specs.declared.refusal.Refusal.TheVariants.{Mismatch, WrongLength, WrongBlocks}
+use Rattle.argon2_c.proofs.JobNumbers.{accepted_hash, recovered, setting_that_fits}
+
+-- ---- what 0 says of a step
+
+begun : (s : Setting) (lane : ℕ) (old new : List (List ℕ)) → lane < s.lanes → BeginsAt s lane old new (Ok tt) → IsReady s 0 0 lane new
+begun s lane old new fits h = elim (eqb_tells (length old) s.segment_length) [
+  | inl w ↦ (h.begun fits w.1).1
+  | inr w ↦ absurd (let e = (h.wrong_blocks fits w.1).0 in cc)
+]
+
+module _ (s : Setting) (pass slice lane : ℕ) (first second third old new : List (List ℕ)) (place : IsPlace s pass slice lane)
+    (h : FillsAt s pass slice lane first second third old new (Ok tt)) where
+  abbrev long : ℕ
+  long = s.lanes * s.segment_length
+
+  filled : FillsLent (record { setting = s; pass = pass; slice = slice }) lane (first ∷ second ∷ third ∷ []) old new
+  filled = elim (eqb_tells (length first) long) [
+    | inr w ↦ absurd (let e = (h.wrong_blocks place (λ b. w.1 b.first)).0 in cc)
+    | inl one ↦ elim (eqb_tells (length second) long) [
+      | inr w ↦ absurd (let e = (h.wrong_blocks place (λ b. w.1 b.second)).0 in cc)
+      | inl two ↦ elim (eqb_tells (length third) long) [
+        | inr w ↦ absurd (let e = (h.wrong_blocks place (λ b. w.1 b.third)).0 in cc)
+        | inl three ↦ elim (eqb_tells (length old) s.segment_length) [
+          | inr w ↦ absurd (let e = (h.wrong_blocks place (λ b. w.1 b.own)).0 in cc)
+          | inl four ↦ (h.filled place (record { first = one.1; second = two.1; third = three.1; own = four.1 })).1
+        ]
+      ]
+    ]
+  ]
+
+finished : (s : Setting) (len : ℕ) (last : List (List ℕ)) (old new : List ℕ) → FinishesAt s len last old new (Ok tt) → IsTagOf s last len new
+finished s len last old new h = elim (eqb_tells (length last) (s.lanes * s.segment_length)) [
+  | inr w ↦ absurd (let e = (h.wrong_blocks w.1).0 in cc)
+  | inl one ↦ elim (eqb_tells (length old) len) [
+    | inr w ↦ absurd (let e = (h.wrong_length one.1 w.1).0 in cc)
+    | inl two ↦ (h.finished one.1 two.1).1
+  ]
+]
+
+verified : (s : Setting) (len : ℕ) (last : List (List ℕ)) (hash old new : List ℕ) (answer : Result (Unit {0}) Refusal)
+    → (answer ≡ Err WrongBlocks → ⊥) → (answer ≡ Err WrongLength → ⊥) → VerifiesAt s len last hash old new answer
+    → Tells (hash ≡ new) answer × IsTagOf s last len new
+verified s len last hash old new answer blocks lengths h = elim (eqb_tells (length last) (s.lanes * s.segment_length)) [
+  | inr w ↦ absurd (blocks (h.wrong_blocks w.1).0)
+  | inl one ↦ elim (eqb_tells (length hash) len) [
+    | inr w ↦ absurd (lengths (h.wrong_length one.1 (λ both. w.1 both.0)).0)
+    | inl two ↦ elim (eqb_tells (length old) len) [
+      | inr w ↦ absurd (lengths (h.wrong_length one.1 (λ both. w.1 both.1)).0)
+      | inl three ↦ h.verified one.1 two.1 three.1
+    ]
+  ]
+]
+
+-- ---- the run
+
+-- a list of three
+three_of : (xs : List (List (List ℕ))) → length xs ≡ 3 → get_or xs 0 [] ∷ get_or xs 1 [] ∷ get_or xs 2 [] ∷ [] ≡ xs
+three_of [] e = absurd (omega (arith, e))
+three_of (a ∷ []) e = absurd (omega (arith, e))
+three_of (a ∷ b ∷ []) e = absurd (omega (arith, e))
+three_of (a ∷ b ∷ c ∷ []) e = refl
+three_of (a ∷ b ∷ c ∷ d ∷ rest) e = absurd (omega (arith, e))
+
+module _ (pwd salt : List ℕ) (config : Config) (len : ℕ) (slices : ℕ → List (List (List ℕ))) where
+  abbrev its : Setting
+  its = setting_of pwd salt config len
+
+  module _ (run : IsRun pwd salt config len (job_of its len) slices) where
+    good : IsSetting its
+    good = setting_that_fits pwd salt config len run.accepted run.few_passes run.little_memory
+
+    is : setting_of_job (job_of its len) ≡ Some its
+    is = recovered its len good (accepted_hash config (length pwd) (length salt) len run.accepted)
+
+    beside : (n : ℕ) → get_or (remove (slices n) (n % 4)) 0 [] ∷ get_or (remove (slices n) (n % 4)) 1 [] ∷ get_or (remove (slices n) (n % 4)) 2 [] ∷ []
+        ≡ remove (slices n) (n % 4)
+    beside n =
+        let four = run.four n in let few : n % 4 < length (slices n) = omega (arith, four) in
+        let l = length-remove (slices n) (n % 4) few in three_of (remove (slices n) (n % 4)) (omega (arith, l, four))
+
+    lent_run : IsLentRun its slices
+    lent_run = record {
+      setting = good;
+      four = run.four;
+      long = run.long;
+      begun = λ lane fits. let step = run.begun lane fits in begun its lane step.0 _ fits (rw is at step.1);
+      others = run.others;
+      filled = λ n lane few fits.
+          let place : IsPlace its (n / 4) (n % 4) lane = record { pass_fits = omega (arith, few); slice_fits = omega arith; lane_fits = fits } in
+          rw (beside n) at (filled its (n / 4) (n % 4) lane _ _ _ _ _ place (rw is at (run.filled n lane few fits)));
+    }
+
+    holds : HoldsSlice its (its.passes - 1) 3 (slice_at (slices (4 * its.passes)) 3)
+    holds = run_agrees its slices lent_run
+
+    tag_by : (new : List ℕ) → IsTagOf its (slice_at (slices (4 * its.passes)) 3) len new → new ≡ tag_of pwd salt config len
+    unfolding tag_of
+    tag_by new h = h holds
+
+    pub made_tag : (old new : List ℕ) → Finishes (setting_of_job (job_of its len)) len (slice_at (slices (4 * its.passes)) 3) old new (Ok tt)
+        → new ≡ tag_of pwd salt config len
+    made_tag old new h = tag_by new (finished its len _ old new (rw is at h))
+
+    pub made_match : (hash old new : List ℕ) → Verifies (setting_of_job (job_of its len)) len (slice_at (slices (4 * its.passes)) 3) hash old new (Ok tt)
+        → hash ≡ tag_of pwd salt config len
+    made_match hash old new h =
+        let v = verified its len _ hash old new (Ok tt) (λ e. absurd (cc)) (λ e. absurd (cc)) (rw is at h) in v.0 ∙ tag_by new v.1
+
+    pub made_mismatch : (hash old new : List ℕ)
+        → Verifies (setting_of_job (job_of its len)) len (slice_at (slices (4 * its.passes)) 3) hash old new (Err Mismatch)
+        → hash ≡ tag_of pwd salt config len → ⊥
+    made_mismatch hash old new h same =
+        let v = verified its len _ hash old new (Err Mismatch) (λ e. absurd (cc)) (λ e. absurd (cc)) (rw is at h) in v.0 (same ∙ sym (tag_by new v.1))

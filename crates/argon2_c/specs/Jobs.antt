@@ -1,0 +1,184 @@
+-- What the steps of a hash over lent blocks answer. A step judges all numbers that it is given, and on a
+-- refusal what it would have written is as it was.
+use Rattle.std.specs.Prelude.{◌≡◌, ◌⊎◌, ℕ, ◌-◌, ◌*◌, ◌<◌, ◌==◌, ◌||◌, ◌&&◌, Bool, nat_lt, if◌then◌else◌, List, [], ◌∷◌, length, Option, Some, None, Result, Ok, Err, IsUtf8}
+use Rattle.argon2.specs.ConfigType.{Config}
+use Rattle.argon2.specs.ErrorType.{Error}
+use Rattle.argon2.specs.ErrorType.TheVariants.{DecodingFail, OutOfMemory}
+use Rattle.argon2.specs.Grammar.{Spells, SpellsNothing}
+use Rattle.argon2.specs.Prehash.{setting_of}
+use Rattle.argon2.specs.Setting.{Setting}
+use Rattle.argon2.specs.SettingsTable.{max_lanes, refusal_of}
+use Rattle.argon2.specs.Stored.{IsStoredConfig}
+use Rattle.argon2.specs.Tag.{last_blocks, tag_from}
+use Rattle.argon2.specs.Text.{Spelled, spelled_of, text_of}
+use Rattle.argon2.specs.Variant.{variant_number}
+use Rattle.argon2.specs.VariantType.{Variant}
+use Rattle.argon2.specs.Version.{version_number}
+use Rattle.argon2.specs.VersionType.{Version}
+use Rattle.argon2_memory.specs.Views.Lent.{FillsLent, HoldsSlice}
+use Rattle.argon2_memory.specs.Views.Segments.{IsReady}
+use Rattle.argon2_c.specs.Answers.{Writes, or_wrong_length}
+use Rattle.argon2_c.specs.Buffer.{padded}
+use Rattle.argon2_c.specs.Settings.{variant_of, version_of}
+use Rattle.argon2_c.specs.declared.jobs.LentJob.{LentJob}
+use Rattle.argon2_c.specs.declared.refusal.Refusal.{Refusal}
+use Rattle.argon2_c.specs.declared.refusal.Refusal.TheVariants.{Library, Mismatch, WrongLength, NotUtf8, NoJob, NoPlace, WrongBlocks}
+
+-- ---- a job in numbers
+
+-- the numbers of a setting, for a tag of len bytes
+abbrev pub job_of : Setting → ℕ → LentJob
+job_of s len = record {
+  prehash = s.prehash;
+  variant = variant_number s.variant;
+  version = version_number s.version;
+  lanes = s.lanes;
+  segment_length = s.segment_length;
+  passes = s.passes;
+  hash_length = len;
+}
+
+-- no accepted call has a job of these numbers: no lane or too many, segments of less than two blocks, 2^32
+-- blocks or more in four slices, no pass, or a tag of less than four bytes
+abbrev pub is_out_of_bounds : LentJob → Bool
+is_out_of_bounds job =
+    (job.lanes == 0) || nat_lt max_lanes job.lanes || nat_lt job.segment_length 2 || nat_lt 1073741823 (job.lanes * job.segment_length)
+    || (job.passes == 0) || nat_lt job.hash_length 4
+
+-- the setting of the numbers, with a variant and a version
+abbrev pub setting_with : LentJob → Variant → Version → Setting
+setting_with job variant version = record {
+  prehash = job.prehash;
+  variant = variant;
+  version = version;
+  lanes = job.lanes;
+  segment_length = job.segment_length;
+  passes = job.passes;
+}
+
+-- the same with those of their numbers, if there are such and the numbers are within their bounds
+abbrev pub setting_at : LentJob → Option Variant → Option Version → Option Setting
+setting_at job None version = None
+setting_at job (Some variant) None = None
+setting_at job (Some variant) (Some version) = if is_out_of_bounds job then None else Some (setting_with job variant version)
+
+abbrev pub setting_of_job : LentJob → Option Setting
+setting_of_job job = setting_at job (variant_of job.variant) (version_of job.version)
+
+-- ---- making a job
+
+-- the refusal with the old job, where there is one; else the new job
+abbrev pub Makes : Option Error → LentJob → LentJob → LentJob → Result (Unit {0}) Refusal → Type 0
+Makes (Some e) made old new answer = (answer ≡ Err (Library e)) × (new ≡ old)
+Makes None made old new answer = (answer ≡ Ok tt) × (new ≡ made)
+
+-- the job of a password, a salt and a configuration
+abbrev pub MakesJob : Result Config Error → List ℕ → List ℕ → LentJob → LentJob → Result (Unit {0}) Refusal → Type 0
+MakesJob (Err e) pwd salt old new answer = (answer ≡ Err (Library e)) × (new ≡ old)
+MakesJob (Ok config) pwd salt old new answer =
+    Makes (refusal_of config (length pwd) (length salt) config.hash_length)
+    (job_of (setting_of pwd salt config config.hash_length) config.hash_length) old new answer
+
+-- a job and a hash, before and after
+pub record Both : Type 0 where
+  pub job : LentJob
+  pub hash : List ℕ
+
+-- the refusal with both as they were, where there is one; else the job and the hash, in a buffer of just
+-- its length; or memory was refused
+abbrev pub MakesBoth : Option Error → Both → Both → Both → Result (Unit {0}) Refusal → Type 0
+MakesBoth (Some e) made old new answer = (answer ≡ Err (Library e)) × (new ≡ old)
+MakesBoth None made old new (Ok _) = new ≡ made
+MakesBoth None made old new (Err refusal) =
+    (new ≡ old) × ((refusal ≡ Library OutOfMemory) ⊎ ((refusal ≡ WrongLength) × (length old.hash ≡ length made.hash → ⊥)))
+
+-- the job that a stored text is verified by, and its hash
+pub record MakesStoredJob (text pwd secret ad : List ℕ) (old new : Both) (answer : Result (Unit {0}) Refusal) : Type 0 where
+  pub not_utf8 : (IsUtf8 text → ⊥) → (answer ≡ Err NotUtf8) × (new ≡ old)
+  pub unspelled : IsUtf8 text → SpellsNothing text → (answer ≡ Err (Library DecodingFail)) × (new ≡ old)
+  pub spelled : IsUtf8 text → (d : Spelled) (config : Config) → Spells text d → IsStoredConfig d secret ad config
+      → MakesBoth (refusal_of config (length pwd) (length d.salt) (length d.hash))
+      (record { job = job_of (setting_of pwd d.salt config (length d.hash)) (length d.hash); hash = d.hash }) old new answer
+
+-- ---- filling
+
+-- a lane's segment of a slice in a pass
+pub record IsPlace (s : Setting) (pass slice lane : ℕ) : Type 0 where
+  pub pass_fits : pass < s.passes
+  pub slice_fits : slice < 4
+  pub lane_fits : lane < s.lanes
+
+-- a slice has the segments of all lanes
+abbrev pub IsSlice : Setting → List (List ℕ) → Type 0
+IsSlice s blocks = length blocks ≡ s.lanes * s.segment_length
+
+-- three slices, and a segment
+pub record AreBlocks (s : Setting) (one two three segment : List (List ℕ)) : Type 0 where
+  pub first : IsSlice s one
+  pub second : IsSlice s two
+  pub third : IsSlice s three
+  pub own : length segment ≡ s.segment_length
+
+-- a lane's segment of slice 0 with its first two blocks
+pub record BeginsAt (s : Setting) (lane : ℕ) (old new : List (List ℕ)) (answer : Result (Unit {0}) Refusal) : Type 0 where
+  pub no_place : (lane < s.lanes → ⊥) → (answer ≡ Err NoPlace) × (new ≡ old)
+  pub wrong_blocks : lane < s.lanes → (length old ≡ s.segment_length → ⊥) → (answer ≡ Err WrongBlocks) × (new ≡ old)
+  pub begun : lane < s.lanes → length old ≡ s.segment_length → (answer ≡ Ok tt) × IsReady s 0 0 lane new
+
+abbrev pub Begins : Option Setting → ℕ → List (List ℕ) → List (List ℕ) → Result (Unit {0}) Refusal → Type 0
+Begins None lane old new answer = (answer ≡ Err NoJob) × (new ≡ old)
+Begins (Some s) lane old new answer = BeginsAt s lane old new answer
+
+-- a lane's segment of a slice after a pass, beside the other three slices in rising order
+pub record FillsAt (s : Setting) (pass slice lane : ℕ) (first second third old new : List (List ℕ)) (answer : Result (Unit {0}) Refusal) : Type 0 where
+  pub no_place : (IsPlace s pass slice lane → ⊥) → (answer ≡ Err NoPlace) × (new ≡ old)
+  pub wrong_blocks : IsPlace s pass slice lane → (AreBlocks s first second third old → ⊥) → (answer ≡ Err WrongBlocks) × (new ≡ old)
+  pub filled : IsPlace s pass slice lane → AreBlocks s first second third old → (answer ≡ Ok tt)
+      × FillsLent (record { setting = s; pass = pass; slice = slice }) lane (first ∷ second ∷ third ∷ []) old new
+
+abbrev pub Fills : Option Setting → ℕ → ℕ → ℕ → List (List ℕ) → List (List ℕ) → List (List ℕ) → List (List ℕ) → List (List ℕ)
+    → Result (Unit {0}) Refusal → Type 0
+Fills None pass slice lane first second third old new answer = (answer ≡ Err NoJob) × (new ≡ old)
+Fills (Some s) pass slice lane first second third old new answer = FillsAt s pass slice lane first second third old new answer
+
+-- ---- the end
+
+-- the tag, where slice 3 holds the blocks of the last pass
+abbrev pub IsTagOf : Setting → List (List ℕ) → ℕ → List ℕ → Type 0
+IsTagOf s last len tag = HoldsSlice s (s.passes - 1) 3 last → tag ≡ tag_from (last_blocks s) len
+
+-- the tag, in a buffer of just its length
+pub record FinishesAt (s : Setting) (len : ℕ) (last : List (List ℕ)) (old new : List ℕ) (answer : Result (Unit {0}) Refusal) : Type 0 where
+  pub wrong_blocks : (IsSlice s last → ⊥) → (answer ≡ Err WrongBlocks) × (new ≡ old)
+  pub wrong_length : IsSlice s last → (length old ≡ len → ⊥) → (answer ≡ Err WrongLength) × (new ≡ old)
+  pub finished : IsSlice s last → length old ≡ len → (answer ≡ Ok tt) × IsTagOf s last len new
+
+abbrev pub Finishes : Option Setting → ℕ → List (List ℕ) → List ℕ → List ℕ → Result (Unit {0}) Refusal → Type 0
+Finishes None len last old new answer = (answer ≡ Err NoJob) × (new ≡ old)
+Finishes (Some s) len last old new answer = FinishesAt s len last old new answer
+
+-- Ok where Same holds and Mismatch where it does not
+abbrev pub Tells : Type 0 → Result (Unit {0}) Refusal → Type 0
+Tells Same (Ok _) = Same
+Tells Same (Err Mismatch) = Same → ⊥
+Tells Same (Err refusal) = ⊥
+
+-- whether a hash is the tag, which is in a buffer of its length then
+pub record VerifiesAt (s : Setting) (len : ℕ) (last : List (List ℕ)) (hash old new : List ℕ) (answer : Result (Unit {0}) Refusal) : Type 0 where
+  pub wrong_blocks : (IsSlice s last → ⊥) → (answer ≡ Err WrongBlocks) × (new ≡ old)
+  pub wrong_length : IsSlice s last → ((length hash ≡ len) × (length old ≡ len) → ⊥) → (answer ≡ Err WrongLength) × (new ≡ old)
+  pub verified : IsSlice s last → length hash ≡ len → length old ≡ len → Tells (hash ≡ new) answer × IsTagOf s last len new
+
+abbrev pub Verifies : Option Setting → ℕ → List (List ℕ) → List ℕ → List ℕ → List ℕ → Result (Unit {0}) Refusal → Type 0
+Verifies None len last hash old new answer = (answer ≡ Err NoJob) × (new ≡ old)
+Verifies (Some s) len last hash old new answer = VerifiesAt s len last hash old new answer
+
+-- ---- the text of a tag
+
+-- the text, and zeros behind it, of a tag that is as long as the configuration says
+abbrev pub WritesTagText : Result Config Error → List ℕ → List ℕ → List ℕ → List ℕ → Result (Unit {0}) Refusal → Type 0
+WritesTagText (Err e) salt tag old new answer = (answer ≡ Err (Library e)) × (new ≡ old)
+WritesTagText (Ok config) salt tag old new answer =
+    Writes (or_wrong_length (refusal_of config 0 (length salt) config.hash_length)
+    ((length tag == config.hash_length) && nat_lt (length (text_of (spelled_of config salt tag))) (length old)))
+    (padded (length old) (text_of (spelled_of config salt tag))) old new answer

@@ -1,0 +1,50 @@
+-- The steps of one hash, called by anybody: first each lane's beginning, then the slices of all passes one after
+-- another, and in each slice its lanes in any order or at the same time.
+use Rattle.std.specs.Prelude.{◌≡◌, ◌≢◌, ℕ, suc, ◌*◌, ◌/◌, ◌%◌, ◌^◌, ◌<◌, List, [], length, None, Ok, Err, slice_index_or, take, drop}
+use Rattle.std.specs.List.{remove}
+use Rattle.argon2.specs.ConfigType.{Config}
+use Rattle.argon2.specs.Prehash.{setting_of}
+use Rattle.argon2.specs.SettingsTable.{refusal_of}
+use Rattle.argon2.specs.Tag.{tag_of}
+use Rattle.argon2_c.specs.Jobs.{Begins, Fills, Finishes, Verifies, job_of, setting_of_job}
+use Rattle.argon2_c.specs.declared.jobs.LentJob.{LentJob}
+use Rattle.argon2_c.specs.declared.refusal.Refusal.TheVariants.{Mismatch}
+
+-- a slice among several
+abbrev pub slice_at : List (List (List ℕ)) → ℕ → List (List ℕ)
+slice_at slices k = slice_index_or slices k []
+
+-- the segment of a lane in a slice, which lies lane after lane
+abbrev pub segment_of : LentJob → List (List ℕ) → ℕ → List (List ℕ)
+segment_of job slice lane = take job.segment_length (drop (lane * job.segment_length) slice)
+
+-- the job of accepted settings, for a tag of len bytes; the four slices before slice number n, counted over all
+-- passes, for each n; and that each step answered 0. A lane's step is told by its own segment and the three other
+-- slices, which no step writes meanwhile: so the order of a slice's lanes is not said
+pub record IsRun (pwd salt : List ℕ) (config : Config) (len : ℕ) (job : LentJob) (slices : ℕ → List (List (List ℕ))) : Type 0 where
+  pub few_passes : config.time_cost < 2 ^ 32
+  pub little_memory : config.mem_cost < 2 ^ 32
+  pub accepted : refusal_of config (length pwd) (length salt) len ≡ None
+  pub made : job ≡ job_of (setting_of pwd salt config len) len
+  pub four : (n : ℕ) → length (slices n) ≡ 4
+  pub long : (k : ℕ) → k < 4 → length (slice_at (slices 0) k) ≡ job.lanes * job.segment_length
+  pub begun : (lane : ℕ) → lane < job.lanes
+      → (old : List (List ℕ)) × Begins (setting_of_job job) lane old (segment_of job (slice_at (slices 0) 0) lane) (Ok tt)
+  pub others : (n k : ℕ) → n < 4 * job.passes → k ≢ n % 4 → slice_at (slices (suc n)) k ≡ slice_at (slices n) k
+  pub filled : (n lane : ℕ) → n < 4 * job.passes → lane < job.lanes → let beside = remove (slices n) (n % 4) in
+      Fills (setting_of_job job) (n / 4) (n % 4) lane (slice_at beside 0) (slice_at beside 1) (slice_at beside 2)
+      (segment_of job (slice_at (slices n) (n % 4)) lane) (segment_of job (slice_at (slices (suc n)) (n % 4)) lane) (Ok tt)
+
+-- what is finished then is the tag
+abbrev pub EveryRunGivesTheTag : Type 0
+EveryRunGivesTheTag = (pwd salt : List ℕ) (config : Config) (len : ℕ) (job : LentJob) (slices : ℕ → List (List (List ℕ)))
+    → IsRun pwd salt config len job slices
+    → (old new : List ℕ) → Finishes (setting_of_job job) job.hash_length (slice_at (slices (4 * job.passes)) 3) old new (Ok tt)
+    → new ≡ tag_of pwd salt config len
+
+-- and what is verified is whether a hash is the tag
+abbrev pub EveryRunGivesTheVerdict : Type 0
+EveryRunGivesTheVerdict = (pwd salt : List ℕ) (config : Config) (len : ℕ) (job : LentJob) (slices : ℕ → List (List (List ℕ)))
+    → IsRun pwd salt config len job slices → (hash old new : List ℕ) → let end = slice_at (slices (4 * job.passes)) 3 in
+    (Verifies (setting_of_job job) job.hash_length end hash old new (Ok tt) → hash ≡ tag_of pwd salt config len)
+    × (Verifies (setting_of_job job) job.hash_length end hash old new (Err Mismatch) → hash ≡ tag_of pwd salt config len → ⊥)

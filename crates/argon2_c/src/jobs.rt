@@ -1,0 +1,172 @@
+//! A job as C keeps it: H0 and the numbers that the blocks and the tag depend on.
+
+ghost use Rattle.std.specs.Prelude.{◌≡◌, ◌*◌, MatchResult, None, Some};
+ghost use Rattle.argon2.specs.Jobs.{IsJob, setting_of_context};
+ghost use Rattle.argon2_c.specs.Jobs.{MakesJob, MakesStoredJob, is_out_of_bounds, job_of, setting_at, setting_of_job};
+ghost use Rattle.argon2_c.specs.Settings.{config_of, version_of};
+ghost use Rattle.argon2_c.specs.declared.refusal.Refusal.TheVariants.{NoJob};
+
+use crate::refusal::Refusal;
+use crate::settings::Settings;
+use crate::stored_text::text_of;
+use argon2::parts::common::{MAX_LANES, MIN_HASH_LENGTH, MIN_TIME};
+use argon2::parts::context::{Context, Job};
+use argon2::parts::stored::{accepted_text, config_of, stored_context};
+use argon2::{Variant, Version};
+use argon2_memory::job::job_of_setting;
+use argon2_settings::context::prehash_of_context;
+use std::alloc::Global;
+
+/// The most blocks that one of the four slices has.
+const MAX_BLOCKS_IN_SLICE: u64 = 0x3FFF_FFFF;
+
+/// A job in numbers: all that its blocks and its tag depend on.
+#[repr(C)]
+#[derive(Clone, Copy, Debug)]
+pub struct LentJob {
+    /// H0, the hash of all inputs (RFC 9106, 3.2, step 1).
+    pub prehash: [u8; 64],
+
+    /// 0 for Argon2d, 1 for Argon2i, 2 for Argon2id.
+    pub variant: u32,
+
+    /// 0x10 or 0x13.
+    pub version: u32,
+
+    /// The number of lanes.
+    pub lanes: u32,
+
+    /// How many blocks a lane has in a slice.
+    pub segment_length: u32,
+
+    /// The number of passes.
+    pub passes: u32,
+
+    /// The length of the tag in bytes.
+    pub hash_length: u32,
+}
+
+impl LentJob {
+    /// The job of an accepted call.
+    fn of(context: &Context<'_>) -> LentJob
+        ensures { let c = context.now in result ≡ job_of (setting_of_context c) c.config.hash_length }
+    {
+        LentJob {
+            prehash: prehash_of_context(context),
+            variant: context.config.variant.as_u32(),
+            version: context.config.version.as_u32(),
+            lanes: context.config.lanes,
+            segment_length: context.segment_length,
+            passes: context.config.time_cost,
+            hash_length: context.config.hash_length,
+        }
+    }
+
+    /// Whether no accepted call has a job of these numbers, whatever the variant and the version.
+    fn is_out_of_bounds(&self) -> bool
+        ensures { result ≡ is_out_of_bounds self.now }
+    {
+        self.lanes == 0
+            || self.lanes > MAX_LANES
+            || self.segment_length < 2
+            || u64::from(self.lanes) * u64::from(self.segment_length) > MAX_BLOCKS_IN_SLICE
+            || self.passes < MIN_TIME
+            || self.hash_length < MIN_HASH_LENGTH
+    }
+
+    /// The library's job with a variant and a version, at its first slice.
+    fn job_with(&self, variant: Variant, version: Version) -> Result<Job, Refusal>
+        ensures { MatchResult result
+            (λ job. setting_at self.now (Some variant) (Some version) ≡ Some job.setting)
+            (λ refusal. (refusal ≡ NoJob)
+            × (setting_at self.now (Some variant) (Some version) ≡ None)) }
+    {
+        if self.is_out_of_bounds() {
+            return Err(Refusal::NoJob);
+        }
+        Ok(job_of_setting(
+            &self.prehash,
+            variant,
+            version,
+            self.lanes,
+            self.segment_length,
+            self.passes,
+        ))
+    }
+
+    /// The library's job with a variant, at its first slice.
+    fn job_of_variant(&self, variant: Variant) -> Result<Job, Refusal>
+        ensures { MatchResult result
+            (λ job. setting_at self.now (Some variant) (version_of self.now.version)
+            ≡ Some job.setting)
+            (λ refusal. (refusal ≡ NoJob)
+            × (setting_at self.now (Some variant) (version_of self.now.version) ≡ None)) }
+    {
+        match Version::from_u32(self.version) {
+            Ok(version) => self.job_with(variant, version),
+            Err(_) => Err(Refusal::NoJob),
+        }
+    }
+
+    /// The library's job of these numbers, at its first slice. Those of no job are `NoJob`.
+    pub fn job(&self) -> Result<Job, Refusal>
+        ensures { MatchResult result
+            (λ job. setting_of_job self.now ≡ Some job.setting)
+            (λ refusal. (refusal ≡ NoJob) × (setting_of_job self.now ≡ None)) }
+    {
+        match Variant::from_u32(self.variant) {
+            Ok(variant) => self.job_of_variant(variant),
+            Err(_) => Err(Refusal::NoJob),
+        }
+    }
+}
+
+/// Writes the job of a password. The numbers of the settings are looked at first, then the settings
+/// table; on a refusal the job is as it was.
+pub fn make(
+    pwd: &[u8],
+    salt: &[u8],
+    secret: &[u8],
+    ad: &[u8],
+    settings: &Settings,
+    job: &mut LentJob,
+) -> Result<(), Refusal>
+    ensures { MakesJob (config_of settings.now secret.entry ad.entry) pwd.now salt.now
+        job.old job.new result }
+{
+    let config = settings.config(secret, ad)?;
+    match Context::new(config, pwd, salt) {
+        Ok(context) => {
+            *job = LentJob::of(&context);
+            Ok(())
+        }
+        Err(error) => Err(Refusal::Library(error)),
+    }
+}
+
+/// Writes the job that a stored text is verified by, and its hash, to a buffer of the hash's length.
+/// A text that is not UTF-8 is `NotUtf8`, one that spells nothing `DecodingFail`; then what it spells
+/// is judged, and last the buffer. On a refusal both are as they were.
+pub fn make_stored(
+    alloc: Global,
+    text: &[u8],
+    pwd: &[u8],
+    secret: &[u8],
+    ad: &[u8],
+    job: &mut LentJob,
+    hash: &mut [u8],
+) -> Result<(), Refusal>
+    ensures { MakesStoredJob text.now pwd.now secret.now ad.now
+        (record { job = job.old; hash = hash.old }) (record { job = job.new; hash = hash.new })
+        result }
+{
+    let text = text_of(text)?;
+    let stored = accepted_text(alloc, text, pwd.len() as u64, secret, ad)?;
+    if hash.len() != stored.hash.len() {
+        return Err(Refusal::WrongLength);
+    }
+    let config = config_of(&stored, secret, ad);
+    *job = LentJob::of(&stored_context(&stored, &config, pwd));
+    hash.copy_from_slice(&stored.hash);
+    Ok(())
+}

@@ -1,0 +1,126 @@
+//! The calls for a memory that C lends and fills in steps, by as many threads as it likes.
+
+ghost use Rattle.std.specs.Prelude.{◌≡◌, ℕ, List, []};
+ghost use Rattle.std.specs.Borrow.{Bor};
+ghost use Rattle.argon2_c.specs.Jobs.{Begins, Fills, Finishes, MakesJob, MakesStoredJob, Verifies, WritesTagText, setting_of_job};
+ghost use Rattle.argon2_c.specs.Refusal.{IsCodeOf};
+ghost use Rattle.argon2_c.specs.Runs.{EveryRunGivesTheTag, EveryRunGivesTheVerdict};
+ghost use Rattle.argon2_c.specs.Settings.{config_of};
+
+use crate::jobs::LentJob;
+use crate::refusal::{code_of, code_of_verdict};
+use crate::settings::Settings;
+use crate::{hashing, jobs, steps};
+use argon2::parts::block::Block;
+use std::alloc::Global;
+
+/// Judges the settings and writes the job of a password: H0 and the numbers of its blocks. On a
+/// refusal `job` is as it was.
+#[unsafe(no_mangle)]
+pub extern "C" fn proved_argon2_job_make(
+    pwd: &[u8],
+    salt: &[u8],
+    secret: &[u8],
+    ad: &[u8],
+    settings: &Settings,
+    job: &mut LentJob,
+) -> u32
+    ensures { IsCodeOf (MakesJob (config_of settings.now secret.entry ad.entry) pwd.now salt.now
+        job.old job.new) result }
+{
+    code_of(&jobs::make(pwd, salt, secret, ad, settings, job))
+}
+
+/// Writes the job that a stored text is verified by, and the text's hash, to a buffer of its length.
+/// On a refusal both are as they were.
+#[unsafe(no_mangle)]
+pub extern "C" fn proved_argon2_job_read(
+    alloc: Global,
+    text: &[u8],
+    pwd: &[u8],
+    secret: &[u8],
+    ad: &[u8],
+    job: &mut LentJob,
+    hash: &mut [u8],
+) -> u32
+    ensures { IsCodeOf (MakesStoredJob text.now pwd.now secret.now ad.now
+        (record { job = job.old; hash = hash.old }) (record { job = job.new; hash = hash.new }))
+        result }
+{
+    code_of(&jobs::make_stored(alloc, text, pwd, secret, ad, job, hash))
+}
+
+/// Writes a lane's first two blocks into its segment of slice 0, whatever stands there.
+#[unsafe(no_mangle)]
+pub extern "C" fn proved_argon2_job_begin(job: &LentJob, lane: u32, own: &mut [Block]) -> u32
+    ensures { IsCodeOf (Begins (setting_of_job job.now) lane own.old own.new) result }
+{
+    code_of(&steps::begin(job, lane, own))
+}
+
+/// Fills a lane's segment of a slice in a pass, beside the other three slices in rising order.
+#[unsafe(no_mangle)]
+pub extern "C" fn proved_argon2_job_fill(
+    job: &LentJob,
+    pass: u32,
+    slice: u32,
+    lane: u32,
+    first: &[Block],
+    second: &[Block],
+    third: &[Block],
+    own: &mut [Block],
+) -> u32
+    ensures { IsCodeOf (Fills (setting_of_job job.now) pass slice lane first.now second.now
+        third.now own.old own.new) result }
+{
+    code_of(&steps::fill(job, pass, slice, lane, first, second, third, own))
+}
+
+/// Writes the tag of a filled memory, whose slice 3 is passed, to a buffer of its length.
+#[unsafe(no_mangle)]
+pub extern "C" fn proved_argon2_job_finish(job: &LentJob, last: &[Block], out: &mut [u8]) -> u32
+    ensures { IsCodeOf (Finishes (setting_of_job job.now) job.now.hash_length last.now out.old
+        out.new) result }
+{
+    code_of(&steps::finish(job, last, out))
+}
+
+/// Returns 0 only where a hash is the tag of a filled memory, and 64 only where it is not. The tag is
+/// then in `tag`.
+#[unsafe(no_mangle)]
+pub extern "C" fn proved_argon2_job_verify(
+    job: &LentJob,
+    last: &[Block],
+    hash: &[u8],
+    tag: &mut [u8],
+) -> u32
+    ensures { IsCodeOf (Verifies (setting_of_job job.now) job.now.hash_length last.now hash.now
+        tag.old tag.new) result }
+{
+    code_of_verdict(&steps::verify(job, last, hash, tag))
+}
+
+/// Writes the text of a given tag and then zeros to `text`, which has more bytes than the text. On a
+/// refusal `text` is as it was.
+#[unsafe(no_mangle)]
+pub extern "C" fn proved_argon2_encode(
+    alloc: Global,
+    salt: &[u8],
+    settings: &Settings,
+    tag: &[u8],
+    text: &mut [u8],
+) -> u32
+    ensures { (secret ad : Bor (List ℕ)) → secret.now ≡ [] → ad.now ≡ []
+        → IsCodeOf (WritesTagText (config_of settings.now secret ad) salt.now tag.now text.old
+        text.new) result }
+{
+    code_of(&hashing::encode(alloc, salt, settings, tag, text))
+}
+
+/// Whatever the order of the lanes within each slice, and also at the same time: where each step of a
+/// hash answered 0, what is finished then is the tag, and what is verified is whether a hash is it. It
+/// does nothing when it runs.
+pub fn any_order_of_steps()
+    ensures tag { EveryRunGivesTheTag }
+    ensures verdict { EveryRunGivesTheVerdict }
+{}

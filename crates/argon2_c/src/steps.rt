@@ -1,0 +1,119 @@
+//! The steps of a hash over blocks that are lent, each judged by itself.
+
+ghost use Rattle.std.specs.Prelude.{◌≡◌, ◌*◌, IsTrue, ◌↔◌, MatchResult, length};
+ghost use Rattle.argon2_c.specs.Answers.{judgement_of};
+ghost use Rattle.argon2_c.specs.Jobs.{Begins, Fills, Finishes, IsPlace, IsSlice, Verifies, setting_of_job};
+
+use crate::jobs::LentJob;
+use crate::refusal::Refusal;
+use argon2::parts::block::Block;
+use argon2::parts::common::SYNC_POINTS;
+use argon2::parts::context::Job;
+use argon2::parts::stored::are_equal;
+use argon2_fill::lent::{finalize_lent, write_first_lent};
+use argon2_memory::job::recall_job;
+use argon2_memory::segment::fill_lent_segment;
+
+/// Whether a slice has the blocks of all lanes.
+fn is_slice(job: &Job, blocks: &[Block]) -> bool
+    ensures { IsTrue result ↔ IsSlice job.now.setting blocks.now }
+{
+    blocks.len() as u64 == u64::from(job.lanes()) * u64::from(job.segment_length())
+}
+
+/// Writes a lane's first two blocks into its segment of slice 0.
+pub fn begin(numbers: &LentJob, lane: u32, own: &mut [Block]) -> Result<(), Refusal>
+    ensures { Begins (setting_of_job numbers.now) lane own.old own.new result }
+{
+    match numbers.job() {
+        Ok(job) => {
+            if lane >= job.lanes() {
+                return Err(Refusal::NoPlace);
+            }
+            if own.len() != job.segment_length() as usize {
+                return Err(Refusal::WrongBlocks);
+            }
+            write_first_lent(&job, lane, own);
+            Ok(())
+        }
+        Err(refusal) => Err(refusal),
+    }
+}
+
+/// Fills a lane's segment of a slice in a pass, beside the other three slices in rising order.
+pub fn fill(
+    numbers: &LentJob,
+    pass: u32,
+    slice: u32,
+    lane: u32,
+    first: &[Block],
+    second: &[Block],
+    third: &[Block],
+    own: &mut [Block],
+) -> Result<(), Refusal>
+    ensures { Fills (setting_of_job numbers.now) pass slice lane first.now second.now third.now
+        own.old own.new result }
+{
+    match numbers.job() {
+        Ok(job) => {
+            if pass >= job.passes() || slice >= SYNC_POINTS || lane >= job.lanes() {
+                return Err(Refusal::NoPlace);
+            }
+            if !is_slice(&job, first) || !is_slice(&job, second) || !is_slice(&job, third) {
+                return Err(Refusal::WrongBlocks);
+            }
+            if own.len() != job.segment_length() as usize {
+                return Err(Refusal::WrongBlocks);
+            }
+            fill_lent_segment(&job.at(pass, slice), lane, first, second, third, own);
+            Ok(())
+        }
+        Err(refusal) => Err(refusal),
+    }
+}
+
+/// Writes the tag to a buffer of its length, where slice 3 holds the blocks of the last pass.
+pub fn finish(numbers: &LentJob, last: &[Block], out: &mut [u8]) -> Result<(), Refusal>
+    ensures { Finishes (setting_of_job numbers.now) numbers.now.hash_length last.now out.old out.new
+        result }
+{
+    match numbers.job() {
+        Ok(job) => {
+            if !is_slice(&job, last) {
+                return Err(Refusal::WrongBlocks);
+            }
+            if out.len() != numbers.hash_length as usize {
+                return Err(Refusal::WrongLength);
+            }
+            finalize_lent(&job, last, out);
+            Ok(())
+        }
+        Err(refusal) => Err(refusal),
+    }
+}
+
+/// Whether a hash is the tag, which is then in a buffer of its length.
+pub fn verify(
+    numbers: &LentJob,
+    last: &[Block],
+    hash: &[u8],
+    tag: &mut [u8],
+) -> Result<bool, Refusal>
+    ensures { Verifies (setting_of_job numbers.now) numbers.now.hash_length last.now hash.now
+        tag.old tag.new (judgement_of result) }
+{
+    match numbers.job() {
+        Ok(job) => {
+            if !is_slice(&job, last) {
+                return Err(Refusal::WrongBlocks);
+            }
+            let length = numbers.hash_length as usize;
+            if hash.len() != length || tag.len() != length {
+                return Err(Refusal::WrongLength);
+            }
+            finalize_lent(&job, last, tag);
+            Ok(are_equal(hash, tag))
+        }
+        Err(refusal) => Err(refusal),
+    }
+}
