@@ -1,20 +1,16 @@
 //! Hashing a password into a buffer of the caller's.
 
-ghost use Rattle.std.specs.Prelude.{◌≡◌, ℕ, List, [], length};
-ghost use Rattle.std.specs.Borrow.{Bor};
+ghost use Rattle.std.specs.Prelude.{◌≡◌, length};
 ghost use Rattle.argon2.specs.SettingsTable.{refusal_of};
 ghost use Rattle.argon2_c.specs.Answers.{WritesHashText, WritesTag};
-ghost use Rattle.argon2_c.specs.Jobs.{WritesTagText};
 ghost use Rattle.argon2_c.specs.Settings.{config_of};
 
 use crate::buffer::write_text;
 use crate::refusal::Refusal;
 use crate::settings::{Settings, text_len};
 use argon2::parts::context::first_refusal;
-use argon2::parts::encoding::encode_string;
 use argon2::parts::memory::Memory;
 use argon2::{Config, Error, hash_encoded_in_sequential, hash_raw_in_sequential};
-use argon2_settings::context::accepted_context;
 use std::alloc::Global;
 
 /// Writes the tag of a password to a buffer of `settings.hash_length` bytes, computed over a memory
@@ -74,35 +70,8 @@ pub fn hash_encoded(
     write_text(encoded.as_str(), text)
 }
 
-/// Writes the text of a given tag, and zeros behind it, to a buffer with more bytes than the text. It
-/// refuses as `hash_encoded` does; a tag of another length than the settings' is `WrongLength` too.
-pub fn encode(
-    alloc: Global,
-    salt: &[u8],
-    settings: &Settings,
-    tag: &[u8],
-    text: &mut [u8],
-) -> Result<(), Refusal>
-    ensures { (secret ad : Bor (List ℕ)) → secret.now ≡ [] → ad.now ≡ []
-        → WritesTagText (config_of settings.now secret ad) salt.now tag.now text.old text.new
-        result }
-{
-    let config = settings.config(&[], &[])?;
-    if let Some(error) = refused(&config, &[], salt) {
-        return Err(Refusal::Library(error));
-    }
-    if tag.len() != config.hash_length as usize {
-        return Err(Refusal::WrongLength);
-    }
-    if text.len() as u64 <= text_len(&config, salt.len() as u32) {
-        return Err(Refusal::WrongLength);
-    }
-    let encoded = encode_string(alloc, &accepted_context(config, &[], salt), tag)?;
-    write_text(encoded.as_str(), text)
-}
-
 /// The first refusal of the settings table.
-fn refused(config: &Config<'_>, pwd: &[u8], salt: &[u8]) -> Option<Error>
+pub fn refused(config: &Config<'_>, pwd: &[u8], salt: &[u8]) -> Option<Error>
     ensures { result ≡ refusal_of config.now (length pwd.now)
         (length salt.now) config.now.hash_length }
 {

@@ -10,7 +10,7 @@ ghost use Rattle.argon2_c.specs.Settings.{config_of};
 use crate::jobs::LentJob;
 use crate::refusal::{code_of, code_of_verdict};
 use crate::settings::Settings;
-use crate::{hashing, jobs, steps};
+use crate::{encoding, jobs, steps};
 use argon2::parts::block::Block;
 use std::alloc::Global;
 
@@ -114,7 +114,7 @@ pub extern "C" fn proved_argon2_encode(
         → IsCodeOf (WritesTagText (config_of settings.now secret ad) salt.now tag.now text.old
         text.new) result }
 {
-    code_of(&hashing::encode(alloc, salt, settings, tag, text))
+    code_of(&encoding::encode(alloc, salt, settings, tag, text))
 }
 
 /// Whatever the order of the lanes within each slice, and also at the same time: where each step of a

@@ -13,6 +13,7 @@ ghost use Rattle.argon2_c.specs.Refusal.{IsCodeOf};
 ghost use Rattle.argon2_c.specs.Settings.{config_of};
 
 mod buffer;
+mod encoding;
 mod hashing;
 mod jobs;
 mod keeping;

@@ -128,6 +128,7 @@ pub fn job_of_setting(
       slice = 0;
     } }
 {
+    let slice = 0;
     Job {
         prehash: *prehash,
         variant,
@@ -136,7 +137,7 @@ pub fn job_of_setting(
         segment_length,
         passes,
         pass: 0,
-        slice: 0,
+        slice,
     }
 }
 

@@ -5,7 +5,7 @@ use Rattle.argon2.specs.Text.{spelled_of, text_of}
 use Rattle.argon2_c.specs.Buffer.{WritesText}
 use Rattle.argon2_c.proofs.Lengths.{accepted_salt}
 use Rattle.argon2_c.proofs.TagTexts.{given, lacks_memory, refused_text, takes_text, too_short, wrong_tag}
-use Rattle.argon2_c.proofs.hashing.encode.Goals as goal
+use Rattle.argon2_c.proofs.encoding.encode.Goals as goal
 
 pub overflow_cast-salt : goal.overflow_cast-salt
 overflow_cast-salt c =

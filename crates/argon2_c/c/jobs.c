@@ -1,0 +1,164 @@
+/*
+ * The steps of a hash over blocks that are lent: tags by lanes in two orders, and numbers and lengths that fit no job,
+ * each of which is refused by its own number, with what would have been written as it was.
+ *
+ * The tags are those of RFC 9106, section 5, and of the tests of the C reference implementation.
+ */
+#include "checks.h"
+
+#include <stdlib.h>
+
+static const proved_argon2_settings rfc = {PROVED_ARGON2_ID, PROVED_ARGON2_VERSION_13, 32, 3, 4, 32};
+static const char tag_of_rfc[] = "0d640df58d78766c08c037a34a8b53c9d01ef0452d75b65eb52520e96b01e659";
+static const char stored[] = "$argon2i$v=19$m=256,t=2,p=2$c29tZXNhbHQ$T/XOJ2mh1/TIpJHfCdQan76Q5esCFVoT5MAeIM1Oq2E";
+
+enum { MOST = 256 };
+static proved_argon2_block blocks[MOST], before[MOST];
+
+/* The answer of a step for a lane; step 0 begins it, and step n + 1 fills its segment of slice number n. */
+static uint32_t take_step(const proved_argon2_job *job, uint32_t n, uint32_t lane)
+{
+    const size_t length = job->segment_length, whole = job->lanes * length;
+    const uint32_t slice = (n + 3) % 4;
+    const proved_argon2_block *others[3];
+    if (n == 0) {
+        return proved_argon2_job_begin(job, lane, blocks + lane * length, length);
+    }
+    for (size_t i = 0; i < 3; i++) {
+        others[i] = blocks + (i < slice ? i : i + 1) * whole;
+    }
+    return proved_argon2_job_fill(job, (n - 1) / 4, slice, lane, others[0], whole, others[1], whole, others[2], whole,
+                                  blocks + slice * whole + lane * length, length);
+}
+
+/* All steps over blocks that hold other things, the lanes in rising or in falling order. */
+static bool take_steps(const proved_argon2_job *job, bool falls)
+{
+    bool good = 4 * (size_t)job->lanes * job->segment_length <= MOST;
+    fill_bytes((uint8_t *)blocks, sizeof blocks, 7);
+    for (uint32_t n = 0; good && n <= 4 * job->passes; n++) {
+        for (uint32_t i = 0; i < job->lanes; i++) {
+            good &= take_step(job, n, falls ? job->lanes - 1 - i : i) == PROVED_ARGON2_OK;
+        }
+    }
+    return good;
+}
+
+static uint32_t make(const proved_argon2_settings *settings, proved_argon2_job *job)
+{
+    uint8_t pwd[32], salt[16], secret[8], ad[12];
+    memset(pwd, 1, sizeof pwd);
+    memset(salt, 2, sizeof salt);
+    memset(secret, 3, sizeof secret);
+    memset(ad, 4, sizeof ad);
+    return proved_argon2_job_make(pwd, sizeof pwd, salt, sizeof salt, secret, sizeof secret, ad, sizeof ad, settings, job);
+}
+
+static void check_tags(void)
+{
+    const proved_argon2_block *const last = blocks + 3 * 8;
+    proved_argon2_job job;
+    uint8_t tag[32], again[32], text[128], other[128];
+    check_code(make(&rfc, &job), PROVED_ARGON2_OK, "a job of RFC 9106's settings");
+    check(job.lanes == 4 && job.segment_length == 2 && job.passes == 3 && job.hash_length == 32, "its numbers");
+    for (int falls = 0; falls < 2; falls++) {
+        check(take_steps(&job, falls), "its steps");
+        check_code(proved_argon2_job_finish(&job, last, 8, tag, 32), PROVED_ARGON2_OK, "its end");
+        check(is_hex(tag, 32, tag_of_rfc), "its tag");
+    }
+    check_code(proved_argon2_job_verify(&job, last, 8, tag, 32, again, 32), PROVED_ARGON2_OK, "its tag is verified");
+    check(memcmp(tag, again, 32) == 0, "and is there");
+    for (size_t i = 0; i < 32; i++) {
+        tag[i] ^= 1;
+        check_code(proved_argon2_job_verify(&job, last, 8, tag, 32, again, 32), PROVED_ARGON2_MISMATCH, "another byte");
+        tag[i] ^= 1;
+    }
+    check_code(proved_argon2_encode(bytes_of("somesalt"), 8, &rfc, tag, 32, text, 128), PROVED_ARGON2_OK, "its text");
+    check(text[0] == '$' && strlen((char *)text) == proved_argon2_encoded_len(&rfc, 8), "of its length");
+    memcpy(other, text, 128);
+    check_code(proved_argon2_encode(bytes_of("somesalt"), 8, &rfc, tag, 31, text, 128), PROVED_ARGON2_WRONG_LENGTH, "a tag of 31 bytes");
+    check_code(proved_argon2_encode(bytes_of("somesalt"), 8, &rfc, tag, 32, text, strlen((char *)text)), PROVED_ARGON2_WRONG_LENGTH, "no room");
+    check_code(proved_argon2_encode(bytes_of("some"), 4, &rfc, tag, 32, text, 128), PROVED_ARGON2_SALT_TOO_SHORT, "a short salt");
+    check(memcmp(text, other, 128) == 0, "the text is as it was");
+}
+
+static void check_text(void)
+{
+    proved_argon2_job job, same;
+    uint8_t hash[32], tag[32];
+    memset(hash, 9, sizeof hash);
+    memset(&job, 5, sizeof job);
+    same = job;
+    check_code(proved_argon2_job_read(bytes_of(stored), strlen(stored), bytes_of("password"), 8, NULL, 0, NULL, 0, &job, hash, 31),
+               PROVED_ARGON2_WRONG_LENGTH, "a buffer of 31 bytes");
+    check_code(proved_argon2_job_read(bytes_of(stored), strlen(stored) - 1, bytes_of("password"), 8, NULL, 0, NULL, 0, &job, hash, 32),
+               PROVED_ARGON2_DECODING_FAIL, "half a text");
+    check_code(proved_argon2_job_read(bytes_of("\xff"), 1, bytes_of("password"), 8, NULL, 0, NULL, 0, &job, hash, 32),
+               PROVED_ARGON2_NOT_UTF8, "no text");
+    check(memcmp(&job, &same, sizeof job) == 0 && hash[0] == 9 && hash[31] == 9, "job and hash are as they were");
+    for (int wrong = 0; wrong < 2; wrong++) {
+        check_code(proved_argon2_job_read(bytes_of(stored), strlen(stored), bytes_of(wrong ? "Password" : "password"), 8, NULL, 0,
+                                          NULL, 0, &job, hash, 32), PROVED_ARGON2_OK, "a job of a text");
+        check(take_steps(&job, false), "its steps");
+        check_code(proved_argon2_job_verify(&job, blocks + 192, 64, hash, 32, tag, 32),
+                   wrong ? PROVED_ARGON2_MISMATCH : PROVED_ARGON2_OK, "its verdict");
+    }
+}
+
+/* A step for one job, with a number or a length that does not fit: its own refusal, and all blocks as they were. */
+static void check_fill(const proved_argon2_job *job, uint32_t pass, uint32_t slice, uint32_t lane, size_t first, size_t second,
+                       size_t third, size_t own, uint32_t expected, const char *name)
+{
+    check_code(proved_argon2_job_fill(job, pass, slice, lane, blocks, first, blocks + 8, second, blocks + 16, third, blocks + 24, own),
+               expected, name);
+    check(memcmp(blocks, before, sizeof blocks) == 0, "all blocks are as they were");
+}
+
+static void check_numbers(void)
+{
+    proved_argon2_job job, bad;
+    uint32_t *const numbers[] = {&bad.variant, &bad.version, &bad.lanes, &bad.segment_length, &bad.passes, &bad.hash_length};
+    static const uint32_t wrong[][3] = {
+        {3, 16, UINT32_MAX}, {0, 17, UINT32_MAX}, {0, 0x1000000, UINT32_MAX}, {0, 1, UINT32_MAX}, {0, 0, 0}, {0, 1, 3}};
+    uint8_t tag[32] = {0};
+    check_code(make(&rfc, &job), PROVED_ARGON2_OK, "a job");
+    fill_bytes((uint8_t *)blocks, sizeof blocks, 3);
+    memcpy(before, blocks, sizeof before);
+    for (size_t i = 0; i < 6; i++) {
+        for (size_t j = 0; j < 3; j++) {
+            bad = job;
+            *numbers[i] = wrong[i][j];
+            check_fill(&bad, 0, 3, 0, 8, 8, 8, 2, PROVED_ARGON2_NO_JOB, "a number of no job");
+            check_code(proved_argon2_job_begin(&bad, 0, blocks, 2), PROVED_ARGON2_NO_JOB, "a beginning");
+            check_code(proved_argon2_job_finish(&bad, blocks, 8, tag, 32), PROVED_ARGON2_NO_JOB, "an end");
+            check_code(proved_argon2_job_verify(&bad, blocks, 8, tag, 32, tag, 32), PROVED_ARGON2_NO_JOB, "a verdict");
+        }
+    }
+    check_fill(&job, 3, 3, 0, 8, 8, 8, 2, PROVED_ARGON2_NO_PLACE, "pass 3 of 3");
+    check_fill(&job, UINT32_MAX, 3, 0, 8, 8, 8, 2, PROVED_ARGON2_NO_PLACE, "the last pass that a number holds");
+    check_fill(&job, 0, 4, 0, 8, 8, 8, 2, PROVED_ARGON2_NO_PLACE, "slice 4 of 4");
+    check_fill(&job, 0, 3, 4, 8, 8, 8, 2, PROVED_ARGON2_NO_PLACE, "lane 4 of 4");
+    check_fill(&job, 0, 3, UINT32_MAX, 8, 8, 8, 2, PROVED_ARGON2_NO_PLACE, "the last lane that a number holds");
+    check_fill(&job, 0, 3, 0, 7, 8, 8, 2, PROVED_ARGON2_WRONG_BLOCKS, "a short slice 0");
+    check_fill(&job, 0, 3, 0, 8, 9, 8, 2, PROVED_ARGON2_WRONG_BLOCKS, "a long slice 1");
+    check_fill(&job, 0, 3, 0, 8, 8, 0, 2, PROVED_ARGON2_WRONG_BLOCKS, "no slice 2");
+    check_fill(&job, 0, 3, 0, 8, 8, 8, 1, PROVED_ARGON2_WRONG_BLOCKS, "a short segment");
+    check_fill(&job, 0, 3, 0, 8, 8, 8, 3, PROVED_ARGON2_WRONG_BLOCKS, "a long segment");
+    check_code(proved_argon2_job_begin(&job, 4, blocks, 2), PROVED_ARGON2_NO_PLACE, "lane 4 begins");
+    check_code(proved_argon2_job_begin(&job, 0, blocks, 3), PROVED_ARGON2_WRONG_BLOCKS, "a long segment begins");
+    check_code(proved_argon2_job_begin(&job, 0, NULL, 2), PROVED_ARGON2_NULL_POINTER, "no segment begins");
+    check_code(proved_argon2_job_begin(&job, 0, NULL, 0), PROVED_ARGON2_WRONG_BLOCKS, "a segment of none begins");
+    check_code(proved_argon2_job_finish(&job, blocks, 7, tag, 32), PROVED_ARGON2_WRONG_BLOCKS, "a short slice 3");
+    check_code(proved_argon2_job_finish(&job, blocks, 8, tag, 31), PROVED_ARGON2_WRONG_LENGTH, "a short tag");
+    check_code(proved_argon2_job_verify(&job, blocks, 8, tag, 32, tag, 31), PROVED_ARGON2_WRONG_LENGTH, "a short room for it");
+    check_code(proved_argon2_job_verify(&job, blocks, 8, tag, 31, tag, 32), PROVED_ARGON2_WRONG_LENGTH, "a short hash");
+    check(memcmp(blocks, before, sizeof blocks) == 0 && tag[0] == 0 && tag[31] == 0, "all is as it was");
+}
+
+int main(void)
+{
+    check_tags();
+    check_text();
+    check_numbers();
+    return checks_failed != 0;
+}
