@@ -47,7 +47,6 @@ struct verdict {
 
 /* The memory that is kept, where one is. */
 static proved_argon2_memory memory;
-static bool is_kept;
 
 /* How many hashes were tried that differ in one byte alone, at each of their bytes. */
 static unsigned at_each_byte;
@@ -119,59 +118,79 @@ static void read_hidden(char *line, struct vector *it) {
   hide(it->secret.at, it->secret.length);
 }
 
-/* ---- the calls, over a memory that is kept or none */
+/* ---- the calls, over no memory and over one that is kept */
 
 static uint32_t hash_raw(const struct vector *it, struct bytes *tag) {
-  tag->length = it->tag.length;
-  if (is_kept) {
-    return proved_argon2_hash_raw_in(&memory, it->password.at, it->password.length, it->salt.at,
-                                     it->salt.length, it->secret.at, it->secret.length, it->ad.at,
-                                     it->ad.length, &it->settings, tag->at, tag->length);
-  }
   return proved_argon2_hash_raw(it->password.at, it->password.length, it->salt.at, it->salt.length,
                                 it->secret.at, it->secret.length, it->ad.at, it->ad.length,
                                 &it->settings, tag->at, tag->length);
 }
 
+static uint32_t hash_raw_in(const struct vector *it, struct bytes *tag) {
+  return proved_argon2_hash_raw_in(&memory, it->password.at, it->password.length, it->salt.at,
+                                   it->salt.length, it->secret.at, it->secret.length, it->ad.at,
+                                   it->ad.length, &it->settings, tag->at, tag->length);
+}
+
 static uint32_t hash_encoded(const struct vector *it, struct text *text) {
-  if (is_kept) {
-    return proved_argon2_hash_encoded_in(&memory, it->password.at, it->password.length, it->salt.at,
-                                         it->salt.length, it->secret.at, it->secret.length,
-                                         it->ad.at, it->ad.length, &it->settings, text->at,
-                                         sizeof text->at);
-  }
   return proved_argon2_hash_encoded(it->password.at, it->password.length, it->salt.at,
                                     it->salt.length, it->secret.at, it->secret.length, it->ad.at,
                                     it->ad.length, &it->settings, text->at, sizeof text->at);
 }
 
-static uint32_t verify_raw(const struct vector *it, const struct bytes *hash) {
-  if (is_kept) {
-    return proved_argon2_verify_raw_in(&memory, it->password.at, it->password.length, it->salt.at,
+static uint32_t hash_encoded_in(const struct vector *it, struct text *text) {
+  return proved_argon2_hash_encoded_in(&memory, it->password.at, it->password.length, it->salt.at,
                                        it->salt.length, it->secret.at, it->secret.length, it->ad.at,
-                                       it->ad.length, &it->settings, hash->at, hash->length);
-  }
+                                       it->ad.length, &it->settings, text->at, sizeof text->at);
+}
+
+static uint32_t verify_raw(const struct vector *it, const struct bytes *hash) {
   return proved_argon2_verify_raw(it->password.at, it->password.length, it->salt.at,
                                   it->salt.length, it->secret.at, it->secret.length, it->ad.at,
                                   it->ad.length, &it->settings, hash->at, hash->length);
 }
 
+static uint32_t verify_raw_in(const struct vector *it, const struct bytes *hash) {
+  return proved_argon2_verify_raw_in(&memory, it->password.at, it->password.length, it->salt.at,
+                                     it->salt.length, it->secret.at, it->secret.length, it->ad.at,
+                                     it->ad.length, &it->settings, hash->at, hash->length);
+}
+
 static uint32_t verify_encoded(const struct vector *it, const struct text *text) {
-  if (is_kept) {
-    return proved_argon2_verify_encoded_in(&memory, text->at, text->length, it->password.at,
-                                           it->password.length, it->secret.at, it->secret.length,
-                                           it->ad.at, it->ad.length);
-  }
   return proved_argon2_verify_encoded(text->at, text->length, it->password.at, it->password.length,
                                       it->secret.at, it->secret.length, it->ad.at, it->ad.length);
 }
+
+static uint32_t verify_encoded_in(const struct vector *it, const struct text *text) {
+  return proved_argon2_verify_encoded_in(&memory, text->at, text->length, it->password.at,
+                                         it->password.length, it->secret.at, it->secret.length,
+                                         it->ad.at, it->ad.length);
+}
+
+/* The four calls over a memory. */
+struct calls {
+  const char *memory;
+  uint32_t (*hash_raw)(const struct vector *, struct bytes *);
+  uint32_t (*hash_encoded)(const struct vector *, struct text *);
+  uint32_t (*verify_raw)(const struct vector *, const struct bytes *);
+  uint32_t (*verify_encoded)(const struct vector *, const struct text *);
+};
+
+static const struct calls MEMORIES[] = {
+    {"fresh", hash_raw, hash_encoded, verify_raw, verify_encoded},
+    {"kept", hash_raw_in, hash_encoded_in, verify_raw_in, verify_encoded_in},
+};
+
+/* Those that are looked at. */
+static const struct calls *calls;
 
 /* ---- hashing */
 
 /* Writes the tag of a vector, and gives how many reports came of it. */
 static unsigned reports_of_hash(const struct vector *it, struct bytes *tag) {
   const unsigned before = VALGRIND_COUNT_ERRORS;
-  if (hash_raw(it, tag) != PROVED_ARGON2_OK) stop("the hash was refused");
+  tag->length = it->tag.length;
+  if (calls->hash_raw(it, tag) != PROVED_ARGON2_OK) stop("the hash was refused");
   return VALGRIND_COUNT_ERRORS - before;
 }
 
@@ -207,6 +226,14 @@ static size_t letters_by_table(const uint8_t *bytes, size_t length, uint8_t *let
   return count;
 }
 
+/* Whether the letters of a text's hash are those of a tag, and nothing is behind them. */
+static bool are_letters_of(const struct bytes *tag, const struct text *text) {
+  uint8_t letters[2 * MAX_BYTES];
+  const size_t count = letters_by_table(tag->at, tag->length, letters);
+  return text->at[text->hash - 1] == '$' && text->at[text->length] == 0 &&
+         count == text->length - text->hash && memcmp(&text->at[text->hash], letters, count) == 0;
+}
+
 /* Finds how long a text is, and where its hash begins. */
 static void measure(struct text *text) {
   text->length = strlen((const char *)text->at);
@@ -219,7 +246,7 @@ static void measure(struct text *text) {
    looked at: the zeros behind it begin where its length says. */
 static unsigned reports_of_text(const struct vector *it, struct text *text) {
   const unsigned before = VALGRIND_COUNT_ERRORS;
-  if (hash_encoded(it, text) != PROVED_ARGON2_OK) stop("the text was refused");
+  if (calls->hash_encoded(it, text) != PROVED_ARGON2_OK) stop("the text was refused");
   const unsigned reports = VALGRIND_COUNT_ERRORS - before;
   text->length = (size_t)proved_argon2_encoded_len(&it->settings, (uint32_t)it->salt.length);
   text->hash = text->length - (4 * it->tag.length + 2) / 3;
@@ -231,7 +258,6 @@ static unsigned reports_of_text(const struct vector *it, struct text *text) {
 static bool encodes_alike(char *line) {
   struct vector it;
   struct text text;
-  uint8_t letters[2 * MAX_BYTES];
   read_hidden(line, &it);
   const unsigned reports = reports_of_text(&it, &text);
   unsigned hidden = 0;
@@ -241,9 +267,7 @@ static bool encodes_alike(char *line) {
   const bool is_open = undefined_bits(text.at, text.hash) == 0 && hidden == text.length - text.hash;
   printf("%u reports, %u of %zu letters undefined\n", reports, hidden, text.length - text.hash);
   show(text.at, sizeof text.at);
-  const size_t count = letters_by_table(it.tag.at, it.tag.length, letters);
-  return reports == 0 && is_open && text.at[text.hash - 1] == '$' && text.at[text.length] == 0 &&
-         count == text.length - text.hash && memcmp(&text.at[text.hash], letters, count) == 0;
+  return reports == 0 && is_open && are_letters_of(&it.tag, &text);
 }
 
 /* ---- verifying */
@@ -267,7 +291,7 @@ static bool is_judged_unseen(struct verdict it, uint32_t wanted) {
 static bool judges_raw_unseen(const struct vector *it, const struct bytes *hash, uint32_t wanted) {
   const unsigned before = VALGRIND_COUNT_ERRORS;
   hide(hash->at, hash->length);
-  return is_judged_unseen(verdict_since(before, verify_raw(it, hash)), wanted);
+  return is_judged_unseen(verdict_since(before, calls->verify_raw(it, hash)), wanted);
 }
 
 /* A number that depends on a question and a place alone. */
@@ -318,7 +342,7 @@ static bool verifies_alike(char *line) {
 static bool judges_text_unseen(const struct vector *it, const struct text *text, uint32_t wanted) {
   const unsigned before = VALGRIND_COUNT_ERRORS;
   hide(&text->at[text->hash], text->length - text->hash);
-  struct verdict seen = verdict_since(before, verify_encoded(it, text));
+  struct verdict seen = verdict_since(before, calls->verify_encoded(it, text));
   const bool is_read = wanted != PROVED_ARGON2_DECODING_FAIL;
   return seen.branches == 2 && seen.is_open == is_read && seen.code == wanted;
 }
@@ -375,10 +399,11 @@ static bool verifies_text_alike(char *line) {
 
 /* ---- references that are drawn from the blocks */
 
-/* How many blocks draw their reference from a block, and how many of these draw its lane too. */
+/* How many blocks draw their reference from a block, how many of these draw its lane too, and how many texts
+   were judged. */
 static struct {
-  uint64_t references, lanes;
-} drawn_in_all;
+  uint64_t references, lanes, texts;
+} in_all;
 
 /* Counts the blocks that draw: all but the first two of each lane, and in Argon2id only those behind the first
    two slices of the first pass (RFC 9106, 3.4). The lane is drawn where there are several, but in the first
@@ -388,8 +413,8 @@ static void count_drawing(const proved_argon2_settings *settings) {
   const uint64_t all = 4 * slice * settings->time_cost;
   const bool is_id = settings->variant == PROVED_ARGON2_ID;
   const uint64_t references = all - 2 * (is_id ? slice : lanes);
-  drawn_in_all.references += references;
-  if (lanes > 1) drawn_in_all.lanes += is_id ? references : all - slice;
+  in_all.references += references;
+  if (lanes > 1) in_all.lanes += is_id ? references : all - slice;
 }
 
 /* Reports, which are counted by their places, and the tag. */
@@ -403,15 +428,53 @@ static bool draws_from_blocks(char *line) {
   return reports > 0 && is_tag_of(&it, &tag);
 }
 
-/* The same, and a branch on a byte of the tag, which stands for one on a word of a block. */
-static bool branches_on_a_word(char *line) {
+/* The same of a text, whose letters are those of the vector's tag. */
+static bool draws_for_a_text(char *line) {
   struct vector it;
-  struct bytes tag;
+  struct text text;
   read_hidden(line, &it);
-  reports_of_hash(&it, &tag);
-  if ((tag.at[0] & 1) != 0) printf("the first byte of the tag is odd\n");
+  const unsigned reports = reports_of_text(&it, &text);
   count_drawing(&it.settings);
-  return is_tag_of(&it, &tag);
+  show(text.at, sizeof text.at);
+  return reports > 0 && are_letters_of(&it.tag, &text);
+}
+
+/* The same of the verdicts on the right hash and on another one, which come out undefined. */
+static bool draws_for_a_verdict(char *line) {
+  struct vector it;
+  read_hidden(line, &it);
+  struct bytes right = it.tag, wrong = it.tag;
+  wrong.at[drawn(&it, 0) % it.tag.length] ^= 1;
+  hide(right.at, right.length);
+  hide(wrong.at, wrong.length);
+  const unsigned before = VALGRIND_COUNT_ERRORS;
+  const struct verdict first = verdict_since(before, calls->verify_raw(&it, &right));
+  const struct verdict second = verdict_since(before, calls->verify_raw(&it, &wrong));
+  count_drawing(&it.settings);
+  count_drawing(&it.settings);
+  return first.is_open && first.code == PROVED_ARGON2_OK && second.is_open &&
+         second.code == PROVED_ARGON2_MISMATCH;
+}
+
+/* The same of the verdict on the vector's text, the letters of whose hash are hidden, and on another one. */
+static bool draws_for_a_text_verdict(char *line) {
+  struct vector it;
+  struct text right = {.length = 0};
+  read_hidden(line, &it);
+  reports_of_text(&it, &right);
+  show(right.at, sizeof right.at);
+  struct text wrong = with_letter(&right, 0, right.at[right.hash] == 'A' ? 'B' : 'A');
+  hide(&right.at[right.hash], right.length - right.hash);
+  hide(&wrong.at[wrong.hash], wrong.length - wrong.hash);
+  const unsigned before = VALGRIND_COUNT_ERRORS;
+  const struct verdict first = verdict_since(before, calls->verify_encoded(&it, &right));
+  const struct verdict second = verdict_since(before, calls->verify_encoded(&it, &wrong));
+  for (size_t i = 0; i < 3; i++) {
+    count_drawing(&it.settings);
+  }
+  in_all.texts += 2;
+  return first.is_open && first.code == PROVED_ARGON2_OK && second.is_open &&
+         second.code == PROVED_ARGON2_MISMATCH;
 }
 
 /* ---- stand-ins for what has to be refused */
@@ -534,7 +597,9 @@ static const struct {
     {"verify_own_text", verifies_own_text_alike},
     {"verify_text", verifies_text_alike},
     {"draws_from_blocks", draws_from_blocks},
-    {"branches_on_a_word", branches_on_a_word},
+    {"draws_for_a_text", draws_for_a_text},
+    {"draws_for_a_verdict", draws_for_a_verdict},
+    {"draws_for_a_text_verdict", draws_for_a_text_verdict},
     {"comparisons", tells_comparisons},
     {"letters", tells_letters},
 };
@@ -544,8 +609,10 @@ int main(int argc, char **argv) {
   for (size_t i = 0; argc == 3 && i < sizeof CASES / sizeof CASES[0]; i++) {
     if (strcmp(argv[1], CASES[i].name) == 0) holds = CASES[i].holds;
   }
-  is_kept = argc == 3 && strcmp(argv[2], "kept") == 0;
-  if (holds == NULL || (!is_kept && strcmp(argv[2], "fresh") != 0)) {
+  for (size_t i = 0; argc == 3 && i < sizeof MEMORIES / sizeof MEMORIES[0]; i++) {
+    if (strcmp(argv[2], MEMORIES[i].memory) == 0) calls = &MEMORIES[i];
+  }
+  if (holds == NULL || calls == NULL) {
     stop("usage: valgrind --tool=memcheck constant_time CASE fresh|kept <QUESTIONS");
   }
   if (!RUNNING_ON_VALGRIND) stop("this does not run under valgrind");
@@ -566,8 +633,9 @@ int main(int argc, char **argv) {
   if (holds == verifies_alike && at_each_byte == 0) {
     stop("no hash was tried that differs in each single byte");
   }
-  printf("%llu references and %llu lanes were drawn\n", (unsigned long long)drawn_in_all.references,
-         (unsigned long long)drawn_in_all.lanes);
+  printf("%llu references and %llu lanes were drawn, and %llu texts judged\n",
+         (unsigned long long)in_all.references, (unsigned long long)in_all.lanes,
+         (unsigned long long)in_all.texts);
   printf("%u questions, %u of them otherwise\n", count, others);
   return count > 0 && others == 0 ? EXIT_SUCCESS : EXIT_FAILURE;
 }

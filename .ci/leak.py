@@ -1,0 +1,129 @@
+#!/usr/bin/env python3
+"""Plants a leak into functions of an object that a library is made of, so that `.ci/constant_time` can be seen to
+refuse it. A function goes on to give what it gives.
+
+    leak.py OBJECT LEAK TO
+
+A leak is machine code that is run before or behind the function's own. It is put behind that code, in the function's
+section, and the function's first instructions become a jump to it.
+"""
+import os
+import re
+import struct
+import subprocess
+import sys
+import tempfile
+
+# The functions, and the code around what they were. The numbers of bytes say where C passes an argument.
+LEAKS = {
+    # the block that was written is the third argument
+    'branch_on_a_word': {'argon2_blocks::block::kernel::fill_words': """
+        push %rdx
+        call original
+        pop %rdx
+        testb $1, (%rdx)
+        je 1f
+    1:  ret
+        """},
+    # the bytes are the second argument, and their number is the third; any bytes are a table
+    'table_of_letters': {'argon2_text::encoding::items::push_item': """
+        test %rdx, %rdx
+        je original
+        movzbl (%rsi), %eax
+        lea start(%rip), %r10
+        movzbl (%r10, %rax), %eax
+        """},
+    # the letters are the first argument, and their number is the second
+    'branch_on_a_letter': {'argon2_text::encoding::items::is_item': """
+        test %rsi, %rsi
+        je original
+        cmpb $'A', (%rdi)
+        je original
+        """},
+    # the hash is the last argument but one
+    'branch_on_a_hash': {f'proved_argon2_verify_raw{name}': f"""
+        mov {place}(%rsp), %rax
+        cmpb $0, (%rax)
+        je original
+        """ for name, place in (('', 32), ('_in', 40))},
+}
+JUMP = 5
+# What may be moved from the front of a function: it knows no place.
+MOVABLE = re.compile(r'(push|sub|mov|xor|movabs|cmp|test)\b(?!.*%rip)')
+
+
+def run(*command):
+    return subprocess.run(command, check=True, stdout=subprocess.PIPE, text=True).stdout
+
+
+def front(path, section):
+    """How many bytes the first instructions have that make room for a jump."""
+    found = re.findall(r'^ +([0-9a-f]+):\t(.*)$', run('objdump', '-d', '--no-show-raw-insn', '-j', section, path), re.M)
+    for (_, text), (end, _) in zip(found, found[1:]):
+        assert MOVABLE.match(text), f'{section}: {text} cannot be moved'
+        if int(end, 16) >= JUMP:
+            return int(end, 16)
+    raise AssertionError(f'{section} is too short')
+
+
+def header_of(elf, section):
+    """Where the header of a section is in a file of ELF64, and where its contents are and how long."""
+    begin, = struct.unpack_from('<Q', elf, 0x28)
+    size, count, names = struct.unpack_from('<HHH', elf, 0x3a)
+    names, = struct.unpack_from('<Q', elf, begin + names * size + 0x18)
+    for at in range(begin, begin + count * size, size):
+        name = names + struct.unpack_from('<I', elf, at)[0]
+        if elf[name:elf.index(0, name)].decode() == section:
+            return at, *struct.unpack_from('<QQ', elf, at + 0x18)
+    raise AssertionError(f'there is no section {section}')
+
+
+def with_code(own, moved, code):
+    """The contents of a section with the code put behind it, to which the front jumps."""
+    with tempfile.TemporaryDirectory() as room:
+        before, source, made, flat = (os.path.join(room, name) for name in ('own', 'source.s', 'made.o', 'flat'))
+        with open(before, 'wb') as out:
+            out.write(own)
+        with open(source, 'w', encoding='ascii') as out:
+            out.write(f"""
+    start:
+        .byte 0xe9
+        .long planted - rest + {moved - JUMP}
+        .fill {moved - JUMP}, 1, 0x90
+    rest:
+        .incbin "{before}", {moved}
+    planted:
+        {code}
+    original:
+        .incbin "{before}", 0, {moved}
+        jmp rest
+""")
+        run('as', '-o', made, source)
+        run('objcopy', '-O', 'binary', '-j', '.text', made, flat)
+        with open(flat, 'rb') as file:
+            return file.read()
+
+
+def plant(path, function, code, to):
+    section = f'.text.{function}'
+    moved = front(path, section)
+    with open(path, 'rb') as file:
+        elf = bytearray(file.read())
+    header, begin, size = header_of(elf, section)
+    longer = with_code(elf[begin:begin + size], moved, code)
+    elf += bytes(-len(elf) % 64)
+    struct.pack_into('<QQ', elf, header + 0x18, len(elf), len(longer))
+    with open(to, 'wb') as out:
+        out.write(elf + longer)
+
+
+def main(path, leak, to):
+    for function, code in LEAKS[leak].items():
+        plant(path, function, code, to)
+        path = to
+
+
+if __name__ == '__main__':
+    if len(sys.argv) != 4 or sys.argv[2] not in LEAKS:
+        sys.exit(__doc__ + '\nThe leaks: ' + ', '.join(LEAKS))
+    main(*sys.argv[1:])
