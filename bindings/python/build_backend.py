@@ -1,14 +1,16 @@
 """Builds the package by the standard library alone (PEP 517, PEP 660), so that pip needs no network and no setuptools."""
 import base64
 import hashlib
+import os
 import re
 import tarfile
+import time
 import zipfile
 from pathlib import Path
 
 ROOT = Path(__file__).resolve().parent
 PACKAGE = "proved_argon2"
-WHEEL = "Wheel-Version: 1.0\nGenerator: proved_argon2\nRoot-Is-Purelib: true\nTag: py3-none-any\n"
+WHEEL = "Wheel-Version: 1.0\nGenerator: proved_argon2\nRoot-Is-Purelib: {}\nTag: py3-none-{}\n"
 LICENCES = ("LICENSE", "NOTICE")
 
 
@@ -47,23 +49,39 @@ def _sources():
     return sorted((ROOT / "src" / PACKAGE).glob("*.py")) + [ROOT / "src" / PACKAGE / "py.typed"]
 
 
-def _write_wheel(folder, files):
+def _libraries():
+    """The shared objects, and the platform that they are for, where `./package` has put them."""
+    folder = ROOT / "src" / PACKAGE / "libs"
+    return sorted(folder.glob("*/*.so.*")), (folder / "platform").read_text().strip() if folder.exists() else "any"
+
+
+def _time():
+    """The time of each file: that which the environment names, so that the same sources give the same bytes."""
+    return time.gmtime(max(int(os.environ.get("SOURCE_DATE_EPOCH", time.time())), 315532800))[:6]
+
+
+def _write_wheel(folder, files, platform="any"):
     """Writes a wheel of these files and of what tells of them, and returns its name."""
     told = f"{_stem()}.dist-info"
-    files = {**files, f"{told}/METADATA": _metadata().encode(), f"{told}/WHEEL": WHEEL.encode()}
+    kind = WHEEL.format(str(platform == "any").lower(), platform)
+    files = {**files, f"{told}/METADATA": _metadata().encode(), f"{told}/WHEEL": kind.encode()}
     files.update({f"{told}/{name}": (ROOT / name).read_bytes() for name in LICENCES})
     lines = [_record_line(name, content) for name, content in files.items()]
     files[f"{told}/RECORD"] = "".join([*lines, f"{told}/RECORD,,\n"]).encode()
-    name = f"{_stem()}-py3-none-any.whl"
+    name = f"{_stem()}-py3-none-{platform}.whl"
     with zipfile.ZipFile(Path(folder) / name, "w", zipfile.ZIP_DEFLATED) as wheel:
         for file, content in files.items():
-            wheel.writestr(file, content)
+            about = zipfile.ZipInfo(file, _time())
+            about.compress_type, about.external_attr = zipfile.ZIP_DEFLATED, 0o644 << 16
+            wheel.writestr(about, content)
     return name
 
 
 def build_wheel(wheel_directory, config_settings=None, metadata_directory=None):
     """Writes the wheel and returns its name."""
-    return _write_wheel(wheel_directory, {f"{PACKAGE}/{file.name}": file.read_bytes() for file in _sources()})
+    libraries, platform = _libraries()
+    files = {file.relative_to(ROOT / "src").as_posix(): file.read_bytes() for file in [*_sources(), *libraries]}
+    return _write_wheel(wheel_directory, files, platform)
 
 
 def build_editable(wheel_directory, config_settings=None, metadata_directory=None):

@@ -1,5 +1,5 @@
-//! Finds `libproved_argon2.a` and links it: in the folder that `PROVED_ARGON2_LIB_DIR` names, in the
-//! repository's build, or where `pkg-config` says that it was installed.
+//! Finds `libproved_argon2.a` and links it: in the folder that `PROVED_ARGON2_LIB_DIR` names, in this crate as
+//! `./package` makes it, in the repository's build, or where `pkg-config` says that it was installed.
 
 use std::env;
 use std::path::{Path, PathBuf};
@@ -7,6 +7,8 @@ use std::process::{exit, Command};
 
 const ARCHIVE: &str = "libproved_argon2.a";
 const VARIABLE: &str = "PROVED_ARGON2_LIB_DIR";
+/// What a program is built for that takes the archive for x86-64-v3, as with `-C target-cpu=x86-64-v3`.
+const FEATURES_OF_V3: [&str; 7] = ["avx2", "bmi1", "bmi2", "f16c", "fma", "lzcnt", "movbe"];
 
 fn main() {
     println!("cargo:rerun-if-env-changed={VARIABLE}");
@@ -30,12 +32,35 @@ fn library_folder() -> Result<PathBuf, String> {
             Err(format!("{VARIABLE} is {}, which has no {ARCHIVE}", folder.display()))
         };
     }
+    if let Some(folder) = packaged_folder()? {
+        return Ok(folder);
+    }
     built_folder().or_else(installed_folder).ok_or_else(|| {
         format!(
             "there is no {ARCHIVE}: run ./install at the top of the repository, or bindings/build there, \
              or name its folder in {VARIABLE}"
         )
     })
+}
+
+/// The folder of this crate for the processor that is built for, where the crate has the archives.
+fn packaged_folder() -> Result<Option<PathBuf>, String> {
+    let libraries = Path::new(env!("CARGO_MANIFEST_DIR")).join("lib");
+    if !libraries.is_dir() {
+        return Ok(None);
+    }
+    let target = env::var("TARGET").unwrap_or_default();
+    if !(target.starts_with("x86_64-") && target.ends_with("-linux-gnu")) {
+        return Err(format!("the archives are for Linux on x86-64 with the GNU C library, and not for {target}"));
+    }
+    let features = env::var("CARGO_CFG_TARGET_FEATURE").unwrap_or_default();
+    let is_v3 = FEATURES_OF_V3.iter().all(|feature| features.split(',').any(|it| it == *feature));
+    let folder = libraries.join(if is_v3 { "x86-64-v3" } else { "x86-64-v2" });
+    if has_archive(&folder) {
+        Ok(Some(folder))
+    } else {
+        Err(format!("{} has no {ARCHIVE}: the crate is not whole", folder.display()))
+    }
 }
 
 /// The folder of the repository's build, where this crate stands in the repository.

@@ -5,7 +5,7 @@
 #     name        what the user calls it
 #     version     the version
 #     help        the file help.txt, in which NAME is replaced by that name
-#     prepare     a function that makes the program ready, or fails
+#     prepare     a function that makes the program ready, or fails; it may name another file of it
 #
 # The words `--help`, `--version`, `new`, `check` and `tune` are answered here. All others go to the program
 # as they are, with its standard streams and its exit status. Where it says `usage` or `Decoding failed`, a line
@@ -20,6 +20,13 @@ owasp_settings='argon2id 19 2 19456 1 32 seq'
 
 # The memory that `tune` measures if none is named, in KiB: RFC 9106's second recommendation.
 tuned_memory=65536
+
+# What the processors of a build have, as Linux names it, beside what every one of 64 bits has.
+flags_of_v2='cx16 lahf_lm popcnt pni sse4_1 sse4_2 ssse3'
+flags_of_v3='avx avx2 bmi1 bmi2 f16c fma abm movbe'
+
+# What the program's C library is told, where the user tells it nothing: to ask for huge pages.
+tunables=glibc.malloc.hugetlb=1
 
 # How many bytes of a line a terminal gives at most. It drops the rest silently.
 terminal_line=4095
@@ -68,10 +75,43 @@ fail() {
 run_program() {
     prepare || exit 70
     if looks_right "$@"; then
+        GLIBC_TUNABLES=${GLIBC_TUNABLES-$tunables}
+        export GLIBC_TUNABLES
         exec "$program" "$@"
     fi
-    "$program" "$@"
+    call "$@"
     end_with "$?" "$@"
+}
+
+# Runs the program, in huge pages where the user has not set what the C library's memory is tuned by.
+call() {
+    GLIBC_TUNABLES=${GLIBC_TUNABLES-$tunables} "$program" "$@"
+}
+
+# ---- the processor
+
+# The builds that this processor runs, the newest first: nothing where it is older than all.
+builds_that_run() {
+    flags=" $(sed -n '/^flags[^:]*:/{s///;p;q;}' /proc/cpuinfo 2>/dev/null) "
+    # shellcheck disable=SC2086 # they are words
+    ! has_flags $flags_of_v2 $flags_of_v3 || echo x86-64-v3
+    # (where the system does not say what the processor has, it is taken to be one)
+    # shellcheck disable=SC2086
+    [ "$flags" != '  ' ] && ! has_flags $flags_of_v2 || echo x86-64-v2
+}
+
+has_flags() {
+    for flag in "$@"; do
+        case $flags in
+        *" $flag "*) ;;
+        *) return 1 ;;
+        esac
+    done
+}
+
+# Ends where no build runs here.
+refuse_processor() {
+    fail 70 "this processor is older than x86-64-v2, for which the program is built: see /proc/cpuinfo"
 }
 
 # Ends with the status of the program, which had these words: `end_with STATUS WORD..`.
@@ -286,11 +326,11 @@ new_text() {
         password=$answer
         ask 'The same once more: '
         [ "$password" = "$answer" ] || fail 1 'the two are not the same'
-        lines=$(printf '%s' "$password" | "$program" hash "$@" "$salt") || end_with "$?" new "$@"
+        lines=$(printf '%s' "$password" | call hash "$@" "$salt") || end_with "$?" new "$@"
     else
         [ -e /dev/fd/0 ] || fail 4 'there is no input'
         trap 'exit 4' USR1
-        lines=$(watch_for_newline | "$program" hash "$@" "$salt") || end_with "$?" new "$@"
+        lines=$(watch_for_newline | call hash "$@" "$salt") || end_with "$?" new "$@"
         trap - USR1
     fi
     text=${lines#*"$newline"}
@@ -301,7 +341,7 @@ new_text() {
 # Ends if a text is that of the empty password. That password comes from a command that failed, as in
 # `failing | proved-argon2 new`, and would let in anyone who types nothing.
 refuse_empty_password() {
-    "$program" verify "$1" </dev/null >/dev/null
+    call verify "$1" </dev/null >/dev/null
     case $? in
     0) fail 2 'the password is empty' ;;
     1) ;;
@@ -314,7 +354,7 @@ check() {
     [ -t 0 ] || run_program verify "$1"
     prepare || exit 70
     ask 'Password: '
-    printf '%s' "$answer" | "$program" verify "$1"
+    printf '%s' "$answer" | call verify "$1"
     end_with "$?" verify "$1"
 }
 
@@ -362,7 +402,7 @@ measure() {
     for turn in 1 2 3; do
         progress "$1 passes over $2 KiB, measurement $turn of 3"
         began=$(date +%s%N)
-        printf password | "$program" hash argon2id 19 "$1" "$2" 1 32 seq somesalt >/dev/null || exit
+        printf password | call hash argon2id 19 "$1" "$2" 1 32 seq somesalt >/dev/null || exit
         ended=$(date +%s%N)
         is_clock "$ended" || fail 4 'there is no clock of milliseconds'
         elapsed=$(((ended - began) / 1000000 + 1))

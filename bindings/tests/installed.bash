@@ -20,6 +20,7 @@ has_what_is_installed() {
     diff <(files_in "$1") <(LC_ALL=C sort <<END
 bin/proved-argon2
 $(cd crates/argon2_c/include && printf 'include/%s\n' *.h)
+lib/glibc-hwcaps/x86-64-v3/libproved_argon2.a
 lib/glibc-hwcaps/x86-64-v3/$library.${version%%.*}
 lib/glibc-hwcaps/x86-64-v3/$library.$version
 lib/libproved_argon2.a
@@ -27,9 +28,10 @@ lib/$library
 lib/$library.${version%%.*}
 lib/$library.$version
 lib/pkgconfig/proved_argon2.pc
-libexec/proved-argon2/argon2_program
 libexec/proved-argon2/commands.sh
 libexec/proved-argon2/help.txt
+libexec/proved-argon2/x86-64-v2/argon2_program
+libexec/proved-argon2/x86-64-v3/argon2_program
 share/bash-completion/completions/proved-argon2
 share/man/man1/proved-argon2.1
 share/man/man3/proved_argon2.3

@@ -8,6 +8,9 @@ from typing import Any, List, Tuple, Union
 SONAME = "libproved_argon2.so.1"
 VARIABLE = "PROVED_ARGON2_LIBRARY"
 
+# What a processor has for which the object of x86-64-v3 is built, as Linux names it.
+FLAGS_OF_V3 = {"avx", "avx2", "bmi1", "bmi2", "f16c", "fma", "abm", "movbe"}
+
 # What a call answers: done or a match, another password, a buffer that does not fit, a text that is not UTF-8.
 OK = 0
 DECODING_FAIL = 19
@@ -46,14 +49,27 @@ class Refused(Exception):
         self.number = number
 
 
+def _bundled(here: Path) -> List[str]:
+    """The shared objects that a wheel brings along and this processor runs, the newest first."""
+    if not (here / "libs").is_dir():
+        return []
+    try:
+        about = Path("/proc/cpuinfo").read_text(errors="replace")
+    except OSError:
+        about = ""
+    flags = next((line for line in about.splitlines() if line.startswith("flags")), "").split()
+    cpus = ["x86-64-v3"] if FLAGS_OF_V3.issubset(flags) else []
+    return [str(here / "libs" / cpu / SONAME) for cpu in [*cpus, "x86-64-v2"]]
+
+
 def _files() -> List[str]:
-    """Where the shared object may be: where the environment says, or else where the loader looks, beside this
-    Python, or in the repository's build where this file stands in the repository."""
+    """Where the shared object may be: where the environment says, or else in the wheel, where the loader looks, beside
+    this Python, or in the repository's build where this file stands in the repository."""
     named = os.environ.get(VARIABLE)
     if named:
         return [named]
-    files = [SONAME, os.path.join(sys.prefix, "lib", SONAME)]
     here = Path(__file__).resolve().parent
+    files = [*_bundled(here), SONAME, os.path.join(sys.prefix, "lib", SONAME)]
     if here.parts[-4:] == ("bindings", "python", "src", "proved_argon2"):
         files.append(str(here.parents[2] / "out" / "x86-64-v2" / SONAME))
     return files
