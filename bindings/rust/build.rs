@@ -1,5 +1,5 @@
 //! Finds `libproved_argon2.a` and links it: in the folder that `PROVED_ARGON2_LIB_DIR` names, in this crate as
-//! `./package` makes it, in the repository's build, or where `pkg-config` says that it was installed.
+//! `./package` makes it, in the repository's build or its `release/`, or where `pkg-config` says that it was installed.
 
 use std::env;
 use std::path::{Path, PathBuf};
@@ -35,7 +35,7 @@ fn library_folder() -> Result<PathBuf, String> {
     if let Some(folder) = packaged_folder()? {
         return Ok(folder);
     }
-    built_folder().or_else(installed_folder).ok_or_else(|| {
+    built_folder().or_else(released_folder).or_else(installed_folder).ok_or_else(|| {
         format!(
             "there is no {ARCHIVE}: run ./install at the top of the repository, or bindings/build there, \
              or name its folder in {VARIABLE}"
@@ -51,7 +51,9 @@ fn packaged_folder() -> Result<Option<PathBuf>, String> {
     }
     let target = env::var("TARGET").unwrap_or_default();
     if !(target.starts_with("x86_64-") && target.ends_with("-linux-gnu")) {
-        return Err(format!("the archives are for Linux on x86-64 with the GNU C library, and not for {target}"));
+        return Err(format!(
+            "the archives are for Linux on x86-64 with the GNU C library, and not for {target}"
+        ));
     }
     let features = env::var("CARGO_CFG_TARGET_FEATURE").unwrap_or_default();
     let is_v3 = FEATURES_OF_V3.iter().all(|feature| features.split(',').any(|it| it == *feature));
@@ -68,6 +70,15 @@ fn built_folder() -> Option<PathBuf> {
     let here = Path::new(env!("CARGO_MANIFEST_DIR"));
     let folder = here.parent()?.join("out/x86-64-v2");
     (here.ends_with("bindings/rust") && has_archive(&folder)).then_some(folder)
+}
+
+/// The folder of what the repository keeps, where this crate stands in it and no source has changed.
+fn released_folder() -> Option<PathBuf> {
+    let here = Path::new(env!("CARGO_MANIFEST_DIR"));
+    let root = here.parent()?.parent()?;
+    let file = format!("x86-64-v2/{ARCHIVE}");
+    let is_current = || Command::new(root.join(".ci/released")).arg(&file).status().ok();
+    (here.ends_with("bindings/rust") && is_current()?.success()).then(|| root.join("release/x86-64-v2"))
 }
 
 /// The folder that `pkg-config` names, where it has the archive.
