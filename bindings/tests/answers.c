@@ -62,6 +62,19 @@ uint32_t proved_argon2_verify_encoded(PIECE(text), PIECE(pwd), PIECE(secret), PI
     return answer;
 }
 
+/* It knows its default limits alone. */
+uint32_t proved_argon2_verify_encoded_within(PIECE(text), PIECE(pwd), PIECE(secret), PIECE(ad),
+                                             const proved_argon2_limits *limits)
+{
+    const int is_default = limits->mem_cost == 7 && limits->time_cost == 8 && limits->lanes == 9;
+    return is_default ? answer : UINT32_MAX;
+}
+
+proved_argon2_limits proved_argon2_default_limits(void)
+{
+    return (proved_argon2_limits){7, 8, 9};
+}
+
 /* Seven different numbers, whatever is answered: what a refusal leaves must not be taken for a value. */
 uint32_t proved_argon2_read(PIECE(text), proved_argon2_stored *stored)
 {

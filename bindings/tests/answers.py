@@ -5,6 +5,7 @@ import time
 import unittest
 
 from proved_argon2 import (
+    Limits,
     Parameters,
     PasswordHasher,
     Type,
@@ -14,12 +15,19 @@ from proved_argon2 import (
     hash_password_raw,
     verify_password,
 )
-from proved_argon2.exceptions import Argon2Error, HashingError, InvalidHashError, VerificationError, VerifyMismatchError
+from proved_argon2.exceptions import (
+    Argon2Error,
+    HashingError,
+    InvalidHashError,
+    TooCostlyError,
+    VerificationError,
+    VerifyMismatchError,
+)
 from proved_argon2.low_level import error_to_str, hash_secret, hash_secret_raw, verify_secret
 
 # All numbers of the header, those that stand beside them, and some that no call answers.
 NUMBERS = [*range(23), 63, *range(64, 72), 255, 256, 999, 0x7FFFFFFF, 0x80000000, 0xFFFFFFFF]
-OK, DECODING_FAIL, OUT_OF_MEMORY, MISMATCH, WRONG_LENGTH, NOT_UTF8 = 0, 19, 20, 64, 65, 66
+OK, DECODING_FAIL, OUT_OF_MEMORY, MISMATCH, WRONG_LENGTH, NOT_UTF8, TOO_COSTLY = 0, 19, 20, 64, 65, 66, 69
 TEXT = "$argon2id$x"
 SETTINGS = (3, 64, 4, 5, Type.ID)
 
@@ -72,7 +80,9 @@ class Answers(unittest.TestCase):
     def verifying(self):
         return (
             lambda: verify_secret(TEXT.encode(), b"p", Type.ID),
+            lambda: verify_secret(TEXT.encode(), b"p", Type.ID, limits=Limits()),
             lambda: PasswordHasher().verify(TEXT, "p"),
+            lambda: PasswordHasher(limits=None).verify(TEXT, "p"),
             lambda: warned(lambda word: verify_password(TEXT.encode(), word, Type.ID)),
         )
 
@@ -80,7 +90,8 @@ class Answers(unittest.TestCase):
         def wanted(number):
             if number == OK:
                 return True
-            return (VerifyMismatchError if number == MISMATCH else VerificationError)(said_of(number))
+            errors = {MISMATCH: VerifyMismatchError, TOO_COSTLY: TooCostlyError}
+            return errors.get(number, VerificationError)(said_of(number))
 
         for call in self.verifying():
             self.holds_for_each("then", call, wanted)
@@ -88,6 +99,9 @@ class Answers(unittest.TestCase):
     def test_no_password_verifies_where_the_text_is_not_read(self):
         for call in self.verifying():
             self.holds_for_each("read", call, lambda n: True if n == OK else VerificationError(said_of(n)))
+
+    def test_the_default_limits_are_the_library_s(self):
+        self.assertEqual(Limits(), Limits(memory_cost=7, time_cost=8, parallelism=9))
 
     def holds_what_is_read(self, call, value):
         errors = {DECODING_FAIL: InvalidHashError, NOT_UTF8: InvalidHashError, OUT_OF_MEMORY: MemoryError}

@@ -1,7 +1,7 @@
 //! Each number that the library may answer, to each call of the crate for Rust: over the library of answers.c. A line
 //! for each check.
 
-use argon2::{Config, Error, Stored, Variant, Version};
+use argon2::{Config, Error, Limits, Stored, Unverified, Variant, Version};
 use std::fmt::Debug;
 use std::panic::{catch_unwind, AssertUnwindSafe};
 
@@ -13,6 +13,7 @@ const OK: u32 = 0;
 const MISMATCH: u32 = 64;
 const WRONG_LENGTH: u32 = 65;
 const NEEDS_REHASH: u32 = 68;
+const TOO_COSTLY: u32 = 69;
 
 /// The errors in the order of the numbers from 1 on.
 const ERRORS: [Error; 21] = [
@@ -86,12 +87,20 @@ fn reading(number: u32) {
     unsafe { set_answers(WRONG_LENGTH, OK, number, OK) }
 }
 
+/// Whether the default limits are those that the library answers.
+fn are_the_library_s() -> bool {
+    let right = Limits::default() == Limits { lanes: 9, mem_cost: 7, time_cost: 8 };
+    println!("{}: the default limits are the library's", if right { "passed" } else { "FAILED" });
+    right
+}
+
 fn main() {
     std::panic::set_hook(Box::new(|_| {}));
     let config = Config { hash_length: 5, ..Config::default() };
     let raw = || argon2::hash_raw(b"password", b"somesalt", &config);
     let text = || argon2::hash_encoded(b"password", b"somesalt", &config);
     let verdicts = [(OK, true), (MISMATCH, false)];
+    let within = [(OK, Some(true)), (MISMATCH, Some(false)), (TOO_COSTLY, None)];
     let stored = Stored {
         hash_length: 5,
         lanes: 4,
@@ -118,6 +127,14 @@ fn main() {
         holds("a password with a secret verifies for OK alone", &verdicts, then, || {
             argon2::verify_encoded_ext("x", b"password", b"secret", b"ad")
         }),
+        holds("a text within limits verifies for OK alone, and one number says that it is not", &within, then, || {
+            match argon2::verify_encoded_within("x", b"password", b"secret", b"ad", &Limits::default()) {
+                Ok(same) => Ok(Some(same)),
+                Err(Unverified::TooCostly) => Ok(None),
+                Err(Unverified::Refused(error)) => Err(error),
+            }
+        }),
+        are_the_library_s(),
         holds("a hash verifies for OK alone", &verdicts, then, || {
             argon2::verify_raw(b"password", b"somesalt", b"hash", &config)
         }),

@@ -3,7 +3,7 @@
 //! The library is passed a pointer and a length of each slice. It reads what is passed as `*const`, writes
 //! what is passed as `*mut` within its length, and keeps no pointer. A slice's pointer is never null.
 
-use crate::Config;
+use crate::{Config, Limits as LimitsOfCrate};
 
 /// Done, or a match.
 pub const OK: u32 = 0;
@@ -16,6 +16,9 @@ pub const WRONG_LENGTH: u32 = 65;
 
 /// The text has other settings.
 pub const NEEDS_REHASH: u32 = 68;
+
+/// The text is above the limits.
+pub const TOO_COSTLY: u32 = 69;
 
 /// A buffer of this many bytes has room for the text of each refusal.
 #[cfg(test)]
@@ -39,6 +42,14 @@ pub struct Settings {
 pub struct Stored {
     pub settings: Settings,
     pub salt_length: u32,
+}
+
+/// `proved_argon2_limits` of the header.
+#[repr(C)]
+pub struct Limits {
+    pub mem_cost: u32,
+    pub time_cost: u32,
+    pub lanes: u32,
 }
 
 impl Settings {
@@ -86,6 +97,14 @@ extern "C" {
         secret: *const u8, secret_len: usize,
         ad: *const u8, ad_len: usize,
     ) -> u32;
+    fn proved_argon2_verify_encoded_within(
+        text: *const u8, text_len: usize,
+        pwd: *const u8, pwd_len: usize,
+        secret: *const u8, secret_len: usize,
+        ad: *const u8, ad_len: usize,
+        limits: *const Limits,
+    ) -> u32;
+    fn proved_argon2_default_limits() -> Limits;
     fn proved_argon2_read(text: *const u8, text_len: usize, stored: *mut Stored) -> u32;
     fn proved_argon2_needs_rehash(text: *const u8, text_len: usize, settings: *const Settings) -> u32;
     fn proved_argon2_encoded_len(settings: *const Settings, salt_len: u32) -> u64;
@@ -172,6 +191,28 @@ pub fn verify_encoded(text: &str, pwd: &[u8], secret: &[u8], ad: &[u8]) -> u32 {
             ad.as_ptr(), ad.len(),
         )
     }
+}
+
+/// Compares a text with a password, where it asks for no more than the limits.
+#[rustfmt::skip]
+pub fn verify_encoded_within(text: &str, pwd: &[u8], secret: &[u8], ad: &[u8], limits: &LimitsOfCrate) -> u32 {
+    let limits = Limits { mem_cost: limits.mem_cost, time_cost: limits.time_cost, lanes: limits.lanes };
+    // SAFETY: each pointer and length are those of a slice, and nothing is written.
+    unsafe {
+        proved_argon2_verify_encoded_within(
+            text.as_ptr(), text.len(),
+            pwd.as_ptr(), pwd.len(),
+            secret.as_ptr(), secret.len(),
+            ad.as_ptr(), ad.len(),
+            &limits,
+        )
+    }
+}
+
+/// The library's default limits.
+pub fn default_limits() -> Limits {
+    // SAFETY: the call takes nothing.
+    unsafe { proved_argon2_default_limits() }
 }
 
 /// What a text spells, where the number is that of success.

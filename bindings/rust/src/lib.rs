@@ -43,7 +43,7 @@
 //! # Limits
 //!
 //! Passwords and memory are not wiped. A text says how much memory it is verified with, up to 4 TiB, and how many
-//! passes: look at a text of a stranger by [`read`] first.
+//! passes: verify a text of a stranger by [`verify_encoded_within`].
 #![deny(unsafe_code)]
 #![warn(missing_docs)]
 
@@ -52,6 +52,7 @@ mod error;
 #[allow(unsafe_code)]
 mod face;
 mod hashing;
+mod limits;
 mod result;
 mod stored;
 mod thread_mode;
@@ -62,6 +63,7 @@ mod version;
 pub use config::Config;
 pub use error::Error;
 pub use hashing::{encoded_len, hash_encoded, hash_raw};
+pub use limits::{verify_encoded_within, Limits, Unverified};
 pub use result::Result;
 pub use stored::{read, Stored};
 pub use thread_mode::ThreadMode;

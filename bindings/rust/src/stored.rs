@@ -28,7 +28,7 @@ pub struct Stored {
 
 /// What a text spells. Nothing is verified, and settings that no hash is made with are read too.
 ///
-/// Look at the memory and the passes of a text that may come from outside before you verify it.
+/// A text that may come from outside is verified by [`verify_encoded_within`](crate::verify_encoded_within).
 ///
 /// # Errors
 ///

@@ -4,3 +4,4 @@ pub mod StoredTexts
 pub mod Memories
 pub mod HashBytes
 pub mod KnownAnswers
+pub mod Limits

@@ -1,2 +1,3 @@
 -- What the `_in` calls leave in the memory that they are given.
 pub mod Leaves
+pub mod Limits

@@ -3,6 +3,7 @@
 #![tactic(auto)]
 
 mod hashing;
+mod limits;
 pub mod parts;
 mod rehashing;
 mod verifying;
@@ -18,6 +19,7 @@ pub use hashing::{
     hash_encoded, hash_encoded_in, hash_encoded_in_sequential, hash_encoded_sequential, hash_raw,
     hash_raw_in, hash_raw_in_sequential, hash_raw_sequential,
 };
+pub use limits::{Limits, Unverified, verify_encoded_within, verify_encoded_within_sequential};
 pub use rehashing::needs_rehash;
 pub use verifying::{
     verify_encoded, verify_encoded_ext, verify_encoded_in, verify_encoded_in_sequential,

@@ -13,13 +13,14 @@ static char text[PROVED_ARGON2_TEXT_SIZE];
 static const uint8_t *const it = room;
 static proved_argon2_settings settings;
 static proved_argon2_stored stored;
+static proved_argon2_limits limits;
 static proved_argon2_memory memory;
 static proved_argon2_job job;
 static proved_argon2_block block;
 
 int main(void)
 {
-    (void)it, (void)text, (void)settings, (void)stored, (void)memory, (void)job, (void)block;
+    (void)it, (void)text, (void)settings, (void)limits, (void)stored, (void)memory, (void)job, (void)block;
 #ifdef IGNORED
     CALL;
     return 0;

@@ -15,8 +15,8 @@ void *__wrap_malloc(size_t size);
 void *__wrap_realloc(void *block, size_t size);
 void __wrap_free(void *block);
 
-/* How often was asked, how often for as much as a block, and how many bytes are held. */
-static size_t requests, large_requests, refused_request, held;
+/* How often was asked, how often for as much as a block, and how many bytes are held, and were at most. */
+static size_t requests, large_requests, refused_request, held, most_held;
 
 static bool is_refused(size_t size)
 {
@@ -27,6 +27,7 @@ static bool is_refused(size_t size)
 static void *hold(void *block)
 {
     held += block == NULL ? 0 : malloc_usable_size(block);
+    most_held = held > most_held ? held : most_held;
     return block;
 }
 
@@ -221,6 +222,19 @@ static void check_refusals(void)
     check(holds && refused && number > 4, "each refused request is an answer, and nothing is left behind");
 }
 
+/* Blocks of another size are given back before the new ones are asked for: no more is held than the greater of the two. */
+static void check_change(const proved_argon2_settings *from, const proved_argon2_settings *to, const char *name)
+{
+    settings = *from;
+    uint32_t first = hash_raw_in(kept);
+    settings = *to;
+    most_held = held;
+    uint32_t second = hash_raw_in(kept);
+    printf("%s: %zu bytes held at most\n", name, most_held);
+    check(first == PROVED_ARGON2_OK && second == PROVED_ARGON2_OK && most_held <= 1024 * (size_t)large.mem_cost + 2048, name);
+    proved_argon2_memory_free(&memory);
+}
+
 int main(void)
 {
     memory = proved_argon2_memory_new();
@@ -230,5 +244,7 @@ int main(void)
     check_reuse(&small, "48 KiB in three lanes");
     check_reuse(&large, "256 KiB in two lanes");
     check_refusals();
+    check_change(&small, &large, "from 48 to 256 KiB");
+    check_change(&large, &small, "from 256 to 48 KiB");
     return checks_failed != 0;
 }

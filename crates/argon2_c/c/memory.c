@@ -83,6 +83,15 @@ static uint32_t verify_encoded(void)
     return proved_argon2_verify_encoded(bytes_of(stored), strlen(stored), bytes_of("password"), 8, NULL, 0, NULL, 0);
 }
 
+/* Just what the text spells. */
+static const proved_argon2_limits limits = {256, 2, 1};
+
+static uint32_t verify_encoded_within(void)
+{
+    return proved_argon2_verify_encoded_within(bytes_of(stored), strlen(stored), bytes_of("password"), 8, NULL, 0, NULL, 0,
+                                               &limits);
+}
+
 static uint32_t read(void)
 {
     return proved_argon2_read(bytes_of(stored), strlen(stored), &spelled);
@@ -147,12 +156,14 @@ static void check_without_memory(void)
     uint32_t shorter = proved_argon2_hash_raw(NULL, 0, bytes_of("somesalt"), 8, NULL, 0, NULL, 0, &settings, buffer, 23);
     uint32_t full = proved_argon2_hash_encoded(NULL, 0, bytes_of("somesalt"), 8, NULL, 0, NULL, 0, &settings, buffer, 24);
     uint32_t text = proved_argon2_verify_encoded(bytes_of(no_passes), strlen(no_passes), NULL, 0, NULL, 0, NULL, 0);
+    const proved_argon2_limits below = {255, 2, 1};
+    uint32_t costly = proved_argon2_verify_encoded_within(bytes_of(stored), strlen(stored), NULL, 0, NULL, 0, NULL, 0, &below);
     uint32_t fault = proved_argon2_read(bytes_of(no_hash), strlen(no_hash), &spelled);
     uint32_t message = proved_argon2_message(PROVED_ARGON2_OUT_OF_MEMORY, buffer, sizeof buffer);
     uint64_t len = proved_argon2_encoded_len(&settings, 8);
     check(requests == 0, "nothing is asked for");
     check(little == PROVED_ARGON2_MEMORY_TOO_LITTLE && shorter == PROVED_ARGON2_WRONG_LENGTH &&
-              full == PROVED_ARGON2_WRONG_LENGTH && text == PROVED_ARGON2_TIME_TOO_SMALL &&
+              full == PROVED_ARGON2_WRONG_LENGTH && text == PROVED_ARGON2_TIME_TOO_SMALL && costly == PROVED_ARGON2_TOO_COSTLY &&
               fault == PROVED_ARGON2_DECODING_FAIL && message == PROVED_ARGON2_OK && len > 0,
           "by calls that take no memory and refusals that come first");
 }
@@ -167,6 +178,8 @@ int main(void)
     check_most_held(64 * 1024, "the memory of verify_raw");
     check_call(verify_encoded, 4, "verify_encoded");
     check_most_held(256 * 1024, "the memory of verify_encoded");
+    check_call(verify_encoded_within, 4, "verify_encoded_within");
+    check_most_held(256 * 1024, "the memory of verify_encoded_within");
     check_call(read, 2, "read");
     check_most_held(0, "the memory of read");
     check_call(needs_rehash, 2, "needs_rehash");

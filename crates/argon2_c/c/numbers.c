@@ -44,6 +44,7 @@ static const refusal refusals[] = {
     {PROVED_ARGON2_NOT_UTF8, "The text is not UTF-8"},
     {PROVED_ARGON2_UNKNOWN_NUMBER, "There is no refusal of this number"},
     {PROVED_ARGON2_NEEDS_REHASH, "The text was made with other settings"},
+    {PROVED_ARGON2_TOO_COSTLY, "The text is above the limits"},
     {PROVED_ARGON2_NO_JOB, "The job is none"},
     {PROVED_ARGON2_NO_PLACE, "The job has no such pass, slice or lane"},
     {PROVED_ARGON2_WRONG_BLOCKS, "There are too many or too few blocks"},

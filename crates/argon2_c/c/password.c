@@ -40,6 +40,10 @@ static void check_password(void)
     check_code(proved_argon2_password_verify(text, "pass", 4), PROVED_ARGON2_MISMATCH, "its beginning does not");
     check_code(proved_argon2_password_verify(text, NULL, 0), PROVED_ARGON2_MISMATCH, "no password does not");
     check_code(proved_argon2_password_verify("x", "pass", 4), PROVED_ARGON2_DECODING_FAIL, "what is no text");
+    check_code(proved_argon2_password_verify("$argon2id$v=19$m=2097152,t=10,p=16$AAAAAAA$AAAAAAA", "pass", 4),
+               PROVED_ARGON2_SALT_TOO_SHORT, "a text at the default limits");
+    check_code(proved_argon2_password_verify("$argon2id$v=19$m=2097152,t=11,p=16$AAAAAAA$AAAAAAA", "pass", 4),
+               PROVED_ARGON2_TOO_COSTLY, "a text above them");
     code = proved_argon2_password_hash(text, NULL, 0);
     check(code == PROVED_ARGON2_OK && proved_argon2_password_verify(text, "", 0) == PROVED_ARGON2_OK, "the empty one");
     memcpy(other, text, sizeof text);
@@ -53,6 +57,7 @@ static void check_password(void)
 /* ---- null pointers that promise bytes */
 
 static const proved_argon2_settings small = {PROVED_ARGON2_ID, PROVED_ARGON2_VERSION_13, 8, 1, 1, 32};
+static const proved_argon2_limits limits = {8, 1, 1};
 static uint8_t room[128];
 static proved_argon2_memory memory;
 static proved_argon2_stored stored;
@@ -90,6 +95,11 @@ static void check_stored_texts(void)
     REFUSES(verify_encoded(room, 1, NULL, 1, NULL, 0, NULL, 0));
     REFUSES(verify_encoded(room, 1, room, 1, NULL, 1, NULL, 0));
     REFUSES(verify_encoded(room, 1, room, 1, NULL, 0, NULL, 1));
+    REFUSES(verify_encoded_within(NULL, 1, room, 1, NULL, 0, NULL, 0, &limits));
+    REFUSES(verify_encoded_within(room, 1, NULL, 1, NULL, 0, NULL, 0, &limits));
+    REFUSES(verify_encoded_within(room, 1, room, 1, NULL, 1, NULL, 0, &limits));
+    REFUSES(verify_encoded_within(room, 1, room, 1, NULL, 0, NULL, 1, &limits));
+    REFUSES(verify_encoded_within(room, 1, room, 1, NULL, 0, NULL, 0, NULL));
     REFUSES(verify_encoded_in(NULL, room, 1, room, 1, NULL, 0, NULL, 0));
     REFUSES(verify_encoded_in(&memory, NULL, 1, room, 1, NULL, 0, NULL, 0));
     REFUSES(verify_encoded_in(&memory, room, 1, NULL, 1, NULL, 0, NULL, 0));

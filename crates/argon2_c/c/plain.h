@@ -5,6 +5,7 @@
 #undef proved_argon2_hash_encoded
 #undef proved_argon2_verify_raw
 #undef proved_argon2_verify_encoded
+#undef proved_argon2_verify_encoded_within
 #undef proved_argon2_read
 #undef proved_argon2_needs_rehash
 #undef proved_argon2_message

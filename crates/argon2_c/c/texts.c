@@ -35,13 +35,15 @@ static void check_reading(void)
 /* What is no text is refused by a number, and what would have been written is as it was. */
 static void check_unread(const char *it, uint32_t refusal, const char *name)
 {
+    const proved_argon2_limits none = {0, 0, 0};
     proved_argon2_stored stored, before;
     memset(&stored, 7, sizeof stored);
     memset(&before, 7, sizeof before);
     uint32_t code = proved_argon2_read(bytes_of(it), strlen(it), &stored);
     check(code == refusal && memcmp(&stored, &before, sizeof stored) == 0 &&
               proved_argon2_needs_rehash(bytes_of(it), strlen(it), &small) == refusal &&
-              proved_argon2_verify_encoded(bytes_of(it), strlen(it), NULL, 0, NULL, 0, NULL, 0) == refusal,
+              proved_argon2_verify_encoded(bytes_of(it), strlen(it), NULL, 0, NULL, 0, NULL, 0) == refusal &&
+              proved_argon2_verify_encoded_within(bytes_of(it), strlen(it), NULL, 0, NULL, 0, NULL, 0, &none) == refusal,
           name);
 }
 
@@ -64,6 +66,41 @@ static void check_rehash(void)
     check_code(needs_rehash(&unknown), PROVED_ARGON2_INCORRECT_VERSION, "an unknown version");
     unknown.variant = 3;
     check_code(needs_rehash(&unknown), PROVED_ARGON2_INCORRECT_TYPE, "an unknown variant");
+}
+
+/* ---- limits */
+
+/* Verifies that text within limits: its salt has 8 bytes, its passes are 0. */
+static uint32_t within(uint32_t mem_cost, uint32_t time_cost, uint32_t lanes)
+{
+    const proved_argon2_limits limits = {mem_cost, time_cost, lanes};
+    return proved_argon2_verify_encoded_within(bytes_of(text), strlen(text), NULL, 0, NULL, 0, NULL, 0, &limits);
+}
+
+static void check_limits(void)
+{
+    const char *tag_of_rfc9106 = "$argon2id$v=19$m=32,t=3,p=4$AgICAgICAgICAgICAgICAg$DWQN9Y14dmwIwDejSotTydAe8EUtdbZetSUg6WsB5lk";
+    const proved_argon2_limits limits = proved_argon2_default_limits();
+    uint8_t pwd[32], secret[8], ad[12];
+    memset(pwd, 1, sizeof pwd);
+    memset(secret, 3, sizeof secret);
+    memset(ad, 4, sizeof ad);
+    uint32_t code = proved_argon2_verify_encoded_within(bytes_of(tag_of_rfc9106), strlen(tag_of_rfc9106), pwd, sizeof pwd,
+                                                        secret, sizeof secret, ad, sizeof ad, &limits);
+    check_code(code, PROVED_ARGON2_OK, "a text within limits matches");
+    code = proved_argon2_verify_encoded_within(bytes_of(tag_of_rfc9106), strlen(tag_of_rfc9106), pwd, 31, secret,
+                                               sizeof secret, ad, sizeof ad, &limits);
+    check_code(code, PROVED_ARGON2_MISMATCH, "another password does not");
+    check(limits.mem_cost == 2097152 && limits.time_cost == 10 && limits.lanes == 16, "the default limits");
+    check_code(within(4294967295, 0, 6), PROVED_ARGON2_TIME_TOO_SMALL, "numbers at their limits");
+    check_code(within(4294967294, 4294967295, 4294967295), PROVED_ARGON2_TOO_COSTLY, "memory above its limit");
+    check_code(within(4294967295, 4294967295, 5), PROVED_ARGON2_TOO_COSTLY, "lanes above their limit");
+    const char *passes = "$argon2i$v=19$m=0,t=1,p=0$$";
+    const proved_argon2_limits none = {0, 0, 0}, one_pass = {0, 1, 0};
+    code = proved_argon2_verify_encoded_within(bytes_of(passes), strlen(passes), NULL, 0, NULL, 0, NULL, 0, &none);
+    check_code(code, PROVED_ARGON2_TOO_COSTLY, "passes above their limit");
+    code = proved_argon2_verify_encoded_within(bytes_of(passes), strlen(passes), NULL, 0, NULL, 0, NULL, 0, &one_pass);
+    check_code(code, PROVED_ARGON2_LANES_TOO_FEW, "passes at their limit");
 }
 
 /* ---- null pointers with the length 0 */
@@ -131,6 +168,7 @@ int main(void)
     check_unread("$argon2id$v=19$m=8,t=1,p=1$c29tZXNhbHQ", PROVED_ARGON2_DECODING_FAIL, "a text without a hash");
     check_unread("$argon2id$v=19$m=8,t=1,p=1$c29tZXNhbHQ$AAAAA", PROVED_ARGON2_DECODING_FAIL, "a faulty hash");
     check_rehash();
+    check_limits();
     check_null_inputs();
     check_null_buffers();
     check_buffers();

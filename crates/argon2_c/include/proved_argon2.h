@@ -114,6 +114,7 @@ enum proved_argon2_code {
     PROVED_ARGON2_NOT_UTF8 = 66,       /* the text is not UTF-8 */
     PROVED_ARGON2_UNKNOWN_NUMBER = 67, /* proved_argon2_message: no refusal has this number */
     PROVED_ARGON2_NEEDS_REHASH = 68,   /* proved_argon2_needs_rehash: the text has other settings */
+    PROVED_ARGON2_TOO_COSTLY = 69,     /* proved_argon2_verify_encoded_within: the text is above the limits */
     PROVED_ARGON2_NO_JOB = 70,         /* proved_argon2_jobs.h: no accepted call has a job of these numbers */
     PROVED_ARGON2_NO_PLACE = 71,       /* the job has no such pass, slice or lane */
     PROVED_ARGON2_WRONG_BLOCKS = 72,   /* a slice or a segment of the job has more or fewer blocks */
@@ -131,6 +132,14 @@ typedef struct proved_argon2_settings {
     uint32_t lanes;       /* the degree of parallelism, which a tag depends on */
     uint32_t hash_length; /* the length of the tag in bytes */
 } proved_argon2_settings;
+
+/* The greatest numbers that a stored text may spell. A field that is left out of an initializer is 0, which no text
+ * of a hash is within. */
+typedef struct proved_argon2_limits {
+    uint32_t mem_cost;  /* the memory in KiB */
+    uint32_t time_cost; /* the passes over the memory */
+    uint32_t lanes;     /* the degree of parallelism */
+} proved_argon2_limits;
 
 /* What a stored text spells. */
 typedef struct proved_argon2_stored {
@@ -218,7 +227,7 @@ uint32_t proved_argon2_verify_raw(
  * text_len is the length of the text alone, without a zero behind it. A text that is not UTF-8 is
  * PROVED_ARGON2_NOT_UTF8, and one that spells no hash is PROVED_ARGON2_DECODING_FAIL. Else its settings
  * are judged before any memory is taken. The memory and the passes are those that the text names, up to
- * 4 TiB and 2^32 - 1: check a text from outside with proved_argon2_read before you verify it.
+ * 4 TiB and 2^32 - 1: verify a text from outside with proved_argon2_verify_encoded_within.
  */
 PROVED_ARGON2_CHECKED PROVED_ARGON2_NONNULL
 uint32_t proved_argon2_verify_encoded(
@@ -226,6 +235,22 @@ uint32_t proved_argon2_verify_encoded(
     const uint8_t *pwd, size_t pwd_len,
     const uint8_t *secret, size_t secret_len,
     const uint8_t *ad, size_t ad_len);
+
+/* 2 GiB, 10 passes and 16 lanes: both recommendations of RFC 9106, section 4, are within. */
+proved_argon2_limits proved_argon2_default_limits(void);
+
+/*
+ * The same for a text that may be costly: PROVED_ARGON2_TOO_COSTLY only where it spells more memory, passes or lanes
+ * than its limit. What spells no hash is refused first, as above; then nothing is compared and no memory is taken
+ * where the text is too costly; and any other text is answered as above.
+ */
+PROVED_ARGON2_CHECKED PROVED_ARGON2_NONNULL
+uint32_t proved_argon2_verify_encoded_within(
+    const uint8_t *text, size_t text_len,
+    const uint8_t *pwd, size_t pwd_len,
+    const uint8_t *secret, size_t secret_len,
+    const uint8_t *ad, size_t ad_len,
+    const proved_argon2_limits *limits);
 
 /*
  * Writes what a stored text spells to stored, and verifies nothing: settings that no hash is made with

@@ -132,6 +132,26 @@ static inline uint32_t proved_argon2_nullable_verify_encoded(
 }
 
 PROVED_ARGON2_CHECKED
+static inline uint32_t proved_argon2_nullable_verify_encoded_within(
+    const uint8_t *text, size_t text_len,
+    const uint8_t *pwd, size_t pwd_len,
+    const uint8_t *secret, size_t secret_len,
+    const uint8_t *ad, size_t ad_len,
+    const proved_argon2_limits *limits)
+{
+    if (proved_argon2_is_missing(text, text_len) || proved_argon2_is_missing(pwd, pwd_len)
+        || proved_argon2_is_missing(secret, secret_len) || proved_argon2_is_missing(ad, ad_len) || limits == NULL) {
+        return PROVED_ARGON2_NULL_POINTER;
+    }
+    return proved_argon2_verify_encoded_within(
+        proved_argon2_readable(text, text_len), text_len,
+        proved_argon2_readable(pwd, pwd_len), pwd_len,
+        proved_argon2_readable(secret, secret_len), secret_len,
+        proved_argon2_readable(ad, ad_len), ad_len,
+        limits);
+}
+
+PROVED_ARGON2_CHECKED
 static inline uint32_t proved_argon2_nullable_read(
     const uint8_t *text, size_t text_len, proved_argon2_stored *stored)
 {
@@ -414,6 +434,7 @@ static inline uint32_t proved_argon2_nullable_encode(
 #define proved_argon2_hash_encoded proved_argon2_nullable_hash_encoded
 #define proved_argon2_verify_raw proved_argon2_nullable_verify_raw
 #define proved_argon2_verify_encoded proved_argon2_nullable_verify_encoded
+#define proved_argon2_verify_encoded_within proved_argon2_nullable_verify_encoded_within
 #define proved_argon2_read proved_argon2_nullable_read
 #define proved_argon2_needs_rehash proved_argon2_nullable_needs_rehash
 #define proved_argon2_message proved_argon2_nullable_message

@@ -63,17 +63,18 @@ static inline uint32_t proved_argon2_password_hash(
 
 /*
  * Whether a stored text, which a zero ends, is that of a password of length bytes: PROVED_ARGON2_OK only where it
- * is, and PROVED_ARGON2_MISMATCH only where it is not. The settings are those of the text, as with
- * proved_argon2_verify_encoded.
+ * is, and PROVED_ARGON2_MISMATCH only where it is not. The settings are those of the text, and a text above
+ * proved_argon2_default_limits is PROVED_ARGON2_TOO_COSTLY, as with proved_argon2_verify_encoded_within.
  */
 PROVED_ARGON2_CHECKED
 static inline uint32_t proved_argon2_password_verify(const char *text, const char *password, size_t length)
 {
+    const proved_argon2_limits limits = proved_argon2_default_limits();
     if (text == NULL) {
         return PROVED_ARGON2_NULL_POINTER;
     }
-    return proved_argon2_verify_encoded(
-        proved_argon2_bytes(text), strlen(text), proved_argon2_bytes(password), length, NULL, 0, NULL, 0);
+    return proved_argon2_verify_encoded_within(
+        proved_argon2_bytes(text), strlen(text), proved_argon2_bytes(password), length, NULL, 0, NULL, 0, &limits);
 }
 
 #endif

@@ -14,7 +14,7 @@ use Rattle.argon2.specs.Text.{Spelled}
 use Rattle.argon2_c.specs.Reading.{Compares, ComparesSettings, ComparesText, comparison_of}
 use Rattle.argon2_c.specs.Settings.{config_at, config_of, config_with, variant_of, version_of}
 use Rattle.argon2_c.specs.declared.refusal.Refusal.{Refusal}
-use Rattle.argon2_c.specs.declared.refusal.Refusal.TheVariants.{Library, Mismatch, WrongLength, NotUtf8, UnknownNumber, NeedsRehash, NoJob, NoPlace, WrongBlocks}
+use Rattle.argon2_c.specs.declared.refusal.Refusal.TheVariants.{Library, Mismatch, WrongLength, NotUtf8, UnknownNumber, NeedsRehash, TooCostly, NoJob, NoPlace, WrongBlocks}
 use Rattle.argon2_c.specs.declared.settings.Settings.{Settings}
 
 -- ---- what is not unequal is equal
@@ -85,6 +85,7 @@ carried (Err Mismatch) f g h = h
 carried (Err WrongLength) f g h = h
 carried (Err NotUtf8) f g h = h
 carried (Err UnknownNumber) f g h = h
+carried (Err TooCostly) f g h = h
 carried (Err NoJob) f g h = h
 carried (Err NoPlace) f g h = h
 carried (Err WrongBlocks) f g h = h

@@ -1,6 +1,7 @@
 pub mod Numbers
 pub mod Lengths
 pub mod Verdicts
+pub mod WithinLimits
 pub mod HashTexts
 pub mod Comparisons
 pub mod Presets

@@ -8,3 +8,4 @@ pub mod Ownership
 pub mod Kept
 pub mod Jobs
 pub mod Runs
+pub mod Limits

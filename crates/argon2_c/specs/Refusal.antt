@@ -6,7 +6,7 @@ use Rattle.argon2.specs.ErrorType.TheVariants.{AdTooLong, SecretTooShort, Secret
 use Rattle.argon2.specs.ErrorType.TheVariants.{LanesTooFew, LanesTooMany, IncorrectType, IncorrectVersion, DecodingFail, OutOfMemory, WorkerRefused}
 use Rattle.argon2.specs.Messages.{message_of as library_message}
 use Rattle.argon2_c.specs.declared.refusal.Refusal.{Refusal}
-use Rattle.argon2_c.specs.declared.refusal.Refusal.TheVariants.{Library, Mismatch, WrongLength, NotUtf8, UnknownNumber, NeedsRehash, NoJob, NoPlace, WrongBlocks}
+use Rattle.argon2_c.specs.declared.refusal.Refusal.TheVariants.{Library, Mismatch, WrongLength, NotUtf8, UnknownNumber, NeedsRehash, TooCostly, NoJob, NoPlace, WrongBlocks}
 
 -- the library's refusals, from 1 in their order
 abbrev pub library_number : Error → ℕ
@@ -40,6 +40,7 @@ number_of WrongLength = 65
 number_of NotUtf8 = 66
 number_of UnknownNumber = 67
 number_of NeedsRehash = 68
+number_of TooCostly = 69
 number_of NoJob = 70
 number_of NoPlace = 71
 number_of WrongBlocks = 72
@@ -54,6 +55,7 @@ message_of WrongLength = codes "The buffer has the wrong length"
 message_of NotUtf8 = codes "The text is not UTF-8"
 message_of UnknownNumber = codes "There is no refusal of this number"
 message_of NeedsRehash = codes "The text was made with other settings"
+message_of TooCostly = codes "The text is above the limits"
 message_of NoJob = codes "The job is none"
 message_of NoPlace = codes "The job has no such pass, slice or lane"
 message_of WrongBlocks = codes "There are too many or too few blocks"

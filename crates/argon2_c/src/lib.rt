@@ -19,6 +19,7 @@ mod jobs;
 mod keeping;
 mod kept;
 mod lending;
+mod limits;
 mod reading;
 mod recommended;
 mod refusal;
@@ -39,6 +40,7 @@ pub use lending::{
     proved_argon2_job_finish, proved_argon2_job_make, proved_argon2_job_read,
     proved_argon2_job_verify,
 };
+pub use limits::{Limits, proved_argon2_default_limits, proved_argon2_verify_encoded_within};
 pub use reading::Stored;
 pub use recommended::{
     proved_argon2_owasp1, proved_argon2_owasp2, proved_argon2_owasp3, proved_argon2_owasp4,

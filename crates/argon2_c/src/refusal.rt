@@ -3,12 +3,13 @@
 ghost use Rattle.std.specs.Prelude.{◌≡◌, IfSome};
 ghost use Rattle.argon2.specs.ErrorType.{Error};
 ghost use Rattle.argon2_c.specs.Answers.{WritesMessage, judgement_of};
+ghost use Rattle.argon2_c.specs.Limits.{refusal_from};
 ghost use Rattle.argon2_c.specs.Refusal.{code_of, library_number, message_of, number_of};
 ghost use Rattle.argon2_c.specs.declared.refusal.Refusal.{Refusal};
 ghost use Rattle.argon2_c.specs.declared.refusal.Refusal.TheVariants.{Library};
 
 use crate::buffer::write_text;
-use argon2::Error;
+use argon2::{Error, Unverified};
 
 /// Why a C call was refused.
 #[derive(Debug, Drop, PartialEq)]
@@ -31,6 +32,9 @@ pub enum Refusal {
     /// The text was made with other settings.
     NeedsRehash,
 
+    /// The text spells a number above its limit.
+    TooCostly,
+
     /// The numbers are those of no job.
     NoJob,
 
@@ -46,6 +50,17 @@ impl From<Error> for Refusal {
 
     fn from(error: Error) -> Refusal {
         Refusal::Library(error)
+    }
+}
+
+impl From<Unverified> for Refusal {
+    ghost from_gives = { λ unverified refusal. refusal ≡ refusal_from unverified };
+
+    fn from(unverified: Unverified) -> Refusal {
+        match unverified {
+            Unverified::TooCostly => Refusal::TooCostly,
+            Unverified::Refused(error) => Refusal::Library(error),
+        }
     }
 }
 
@@ -121,6 +136,7 @@ impl Refusal {
             Refusal::NotUtf8 => 66,
             Refusal::UnknownNumber => 67,
             Refusal::NeedsRehash => 68,
+            Refusal::TooCostly => 69,
             Refusal::NoJob => 70,
             Refusal::NoPlace => 71,
             Refusal::WrongBlocks => 72,
@@ -138,6 +154,7 @@ impl Refusal {
             66 => Some(Refusal::NotUtf8),
             67 => Some(Refusal::UnknownNumber),
             68 => Some(Refusal::NeedsRehash),
+            69 => Some(Refusal::TooCostly),
             70 => Some(Refusal::NoJob),
             71 => Some(Refusal::NoPlace),
             72 => Some(Refusal::WrongBlocks),
@@ -156,6 +173,7 @@ impl Refusal {
             Refusal::NotUtf8 => "The text is not UTF-8",
             Refusal::UnknownNumber => "There is no refusal of this number",
             Refusal::NeedsRehash => "The text was made with other settings",
+            Refusal::TooCostly => "The text is above the limits",
             Refusal::NoJob => "The job is none",
             Refusal::NoPlace => "The job has no such pass, slice or lane",
             Refusal::WrongBlocks => "There are too many or too few blocks",

@@ -1,18 +1,11 @@
--- What the service keeps of a password, and whom it lets in.
-use Rattle.std.specs.Prelude.{◌≡◌, ◌≤◌, ℕ, List, [], length}
+-- What the service keeps of a password.
+use Rattle.std.specs.Prelude.{◌≡◌, ℕ, List, length}
 use Rattle.argon2.specs.ConfigType.{Config}
-use Rattle.argon2.specs.Stored.{Agrees}
 use Rattle.argon2.specs.Tag.{tag_of}
-use Rattle.argon2.specs.Text.{Spelled, spelled_of, text_of}
+use Rattle.argon2.specs.Text.{spelled_of, text_of}
 
 -- the text of a password's tag, with a salt of 16 bytes
 pub record IsTextOf (password : List ℕ) (config : Config) (text : List ℕ) : Type 0 where
   pub salt : List ℕ
   pub salt_length : length salt ≡ 16
   pub written : text ≡ text_of (spelled_of config salt (tag_of password salt config config.hash_length))
-
--- what a kept text spells costs no more than the service spends, and its hash is the password's
-pub record LetsIn (d : Spelled) (config : Config) (password : List ℕ) : Type 0 where
-  pub memory : d.mem_cost ≤ 65536
-  pub passes : d.time_cost ≤ 10
-  pub is_tag : d.hash ≡ tag_of password d.salt config (length d.hash)

@@ -29,10 +29,8 @@ fn main(rt: HostRuntime) -> anyhow::Result<()> {
         println!(rt; "{password}: {let_in}")?;
     }
     println!(rt; "old: {}", service::log_in(&rt, alloc, OLD, b"password")?)?;
-    println!(rt;
-        "costly: {}",
-        service::log_in(&rt, alloc, COSTLY, b"password")?
-    )?;
+    let costly = service::log_in(&rt, alloc, COSTLY, b"password");
+    println!(rt; "costly: {costly:?}")?;
     let renewed = service::renew(&rt, alloc, OLD, b"password", &today)?;
     println!(rt; "renewed: {}", renewed.is_some())?;
     let let_in = peppers::log_in_with_pepper(&rt, alloc, PEPPERED, b"password", b"secret", b"ad")?;

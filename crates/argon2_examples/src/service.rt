@@ -1,16 +1,21 @@
 //! What a login service does with its users' passwords.
 
-ghost use Rattle.std.specs.Prelude.{◌≡◌, ◌↔◌, [], IfOk, IsTrue, MatchOption};
+ghost use Rattle.std.specs.Prelude.{◌≡◌, [], IfOk, MatchOption, nat_lt};
 ghost use Rattle.std.specs.String.{string_bytes};
 ghost use Rattle.argon2.specs.ConfigType.{Config};
 ghost use Rattle.argon2.specs.Grammar.{Spells, SpellsNothing};
 ghost use Rattle.argon2.specs.Stored.{Differs};
 ghost use Rattle.argon2.specs.Stored.{IsStoredConfig};
 ghost use Rattle.argon2.specs.Text.{Spelled};
-ghost use Rattle.argon2_examples.specs.Service.{IsTextOf, LetsIn};
+ghost use Rattle.argon2.specs.Outcome.{IsVerdict};
+ghost use Rattle.argon2.specs.Standard.Limits.{AnswersWithin, is_too_costly};
+ghost use Rattle.argon2.specs.Views.Limits.{default_limits};
+ghost use Rattle.argon2.specs.declared.limits.Unverified.TheVariants.{Refused};
+ghost use Rattle.argon2_examples.specs.Service.{IsTextOf};
 
-use argon2::parts::encoding::decode_string;
-use argon2::{Config, Error, hash_encoded, needs_rehash, verify_encoded};
+use argon2::{
+    Config, Error, Limits, Unverified, hash_encoded, needs_rehash, verify_encoded_within,
+};
 use std::alloc::Global;
 use std::marker::Sync;
 use std::random::RandomSource;
@@ -32,23 +37,21 @@ pub fn register<R: RandomSource + Threads + Wait + Sync>(
     Ok(hash_encoded(rt, alloc, password, &salt, today)?)
 }
 
-/// Whether a password is let in: its hash is the kept one, which costs no more than 64 MiB and 10 passes.
+/// Whether a password is let in: its hash is the kept one, which costs no more than `Limits::default()`.
 pub fn log_in<R: Threads + Wait + Sync>(
     rt: &R,
     alloc: Global,
     kept: &str,
     password: &[u8],
-) -> argon2::Result<bool>
-    ensures unspelled { SpellsNothing kept.now → result ≡ Err Error.DecodingFail }
+) -> Result<bool, Unverified>
+    ensures unspelled { SpellsNothing kept.now → result ≡ Err (Refused Error.DecodingFail) }
     ensures spelled { (d : Spelled) (config : Config) → Spells kept.now d
         → IsStoredConfig d [] [] config
-        → IfOk result (λ let_in. IsTrue let_in ↔ LetsIn d config password.now) }
+        → AnswersWithin (is_too_costly default_limits d)
+        (IsVerdict password.now d.salt d.hash config (nat_lt 1 d.parallelism)) result }
 {
-    let stored = decode_string(alloc, kept)?;
-    if stored.mem_cost > 65536 || stored.time_cost > 10 {
-        return Ok(false);
-    }
-    verify_encoded(rt, alloc, kept, password)
+    let limits = Limits::default();
+    verify_encoded_within(rt, alloc, kept, password, &[], &[], &limits)
 }
 
 /// The text to keep from now on, where the kept one was made with other settings than those of today.

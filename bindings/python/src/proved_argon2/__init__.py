@@ -11,6 +11,7 @@ is raised.
 """
 from . import exceptions, low_level, profiles
 from ._legacy import hash_password, hash_password_raw, verify_password
+from ._limits import Limits
 from ._parameters import Parameters, extract_parameters
 from ._password_hasher import (
     DEFAULT_HASH_LENGTH,
@@ -30,6 +31,7 @@ __all__ = [
     "DEFAULT_PARALLELISM",
     "DEFAULT_RANDOM_SALT_LENGTH",
     "DEFAULT_TIME_COST",
+    "Limits",
     "Parameters",
     "PasswordHasher",
     "Type",

@@ -11,13 +11,15 @@ VARIABLE = "PROVED_ARGON2_LIBRARY"
 # What a processor has for which the object of x86-64-v3 is built, as Linux names it.
 FLAGS_OF_V3 = {"avx", "avx2", "bmi1", "bmi2", "f16c", "fma", "abm", "movbe"}
 
-# What a call answers: done or a match, another password, a buffer that does not fit, a text that is not UTF-8.
+# What a call answers: done or a match, another password, a buffer that does not fit, a text that is not UTF-8 or
+# is above the limits.
 OK = 0
 DECODING_FAIL = 19
 OUT_OF_MEMORY = 20
 MISMATCH = 64
 WRONG_LENGTH = 65
 NOT_UTF8 = 66
+TOO_COSTLY = 69
 
 # A buffer of this many bytes has room for the text of each refusal.
 MESSAGE_SIZE = 64
@@ -39,6 +41,12 @@ class Stored(ctypes.Structure):
     """`proved_argon2_stored` of the header."""
 
     _fields_ = [("settings", Settings), ("salt_length", ctypes.c_uint32)]
+
+
+class NumberLimits(ctypes.Structure):
+    """`proved_argon2_limits` of the header."""
+
+    _fields_ = [(name, ctypes.c_uint32) for name in ("mem_cost", "time_cost", "lanes")]
 
 
 class Refused(Exception):
@@ -82,6 +90,8 @@ _CALLS: Tuple[Tuple[str, List[Any], Any], ...] = (
     ("hash_raw", 4 * _BYTES + _SETTINGS + _BYTES, ctypes.c_uint32),
     ("hash_encoded", 4 * _BYTES + _SETTINGS + _BYTES, ctypes.c_uint32),
     ("verify_encoded", 4 * _BYTES, ctypes.c_uint32),
+    ("verify_encoded_within", [*(4 * _BYTES), ctypes.POINTER(NumberLimits)], ctypes.c_uint32),
+    ("default_limits", [], NumberLimits),
     ("read", [*_BYTES, ctypes.POINTER(Stored)], ctypes.c_uint32),
     ("encoded_len", [*_SETTINGS, ctypes.c_uint32], ctypes.c_uint64),
     ("message", [ctypes.c_uint32, *_BYTES], ctypes.c_uint32),
@@ -156,6 +166,17 @@ def hash_encoded(pwd: bytes, salt: bytes, secret: bytes, ad: bytes, settings: Se
 def verify_encoded(text: bytes, pwd: bytes, secret: bytes, ad: bytes) -> None:
     """Returns where the text is the hash of the password, and else raises `Refused`."""
     _require(_library.proved_argon2_verify_encoded(*_slices(text, pwd, secret, ad)))
+
+
+def verify_encoded_within(text: bytes, pwd: bytes, secret: bytes, ad: bytes, limits: NumberLimits) -> None:
+    """`verify_encoded`, where the text asks for no more than the limits."""
+    _require(_library.proved_argon2_verify_encoded_within(*_slices(text, pwd, secret, ad), limits))
+
+
+def default_limits() -> NumberLimits:
+    """The library's default limits."""
+    limits: NumberLimits = _library.proved_argon2_default_limits()
+    return limits
 
 
 def read(text: bytes) -> Stored:

@@ -2,6 +2,7 @@
 import os
 from typing import Literal, Optional, Union
 
+from ._limits import Limits
 from ._parameters import Parameters, extract_parameters
 from .exceptions import Argon2Error, InvalidHashError, VerificationError
 from .low_level import ARGON2_VERSION, Type, hash_secret, verify_secret
@@ -17,14 +18,15 @@ _BEGINNINGS = (b"$argon2i$", b"$argon2d$", b"$argon2id")
 
 
 class PasswordHasher:
-    """Hashes passwords with these settings, and verifies those of any settings.
+    """Hashes passwords with these settings, and verifies those of any settings within limits.
 
     `time_cost` is the passes over the memory; `memory_cost` is in KiB, at least 8 for each of the lanes, which
     `parallelism` says. The lengths are in bytes: `hash_len` is at least 4 and `salt_len` at least 8. A password
-    that is a `str` is encoded in `encoding`.
+    that is a `str` is encoded in `encoding`. `limits` is what a text may ask for that is verified: `Limits()`,
+    others, or `None` for whatever the text names.
     """
 
-    __slots__ = ("_parameters", "encoding")
+    __slots__ = ("_parameters", "encoding", "limits")
 
     def __init__(
         self,
@@ -35,6 +37,8 @@ class PasswordHasher:
         salt_len: int = DEFAULT_RANDOM_SALT_LENGTH,
         encoding: str = "utf-8",
         type: Type = Type.ID,
+        *,
+        limits: Optional[Limits] = Limits(),
     ) -> None:
         settings = {
             "time_cost": (time_cost, int),
@@ -44,6 +48,7 @@ class PasswordHasher:
             "salt_len": (salt_len, int),
             "encoding": (encoding, str),
             "type": (type, Type),
+            "limits": (Limits() if limits is None else limits, Limits),
         }
         wrong = [
             f"'{name}' must be {wanted.__name__}, not {value.__class__.__name__}"
@@ -62,6 +67,7 @@ class PasswordHasher:
             parallelism=parallelism,
         )
         self.encoding = encoding
+        self.limits = limits
 
     @classmethod
     def from_parameters(cls, params: Parameters) -> "PasswordHasher":
@@ -123,13 +129,12 @@ class PasswordHasher:
     def verify(self, hash: Union[str, bytes], password: Union[str, bytes]) -> Literal[True]:
         """Return `True` where a text is that of a password, and raise where it is not.
 
-        Raises `VerifyMismatchError` where it is that of another password, `InvalidHashError` where it does not
-        begin as a hash, and `VerificationError` where it spells none, its settings are refused or there is no
-        memory. The memory is that which the text names: look at a text of a stranger by
-        `extract_parameters` first.
+        Raises `VerifyMismatchError` where it is that of another password, `TooCostlyError` where it asks for
+        more than `limits`, `InvalidHashError` where it does not begin as a hash, and `VerificationError` where
+        it spells none, its settings are refused or there is no memory.
         """
         text = self._text_bytes(hash)
-        return verify_secret(text, self._password_bytes(password), self._variant_of(text))
+        return verify_secret(text, self._password_bytes(password), self._variant_of(text), limits=self.limits)
 
     def check_needs_rehash(self, hash: Union[str, bytes]) -> bool:
         """Whether a text was made with other settings than these, also with another length of the salt.

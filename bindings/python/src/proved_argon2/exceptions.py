@@ -13,6 +13,10 @@ class VerifyMismatchError(VerificationError):
     """The password is not that of the hash."""
 
 
+class TooCostlyError(VerificationError):
+    """The hash asks for more memory, passes or lanes than the limits. No password was looked at."""
+
+
 class HashingError(Argon2Error):
     """A password could not be hashed."""
 

@@ -5,7 +5,7 @@ RFC 9106 calls secret value and associated data, are `key` and `associated_data`
 thread: lanes are computed one after another, with the same hash.
 """
 from enum import Enum
-from typing import Literal
+from typing import Literal, Optional
 
 from ._library import (
     DECODING_FAIL,
@@ -13,6 +13,8 @@ from ._library import (
     MISMATCH,
     NOT_UTF8,
     OUT_OF_MEMORY,
+    TOO_COSTLY,
+    NumberLimits,
     Refused,
     Settings,
     hash_encoded,
@@ -20,13 +22,22 @@ from ._library import (
     message,
     read,
     verify_encoded,
+    verify_encoded_within,
 )
-from .exceptions import Argon2Error, HashingError, InvalidHashError, VerificationError, VerifyMismatchError
+from ._limits import Limits
+from .exceptions import (
+    Argon2Error,
+    HashingError,
+    InvalidHashError,
+    TooCostlyError,
+    VerificationError,
+    VerifyMismatchError,
+)
 
 ARGON2_VERSION = 19
 """The version of RFC 9106, 0x13."""
 
-__all__ = ["ARGON2_VERSION", "Type", "error_to_str", "hash_secret", "hash_secret_raw", "verify_secret"]
+__all__ = ["ARGON2_VERSION", "Limits", "Type", "error_to_str", "hash_secret", "hash_secret_raw", "verify_secret"]
 
 
 class Type(Enum):
@@ -111,12 +122,19 @@ def hash_secret_raw(
 
 
 def verify_secret(
-    hash: bytes, secret: bytes, type: Type, *, key: bytes = b"", associated_data: bytes = b""
+    hash: bytes,
+    secret: bytes,
+    type: Type,
+    *,
+    key: bytes = b"",
+    associated_data: bytes = b"",
+    limits: Optional[Limits] = None,
 ) -> Literal[True]:
     """Return `True` where the text `hash` is that of the password `secret`, and is of this type.
 
-    Raises `VerifyMismatchError` where it is that of another password, and `VerificationError` where it
-    spells no hash of this type, its settings are refused or there is no memory.
+    Raises `VerifyMismatchError` where it is that of another password, `TooCostlyError` where it asks for more
+    than the limits, and `VerificationError` where it spells no hash of this type, its settings are refused or
+    there is no memory. Without limits the memory and the passes are those that the text names.
     """
     _require_bytes(hash=hash, secret=secret, key=key, associated_data=associated_data)
     try:
@@ -125,11 +143,18 @@ def verify_secret(
     except Refused as refused:
         raise VerificationError(str(refused)) from None
     try:
-        verify_encoded(hash, secret, key, associated_data)
+        if limits is None:
+            verify_encoded(hash, secret, key, associated_data)
+        else:
+            verify_encoded_within(hash, secret, key, associated_data, _numbers(limits))
     except Refused as refused:
-        error = VerifyMismatchError if refused.number == MISMATCH else VerificationError
-        raise error(str(refused)) from None
+        errors = {MISMATCH: VerifyMismatchError, TOO_COSTLY: TooCostlyError}
+        raise errors.get(refused.number, VerificationError)(str(refused)) from None
     return True
+
+
+def _numbers(limits: Limits) -> NumberLimits:
+    return NumberLimits(limits.memory_cost, limits.time_cost, limits.parallelism)
 
 
 def error_to_str(error: int) -> str:

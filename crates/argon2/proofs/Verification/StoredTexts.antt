@@ -97,7 +97,7 @@ stored_verdict_alone stored d pwd secret ad used config answer same used_is conf
 -- ---- answers before the tag is asked for
 
 -- any value of the text is the one with the salt and the hash behind its head
-spelled_at : (text : List ℕ) (h : Head) (d : Spelled) → (s : IsSpellingOf text h) → Spells text d → d ≡ spelled_with h s.0 s.1
+pub spelled_at : (text : List ℕ) (h : Head) (d : Spelled) → (s : IsSpellingOf text h) → Spells text d → d ≡ spelled_with h s.0 s.1
 spelled_at text h d (salt, hash, is) s = spells_one text d (spelled_with h salt hash) s is.spells
 
 -- what a head's refusal says

@@ -8,6 +8,7 @@ ghost use Rattle.argon2_memory.specs.Views.Memories.{AreSlices, IsFilledBelow};
 ghost use Rattle.argon2_memory.specs.Views.SliceLists.{segments_of};
 
 mod every_slice;
+mod meeting;
 mod overlap;
 mod puts;
 mod starts;

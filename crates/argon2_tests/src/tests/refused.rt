@@ -7,6 +7,7 @@
 mod asks_for_nothing;
 mod hashing;
 mod kept;
+mod limits;
 mod matrix;
 mod verifying;
 

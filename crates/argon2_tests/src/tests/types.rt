@@ -1,7 +1,7 @@
 //! What the small types show, and where a fault of base64 leads. The others are rows of `argon2_vectors`.
 
-use argon2::Error;
 use argon2::parts::board::{Event, Place};
+use argon2::{Error, Unverified};
 use base64::DecodeError;
 use std::test::Fail;
 
@@ -19,4 +19,14 @@ fn shows_the_small_types(rt: HostRuntime) -> Result<(), Fail> {
 fn a_fault_of_base64_is_a_fault_of_the_text(rt: HostRuntime) {
     let error = Error::from(DecodeError::InvalidLength(1));
     assert_eq!(rt; error, Error::DecodingFail);
+}
+
+#[test]
+fn tells_why_a_text_was_not_verified(rt: HostRuntime) -> Result<(), Fail> {
+    let alloc = rt.alloc();
+    let shown = format!(in alloc; "{}", Unverified::TooCostly)?;
+    assert_eq!(rt; shown.as_str(), "The text is above the limits");
+    let shown = format!(in alloc; "{}", Unverified::from(Error::DecodingFail))?;
+    assert_eq!(rt; shown.as_str(), "Decoding failed");
+    Ok(())
 }

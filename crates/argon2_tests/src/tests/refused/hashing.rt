@@ -1,14 +1,22 @@
 //! Hashing, to a tag and to a text.
 
 use super::{ARGON2D, ARGON2I, ARGON2ID, PASSWORD, SALT, TEXT, in_mode, tell};
+use crate::tests::settings::small;
 use argon2::{
-    ThreadMode, Variant, hash_encoded, hash_encoded_sequential, hash_raw, hash_raw_sequential,
+    Config, ThreadMode, Variant, Version, hash_encoded, hash_encoded_sequential, hash_raw,
+    hash_raw_sequential,
 };
 use std::alloc::Global;
 use std::marker::Sync;
 use std::sync::Wait;
 use std::test::Fail;
 use std::thread::Threads;
+
+// The tag of one pass over 320 KiB in 40 lanes, by libargon2.
+const OF_40_LANES: [u8; 32] = [
+    0x0c, 0x0b, 0xca, 0xe2, 0x21, 0x4e, 0x5f, 0x1a, 0x99, 0x7a, 0x25, 0xc7, 0xc6, 0xb2, 0xab, 0x0b,
+    0x59, 0x31, 0xa5, 0x21, 0x28, 0xb9, 0x34, 0xae, 0xed, 0xbc, 0x03, 0x5a, 0xff, 0x89, 0xd8, 0x1f,
+];
 
 /// Whether the tag of RFC 9106 comes.
 fn hash<R: Threads + Wait + Sync>(
@@ -186,4 +194,17 @@ fn hash_encoded_sequential_refused_in_turn(rt: HostRuntime) -> Result<(), Fail> 
     let config = in_mode(Variant::Argon2id, ThreadMode::Parallel);
     let answer = hash_encoded_sequential(rt.alloc(), &PASSWORD, &SALT, &config);
     tell(&rt, answer.map(|text| text.as_str() == TEXT))
+}
+
+// More workers than a batch of handles holds, and a single pass.
+#[test]
+fn hash_raw_by_forty_workers_refused_in_turn(rt: HostRuntime) -> Result<(), Fail> {
+    let config = Config {
+        mem_cost: 320,
+        thread_mode: ThreadMode::Parallel,
+        time_cost: 1,
+        ..small(Variant::Argon2id, Version::Version13, 40)
+    };
+    let tag = hash_raw(&rt, rt.alloc(), b"password", b"somesalt", &config);
+    tell(&rt, tag.map(|tag| tag.as_slice() == OF_40_LANES.as_slice()))
 }

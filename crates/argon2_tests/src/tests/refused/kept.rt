@@ -1,4 +1,5 @@
-//! Each call twice over a memory that the caller keeps: the second asks for no blocks.
+//! Each call twice over a memory that the caller keeps: the second asks for no blocks, and each writes each block once
+//! a pass.
 
 use super::{AD, ARGON2ID, PASSWORD, SALT, SECRET, TEXT, in_mode, tell};
 use argon2::parts::memory::Memory;
@@ -13,6 +14,9 @@ use std::sync::Wait;
 use std::test::Fail;
 use std::thread::Threads;
 
+// The writes of two calls: 3 passes over 32 blocks.
+const WRITES: u64 = 2 * 3 * 32;
+
 /// The settings of RFC 9106's tag of Argon2id, by workers.
 fn by_workers() -> Config<'static> {
     in_mode(Variant::Argon2id, ThreadMode::Parallel)
@@ -23,7 +27,9 @@ fn hash<R: Threads + Wait + Sync>(rt: &R, alloc: Global) -> argon2::Result<bool>
     let (config, mut memory) = (by_workers(), Memory::empty(alloc));
     let first = hash_raw_in(rt, alloc, &mut memory, &PASSWORD, &SALT, &config)?;
     let second = hash_raw_in(rt, alloc, &mut memory, &PASSWORD, &SALT, &config)?;
-    Ok(first.as_slice() == ARGON2ID.as_slice() && second.as_slice() == ARGON2ID.as_slice())
+    let are_tags = first.as_slice() == ARGON2ID.as_slice()
+        && second.as_slice() == ARGON2ID.as_slice();
+    Ok(are_tags && memory.writes() == WRITES)
 }
 
 #[test]
@@ -36,7 +42,9 @@ fn hash_sequential(alloc: Global) -> argon2::Result<bool> {
     let (config, mut memory) = (by_workers(), Memory::empty(alloc));
     let first = hash_raw_in_sequential(alloc, &mut memory, &PASSWORD, &SALT, &config)?;
     let second = hash_raw_in_sequential(alloc, &mut memory, &PASSWORD, &SALT, &config)?;
-    Ok(first.as_slice() == ARGON2ID.as_slice() && second.as_slice() == ARGON2ID.as_slice())
+    let are_tags = first.as_slice() == ARGON2ID.as_slice()
+        && second.as_slice() == ARGON2ID.as_slice();
+    Ok(are_tags && memory.writes() == WRITES)
 }
 
 #[test]
@@ -49,7 +57,7 @@ fn encode<R: Threads + Wait + Sync>(rt: &R, alloc: Global) -> argon2::Result<boo
     let (config, mut memory) = (by_workers(), Memory::empty(alloc));
     let first = hash_encoded_in(rt, alloc, &mut memory, &PASSWORD, &SALT, &config)?;
     let second = hash_encoded_in(rt, alloc, &mut memory, &PASSWORD, &SALT, &config)?;
-    Ok(first.as_str() == TEXT && second.as_str() == TEXT)
+    Ok(first.as_str() == TEXT && second.as_str() == TEXT && memory.writes() == WRITES)
 }
 
 #[test]
@@ -62,7 +70,7 @@ fn encode_sequential(alloc: Global) -> argon2::Result<bool> {
     let (config, mut memory) = (by_workers(), Memory::empty(alloc));
     let first = hash_encoded_in_sequential(alloc, &mut memory, &PASSWORD, &SALT, &config)?;
     let second = hash_encoded_in_sequential(alloc, &mut memory, &PASSWORD, &SALT, &config)?;
-    Ok(first.as_str() == TEXT && second.as_str() == TEXT)
+    Ok(first.as_str() == TEXT && second.as_str() == TEXT && memory.writes() == WRITES)
 }
 
 #[test]
@@ -75,7 +83,7 @@ fn verify<R: Threads + Wait + Sync>(rt: &R, alloc: Global) -> argon2::Result<boo
     let (config, mut memory, hash) = (by_workers(), Memory::empty(alloc), &ARGON2ID);
     let first = verify_raw_in(rt, alloc, &mut memory, &PASSWORD, &SALT, hash, &config)?;
     let second = verify_raw_in(rt, alloc, &mut memory, &PASSWORD, &SALT, hash, &config)?;
-    Ok(first && second)
+    Ok(first && second && memory.writes() == WRITES)
 }
 
 #[test]
@@ -88,7 +96,7 @@ fn verify_sequential(alloc: Global) -> argon2::Result<bool> {
     let (config, mut memory, hash) = (by_workers(), Memory::empty(alloc), &ARGON2ID);
     let first = verify_raw_in_sequential(alloc, &mut memory, &PASSWORD, &SALT, hash, &config)?;
     let second = verify_raw_in_sequential(alloc, &mut memory, &PASSWORD, &SALT, hash, &config)?;
-    Ok(first && second)
+    Ok(first && second && memory.writes() == WRITES)
 }
 
 #[test]
@@ -101,7 +109,7 @@ fn verify_text<R: Threads + Wait + Sync>(rt: &R, alloc: Global) -> argon2::Resul
     let mut memory = Memory::empty(alloc);
     let first = verify_encoded_in(rt, alloc, &mut memory, TEXT, &PASSWORD, &SECRET, &AD)?;
     let second = verify_encoded_in(rt, alloc, &mut memory, TEXT, &PASSWORD, &SECRET, &AD)?;
-    Ok(first && second)
+    Ok(first && second && memory.writes() == WRITES)
 }
 
 #[test]
@@ -114,7 +122,7 @@ fn verify_text_sequential(alloc: Global) -> argon2::Result<bool> {
     let mut memory = Memory::empty(alloc);
     let first = verify_encoded_in_sequential(alloc, &mut memory, TEXT, &PASSWORD, &SECRET, &AD)?;
     let second = verify_encoded_in_sequential(alloc, &mut memory, TEXT, &PASSWORD, &SECRET, &AD)?;
-    Ok(first && second)
+    Ok(first && second && memory.writes() == WRITES)
 }
 
 #[test]

@@ -1,0 +1,98 @@
+use crate::face::{self, MISMATCH, OK, TOO_COSTLY};
+use crate::Error;
+use std::{fmt, result};
+
+/// The greatest numbers that a text may spell, for [`verify_encoded_within`].
+#[derive(Clone, Copy, Debug, Eq, PartialEq)]
+pub struct Limits {
+    /// The lanes.
+    pub lanes: u32,
+
+    /// The memory in KiB.
+    pub mem_cost: u32,
+
+    /// The passes over the memory.
+    pub time_cost: u32,
+}
+
+impl Default for Limits {
+    /// The library's: 2 GiB, 10 passes and 16 lanes. Both recommendations of RFC 9106 are within.
+    fn default() -> Limits {
+        let face::Limits { mem_cost, time_cost, lanes } = face::default_limits();
+        Limits { lanes, mem_cost, time_cost }
+    }
+}
+
+/// Why a text was not verified within limits.
+#[derive(Clone, Debug, PartialEq)]
+pub enum Unverified {
+    /// The text spells a number above its limit.
+    TooCostly,
+
+    /// The call without limits refuses so.
+    Refused(Error),
+}
+
+impl fmt::Display for Unverified {
+    fn fmt(&self, f: &mut fmt::Formatter<'_>) -> fmt::Result {
+        match self {
+            Unverified::TooCostly => f.write_str("The text is above the limits"),
+            Unverified::Refused(error) => error.fmt(f),
+        }
+    }
+}
+
+impl std::error::Error for Unverified {}
+
+/// Whether a text is the hash of a password with this secret and this associated data, where it asks for no more
+/// than the limits.
+///
+/// # Errors
+///
+/// [`Unverified::Refused`] with [`Error::DecodingFail`] for a text that spells no hash. Then
+/// [`Unverified::TooCostly`] for one that spells more memory, passes or lanes than its limit, before any memory is
+/// asked for. Else [`Unverified::Refused`] with the error of [`verify_encoded_ext`](crate::verify_encoded_ext).
+///
+/// # Examples
+///
+/// ```
+/// use proved_argon2::{self as argon2, Limits, Unverified};
+///
+/// let text = "$argon2i$v=19$m=4096,t=3,p=1$c29tZXNhbHQ$iWh06vD8Fy27wf9npn6FXWiCX4K6pW6Ue1Bnzz07Z8A";
+/// assert!(argon2::verify_encoded_within(text, b"password", &[], &[], &Limits::default())?);
+/// assert!(!argon2::verify_encoded_within(text, b"Password", &[], &[], &Limits::default())?);
+/// let limits = Limits { mem_cost: 4095, ..Limits::default() };
+/// let answer = argon2::verify_encoded_within(text, b"password", &[], &[], &limits);
+/// assert_eq!(answer, Err(Unverified::TooCostly));
+/// # Ok::<(), Unverified>(())
+/// ```
+pub fn verify_encoded_within(
+    encoded: &str,
+    pwd: &[u8],
+    secret: &[u8],
+    ad: &[u8],
+    limits: &Limits,
+) -> result::Result<bool, Unverified> {
+    match face::verify_encoded_within(encoded, pwd, secret, ad, limits) {
+        OK => Ok(true),
+        MISMATCH => Ok(false),
+        TOO_COSTLY => Err(Unverified::TooCostly),
+        number => Err(Unverified::Refused(Error::of_number(number))),
+    }
+}
+
+#[cfg(test)]
+mod tests {
+    use super::{Limits, Unverified};
+    use crate::face::{self, TOO_COSTLY};
+
+    #[test]
+    fn the_default_allows_both_recommendations() {
+        assert_eq!(Limits::default(), Limits { lanes: 16, mem_cost: 2_097_152, time_cost: 10 });
+    }
+
+    #[test]
+    fn the_text_is_the_library_s() {
+        assert_eq!(face::message(TOO_COSTLY), Some(Unverified::TooCostly.to_string()));
+    }
+}

@@ -1,0 +1,161 @@
+//! Verifying a password against a stored text that may not ask for more than the caller allows.
+
+ghost use Rattle.std.specs.Prelude.{◌≡◌, Some, false, nat_lt};
+ghost use Rattle.argon2.specs.Standard.Limits.{AnswersWithin, is_too_costly};
+ghost use Rattle.argon2.specs.Views.Limits.{message_of};
+ghost use Rattle.argon2.specs.declared.limits.Unverified.TheVariants.{Refused};
+ghost use Rattle.argon2_standard.specs.Standard.Grammar.{Spells, SpellsNothing};
+ghost use Rattle.argon2_standard.specs.Standard.Outcome.{IsVerdict};
+ghost use Rattle.argon2_standard.specs.Standard.Stored.{IsStoredConfig};
+ghost use Rattle.argon2_standard.specs.Standard.Text.{Spelled};
+ghost use Rattle.argon2_standard.specs.declared.config.Config.{Config};
+ghost use Rattle.argon2_text.specs.Views.Texts.{settings_of};
+
+use crate::verifying::{verify_encoded_ext, verify_encoded_sequential};
+use crate::{Error, Result};
+use argon2_text::encoding::{Head, spelling_of};
+use std::alloc::Global;
+use std::marker::Sync;
+use std::sync::Wait;
+use std::thread::Threads;
+use std::{fmt, result};
+
+/// The greatest numbers that a stored text may spell.
+#[derive(Clone, Copy, Debug, Eq, PartialEq)]
+pub struct Limits {
+    /// The memory in KiB.
+    pub mem_cost: u32,
+
+    /// The number of passes.
+    pub time_cost: u32,
+
+    /// The number of lanes.
+    pub lanes: u32,
+}
+
+impl Default for Limits {
+    ghost use Rattle.argon2.specs.Views.Limits.{default_limits};
+
+    ghost is_default = { λ limits. limits ≡ default_limits };
+
+    /// 2 GiB, 10 passes and 16 lanes. Both recommendations of RFC 9106 (section 4) are within.
+    fn default() -> Limits {
+        Limits {
+            mem_cost: 2_097_152,
+            time_cost: 10,
+            lanes: 16,
+        }
+    }
+}
+
+/// Why a text was not verified within limits.
+#[derive(Clone, Debug, Drop, PartialEq)]
+pub enum Unverified {
+    /// The text spells a number above its limit.
+    TooCostly,
+
+    /// The call without limits refuses so.
+    Refused(Error),
+}
+
+impl Unverified {
+    /// The reason in a few words.
+    pub fn message(&self) -> &'static str
+        ensures { result.now ≡ message_of self.now }
+    {
+        match self {
+            Unverified::TooCostly => "The text is above the limits",
+            Unverified::Refused(error) => error.message(),
+        }
+    }
+}
+
+impl fmt::Display for Unverified {
+    ghost output = { λ unverified. Some (message_of unverified) };
+
+    fn fmt<W: fmt::Write>(&self, f: &mut fmt::Formatter<W>) -> fmt::Result {
+        f.write_str(self.message())
+    }
+}
+
+impl std::error::Error for Unverified {}
+
+impl From<Error> for Unverified {
+    ghost from_gives = { λ error unverified. unverified ≡ Refused error };
+
+    fn from(error: Error) -> Unverified {
+        Unverified::Refused(error)
+    }
+}
+
+/// Whether a stored text is the hash of a password with this secret and this associated data, where
+/// it asks for no more than the limits.
+///
+/// A text that spells nothing is `Refused(DecodingFail)`. One that spells more memory, passes or lanes
+/// than its limit is `TooCostly`, before any memory or worker is asked for. Any other text is answered
+/// as by `verify_encoded_ext`.
+pub fn verify_encoded_within<R: Threads + Wait + Sync>(
+    rt: &R,
+    alloc: Global,
+    encoded: &str,
+    pwd: &[u8],
+    secret: &[u8],
+    ad: &[u8],
+    limits: &Limits,
+) -> result::Result<bool, Unverified>
+    ensures unspelled { SpellsNothing encoded.now → result ≡ Err (Refused Error.DecodingFail) }
+    ensures spelled { (d : Spelled) (config : Config) → Spells encoded.now d
+        → IsStoredConfig d secret.now ad.now config
+        → AnswersWithin (is_too_costly limits.now d)
+        (IsVerdict pwd.now d.salt d.hash config (nat_lt 1 d.parallelism)) result }
+{
+    let costly = is_too_costly(encoded, limits)?;
+    if costly {
+        return Err(Unverified::TooCostly);
+    }
+    let same = verify_encoded_ext(rt, alloc, encoded, pwd, secret, ad)?;
+    Ok(same)
+}
+
+/// Whether a stored text is the hash of a password, as `verify_encoded_within` says, computed in the
+/// caller's thread.
+pub fn verify_encoded_within_sequential(
+    alloc: Global,
+    encoded: &str,
+    pwd: &[u8],
+    secret: &[u8],
+    ad: &[u8],
+    limits: &Limits,
+) -> result::Result<bool, Unverified>
+    ensures unspelled { SpellsNothing encoded.now → result ≡ Err (Refused Error.DecodingFail) }
+    ensures spelled { (d : Spelled) (config : Config) → Spells encoded.now d
+        → IsStoredConfig d secret.now ad.now config
+        → AnswersWithin (is_too_costly limits.now d)
+        (IsVerdict pwd.now d.salt d.hash config false) result }
+{
+    let above = is_too_costly(encoded, limits)?;
+    if above {
+        return Err(Unverified::TooCostly);
+    }
+    let same = verify_encoded_sequential(alloc, encoded, pwd, secret, ad)?;
+    Ok(same)
+}
+
+/// Whether a stored text spells a number above its limit. It takes no memory.
+fn is_too_costly(encoded: &str, limits: &Limits) -> Result<bool>
+    ensures unspelled { SpellsNothing encoded.now → result ≡ Err Error.DecodingFail }
+    ensures spelled { (d : Spelled) → Spells encoded.now d
+        → result ≡ Ok (is_too_costly limits.now d) }
+{
+    let head = spelling_of(encoded).ok_or(Error::DecodingFail)?;
+    Ok(is_above(&head, limits))
+}
+
+/// Whether a number of a text's head is above its limit.
+fn is_above(head: &Head<'_>, limits: &Limits) -> bool
+    ensures { result ≡ is_too_costly limits.now (settings_of head.now) }
+{
+    head.mem_cost > limits.mem_cost
+        || head.time_cost > limits.time_cost
+        || head.parallelism > limits.lanes
+}

@@ -1,0 +1,40 @@
+-- The text that is verified is the one that was passed.
+use Rattle.std.proofs.Common.{Err, refl, ap, ◌∙◌}
+use Rattle.std.proofs.lemmas.Result.{err_from_is_err_and}
+use Rattle.argon2_c.specs.Answers.{judgement_of}
+use Rattle.argon2_c.specs.Limits.{refusal_from}
+use Rattle.argon2_c.proofs.WithinLimits.{judged_within, refused_within}
+use Rattle.argon2_c.proofs.limits.verify_encoded_within.Goals as goal
+
+pub returns-in_err-text : goal.returns-in_err-text
+returns-in_err-text c =
+    let p = err_from_is_err_and c.from_residual.result c.from_residual.ensures.1 in
+    let why = c.in_err-text.ensures.cases in
+    record {
+      not_utf8 = λ no. rw (p.1, p.2, why.0) refl;
+      unspelled = λ utf8 none. absurd (why.1 utf8);
+      spelled = λ utf8 d config spells stored. absurd (why.1 utf8);
+    }
+
+pub returns-in_err-matches : goal.returns-in_err-matches
+returns-in_err-matches c =
+    let text = c.in_ok-text.ensures.cases in
+    let p = err_from_is_err_and c.from_residual-in_err-matches.result c.from_residual-in_err-matches.ensures.1 in
+    let unspelled = rw text.0 at c.in_err-matches.ensures.unspelled in
+    let spelled = rw (text.0, c.of_library-limits.ensures) at c.in_err-matches.ensures.spelled in
+    record {
+      not_utf8 = λ no. absurd (no text.1);
+      unspelled = λ _ none. let e = unspelled none in rw (p.1, p.2) (cc);
+      spelled = λ _ d config spells stored. rw (p.1, p.2) (refused_within _ _ _ c.in_err-matches.field-0.0 (spelled d config spells stored));
+    }
+
+pub returns : goal.returns
+returns c =
+    let text = c.in_ok-text.ensures.cases in
+    let unspelled = rw text.0 at c.in_ok-matches.ensures.unspelled in
+    let spelled = rw (text.0, c.of_library-limits.ensures) at c.in_ok-matches.ensures.spelled in
+    record {
+      not_utf8 = λ no. absurd (no text.1);
+      unspelled = λ _ none. let e = unspelled none in absurd (cc);
+      spelled = λ _ d config spells stored. judged_within _ _ _ c.in_ok-matches.matches (spelled d config spells stored);
+    }

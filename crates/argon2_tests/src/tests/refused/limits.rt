@@ -1,0 +1,134 @@
+//! Verifying within limits: what is too costly is so before any memory or worker is asked for.
+
+use super::{AD, PASSWORD, SECRET, TEXT, tell};
+use argon2::{Error, Limits, Unverified, verify_encoded_within, verify_encoded_within_sequential};
+use std::alloc::Global;
+use std::marker::Sync;
+use std::sync::Wait;
+use std::test::Fail;
+use std::thread::Threads;
+
+// Just what the text of RFC 9106's tag spells.
+const OF_TEXT: Limits = Limits {
+    mem_cost: 32,
+    time_cost: 3,
+    lanes: 4,
+};
+
+// Limits of which one is below what that text spells.
+const BELOW: [Limits; 4] = [
+    Limits {
+        mem_cost: 31,
+        time_cost: 3,
+        lanes: 4,
+    },
+    Limits {
+        mem_cost: 32,
+        time_cost: 2,
+        lanes: 4,
+    },
+    Limits {
+        mem_cost: 32,
+        time_cost: 3,
+        lanes: 3,
+    },
+    Limits {
+        mem_cost: 0,
+        time_cost: 0,
+        lanes: 0,
+    },
+];
+
+// Texts of RFC 9106's two recommendations, and of one number more than the default allows.
+const RECOMMENDED: [&str; 2] = [
+    "$argon2id$v=19$m=2097152,t=1,p=4$AAAAAAA$AAAAAAA",
+    "$argon2id$v=19$m=65536,t=3,p=4$AAAAAAA$AAAAAAA",
+];
+
+const ABOVE: [&str; 5] = [
+    "$argon2id$v=19$m=2097153,t=1,p=4$AAAAAAA$AAAAAAA",
+    "$argon2id$v=19$m=65536,t=11,p=4$AAAAAAA$AAAAAAA",
+    "$argon2id$v=19$m=65536,t=3,p=17$AAAAAAA$AAAAAAA",
+    "$argon2id$v=19$m=4294967295,t=4294967295,p=16777215$c29tZXNhbHQ$iekCn0Y3spW+sCcFanM2xBT63UP2sghkUoHLIUpWRS8",
+    "$argon2d$m=4294967295,t=0,p=0$$",
+];
+
+/// Whether both calls answer so without a secret and associated data.
+fn both_answer<R: Threads + Wait + Sync>(
+    rt: &R,
+    alloc: Global,
+    text: &str,
+    limits: &Limits,
+    unverified: &Unverified,
+) -> bool {
+    let by_workers = verify_encoded_within(rt, alloc, text, b"password", &[], &[], limits);
+    let alone = verify_encoded_within_sequential(alloc, text, b"password", &[], &[], limits);
+    is(unverified, by_workers) && is(unverified, alone)
+}
+
+/// Whether the answer is this one.
+fn is(unverified: &Unverified, answer: Result<bool, Unverified>) -> bool {
+    match answer {
+        Ok(_) => false,
+        Err(other) => other == *unverified,
+    }
+}
+
+/// What came, as without limits.
+fn without_limits(answer: Result<bool, Unverified>) -> argon2::Result<bool> {
+    match answer {
+        Ok(same) => Ok(same),
+        Err(Unverified::Refused(error)) => Err(error),
+        Err(Unverified::TooCostly) => Ok(false),
+    }
+}
+
+#[test]
+fn verify_encoded_within_refused_in_turn(rt: HostRuntime) -> Result<(), Fail> {
+    let alloc = rt.alloc();
+    let answer = verify_encoded_within(&rt, alloc, TEXT, &PASSWORD, &SECRET, &AD, &OF_TEXT);
+    tell(&rt, without_limits(answer))
+}
+
+#[test]
+fn verify_encoded_within_sequential_refused_in_turn(rt: HostRuntime) -> Result<(), Fail> {
+    let alloc = rt.alloc();
+    let limits = Limits::default();
+    let answer = verify_encoded_within_sequential(alloc, TEXT, &PASSWORD, &SECRET, &AD, &limits);
+    tell(&rt, without_limits(answer))
+}
+
+#[test]
+fn a_costly_text_asks_for_nothing_refused_in_turn(rt: HostRuntime) -> Result<(), Fail> {
+    let alloc = rt.alloc();
+    for limits in &BELOW {
+        let is_costly = both_answer(&rt, alloc, TEXT, limits, &Unverified::TooCostly);
+        assert!(rt; is_costly, "{limits:?}");
+    }
+    for text in ABOVE {
+        let is_costly = both_answer(&rt, alloc, text, &Limits::default(), &Unverified::TooCostly);
+        assert!(rt; is_costly, "{text}");
+    }
+    tell(&rt, Ok(true))
+}
+
+// A salt of five bytes: no tag is computed.
+#[test]
+fn a_text_within_limits_is_judged_refused_in_turn(rt: HostRuntime) -> Result<(), Fail> {
+    let (alloc, limits) = (rt.alloc(), Limits::default());
+    let short = Unverified::Refused(Error::SaltTooShort);
+    for text in RECOMMENDED {
+        assert!(rt; both_answer(&rt, alloc, text, &limits, &short), "{text}");
+    }
+    let unspelled = Unverified::Refused(Error::DecodingFail);
+    let none = Limits {
+        mem_cost: 0,
+        time_cost: 0,
+        lanes: 0,
+    };
+    assert!(rt;
+        both_answer(&rt, alloc, "$argon2id$", &none, &unspelled),
+        "no text"
+    );
+    tell(&rt, Ok(true))
+}
