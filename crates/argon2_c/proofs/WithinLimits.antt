@@ -8,6 +8,7 @@ use Rattle.argon2.specs.declared.limits.Unverified.{Unverified}
 use Rattle.argon2.specs.declared.limits.Unverified.TheVariants.{TooCostly, Refused}
 use Rattle.argon2_c.specs.Answers.{Judges, judgement_of}
 use Rattle.argon2_c.specs.Limits.{JudgesWithin, refusal_from}
+use Rattle.argon2_c.specs.declared.refusal.Refusal.TheVariants.{Library}
 use Rattle.argon2_c.proofs.Verdicts.{judged, refused}
 
 -- a verdict of the library tells whether there is a match
@@ -26,3 +27,9 @@ refused_within true refusal Same unverified h =
     rw same refl
 refused_within false refusal Same (Refused e) h = refused refusal Same e h
 refused_within false refusal Same TooCostly h = absurd h
+
+-- a refusal of the library is that refusal in C
+pub library_refusal : (unverified : Unverified) (e : Error) → ◌≡◌ {A = Result Bool Unverified} (Err unverified) (Err (Refused e)) → refusal_from unverified ≡ Library e
+library_refusal unverified e same =
+    let is : unverified ≡ Refused e = cc in
+    rw is refl

@@ -1,9 +1,8 @@
 -- The text that is verified is the one that was passed.
-use Rattle.std.proofs.Common.{Err, refl, ap, ◌∙◌}
+use Rattle.std.proofs.Common.{Err, refl, ap}
 use Rattle.std.proofs.lemmas.Result.{err_from_is_err_and}
-use Rattle.argon2_c.specs.Answers.{judgement_of}
-use Rattle.argon2_c.specs.Limits.{refusal_from}
-use Rattle.argon2_c.proofs.WithinLimits.{judged_within, refused_within}
+use Rattle.argon2.specs.ErrorType.TheVariants.{DecodingFail}
+use Rattle.argon2_c.proofs.WithinLimits.{judged_within, library_refusal, refused_within}
 use Rattle.argon2_c.proofs.limits.verify_encoded_within.Goals as goal
 
 pub returns-in_err-text : goal.returns-in_err-text
@@ -24,7 +23,7 @@ returns-in_err-matches c =
     let spelled = rw (text.0, c.of_library-limits.ensures) at c.in_err-matches.ensures.spelled in
     record {
       not_utf8 = λ no. absurd (no text.1);
-      unspelled = λ _ none. let e = unspelled none in rw (p.1, p.2) (cc);
+      unspelled = λ _ none. rw (p.1, p.2) (ap Err (library_refusal c.in_err-matches.field-0.0 DecodingFail (unspelled none)));
       spelled = λ _ d config spells stored. rw (p.1, p.2) (refused_within _ _ _ c.in_err-matches.field-0.0 (spelled d config spells stored));
     }
 
