@@ -133,8 +133,10 @@ typedef struct proved_argon2_settings {
     uint32_t hash_length; /* the length of the tag in bytes */
 } proved_argon2_settings;
 
-/* The greatest numbers that a stored text may spell. A field that is left out of an initializer is 0, which no text
- * of a hash is within. */
+/*
+ * The greatest numbers that a stored text may spell. A field that is left out of an initializer is 0, within which no
+ * text of a hash is.
+ */
 typedef struct proved_argon2_limits {
     uint32_t mem_cost;  /* the memory in KiB */
     uint32_t time_cost; /* the passes over the memory */

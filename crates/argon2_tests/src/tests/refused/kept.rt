@@ -1,5 +1,5 @@
-//! Each call twice over a memory that the caller keeps: the second asks for no blocks, and each writes each block once
-//! a pass.
+//! Each call twice over a memory that the caller keeps: the second asks for no blocks, and each writes
+//! each block once a pass.
 
 use super::{AD, ARGON2ID, PASSWORD, SALT, SECRET, TEXT, in_mode, tell};
 use argon2::parts::memory::Memory;
