@@ -13,9 +13,7 @@
 #include <sys/mman.h>
 #include <time.h>
 
-#ifndef MADV_POPULATE_WRITE
-#define MADV_POPULATE_WRITE 23
-#endif
+#define POPULATE 23        /* MADV_POPULATE_WRITE of Linux 5.14 */
 #define HUGE_PAGE ((size_t)2 << 20)
 #define MOST_FOR_A_TEXT 16 /* threads, as many as the library itself has for a stored text */
 #define STACK_BELOW 16384  /* bytes: a call needs two thirds */
@@ -54,7 +52,7 @@ static uint32_t populate(const work *w, uint32_t number)
 {
     const size_t part = (w->bytes / w->tasks / HUGE_PAGE + 1) * HUGE_PAGE, from = part * number;
     const size_t left = w->mapped == NULL || from >= w->bytes ? 0 : w->bytes - from;
-    const int refused = left != 0 && madvise((char *)w->blocks + from, left < part ? left : part, MADV_POPULATE_WRITE) != 0;
+    const int refused = left != 0 && madvise((char *)w->blocks + from, left < part ? left : part, POPULATE) != 0;
     return refused && (errno == ENOMEM || errno == EFAULT) ? PROVED_ARGON2_OUT_OF_MEMORY : PROVED_ARGON2_OK;
 }
 
@@ -100,7 +98,6 @@ static void *run_thread(void *self)
 
 static int run_threads(void *pool, uint32_t tasks, void (*task)(void *, uint32_t), void *arg)
 {
-    const struct timespec millisecond = {0, 1000000};
     worker *const workers = pool;
     uint32_t started = 1;
     sigset_t all, before;
@@ -111,7 +108,7 @@ static int run_threads(void *pool, uint32_t tasks, void (*task)(void *, uint32_t
             started++;
         }
         if (started < tasks) {
-            nanosleep(&millisecond, NULL); /* a thread that was joined may not be counted off yet */
+            nanosleep(&(struct timespec){0, 1000000}, NULL); /* one that was joined may not be counted off yet */
         }
     }
     pthread_sigmask(SIG_SETMASK, &before, NULL);
@@ -144,9 +141,10 @@ static uint32_t take_memory(work *w, const options *with)
 }
 
 /* Writes the tag of a job, or answers whether a hash is it; by at most so many threads. */
-static uint32_t compute(const options *with, uint32_t most, const proved_argon2_job *job, const uint8_t *hash, uint8_t *tag)
+static uint32_t compute(
+    const options *with, uint32_t most, const proved_argon2_job *job, const uint8_t *hash, uint8_t *tag)
 {
-    const size_t slice = (size_t)job->lanes * job->segment_length;
+    const size_t slice = (size_t)job->lanes * job->segment_length, len = job->hash_length;
     work w = {.job = job, .length = job->segment_length, .slice = slice, .bytes = 4 * slice * sizeof(block)};
     w.tasks = most > job->lanes ? job->lanes : most == 0 ? 1 : most;
     w.workers = calloc(w.tasks, sizeof(worker));
@@ -155,11 +153,10 @@ static uint32_t compute(const options *with, uint32_t most, const proved_argon2_
         for (uint32_t i = 0; i < w.tasks; i++) {
             w.workers[i] = (worker){.work = &w, .number = i};
         }
-        code = with->run == NULL ? fill(&w, run_threads, w.workers) : fill(&w, with->run, with->pool);
+        code = fill(&w, with->run == NULL ? run_threads : with->run, with->run == NULL ? w.workers : with->pool);
         if (code == PROVED_ARGON2_OK) {
-            const block *const last = w.blocks + 3 * w.slice;
-            code = hash == NULL ? proved_argon2_job_finish(job, last, w.slice, tag, job->hash_length)
-                : proved_argon2_job_verify(job, last, w.slice, hash, job->hash_length, tag, job->hash_length);
+            code = hash == NULL ? proved_argon2_job_finish(job, w.blocks + 3 * slice, slice, tag, len)
+                : proved_argon2_job_verify(job, w.blocks + 3 * slice, slice, hash, len, tag, len);
         }
         if (w.mapped != NULL) {
             munmap(w.mapped, w.bytes + HUGE_PAGE); /* the system clears it */
@@ -176,10 +173,8 @@ static uint32_t compute(const options *with, uint32_t most, const proved_argon2_
 static uint32_t cleared(uint32_t code, proved_argon2_job *job, uint8_t *bytes, size_t len)
 {
     explicit_bzero(job, sizeof *job);
-    if (bytes != NULL) {
-        explicit_bzero(bytes, len);
-        free(bytes);
-    }
+    explicit_bzero(bytes == NULL ? (void *)job : bytes, bytes == NULL ? 0 : len);
+    free(bytes);
     clear_stack();
     return code;
 }
@@ -212,7 +207,8 @@ uint32_t proved_argon2_hash_encoded_with(const options *with, INPUTS, uint8_t *t
     uint8_t *tag = NULL;
     uint32_t code = read_options(&known, with, text, text_len);
     code = code ? code : proved_argon2_job_make(PASSED, settings, &job);
-    code = code || text_len > proved_argon2_encoded_len(settings, (uint32_t)salt_len) ? code : PROVED_ARGON2_WRONG_LENGTH;
+    const int fits = code || text_len > proved_argon2_encoded_len(settings, (uint32_t)salt_len);
+    code = fits ? code : PROVED_ARGON2_WRONG_LENGTH;
     code = code || (tag = malloc(job.hash_length)) != NULL ? code : PROVED_ARGON2_OUT_OF_MEMORY;
     code = code ? code : compute(&known, known.threads, &job, NULL, tag);
     code = code ? code : proved_argon2_encode(salt, salt_len, settings, tag, settings->hash_length, text, text_len);
@@ -235,8 +231,8 @@ uint32_t proved_argon2_verify_raw_with(const options *with, INPUTS, const uint8_
 }
 
 uint32_t proved_argon2_verify_encoded_with(
-    const options *with, const uint8_t *text, size_t text_len, const uint8_t *pwd, size_t pwd_len, const uint8_t *secret,
-    size_t secret_len, const uint8_t *ad, size_t ad_len)
+    const options *with, const uint8_t *text, size_t text_len, const uint8_t *pwd, size_t pwd_len,
+    const uint8_t *secret, size_t secret_len, const uint8_t *ad, size_t ad_len)
 {
     options known;
     proved_argon2_job job;

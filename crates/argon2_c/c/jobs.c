@@ -51,7 +51,8 @@ static uint32_t make(const proved_argon2_settings *settings, proved_argon2_job *
     memset(salt, 2, sizeof salt);
     memset(secret, 3, sizeof secret);
     memset(ad, 4, sizeof ad);
-    return proved_argon2_job_make(pwd, sizeof pwd, salt, sizeof salt, secret, sizeof secret, ad, sizeof ad, settings, job);
+    return proved_argon2_job_make(pwd, sizeof pwd, salt, sizeof salt, secret, sizeof secret, ad, sizeof ad, settings,
+                                  job);
 }
 
 static void check_tags(void)
@@ -76,10 +77,19 @@ static void check_tags(void)
     check_code(proved_argon2_encode(bytes_of("somesalt"), 8, &rfc, tag, 32, text, 128), PROVED_ARGON2_OK, "its text");
     check(text[0] == '$' && strlen((char *)text) == proved_argon2_encoded_len(&rfc, 8), "of its length");
     memcpy(other, text, 128);
-    check_code(proved_argon2_encode(bytes_of("somesalt"), 8, &rfc, tag, 31, text, 128), PROVED_ARGON2_WRONG_LENGTH, "a tag of 31 bytes");
-    check_code(proved_argon2_encode(bytes_of("somesalt"), 8, &rfc, tag, 32, text, strlen((char *)text)), PROVED_ARGON2_WRONG_LENGTH, "no room");
-    check_code(proved_argon2_encode(bytes_of("some"), 4, &rfc, tag, 32, text, 128), PROVED_ARGON2_SALT_TOO_SHORT, "a short salt");
+    check_code(proved_argon2_encode(bytes_of("somesalt"), 8, &rfc, tag, 31, text, 128), PROVED_ARGON2_WRONG_LENGTH,
+               "a tag of 31 bytes");
+    check_code(proved_argon2_encode(bytes_of("somesalt"), 8, &rfc, tag, 32, text, strlen((char *)text)),
+               PROVED_ARGON2_WRONG_LENGTH, "no room");
+    check_code(proved_argon2_encode(bytes_of("some"), 4, &rfc, tag, 32, text, 128), PROVED_ARGON2_SALT_TOO_SHORT,
+               "a short salt");
     check(memcmp(text, other, 128) == 0, "the text is as it was");
+}
+
+static uint32_t read_job(
+    const char *text, size_t len, const char *pwd, proved_argon2_job *job, uint8_t *hash, size_t hash_len)
+{
+    return proved_argon2_job_read(bytes_of(text), len, bytes_of(pwd), 8, NULL, 0, NULL, 0, job, hash, hash_len);
 }
 
 static void check_text(void)
@@ -89,16 +99,13 @@ static void check_text(void)
     memset(hash, 9, sizeof hash);
     memset(&job, 5, sizeof job);
     same = job;
-    check_code(proved_argon2_job_read(bytes_of(stored), strlen(stored), bytes_of("password"), 8, NULL, 0, NULL, 0, &job, hash, 31),
-               PROVED_ARGON2_WRONG_LENGTH, "a buffer of 31 bytes");
-    check_code(proved_argon2_job_read(bytes_of(stored), strlen(stored) - 1, bytes_of("password"), 8, NULL, 0, NULL, 0, &job, hash, 32),
-               PROVED_ARGON2_DECODING_FAIL, "half a text");
-    check_code(proved_argon2_job_read(bytes_of("\xff"), 1, bytes_of("password"), 8, NULL, 0, NULL, 0, &job, hash, 32),
-               PROVED_ARGON2_NOT_UTF8, "no text");
+    check_code(read_job(stored, strlen(stored), "password", &job, hash, 31), PROVED_ARGON2_WRONG_LENGTH, "31 bytes");
+    check_code(read_job(stored, strlen(stored) - 1, "password", &job, hash, 32), PROVED_ARGON2_DECODING_FAIL, "a part");
+    check_code(read_job("\xff", 1, "password", &job, hash, 32), PROVED_ARGON2_NOT_UTF8, "no text");
     check(memcmp(&job, &same, sizeof job) == 0 && hash[0] == 9 && hash[31] == 9, "job and hash are as they were");
     for (int wrong = 0; wrong < 2; wrong++) {
-        check_code(proved_argon2_job_read(bytes_of(stored), strlen(stored), bytes_of(wrong ? "Password" : "password"), 8, NULL, 0,
-                                          NULL, 0, &job, hash, 32), PROVED_ARGON2_OK, "a job of a text");
+        check_code(read_job(stored, strlen(stored), wrong ? "Password" : "password", &job, hash, 32), PROVED_ARGON2_OK,
+                   "a job of a text");
         check(take_steps(&job, false), "its steps");
         check_code(proved_argon2_job_verify(&job, blocks + 192, 64, hash, 32, tag, 32),
                    wrong ? PROVED_ARGON2_MISMATCH : PROVED_ARGON2_OK, "its verdict");
@@ -106,18 +113,19 @@ static void check_text(void)
 }
 
 /* A step for one job, with a number or a length that does not fit: its own refusal, and all blocks as they were. */
-static void check_fill(const proved_argon2_job *job, uint32_t pass, uint32_t slice, uint32_t lane, size_t first, size_t second,
-                       size_t third, size_t own, uint32_t expected, const char *name)
+static void check_fill(const proved_argon2_job *job, uint32_t pass, uint32_t slice, uint32_t lane, size_t first,
+                       size_t second, size_t third, size_t own, uint32_t expected, const char *name)
 {
-    check_code(proved_argon2_job_fill(job, pass, slice, lane, blocks, first, blocks + 8, second, blocks + 16, third, blocks + 24, own),
-               expected, name);
+    check_code(proved_argon2_job_fill(job, pass, slice, lane, blocks, first, blocks + 8, second, blocks + 16, third,
+                                      blocks + 24, own), expected, name);
     check(memcmp(blocks, before, sizeof blocks) == 0, "all blocks are as they were");
 }
 
 static void check_numbers(void)
 {
     proved_argon2_job job, bad;
-    uint32_t *const numbers[] = {&bad.variant, &bad.version, &bad.lanes, &bad.segment_length, &bad.passes, &bad.hash_length};
+    uint32_t *const numbers[] = {
+        &bad.variant, &bad.version, &bad.lanes, &bad.segment_length, &bad.passes, &bad.hash_length};
     static const uint32_t wrong[][3] = {
         {3, 16, UINT32_MAX}, {0, 17, UINT32_MAX}, {0, 0x1000000, UINT32_MAX}, {0, 1, UINT32_MAX}, {0, 0, 0}, {0, 1, 3}};
     uint8_t tag[32] = {0};
@@ -150,7 +158,7 @@ static void check_numbers(void)
     check_code(proved_argon2_job_begin(&job, 0, NULL, 0), PROVED_ARGON2_WRONG_BLOCKS, "a segment of none begins");
     check_code(proved_argon2_job_finish(&job, blocks, 7, tag, 32), PROVED_ARGON2_WRONG_BLOCKS, "a short slice 3");
     check_code(proved_argon2_job_finish(&job, blocks, 8, tag, 31), PROVED_ARGON2_WRONG_LENGTH, "a short tag");
-    check_code(proved_argon2_job_verify(&job, blocks, 8, tag, 32, tag, 31), PROVED_ARGON2_WRONG_LENGTH, "a short room for it");
+    check_code(proved_argon2_job_verify(&job, blocks, 8, tag, 32, tag, 31), PROVED_ARGON2_WRONG_LENGTH, "a short room");
     check_code(proved_argon2_job_verify(&job, blocks, 8, tag, 31, tag, 32), PROVED_ARGON2_WRONG_LENGTH, "a short hash");
     check(memcmp(blocks, before, sizeof blocks) == 0 && tag[0] == 0 && tag[31] == 0, "all is as it was");
 }

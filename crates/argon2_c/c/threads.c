@@ -4,6 +4,7 @@
  *
  *     threads          all checks
  *     threads few      those that a tool looks at: a few tags, and eight hashes at once
+ *     threads unwiped  what is left where nothing is cleared, which has to be found
  */
 #include "checks.h"
 #include "proved_argon2_threads.h"
@@ -24,10 +25,12 @@ void *__real_malloc(size_t len);
 void *__wrap_malloc(size_t len);
 void *__real_calloc(size_t count, size_t len);
 void *__wrap_calloc(size_t count, size_t len);
+void __real_explicit_bzero(void *bytes, size_t len);
+void __wrap_explicit_bzero(void *bytes, size_t len);
 
 /* Which starts and requests are refused, counted from 1, and whether mappings are; 0 for none. */
 static size_t starts, first_refused, last_refused, requests, refused_request;
-static bool no_mappings;
+static bool no_mappings, no_wiping;
 
 int __wrap_pthread_create(pthread_t *thread, const pthread_attr_t *attributes, void *(*run)(void *), void *arg)
 {
@@ -60,6 +63,13 @@ void *__wrap_calloc(size_t count, size_t len)
     return is_refused() ? NULL : __real_calloc(count, len);
 }
 
+void __wrap_explicit_bzero(void *bytes, size_t len)
+{
+    if (!no_wiping) {
+        __real_explicit_bzero(bytes, len);
+    }
+}
+
 /* ---- inputs */
 
 typedef struct call {
@@ -90,7 +100,8 @@ static call any_call(uint32_t most_lanes)
 {
     call it;
     const uint32_t lanes = 1 + below(below(2) ? most_lanes : 8), version = below(2) ? 0x10 : 0x13;
-    it.settings = (proved_argon2_settings){below(3), version, 8 * lanes + below(300), 1 + below(3), lanes, 4 + below(LONGEST - 4)};
+    it.settings = (proved_argon2_settings){
+        below(3), version, 8 * lanes + below(300), 1 + below(3), lanes, 4 + below(LONGEST - 4)};
     it.pwd_len = some(it.pwd, 0);
     it.salt_len = some(it.salt, 8);
     it.secret_len = some(it.secret, 0);
@@ -106,8 +117,8 @@ static uint32_t hash_raw(const proved_argon2_options *with, const call *it, uint
 
 static uint32_t hash_encoded(const proved_argon2_options *with, const call *it, uint8_t *text, size_t len)
 {
-    return proved_argon2_hash_encoded_with(with, it->pwd, it->pwd_len, it->salt, it->salt_len, it->secret, it->secret_len,
-                                           it->ad, it->ad_len, &it->settings, text, len);
+    return proved_argon2_hash_encoded_with(with, it->pwd, it->pwd_len, it->salt, it->salt_len, it->secret,
+                                           it->secret_len, it->ad, it->ad_len, &it->settings, text, len);
 }
 
 static uint32_t verify_raw(const proved_argon2_options *with, const call *it, const uint8_t *hash)
@@ -193,7 +204,7 @@ static void check_tags(uint32_t count, uint32_t most_lanes)
     uint32_t good = 0;
     for (uint32_t i = 0; i < count; i++) {
         const call it = any_call(most_lanes);
-        good += agrees(&it, 1 + i % 33, i / 33 % 4);
+        good += agrees(&it, 1 + i % 33, most_lanes < 33 ? i % 4 : i / 33 % 4);
     }
     printf("%u of %u calls by 1 to 33 threads agree with libargon2\n", good, count);
     check(good == count, "tags, verdicts and texts by threads");
@@ -234,7 +245,8 @@ static void check_at_once(void)
 
 /* ---- options and shortages */
 
-static const call sample = {{PROVED_ARGON2_ID, PROVED_ARGON2_VERSION_13, 256, 2, 4, 32}, "password", "somesalt", "", "", 8, 8, 0, 0};
+static const call sample = {
+    {PROVED_ARGON2_ID, PROVED_ARGON2_VERSION_13, 256, 2, 4, 32}, "password", "somesalt", "", "", 8, 8, 0, 0};
 
 /* A call that is refused: its number, and nothing written. */
 static void check_refused(const proved_argon2_options *with, uint32_t expected, const char *name)
@@ -282,7 +294,7 @@ static void check_options(void)
             with.pool = &left;
             memset(memory, 1, sizeof memory);
             check_refused(&with, PROVED_ARGON2_WORKER_REFUSED, "a pool that refuses a run or leaves out a task");
-            check(is_clear(memory, 256 * 1024) && memory[256 * 1024] == 1, "its memory is cleared, and no byte behind it");
+            check(is_clear(memory, 256 * 1024) && memory[256 * 1024] == 1, "its memory is cleared, and no more");
         }
     }
 }
@@ -296,7 +308,8 @@ static void check_shortages(void)
         starts = 0, first_refused = start, last_refused = SIZE_MAX;
         check_refused(&with, PROVED_ARGON2_WORKER_REFUSED, "a start that is refused for good");
         starts = 0, last_refused = start + 2;
-        check(hash_raw(&with, &sample, tag) == PROVED_ARGON2_OK && memcmp(tag, expected, 32) == 0, "one that is refused three times");
+        check(hash_raw(&with, &sample, tag) == PROVED_ARGON2_OK && memcmp(tag, expected, 32) == 0,
+              "one that is refused three times");
     }
     first_refused = 0;
     no_mappings = true;
@@ -402,7 +415,7 @@ static void check_left(const char *name)
     check(found == 0, name);
 }
 
-static void check_wiping(void)
+static void check_wiping(bool is_without)
 {
     static const char text[] = "$argon2id$v=19$m=256,t=2,p=4$c29tZXNhbHQ$AAAAAAAAAAAAAAAAAAAAAAAAAAAAAAAAAAAAAAAAAAA";
     static const uint8_t hash[32];
@@ -410,6 +423,7 @@ static void check_wiping(void)
     check(know_parts(), "what to look for");
     clear_below();
     check_left("nothing is there before");
+    no_wiping = is_without;
     for (uint32_t threads = 1; threads <= 4; threads += 3) {
         for (int kind = 0; kind < 3; kind++) {
             proved_argon2_options with = by(threads);
@@ -436,13 +450,15 @@ static void check_wiping(void)
 
 int main(int argc, char **argv)
 {
-    (void)argv;
-    if (argc > 1) {
-        check_tags(40, 8);
+    if (argc > 1 && strcmp(argv[1], "few") == 0) {
+        check_tags(20, 4);
         check_at_once();
         return checks_failed != 0;
     }
-    check_wiping();
+    check_wiping(argc > 1);
+    if (argc > 1) {
+        return checks_failed != 0;
+    }
     check_tags(1000, 100);
     check_at_once();
     check_options();
