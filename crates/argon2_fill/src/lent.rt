@@ -11,12 +11,11 @@ ghost use Rattle.argon2_memory.specs.Views.Segments.{IsReady};
 ghost use Rattle.argon2_fill.specs.Laws.Lent.{EveryLentRunAgrees};
 ghost use Rattle.argon2_standard.specs.Standard.Tag.{last_blocks, tag_from, tag_of};
 
-use crate::fill::write_first_blocks;
-use crate::walk::{numbered_slice, slice_count};
+use crate::first_blocks::write_first_blocks;
 use argon2_blocks::blake2b::hprime;
 use argon2_blocks::block::Block;
 use argon2_blocks::common::SYNC_POINTS;
-use argon2_memory::job::{Job, recall_context, recall_job};
+use argon2_memory::job::{Job, numbered_job, recall_context, recall_job, slice_count};
 use argon2_memory::segment::fill_lent_segment;
 use argon2_settings::context::Context;
 
@@ -163,7 +162,7 @@ pub fn fill_lent(
 {
     recall_job(job);
     for n in 0..slice_count(job) {
-        fill_one_of_four(&numbered_slice(job, n), first, second, third, fourth);
+        fill_one_of_four(&numbered_job(job, n), first, second, third, fourth);
     }
 }
 

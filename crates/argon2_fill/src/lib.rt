@@ -2,6 +2,7 @@
 #![tactic(auto)]
 
 pub mod fill;
+pub mod first_blocks;
+pub mod last_blocks;
 pub mod lent;
-mod walk;
 pub mod workers;

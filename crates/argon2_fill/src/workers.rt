@@ -1,21 +1,148 @@
-//! Workers: they claim the lanes of a slice and give them back under one lock, and fill them
-//! outside it, slice after slice.
+//! The fill of all slices by workers, one slice after another. They claim the lanes of a slice and
+//! give them back under one lock (`board`), and fill them outside it (`crew`).
+
+ghost use Rattle.std.specs.Prelude.{◌≡◌, ◌+◌, ◌*◌, ◌^◌, ◌<◌, [], IfErr, IfOk, OnErr, OnOk, replicate, slice_set, true};
+ghost use Rattle.std.specs.List.{remove};
+ghost use Rattle.argon2_standard.specs.Standard.Outcome.{IsShortage};
+ghost use Rattle.argon2_standard.specs.Views.Presets.{workers_of};
+ghost use Rattle.argon2_memory.specs.Views.Jobs.{setting_of_context};
+ghost use Rattle.argon2_fill.specs.Views.Boards.{NoneOut};
+ghost use Rattle.argon2_memory.specs.Views.Filling.{IsSnapshot};
+ghost use Rattle.argon2_memory.specs.Laws.Matrix.{HoldsLastPass, IsBegun};
+ghost use Rattle.argon2_memory.specs.Views.Memories.{AreSlices, HasShape, IsFilledBelow, block_of, no_memory};
+ghost use Rattle.argon2_fill.specs.Views.Permits.{PermitsAll};
+ghost use Rattle.argon2_memory.specs.Views.SliceLists.{segments_of};
 
 mod board;
-mod claim;
 mod crew;
-mod event;
-mod gate;
-mod handles;
-mod passes;
-mod permit;
-mod slice;
-mod slot;
 
-pub use board::Board;
-pub use claim::{Claim, Filled};
-pub use event::{Event, Place};
-pub use gate::{Gate, NoGate};
-pub use passes::{board_of, fill_parallel, fill_parallel_with};
-pub use permit::{AllPermitted, Permit};
-pub use slice::{fill_slice, fill_slice_with};
+use argon2_memory::job::{Job, numbered_job, recall_context, recall_job, slice_count};
+use argon2_memory::memory::{Memory, Slices, memory_of_slices, take_slices};
+use argon2_memory::segment::{Snapshot, others, take_slice};
+use argon2_settings::context::{Context, worker_count};
+use argon2_standard::error::Error;
+use argon2_standard::result::Result;
+pub use board::{Board, Claim, Event, Filled, Gate, NoGate, Place};
+pub use crew::{AllPermitted, Permit, fill_slice, fill_slice_with};
+use std::alloc::Global;
+use std::marker::Sync;
+use std::sync::Wait;
+use std::thread::Threads;
+
+/// Moves the job's slice out onto a board. The slices that stay are the job's snapshot.
+pub fn board_of(alloc: Global, job: &Job, slices: &mut Slices) -> Result<Board>
+    requires slices { AreSlices job.now.setting.lanes job.now.setting.segment_length
+        (segments_of slices.old) }
+    requires ready { IsFilledBelow job.now.setting job.now.pass job.now.slice
+        (segments_of slices.old) }
+    ensures board { IfOk result (λ board. board
+        ≡ record {
+          job = job.now;
+          places = replicate job.now.setting.lanes Place.Waiting;
+          log = [];
+        }) }
+    ensures none_out { IfOk result (λ board. NoneOut board.places) }
+    ensures left { segments_of slices.new ≡ slice_set (segments_of slices.old) job.now.slice [] }
+    ensures snapshot { IsSnapshot (record {
+      job = job.now;
+      others = remove
+          (segments_of slices.new) job.now.slice;
+    }) }
+    ensures refused { IfErr result (λ e. e ≡ Error.OutOfMemory) }
+{
+    recall_job(job);
+    let segments = take_slice(slices, job.slice());
+    Board::new(alloc, *job, segments)
+}
+
+/// Fills the job's slice by `workers` workers, at least one. They have the numbers from `first` on,
+/// all of which have to be permitted. The slice moves onto a board and back, and no block is
+/// copied. After a refusal the slice is lost.
+fn fill_slice_by_workers<R: Threads + Wait + Sync, G: Gate, P: Permit>(
+    rt: &R,
+    alloc: Global,
+    job: &Job,
+    slices: &mut Slices,
+    gate: &G,
+    permit: &P,
+    first: u64,
+    workers: u32,
+) -> Result<()>
+    requires slices { AreSlices job.now.setting.lanes job.now.setting.segment_length
+        (segments_of slices.old) }
+    requires ready { IsFilledBelow job.now.setting job.now.pass job.now.slice
+        (segments_of slices.old) }
+    requires some_worker { 0 < workers }
+    requires numbers_fit { first + workers < 2 ^ 64 }
+    ensures slices { OnOk result (AreSlices job.now.setting.lanes job.now.setting.segment_length
+        (segments_of slices.new)) }
+    ensures filled { OnOk result (IsFilledBelow job.now.setting job.now.pass (job.now.slice + 1)
+        (segments_of slices.new)) }
+    ensures permitted { OnOk result (PermitsAll (P.permits permit.now) first workers) }
+    ensures refused { IfErr result (IsShortage true) }
+{
+    let slice = job.slice();
+    let board = board_of(alloc, job, slices)?;
+    let snapshot = Snapshot::new(*job, others(slices, slice));
+    let board = fill_slice_with(rt, board, &snapshot, gate, permit, first, workers)?;
+    slices[slice as usize] = board.finish()?;
+    Ok(())
+}
+
+/// Fills all slices of all passes by as many workers as the context's configuration asks for, which
+/// go through the gate. The memory has the context's lanes and lane length, and the first two
+/// blocks of each lane as `initialize` leaves them.
+///
+/// All memory of a slice is asked for before its first worker starts. Where it is refused:
+/// `OutOfMemory`; where the start of a worker is: `WorkerRefused`. The memory then has no lanes.
+pub fn fill_parallel<R: Threads + Wait + Sync, G: Gate>(
+    rt: &R,
+    alloc: Global,
+    context: &Context<'_>,
+    memory: &mut Memory,
+    gate: &G,
+) -> Result<()>
+    requires shape { HasShape (setting_of_context context.now) memory.old }
+    requires begun { IsBegun (setting_of_context context.now) (block_of memory.old) }
+    ensures shape { OnOk result (HasShape (setting_of_context context.now) memory.new) }
+    ensures filled { OnOk result (HoldsLastPass (setting_of_context context.now)
+        (block_of memory.new)) }
+    ensures left { OnErr result (memory.new ≡ no_memory) }
+    ensures refused { IfErr result (IsShortage true) }
+{
+    fill_parallel_with(rt, alloc, context, memory, gate, &AllPermitted)
+}
+
+/// Fills as `fill_parallel` does, by workers that have to be permitted. With w workers those of
+/// slice s in pass r have the w numbers from (4 r + s) w on, and the fill succeeds only where each
+/// number is permitted.
+pub fn fill_parallel_with<R: Threads + Wait + Sync, G: Gate, P: Permit>(
+    rt: &R,
+    alloc: Global,
+    context: &Context<'_>,
+    memory: &mut Memory,
+    gate: &G,
+    permit: &P,
+) -> Result<()>
+    requires shape { HasShape (setting_of_context context.now) memory.old }
+    requires begun { IsBegun (setting_of_context context.now) (block_of memory.old) }
+    ensures shape { OnOk result (HasShape (setting_of_context context.now) memory.new) }
+    ensures filled { OnOk result (HoldsLastPass (setting_of_context context.now)
+        (block_of memory.new)) }
+    ensures permitted { OnOk result (PermitsAll (P.permits permit.now) 0
+        (4 * context.now.config.time_cost * workers_of context.now.config)) }
+    ensures left { OnErr result (memory.new ≡ no_memory) }
+    ensures refused { IfErr result (IsShortage true) }
+{
+    recall_context(context);
+    let workers = worker_count(context);
+    let job = Job::new(context);
+    let mut slices = take_slices(memory);
+    for n in 0..slice_count(&job) {
+        let slice = numbered_job(&job, n);
+        let first = n * u64::from(workers);
+        fill_slice_by_workers(rt, alloc, &slice, &mut slices, gate, permit, first, workers)?;
+    }
+    *memory = memory_of_slices(job.lanes(), job.segment_length(), slices);
+    Ok(())
+}

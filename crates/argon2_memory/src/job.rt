@@ -1,13 +1,14 @@
-//! A job: all that the blocks of a slice depend on.
+//! A job: all that the blocks of a slice depend on. The jobs of all slices are numbered in their
+//! order.
 
-ghost use Rattle.std.specs.Prelude.{◌≡◌, ◌+◌, ◌*◌, ◌^◌, ◌<◌, ◌≤◌, ◌==◌, ◌&&◌, nat_lt};
+ghost use Rattle.std.specs.Prelude.{◌≡◌, ◌+◌, ◌*◌, ◌^◌, ◌<◌, ◌≤◌, ◌==◌, ◌&&◌, nat_lt, ◌≢◌, ◌/◌, ◌%◌, ◌-◌, [], ◌++◌, true, false};
 ghost use Rattle.argon2_memory.specs.Views.Jobs.{first_job_of, IsJob, first_index, Job as JobValue, setting_of_context, IsSetting};
 ghost use Rattle.argon2_standard.specs.Standard.Recurrence.{combines};
 ghost use Rattle.argon2_standard.specs.Standard.Reference.{is_data_independent};
-ghost use Rattle.argon2_standard.specs.Standard.Setting.{Setting, lane_length, memory_blocks};
+ghost use Rattle.argon2_standard.specs.Standard.Setting.{lane_length, memory_blocks};
 ghost use Rattle.argon2_standard.specs.Standard.Variant.{variant_number};
 
-use argon2_blocks::common::{PREHASH_DIGEST_LENGTH, SYNC_POINTS};
+use argon2_blocks::common::{ADDRESSES_IN_BLOCK, PREHASH_DIGEST_LENGTH, SYNC_POINTS};
 use argon2_settings::context::{Context, prehash_of_context};
 use argon2_standard::variant::Variant;
 use argon2_standard::version::Version;
@@ -271,4 +272,33 @@ impl Job {
             Version::Version13 => self.pass > 0,
         }
     }
+}
+
+/// How many slices a fill goes through: those of all passes.
+pub fn slice_count(job: &Job) -> u64
+    ensures { result ≡ 4 * job.now.setting.passes }
+{
+    u64::from(SYNC_POINTS) * u64::from(job.passes())
+}
+
+/// The job of the slice of this number, counted from the first slice of the first pass.
+pub fn numbered_job(job: &Job, number: u64) -> Job
+    requires { number < 4 * job.now.setting.passes }
+    ensures { result ≡ record job.now { pass = number / 4; slice = number % 4 } }
+{
+    let slices = u64::from(SYNC_POINTS);
+    recall_job(job);
+    job.at((number / slices) as u32, (number % slices) as u32)
+}
+
+/// How many blocks from an index on are filled in one go: up to the next multiple of 128, since so
+/// many draw their words from one block of addresses.
+pub(crate) fn stretch(job: &Job, index: u32) -> u32
+    requires { index < job.now.setting.segment_length }
+    ensures some { 0 < result }
+    ensures few { result ≤ 128 }
+    ensures fits { index + result ≤ job.now.setting.segment_length }
+{
+    let left_here = ADDRESSES_IN_BLOCK - index % ADDRESSES_IN_BLOCK;
+    u32::min(left_here, job.segment_length() - index)
 }

@@ -1,23 +1,82 @@
 //! The matrix of blocks, as four slices of segments.
 
-ghost use Rattle.std.specs.Prelude.{◌≡◌, ℕ, ◌+◌, ◌*◌, ◌/◌, ◌%◌, ◌^◌, ◌<◌, ◌≤◌, [], IfErr, IfOk, length, map, slice_index_or};
-ghost use Rattle.argon2_memory.specs.Views.Memories.{AreSlices, IsMemory, MemoryValue, block_of, no_memory, segment_in, set_in, slice_writes, writes, writes_in, zero_memory};
+ghost use Rattle.std.specs.Prelude.{◌≡◌, ◌*◌, ◌%◌, ◌^◌, ◌<◌, [], IfOk, map, replicate, slice_index_or, ◌+◌, ◌/◌, ◌≤◌, IfErr, length};
+ghost use Rattle.argon2_memory.specs.Views.Memories.{slice_writes, writes_in, zero_segment, AreSlices, IsMemory, MemoryValue, block_of, no_memory, segment_in, set_in, writes, zero_memory};
+ghost use Rattle.argon2_memory.specs.Views.SliceLists.{segments_of};
 
-mod segment;
-mod slices;
-
+use crate::segment::Segment;
 use argon2_blocks::block::Block;
 use argon2_blocks::common::SYNC_POINTS;
 use argon2_standard::error::Error;
 use argon2_standard::result::Result;
-pub use segment::{Segment, Source, recall_segment};
-pub(crate) use segment::{named_among, write_among};
-pub use slices::{Slices, others, take_slice};
-use slices::{ask_for_room, empty_slices, tally, zero_slice};
-use std::alloc::Global;
+use std::alloc::{AllocError, Global};
 use std::marker::Model;
 use std::ops::Index;
 use std::{fmt, mem};
+
+/// Four slices, each with a segment for each lane.
+pub type Slices = [Vec<Segment>; 4];
+
+/// Asks for the room of a whole matrix at once, and gives it back. A system that grants more memory
+/// than it has refuses one request that it can never meet. In parts it may grant the same amount,
+/// and kill the process that writes there.
+fn ask_for_room(alloc: Global, lanes: u32, lane_length: u32) -> std::result::Result<(), AllocError>
+    requires fits { lanes * lane_length < 2 ^ 32 }
+{
+    let blocks = lanes * lane_length;
+    let room: Vec<Block> = Vec::with_capacity(alloc, blocks as usize)?;
+    drop(room);
+    Ok(())
+}
+
+/// A slice of zeros.
+fn zero_slice(
+    alloc: Global,
+    lanes: u32,
+    length: u32,
+) -> std::result::Result<Vec<Segment>, AllocError>
+    ensures { IfOk result (λ v. v.items ≡ replicate lanes (zero_segment length)) }
+{
+    let mut segments = Vec::with_capacity(alloc, lanes as usize)?;
+    for _lane in 0..lanes {
+        segments.push(Segment::new(alloc, length)?)?;
+    }
+    Ok(segments)
+}
+
+/// Four slices without segments.
+fn empty_slices(alloc: Global) -> Slices
+    ensures { segments_of result ≡ replicate 4 [] }
+{
+    [
+        Vec::new(alloc),
+        Vec::new(alloc),
+        Vec::new(alloc),
+        Vec::new(alloc),
+    ]
+}
+
+/// The sum of the tallies of a slice, modulo 2^64.
+fn slice_tally(segments: &[Segment]) -> u64
+    ensures { result ≡ slice_writes segments.now % 2 ^ 64 }
+{
+    let mut sum = 0u64;
+    for segment in segments {
+        sum = sum.wrapping_add(segment.tally());
+    }
+    sum
+}
+
+/// The sum of the tallies of all slices, modulo 2^64.
+fn tally(slices: &Slices) -> u64
+    ensures { result ≡ writes_in (segments_of slices.now) }
+{
+    let mut sum = 0u64;
+    for segments in slices {
+        sum = sum.wrapping_add(slice_tally(segments.as_slice()));
+    }
+    sum
+}
 
 /// The matrix of blocks of 1 KiB: a row for each lane. Column c of a lane of 4 L columns is the
 /// block at index c mod L of the lane's segment in slice c / L (RFC 9106, 3.4).

@@ -1,3 +1,4 @@
 //! The matrix of blocks, and its segments.
 
-pub use argon2_memory::memory::{Memory, Segment, Source};
+pub use argon2_memory::memory::Memory;
+pub use argon2_memory::segment::{Segment, Source};

@@ -9,12 +9,12 @@ use Rattle.std.proofs.lemmas.Option.{slice_get_within, slice_get-map, slice_get-
 use Rattle.std.proofs.lemmas.List.{length-map}
 use Rattle.std.proofs.lemmas.Bool.Decides.{eqb_tells}
 use Rattle.argon2_memory.specs.Views.Jobs.{Job}
-use Rattle.argon2_fill.specs.declared.workers.event.Place.{Place}
-use Rattle.argon2_fill.specs.declared.workers.event.Place.TheVariants as place
-use Rattle.argon2_fill.specs.declared.workers.event.Event.{Event}
-use Rattle.argon2_fill.specs.declared.workers.event.Event.TheVariants.{Take, Put}
-use Rattle.argon2_fill.specs.declared.workers.slot.Slot.{Slot}
-use Rattle.argon2_fill.specs.declared.workers.slot.Slot.TheVariants as slot
+use Rattle.argon2_fill.specs.declared.workers.board.Place.{Place}
+use Rattle.argon2_fill.specs.declared.workers.board.Place.TheVariants as place
+use Rattle.argon2_fill.specs.declared.workers.board.Event.{Event}
+use Rattle.argon2_fill.specs.declared.workers.board.Event.TheVariants.{Take, Put}
+use Rattle.argon2_fill.specs.declared.workers.board.Slot.{Slot}
+use Rattle.argon2_fill.specs.declared.workers.board.Slot.TheVariants as slot
 use Rattle.argon2_memory.specs.Views.Segments.{SegmentValue, segment_at}
 use Rattle.argon2_memory.specs.Views.Filling.{no_segment}
 use Rattle.argon2_fill.specs.Views.Replay.{least_waiting, after_take, after_put}

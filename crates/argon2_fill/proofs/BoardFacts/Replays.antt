@@ -3,9 +3,9 @@ use Rattle.std.proofs.Common.{◌≡◌, ◌≢◌, ℕ, zero, suc, ◌+◌, ◌
 use Rattle.std.specs.List.{position_from, slice_get, sum_by}
 use Rattle.std.proofs.lemmas.List.Sums.{fold-append, sum_by-set}
 use Rattle.std.proofs.lemmas.Option.{slice_get_within, get_or_from_slice_get}
-use Rattle.argon2_fill.specs.declared.workers.event.Place.{Place}
-use Rattle.argon2_fill.specs.declared.workers.event.Place.TheVariants.{Waiting, Out, Done}
-use Rattle.argon2_fill.specs.declared.workers.event.Event.{Event}
+use Rattle.argon2_fill.specs.declared.workers.board.Place.{Place}
+use Rattle.argon2_fill.specs.declared.workers.board.Place.TheVariants.{Waiting, Out, Done}
+use Rattle.argon2_fill.specs.declared.workers.board.Event.{Event}
 use Rattle.argon2_fill.specs.Views.Replay.{is_waiting, least_waiting, after_event, and_then, replay}
 use Rattle.argon2_fill.specs.Views.Slots.{events_left}
 

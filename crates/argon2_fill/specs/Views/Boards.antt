@@ -1,9 +1,9 @@
 -- What a contract sees of a board, and what its segments hold.
 use Rattle.std.specs.Prelude.{◌≡◌, ◌≢◌, ℕ, zero, suc, ◌<◌, List, Some, length, slice_get, slice_index_or}
 use Rattle.std.specs.Coded.{Coded-set, coded_list, coded_ℕ, ×_prop}
-use Rattle.argon2_fill.specs.declared.workers.event.Place.{Place}
-use Rattle.argon2_fill.specs.declared.workers.event.Place.TheVariants.{Done, Out}
-use Rattle.argon2_fill.specs.declared.workers.event.Event.{Event}
+use Rattle.argon2_fill.specs.declared.workers.board.Place.{Place}
+use Rattle.argon2_fill.specs.declared.workers.board.Place.TheVariants.{Done, Out}
+use Rattle.argon2_fill.specs.declared.workers.board.Event.{Event}
 use Rattle.argon2_standard.specs.Standard.Setting.{Setting}
 use Rattle.argon2_memory.specs.Views.Jobs.{Job}
 use Rattle.argon2_memory.specs.Views.Segments.{SegmentValue, IsReady, segment_at}

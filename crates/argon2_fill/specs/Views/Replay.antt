@@ -1,10 +1,10 @@
 -- The states of a slice's lanes, as the events of a board leave them.
 use Rattle.std.specs.Prelude.{◌==◌, ℕ, Bool, true, false, List, Option, Some, None, fold, replicate, slice_get, slice_set, if◌then◌else◌}
 use Rattle.std.specs.List.{position_from}
-use Rattle.argon2_fill.specs.declared.workers.event.Place.{Place}
-use Rattle.argon2_fill.specs.declared.workers.event.Place.TheVariants.{Waiting, Out, Done}
-use Rattle.argon2_fill.specs.declared.workers.event.Event.{Event}
-use Rattle.argon2_fill.specs.declared.workers.event.Event.TheVariants.{Take, Put}
+use Rattle.argon2_fill.specs.declared.workers.board.Place.{Place}
+use Rattle.argon2_fill.specs.declared.workers.board.Place.TheVariants.{Waiting, Out, Done}
+use Rattle.argon2_fill.specs.declared.workers.board.Event.{Event}
+use Rattle.argon2_fill.specs.declared.workers.board.Event.TheVariants.{Take, Put}
 
 abbrev pub is_waiting : Place → Bool
 is_waiting Waiting = true

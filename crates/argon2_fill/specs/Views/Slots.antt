@@ -1,10 +1,10 @@
 -- What a board keeps of its lanes.
 use Rattle.std.specs.Prelude.{◌≡◌, ◌≢◌, ◌+◌, ◌≤◌, ◌<◌, ℕ, List, Some, length, slice_get, map, sum_by, vec_len, vec_capacity, []}
-use Rattle.argon2_fill.specs.declared.workers.event.Place.{Place}
-use Rattle.argon2_fill.specs.declared.workers.event.Place.TheVariants as place
-use Rattle.argon2_fill.specs.declared.workers.event.Event.{Event}
-use Rattle.argon2_fill.specs.declared.workers.slot.Slot.{Slot}
-use Rattle.argon2_fill.specs.declared.workers.slot.Slot.TheVariants as slot
+use Rattle.argon2_fill.specs.declared.workers.board.Place.{Place}
+use Rattle.argon2_fill.specs.declared.workers.board.Place.TheVariants as place
+use Rattle.argon2_fill.specs.declared.workers.board.Event.{Event}
+use Rattle.argon2_fill.specs.declared.workers.board.Slot.{Slot}
+use Rattle.argon2_fill.specs.declared.workers.board.Slot.TheVariants as slot
 use Rattle.argon2_fill.specs.declared.workers.board.Board.TheInside.{Inside}
 use Rattle.argon2_memory.specs.Views.Jobs.{Job}
 use Rattle.argon2_memory.specs.Views.Segments.{IsReady, segment_at}

@@ -1,19 +1,148 @@
-//! The lanes of one slice, which workers claim and give back. Each lane is in exactly one state: it
-//! waits, is out, or is done.
+//! The lanes of one slice, which workers claim, fill and give back under one lock. Each lane is in
+//! exactly one state: it waits, is out, or is done.
 
-ghost use Rattle.std.specs.Prelude.{◌≡◌, ℕ, ◌+◌, ◌*◌, ◌^◌, ◌<◌, ◌≤◌, ◌↔◌, ◌++◌, ◌∷◌, [], IfErr, IfNone, IfOk, IfSome, IsOk, IsTrue, None, OnErr, OnOk, Some, length, map, replicate, slice_get, slice_set};
-ghost use Rattle.argon2_fill.specs.Views.Boards.{AllDone, AreReady, HoldSlice, NoneOut};
+ghost use Rattle.std.specs.Prelude.{◌≡◌, ◌<◌, ◌↔◌, IfErr, IfOk, IsOk, ◌+◌, ◌*◌, ◌^◌, ◌≤◌, ◌++◌, ◌∷◌, [], IfNone, IfSome, IsTrue, None, OnErr, OnOk, Some, length, map, replicate, slice_get, slice_set, true};
+ghost use Rattle.argon2_fill.specs.Views.Boards.{IsReady-prop, AllDone, AreReady, HoldSlice, NoneOut};
+ghost use Rattle.argon2_memory.specs.Views.Segments.{IsReady, segment_at};
 ghost use Rattle.argon2_fill.specs.Views.Replay.{least_waiting, replay};
 
-use crate::workers::slot::Slot;
-use crate::workers::{Claim, Event, Filled, Place};
 use argon2_memory::job::Job;
-use argon2_memory::memory::Segment;
+use argon2_memory::segment::{Segment, Snapshot, fill_segment};
 use argon2_standard::error::Error;
 use argon2_standard::result::Result;
 use std::alloc::{AllocError, Global};
-use std::marker::Model;
+use std::marker::{Model, Sync};
 use std::mem;
+use std::sync::{Mutex, Wait};
+
+/// The state of a lane of a slice.
+#[derive(Clone, Copy, Debug, Eq, PartialEq)]
+pub enum Place {
+    /// Its segment waits to be filled.
+    Waiting,
+
+    /// A worker has it.
+    Out,
+
+    /// It is filled.
+    Done,
+}
+
+/// What happened to a lane.
+#[derive(Clone, Copy, Debug, Eq, PartialEq)]
+pub enum Event {
+    /// It went out.
+    Take(u32),
+
+    /// It came back, and is done.
+    Put(u32),
+}
+
+/// A lane's place, with its segment where the board has it.
+#[derive(Drop)]
+pub(crate) enum Slot {
+    Waiting(Segment),
+    Out,
+    Done(Segment),
+}
+
+/// A lane that is out: its segment is as `fill_segment` asks for it.
+#[derive(Drop)]
+pub struct Claim {
+    pub(super) job: Job,
+    pub(super) lane: u32,
+    pub(super) segment: Segment,
+    pub ghost lane_fits: { lane < job.setting.lanes },
+    pub ghost ready: { IsReady job.setting job.pass job.slice lane segment.blocks } by { IsReady-prop job.setting job.pass job.slice lane segment.blocks },
+}
+
+/// A lane that is filled: its segment holds the blocks of its own job and lane.
+#[derive(Drop)]
+pub struct Filled {
+    pub(super) job: Job,
+    pub(super) lane: u32,
+    pub(super) segment: Segment,
+    pub ghost lane_fits: { lane < job.setting.lanes },
+    pub ghost holds: { segment.blocks ≡ segment_at job.setting job.pass job.slice lane },
+}
+
+impl Claim {
+    /// The job whose slice the lane is part of.
+    pub fn job(&self) -> &Job
+        ensures { result.now ≡ self.now.job }
+    {
+        &self.job
+    }
+
+    /// The lane.
+    pub fn lane(&self) -> u32
+        ensures { result ≡ self.now.lane }
+    {
+        self.lane
+    }
+
+    /// Fills the lane's segment from a snapshot of the same job. The claim comes back, as it was,
+    /// exactly where the snapshot is of another job.
+    pub fn fill(self, snapshot: &Snapshot<'_>) -> std::result::Result<Filled, Claim>
+        ensures exact { IsOk result ↔ (self.job ≡ snapshot.now.job) }
+        ensures filled { IfOk result (λ filled. (filled.job ≡ self.job)
+            × (filled.lane ≡ self.lane)) }
+        ensures unchanged { IfErr result (λ claim. claim ≡ self) }
+    {
+        if self.job != *snapshot.job() {
+            return Err(self);
+        }
+        let Claim {
+            job,
+            lane,
+            mut segment,
+        } = self;
+        fill_segment(snapshot, lane, &mut segment);
+        Ok(Filled { job, lane, segment })
+    }
+}
+
+impl Filled {
+    /// The job whose slice the lane is part of.
+    pub fn job(&self) -> &Job
+        ensures { result.now ≡ self.now.job }
+    {
+        &self.job
+    }
+
+    /// The lane.
+    pub fn lane(&self) -> u32
+        ensures { result ≡ self.now.lane }
+    {
+        self.lane
+    }
+}
+
+/// What each worker calls around its work. All workers share it, so it can hold one back until
+/// another has reached some point.
+pub trait Gate: Sync {
+    /// Fills the claim, and answers as `Claim::fill` does.
+    fn fill(&self, claim: Claim, snapshot: &Snapshot<'_>) -> std::result::Result<Filled, Claim>
+        ensures exact { IsOk result ↔ (claim.job ≡ snapshot.now.job) }
+        ensures filled { IfOk result (λ filled. (filled.job ≡ claim.job)
+            × (filled.lane ≡ claim.lane)) }
+        ensures unchanged { IfErr result (λ back. back ≡ claim) };
+
+    /// Is called for each lane that the board took back, after the lock was released.
+    fn put(&self, lane: u32);
+}
+
+/// Holds nobody back.
+#[derive(Clone, Copy, Debug)]
+pub struct NoGate;
+
+impl Gate for NoGate {
+    fn fill(&self, claim: Claim, snapshot: &Snapshot<'_>) -> std::result::Result<Filled, Claim> {
+        claim.fill(snapshot)
+    }
+
+    fn put(&self, _lane: u32) {}
+}
 
 /// The lanes of a job's slice, and the log of what happened to them. A lane that waits is ready to
 /// be filled, and one that is done holds the blocks of the board's own job.
@@ -158,7 +287,7 @@ impl Board {
     }
 
     /// Whether all lanes are done.
-    pub(super) fn is_done(&self) -> bool
+    fn is_done(&self) -> bool
         ensures { IsTrue result ↔ AllDone self.now.places }
     {
         for lane in 0..self.job.lanes() {
@@ -185,4 +314,24 @@ impl Board {
         }
         Ok(finished)
     }
+}
+
+/// Takes a lane, under the lock.
+pub(super) fn take_lane<R: Wait>(rt: &R, board: &Mutex<Option<Board>>) -> Option<Claim> {
+    board.lock(rt).as_mut()?.take()
+}
+
+/// Puts a lane, under the lock, and says whether it was accepted.
+pub(super) fn put_lane<R: Wait>(rt: &R, board: &Mutex<Option<Board>>, filled: Filled) -> bool {
+    let mut guard = board.lock(rt);
+    guard
+        .as_mut()
+        .is_some_and(|board| board.put(filled).is_ok())
+}
+
+/// Whether a board is of the snapshot's job, and all its lanes are done.
+pub(super) fn is_filled(board: &Board, snapshot: &Snapshot<'_>) -> bool
+    ensures { IsTrue result ↔ ((board.now.job ≡ snapshot.now.job) × AllDone board.now.places) }
+{
+    board.job() == snapshot.job() && board.is_done()
 }

@@ -1,30 +1,103 @@
-//! The workers of a slice: what each of them does, and how they are started and joined.
+//! The workers of one slice: which may be started, what each of them does, and how they are joined.
 
-ghost use Rattle.std.specs.Prelude.{◌≡◌, ◌+◌, ◌^◌, ◌<◌, true};
+ghost use Rattle.std.specs.Prelude.{◌≡◌, ◌↔◌, ◌+◌, ◌^◌, ◌<◌, IsTrue, ◌≤◌, true, IfErr, IfOk};
+ghost use Rattle.argon2_fill.specs.Views.Permits.{PermitsAll};
+ghost use Rattle.argon2_fill.specs.Views.Boards.{AllDone, NoneOut};
 
-use crate::workers::handles::Handles;
-use crate::workers::{Board, Claim, Filled, Gate, Permit};
+use crate::workers::board::{is_filled, put_lane, take_lane};
+use crate::workers::{Board, Gate};
 use argon2_memory::segment::Snapshot;
+use argon2_standard::error::Error;
+use argon2_standard::result::Result;
 use std::marker::Sync;
 use std::sync::{Mutex, Wait};
 use std::thread::{Builder, JoinHandle, Scope, Threads};
+use std::{array, thread};
+
+/// A set of numbers: the workers that may be started.
+pub trait Permit {
+    ghost use Rattle.std.specs.Prelude.{ℕ, Bool};
+
+    ghost permits: { Self → ℕ → Bool };
+
+    /// Whether the worker of this number may be started: whether the number is in the set.
+    fn may_start(&self, number: u64) -> bool
+        ensures { result ≡ permits self.now number };
+}
+
+/// All numbers.
+#[derive(Clone, Copy, Debug)]
+pub struct AllPermitted;
+
+impl Permit for AllPermitted {
+    ghost use Rattle.std.specs.Prelude.{true};
+
+    ghost permits = { λ _ number. true };
+
+    fn may_start(&self, _number: u64) -> bool {
+        true
+    }
+}
+
+/// Whether the `count` numbers from `first` on are permitted.
+fn all_permitted<P: Permit>(permit: &P, first: u64, count: u32) -> bool
+    requires { first + count < 2 ^ 64 }
+    ensures { IsTrue result ↔ PermitsAll (P.permits permit.now) first count }
+{
+    (0..count).all(|k| permit.may_start(first + u64::from(k)))
+}
+
+/// How many handles there is room for.
+const ROOM: usize = 32;
+
+/// Up to 32 handles. They take no memory from the heap, so none can be refused.
+#[derive(Drop)]
+struct Handles {
+    slots: [Option<JoinHandle<()>>; ROOM],
+    used: usize,
+    ghost fits: { used ≤ 32 },
+}
+
+impl Handles {
+    /// No handles.
+    fn new() -> Handles
+        ensures { result.used ≡ 0 }
+    {
+        Handles {
+            slots: array::from_fn(|_| None),
+            used: 0,
+        }
+    }
+
+    /// Whether there is no room for another.
+    fn are_full(&self) -> bool
+        ensures { IsTrue result ↔ (self.now.used ≡ 32) }
+    {
+        self.used == ROOM
+    }
+
+    /// Keeps a handle.
+    fn keep(&mut self, handle: JoinHandle<()>)
+        requires room { self.old.used < 32 }
+        ensures { self.new.used ≡ self.old.used + 1 }
+    {
+        self.slots[self.used] = Some(handle);
+        self.used += 1;
+    }
+
+    /// Waits for the end of each thread.
+    fn join<R: Threads>(self, rt: &R) {
+        for slot in self.slots {
+            if let Some(handle) = slot {
+                handle.join(rt);
+            }
+        }
+    }
+}
 
 /// The stack of a worker, in bytes. At most 16 KiB of it were used when measured. The rest is for
 /// a program's thread-locals and the calls of a gate.
 const STACK: usize = 256 * 1024;
-
-/// Takes a lane, under the lock.
-fn take_lane<R: Wait>(rt: &R, board: &Mutex<Option<Board>>) -> Option<Claim> {
-    board.lock(rt).as_mut()?.take()
-}
-
-/// Puts a lane, under the lock, and says whether it was accepted.
-fn put_lane<R: Wait>(rt: &R, board: &Mutex<Option<Board>>, filled: Filled) -> bool {
-    let mut guard = board.lock(rt);
-    guard
-        .as_mut()
-        .is_some_and(|board| board.put(filled).is_ok())
-}
 
 /// One worker: it takes, fills and puts one lane after another, until none waits or a filling or a
 /// put is refused.
@@ -65,7 +138,7 @@ fn start<'s, E, R: Wait + Sync, G: Gate, P: Permit>(
 /// Starts the workers of `count` numbers from `first` on, waits for the end of each that was
 /// started, and says whether all were. If one is refused or not permitted, the others are still
 /// started. Where there is no room for more handles, the remaining numbers get a call of their own.
-pub(super) fn run_workers<'s, E, R: Threads + Wait + Sync, G: Gate, P: Permit>(
+fn run_workers<'s, E, R: Threads + Wait + Sync, G: Gate, P: Permit>(
     scope: &Scope<'s, E>,
     rt: &'s R,
     board: &'s Mutex<Option<Board>>,
@@ -95,4 +168,64 @@ pub(super) fn run_workers<'s, E, R: Threads + Wait + Sync, G: Gate, P: Permit>(
     }
     handles.join(rt);
     all
+}
+
+/// Fills the lanes of a board by `workers` workers, at least one, and joins them. The board and the
+/// snapshot are of one job, and no lane is out. The workers take and put lanes under one lock, and
+/// fill them outside it. The board comes back with all lanes done. Where the start of a worker was
+/// refused, the answer is `WorkerRefused`, even if the others finished the slice. It takes no
+/// memory of its own.
+pub fn fill_slice<R: Threads + Wait + Sync, G: Gate>(
+    rt: &R,
+    board: Board,
+    snapshot: &Snapshot<'_>,
+    gate: &G,
+    workers: u32,
+) -> Result<Board>
+    requires job { board.job ≡ snapshot.now.job }
+    requires none_out { NoneOut board.places }
+    requires some_worker { 0 < workers }
+    ensures job { IfOk result (λ b. b.job ≡ snapshot.now.job) }
+    ensures done { IfOk result (λ b. AllDone b.places) }
+    ensures refused { IfErr result (λ e. e ≡ Error.WorkerRefused) }
+{
+    fill_slice_with(rt, board, snapshot, gate, &AllPermitted, 0, workers)
+}
+
+/// Fills the lanes of a board as `fill_slice` does, by workers that have to be permitted: they have
+/// the numbers from `first` on. A worker that is not permitted counts as refused; the others are
+/// still started.
+pub fn fill_slice_with<R: Threads + Wait + Sync, G: Gate, P: Permit>(
+    rt: &R,
+    board: Board,
+    snapshot: &Snapshot<'_>,
+    gate: &G,
+    permit: &P,
+    first: u64,
+    workers: u32,
+) -> Result<Board>
+    requires job { board.job ≡ snapshot.now.job }
+    requires none_out { NoneOut board.places }
+    requires some_worker { 0 < workers }
+    requires numbers_fit { first + workers < 2 ^ 64 }
+    ensures job { IfOk result (λ b. b.job ≡ snapshot.now.job) }
+    ensures done { IfOk result (λ b. AllDone b.places) }
+    ensures permitted { IfOk result (λ _. PermitsAll (P.permits permit.now) first workers) }
+    ensures refused { IfErr result (λ e. e ≡ Error.WorkerRefused) }
+{
+    let permitted = all_permitted(permit, first, workers);
+    let board = Mutex::new(Some(board));
+    let shared = &board;
+    let started = thread::scope(
+        thread::scope_env(),
+        rt,
+        |scope| -> bool
+            requires { first + workers < 2 ^ 64 }
+        { run_workers(scope, rt, shared, snapshot, gate, permit, first, workers) },
+    );
+    let back = board.lock(rt).take();
+    match back {
+        Some(board) if permitted && started && is_filled(&board, snapshot) => Ok(board),
+        _ => Err(Error::WorkerRefused),
+    }
 }

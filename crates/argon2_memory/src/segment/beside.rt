@@ -1,16 +1,48 @@
-//! The slices beside the one that is filled, whatever their blocks hold.
+//! The slices beside the one that is filled: segments of a memory, or blocks that are lent.
 
-ghost use Rattle.std.specs.Prelude.{◌≡◌, ◌≢◌, ℕ, ◌+◌, ◌*◌, ◌/◌, ◌%◌, ◌^◌, ◌<◌, ◌≤◌, List, [], length, map, slice_index_or};
+ghost use Rattle.std.specs.Prelude.{◌≡◌, ◌*◌, ◌%◌, ◌^◌, ◌<◌, [], map, slice_index_or, slice_set, ◌≢◌, ℕ, ◌+◌, ◌/◌, ◌≤◌, List, length, ◌-◌, ◌++◌, true, false, ◌∷◌};
+ghost use Rattle.std.specs.List.{remove};
+ghost use Rattle.argon2_memory.specs.Views.SliceLists.{segments_of};
 ghost use Rattle.argon2_memory.specs.Views.Beside.{IsBeside, lent_slices, others_of};
-ghost use Rattle.argon2_memory.specs.Views.Filling.{SnapshotValue, other_blocks, rank_among, block_seen, no_segment};
+ghost use Rattle.argon2_memory.specs.Views.Filling.{SnapshotValue, other_blocks, rank_among, block_seen, no_segment, IsSnapshot, position_of};
 ghost use Rattle.argon2_memory.specs.Views.Sources.{IsBefore, source_block};
 ghost use Rattle.argon2_standard.specs.Standard.Setting.{lane_length};
+ghost use Rattle.argon2_memory.specs.Views.Jobs.{first_index};
+ghost use Rattle.argon2_standard.specs.Standard.Reference.{previous};
+ghost use Rattle.argon2_memory.specs.Views.Lent.{FillsLent};
 
-use crate::job::Job;
-use crate::memory::{Segment, Source};
+use crate::job::{Job, recall_job, stretch};
+use crate::memory::Slices;
+use crate::segment::{Segment, Source, fill_blocks};
 use argon2_blocks::block::Block;
 use argon2_blocks::common::SYNC_POINTS;
 use std::marker::Model;
+use std::mem;
+
+/// Moves a slice out, and leaves an empty one in its place. No block is copied.
+pub fn take_slice(slices: &mut Slices, slice: u32) -> Vec<Segment>
+    requires { slice < 4 }
+    ensures taken { result.items ≡ slice_index_or (segments_of slices.old) slice [] }
+    ensures left { segments_of slices.new ≡ slice_set (segments_of slices.old) slice [] }
+{
+    let slice = slice as usize;
+    let alloc = *slices[slice].allocator();
+    mem::replace(&mut slices[slice], Vec::new(alloc))
+}
+
+/// The slices beside one, in rising order.
+pub fn others(slices: &Slices, slice: u32) -> [&[Segment]; 3]
+    requires { slice < 4 }
+    ensures { map (λ s. s.now) result ≡ remove (segments_of slices.now) slice }
+{
+    let all = &slices[..];
+    match slice {
+        0 => [all[1].as_slice(), all[2].as_slice(), all[3].as_slice()],
+        1 => [all[0].as_slice(), all[2].as_slice(), all[3].as_slice()],
+        2 => [all[0].as_slice(), all[1].as_slice(), all[3].as_slice()],
+        _ => [all[0].as_slice(), all[1].as_slice(), all[2].as_slice()],
+    }
+}
 
 /// A job and the three slices beside its own, whatever they hold: segments of a memory, or blocks
 /// that are lent, lane after lane. The others of the two are empty.
@@ -169,5 +201,119 @@ impl<'a> Beside<'a> {
         } else {
             Source::Other(self.block(slice, lane, at))
         }
+    }
+}
+
+/// The column before the one at an index.
+fn previous_column(job: &Job, index: u32) -> u32
+    requires { index < job.now.setting.segment_length }
+    ensures value { (lane : ℕ) → result ≡ (previous job.now.setting
+        (position_of job.now lane index)).column }
+    ensures fits { result < lane_length job.now.setting }
+    ensures before { first_index job.now ≤ index
+        → result / job.now.setting.segment_length ≡ job.now.slice
+        → result % job.now.setting.segment_length < index }
+{
+    let column = job.start() + index;
+    if column == 0 {
+        SYNC_POINTS * job.segment_length() - 1
+    } else {
+        column - 1
+    }
+}
+
+/// The block before the one at an index, as the lane that is filled sees it.
+pub(super) fn source_before<'a>(beside: &'a Beside<'_>, lane: u32, index: u32) -> Source<'a>
+    requires lane_fits { lane < beside.now.job.setting.lanes }
+    requires index_fits { index < beside.now.job.setting.segment_length }
+    requires later { first_index beside.now.job ≤ index }
+    ensures value { let j = beside.now.job in (blocks : List (List ℕ)) →
+        source_block blocks result ≡ block_seen beside.now blocks lane (previous j.setting
+        (position_of j lane index)).column }
+    ensures beside { IsBeside beside.now }
+    ensures before { IsBefore index result }
+{
+    let job = beside.job();
+    if index == 0 {
+        let column = previous_column(job, index);
+        beside.source(lane, column, index)
+    } else {
+        Source::Own(index as usize - 1)
+    }
+}
+
+/// The three slices beside the job's: those below it hold the blocks of the job's pass, and those
+/// above it the blocks of the pass before.
+#[derive(Drop)]
+pub struct Snapshot<'a> {
+    beside: Beside<'a>,
+}
+
+impl<'a> Model for Snapshot<'a> {
+    ghost Value = { SnapshotValue };
+
+    ghost view = { λ s. s.beside };
+
+    ghost invariant = { λ s. IsSnapshot s.beside };
+}
+
+impl<'a> Snapshot<'a> {
+    /// The other slices in rising order, each with a segment for each lane.
+    pub fn new(job: Job, others: [&'a [Segment]; 3]) -> Snapshot<'a>
+        requires { IsSnapshot (record { job = job; others = map (λ o. o.now) others }) }
+        ensures { result ≡ record { job = job; others = map (λ o. o.now) others.entry } }
+    {
+        Snapshot {
+            beside: Beside::of_segments(job, others),
+        }
+    }
+
+    /// The job.
+    pub fn job(&self) -> &Job
+        ensures value { result.now ≡ self.now.job }
+        ensures snapshot { IsSnapshot self.now }
+    {
+        &self.beside.job
+    }
+
+    /// The slices, without what they hold.
+    pub(super) fn beside(&self) -> &Beside<'a>
+        ensures value { result.now ≡ self.now }
+        ensures snapshot { IsSnapshot self.now }
+    {
+        &self.beside
+    }
+}
+
+/// Fills a lane's segment of the job's slice. The other three slices are lent in rising order, each
+/// lane after lane, and so is the segment, whatever they hold.
+///
+/// Where the slices below the job's hold the blocks of its pass and those above it the blocks of
+/// the pass before, and the segment is as a fill of the job asks for it, the segment then holds the
+/// blocks of the job's pass.
+pub fn fill_lent_segment(
+    job: &Job,
+    lane: u32,
+    first: &[Block],
+    second: &[Block],
+    third: &[Block],
+    own: &mut [Block],
+)
+    requires lane_fits { lane < job.now.setting.lanes }
+    requires first_fits { length first.now ≡ job.now.setting.lanes * job.now.setting.segment_length }
+    requires second_fits { length second.now
+        ≡ job.now.setting.lanes * job.now.setting.segment_length }
+    requires third_fits { length third.now ≡ job.now.setting.lanes * job.now.setting.segment_length }
+    requires own_fits { length own.old ≡ job.now.setting.segment_length }
+    ensures { FillsLent job.now lane (first.now ∷ second.now ∷ third.now ∷ []) own.old own.new }
+{
+    recall_job(job);
+    let beside = Beside::of_blocks(*job, [first, second, third]);
+    let mut written = 0;
+    let mut index = job.first_index();
+    while index < job.segment_length() {
+        let count = stretch(job, index);
+        fill_blocks(&beside, lane, index, count, own, &mut written);
+        index += count;
     }
 }

@@ -8,7 +8,7 @@ ghost use Rattle.argon2_text.specs.Views.Texts.{IsHeadOf, IsSpellingOf, pieces_v
 ghost use Rattle.argon2_standard.specs.Standard.Variant.{IsName};
 ghost use Rattle.argon2_standard.specs.Views.Names.{IsNoName};
 
-use super::items::is_item;
+use crate::encoding::is_item;
 use argon2_standard::variant::Variant;
 use argon2_standard::version::Version;
 

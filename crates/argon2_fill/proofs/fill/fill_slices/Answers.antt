@@ -12,10 +12,10 @@ loop-n-preserved c =
     let before = writes_in (segments_of c.args.slices.now) in
     let now = writes_in (segments_of c.fill_slice_in_turn.new.slices) in
     record {
-      slices = rw c.numbered_slice.ensures at c.fill_slice_in_turn.ensures.slices;
-      filled = next_slice s n (segments_of c.fill_slice_in_turn.new.slices) (rw c.numbered_slice.ensures at c.fill_slice_in_turn.ensures.filled);
+      slices = rw c.numbered_job.ensures at c.fill_slice_in_turn.ensures.slices;
+      filled = next_slice s n (segments_of c.fill_slice_in_turn.new.slices) (rw c.numbered_job.ensures at c.fill_slice_in_turn.ensures.filled);
       writes = add_written before (blocks_written s n) (s.lanes * blocks_in_slice s (n / 4) (n % 4)) (writes_in (segments_of c.loop-n.slices)) now
-          c.loop-n.invariant.writes (rw c.numbered_slice.ensures at c.fill_slice_in_turn.ensures.writes)
+          c.loop-n.invariant.writes (rw c.numbered_job.ensures at c.fill_slice_in_turn.ensures.writes)
           ∙ ap (λ (b : ℕ). (before + b) % 2 ^ 64) (sym (blocks_more s n c.recall_job.ensures.setting));
     }
 

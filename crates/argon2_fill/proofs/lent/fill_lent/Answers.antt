@@ -4,7 +4,7 @@ use Rattle.argon2_fill.proofs.lent.fill_lent.Goals as goal
 
 pub loop-n-preserved : goal.loop-n-preserved
 loop-n-preserved c = λ begun.
-    let step = rw c.numbered_slice.ensures at c.fill_one_of_four.ensures in
+    let step = rw c.numbered_job.ensures at c.fill_one_of_four.ensures in
     next_lent c.args.job.now.setting c.loop-n.n _ (step (c.loop-n.invariant begun))
 
 pub returns : goal.returns

@@ -2,9 +2,9 @@ use Rattle.std.proofs.Common.{arith, ◌≡◌, ◌≢◌, inl, inr, ◌++◌, �
 use Rattle.std.proofs.lemmas.Grind.{common_steps}
 use Rattle.argon2_memory.specs.Views.Segments.{SegmentValue}
 use Rattle.std.proofs.lemmas.List.{map-append}
-use Rattle.argon2_fill.specs.declared.workers.slot.Slot.{Slot}
-use Rattle.argon2_fill.specs.declared.workers.slot.Slot.TheVariants as slot
-use Rattle.argon2_fill.specs.declared.workers.event.Place.TheVariants as place
+use Rattle.argon2_fill.specs.declared.workers.board.Slot.{Slot}
+use Rattle.argon2_fill.specs.declared.workers.board.Slot.TheVariants as slot
+use Rattle.argon2_fill.specs.declared.workers.board.Place.TheVariants as place
 use Rattle.argon2_fill.specs.Views.Slots.{place_in}
 use Rattle.argon2_fill.proofs.BoardFacts.Boards.{not-all-done, all-done, hold-slice}
 use Rattle.argon2_fill.proofs.workers.board.Board.finish.Goals as goal

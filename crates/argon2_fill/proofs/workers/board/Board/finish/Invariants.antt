@@ -1,5 +1,5 @@
 use Rattle.std.proofs.Common.{◌≡◌, ◌+◌, ◌≤◌, ◌++◌, vec_len, length, vec_capacity, map}
-use Rattle.argon2_fill.specs.declared.workers.slot.Slot.TheVariants as slot
+use Rattle.argon2_fill.specs.declared.workers.board.Slot.TheVariants as slot
 use Rattle.argon2_fill.proofs.workers.board.Board.finish.Given as goal
 
 abbrev pub invariant-loop-slot : goal.invariant-loop-slot

@@ -1,5 +1,5 @@
 use Rattle.std.proofs.Common.{◌≡◌, ◌<◌, ℕ, Some, length, slice_get}
-use Rattle.argon2_fill.specs.declared.workers.event.Place.TheVariants.{Done}
+use Rattle.argon2_fill.specs.declared.workers.board.Place.TheVariants.{Done}
 use Rattle.argon2_fill.proofs.workers.board.Board.is_done.Given as goal
 
 abbrev pub invariant-loop-lane : goal.invariant-loop-lane

@@ -1,6 +1,6 @@
 use Rattle.std.proofs.Common.{sym, ap, ◌∙◌, Some, arith}
 use Rattle.std.proofs.lemmas.Option.{slice_get-get_or}
-use Rattle.argon2_fill.specs.declared.workers.slot.Slot.TheVariants as slot
+use Rattle.argon2_fill.specs.declared.workers.board.Slot.TheVariants as slot
 use Rattle.argon2_fill.proofs.BoardFacts.Boards.{place_at}
 use Rattle.argon2_fill.proofs.workers.board.Board.place.Goals as goal
 

@@ -1,6 +1,6 @@
 use Rattle.std.proofs.Common.{◌∙◌, ap, refl, arith, map}
-use Rattle.argon2_fill.specs.declared.workers.event.Place.TheVariants as place
-use Rattle.argon2_fill.specs.declared.workers.slot.Slot.TheVariants as slot
+use Rattle.argon2_fill.specs.declared.workers.board.Place.TheVariants as place
+use Rattle.argon2_fill.specs.declared.workers.board.Slot.TheVariants as slot
 use Rattle.argon2_memory.specs.Views.Jobs.{Job}
 use Rattle.argon2_memory.specs.Views.Segments.{segment_at}
 use Rattle.argon2_fill.specs.Views.Slots.{place_in}

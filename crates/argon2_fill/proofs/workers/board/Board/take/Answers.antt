@@ -1,8 +1,8 @@
 use Rattle.std.proofs.Common.{◌≡◌, sym, ◌∙◌, ap, refl, arith, subst, map, inl, inr}
 use Rattle.std.proofs.lemmas.List.{map-set}
-use Rattle.argon2_fill.specs.declared.workers.event.Place.TheVariants as place
-use Rattle.argon2_fill.specs.declared.workers.slot.Slot.{Slot}
-use Rattle.argon2_fill.specs.declared.workers.slot.Slot.TheVariants as slot
+use Rattle.argon2_fill.specs.declared.workers.board.Place.TheVariants as place
+use Rattle.argon2_fill.specs.declared.workers.board.Slot.{Slot}
+use Rattle.argon2_fill.specs.declared.workers.board.Slot.TheVariants as slot
 use Rattle.argon2_fill.specs.Views.Slots.{place_in, IsSlot}
 use Rattle.argon2_fill.proofs.BoardFacts.Boards.{lanes-least, lanes-more, lanes-none, lanes-take, lanes-waiting, left-set}
 use Rattle.argon2_fill.proofs.BoardFacts.Replays.{left-waiting}

@@ -1,0 +1,97 @@
+use Rattle.std.proofs.Common.{◌≡◌, ℕ, ◌+◌, ◌*◌, ◌≤◌, ◌<◌, ◌/◌, ◌%◌, ◌^◌, ◌-◌, Bool, arith, inl, inr, refl, ap, ◌∙◌}
+use Rattle.argon2_memory.specs.Views.Jobs.{setting_of_context}
+use Rattle.argon2_memory.specs.Views.Jobs.{Job}
+use Rattle.argon2_memory.specs.Views.Memories.{HasShape}
+use Rattle.std.proofs.Math.Nat.{mul-le-mul_right}
+use Rattle.std.proofs.lemmas.Bool.{cases_lt}
+use Rattle.argon2_fill.specs.Views.Permits.{PermitsAll}
+use Rattle.argon2_memory.specs.Views.SliceLists.{segments_of}
+use Rattle.argon2_fill.proofs.Filling.First.{filled_begun}
+use Rattle.argon2_fill.proofs.Filling.Passes.{holds_last_pass, next_slice}
+use Rattle.argon2_fill.proofs.workers.fill_parallel_with.Goals as goal
+
+-- numbers that follow one another
+permitted_more : (permits : ℕ → Bool) (first count : ℕ) → PermitsAll permits 0 first → PermitsAll permits first count → PermitsAll permits 0 (first + count)
+permitted_more permits first count front back = λ k h. elim (cases_lt k first) [
+  | inl w ↦ front k w
+  | inr w ↦ rw (let e : 0 + k ≡ first + (k - first) = omega (arith, w) in e) (back (k - first) (omega (arith, w)))
+]
+
+pub loop-n-init : goal.loop-n-init
+loop-n-init g c =
+    let s = setting_of_context c.args.context.now in
+    let shape = c.requires.shape in
+    let old = rw (shape.lanes, shape.segment_length) at c.take_slices-slices.ensures.memory.slices in
+    record {
+      slices = rw (c.new-job.ensures.value, c.take_slices-slices.ensures.slices) old;
+      filled = rw (c.new-job.ensures.value, c.take_slices-slices.ensures.slices)
+          (filled_begun s c.recall_context.ensures.setting c.args.memory.now shape old c.requires.begun);
+      permitted = λ k h. absurd (omega arith);
+    }
+
+pub loop-n-preserved : goal.loop-n-preserved
+loop-n-preserved g c =
+    let s = c.new-job.result.setting in
+    let n = c.loop-n.n in
+    let w = c.worker_count-workers.result in
+    let done = c.in_ok-fill_slice_by_workers.ensures in
+    record {
+      slices = rw c.numbered_job-slice.ensures at done.slices;
+      filled = next_slice s n (segments_of c.fill_slice_by_workers.new.slices) (rw c.numbered_job-slice.ensures at done.filled);
+      permitted = rw (let m : (n + 1) * w ≡ n * w + w = omega arith in m)
+          (permitted_more (g.P.Permit.permits c.args.permit.now) (n * w) w c.loop-n.invariant.permitted (rw c.from.ensures at done.permitted));
+    }
+
+pub returns-clause-filled : goal.returns-clause-filled
+returns-clause-filled g c =
+    let s = setting_of_context c.args.context.now in
+    let same : c.new-job.result.setting ≡ s = ap (λ (j : Job). j.setting) c.new-job.ensures.value in
+    let shape : HasShape s c.memory_of_slices.result = rw (c.memory_of_slices.ensures, c.lanes.ensures.value, c.segment_length.ensures.value, same)
+    (record { lanes = refl; segment_length = refl }) in
+    let whole : c.loop-n.n ≡ 4 * c.new-job.result.setting.passes = omega arith in
+    let filled = rw (
+      let q : c.loop-n.n / 4 ≡ c.new-job.result.setting.passes = omega (arith, whole) in
+          q,
+      let r : c.loop-n.n % 4 ≡ 0 = omega (arith, whole) in r,
+    ) at c.loop-n.invariant.filled in
+    holds_last_pass s c.recall_context.ensures.setting c.memory_of_slices.result shape (rw c.memory_of_slices.ensures (rw same at filled))
+
+pub returns-clause-permitted : goal.returns-clause-permitted
+returns-clause-permitted g c =
+    let x = c.args.context.now in
+    let whole : c.loop-n.n ≡ 4 * c.new-job.result.setting.passes = omega arith in
+    let passes = ap (λ (j : Job). j.setting.passes) c.new-job.ensures.value ∙ c.recall_context.ensures.passes in
+    let starts = ap (λ n. n * c.worker_count-workers.result) (whole ∙ ap (λ p. 4 * p) passes)
+    ∙ ap (λ w. 4 * x.config.time_cost * w) c.worker_count-workers.ensures.value in
+    rw starts at c.loop-n.invariant.permitted
+
+pub returns-clause-shape : goal.returns-clause-shape
+returns-clause-shape g c =
+    let same : c.new-job.result.setting ≡ setting_of_context c.args.context.now = ap (λ (j : Job). j.setting) c.new-job.ensures.value in
+    rw (c.memory_of_slices.ensures, c.lanes.ensures.value, c.segment_length.ensures.value, same) (record { lanes = refl; segment_length = refl })
+
+-- the numbers of all workers that are started fit 64 bits
+pub overflow_mul-first : goal.overflow_mul-first
+overflow_mul-first g c =
+    let low : c.loop-n.n ≤ 17179869184 = omega (arith, c.new-job.ensures.job.setting.few_passes) in
+    let most = mul-le-mul_right c.from.result low in
+    omega (arith, most, c.from.ensures, c.worker_count-workers.ensures.few)
+
+pub fill_slice_by_workers-requires : goal.fill_slice_by_workers-requires
+fill_slice_by_workers-requires g c =
+    let low : c.loop-n.n ≤ 17179869184 = omega (arith, c.new-job.ensures.job.setting.few_passes) in
+    let most = mul-le-mul_right c.from.result low in
+    let fits : c.loop-n.n * c.from.result + c.worker_count-workers.result < 2 ^ 64 =
+    omega (arith, most, c.from.ensures, c.worker_count-workers.ensures.few) in (
+      c.type_bounds.sync-R,
+      (
+        c.type_bounds.sync-G,
+        (
+          rw c.numbered_job-slice.ensures c.loop-n.invariant.slices,
+          (rw c.numbered_job-slice.ensures c.loop-n.invariant.filled, (c.worker_count-workers.ensures.some, fits)),
+        ),
+      ),
+    )
+
+pub memory_of_slices-requires-clause-slices : goal.memory_of_slices-requires-clause-slices
+memory_of_slices-requires-clause-slices g c = rw (c.lanes.ensures.value, c.segment_length.ensures.value) c.loop-n.invariant.slices

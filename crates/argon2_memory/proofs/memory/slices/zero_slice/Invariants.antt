@@ -1,6 +1,0 @@
-use Rattle.std.proofs.Common.{◌≡◌, replicate}
-use Rattle.argon2_memory.specs.Views.Memories.{zero_segment}
-use Rattle.argon2_memory.proofs.memory.slices.zero_slice.Given as goal
-
-abbrev pub invariant-loop-lane : goal.invariant-loop-lane
-invariant-loop-lane l = l.segments.items ≡ replicate l._lane (zero_segment l.length)
