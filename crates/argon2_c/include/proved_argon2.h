@@ -20,9 +20,10 @@
  * given back before the call returns, and not cleared first; only a call over a memory that the caller
  * keeps (.._in) leaves the blocks there.
  *
- * Threads. The library starts no thread and keeps no state. Calls may run in several threads at once,
- * as long as none writes to what another one is passed. No call may come from a signal handler. In the
- * forked child of a process with threads calls may be made where malloc may be called, as with the GNU C library.
+ * Threads. The library starts no thread and keeps no state; the calls of proved_argon2_threads.h start some. Calls may
+ * run in several threads at once, as long as none writes to what another one is passed. No call may come from a signal
+ * handler. In the forked child of a process with threads calls may be made where malloc may be called, as with the GNU
+ * C library.
  *
  * Symbols. Each of the library's begins with proved_argon2_, so that a program may link libargon2 too.
  * rattle_alloc, rattle_realloc and rattle_dealloc are those of the toolchain's archive liblibc_c.a, which
@@ -108,7 +109,7 @@ enum proved_argon2_code {
     PROVED_ARGON2_INCORRECT_VERSION = 18, /* no version has this number */
     PROVED_ARGON2_DECODING_FAIL = 19,     /* the text spells no hash */
     PROVED_ARGON2_OUT_OF_MEMORY = 20,
-    PROVED_ARGON2_WORKER_REFUSED = 21,    /* never returned: no worker is started */
+    PROVED_ARGON2_WORKER_REFUSED = 21,    /* only of proved_argon2_threads.h: a thread was refused */
     PROVED_ARGON2_MISMATCH = 64,       /* a verifying call: the password is not the hash's */
     PROVED_ARGON2_WRONG_LENGTH = 65,   /* the buffer does not fit */
     PROVED_ARGON2_NOT_UTF8 = 66,       /* the text is not UTF-8 */
