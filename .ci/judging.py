@@ -14,6 +14,22 @@ from toolchain import load_rt
 
 rt = load_rt()
 room = tempfile.mkdtemp(prefix='edits-')
+libraries = {}  # the folder of a copy of a crate's library, by the library's own
+
+
+def copy_libraries(crates):
+    """Copies the libraries that checks read, so that others may build meanwhile."""
+    for crate in crates:
+        made = os.path.dirname(crate.rlib)
+        if os.path.isdir(made):
+            libraries[made] = shutil.copytree(made, f'{room}/libraries/{crate.name}')
+
+
+def in_copies(word):
+    """A word of a command, with the copies for the libraries."""
+    for made, copied in libraries.items():
+        word = word.replace(made, copied)
+    return word
 
 
 def checked(crate, texts, kept, jobs):
@@ -27,6 +43,7 @@ def checked(crate, texts, kept, jobs):
             Path(at, path).write_text(text, encoding='utf-8')
         words = [*rt.rtlib.guarded(), rt.rtlib.RATTLE, 'check', *crate.words(['--jobs', str(jobs)], keeps=False),
                  '--incremental', kept]
+        words = [in_copies(word) for word in words]
         how = {'cwd': at, 'stdin': subprocess.DEVNULL, 'stdout': subprocess.PIPE, 'stderr': subprocess.STDOUT}
         ran = subprocess.run(words, errors='replace', **how)
         if ran.returncode == -signal.SIGKILL:  # most likely for memory
