@@ -14,7 +14,8 @@ printing = threading.Lock()
 
 class Step(threading.Thread):
     """A command, which begins when the steps that it needs have ended, and is left out where one of them has failed.
-    What it says is shown whole when it ends, or at once, as each fault is. It has to count what passed, or else its status counts."""
+    What it says is shown whole when it ends, or at once, as each fault is. It has to count what passed, or else its
+    status counts."""
 
     def __init__(self, name, command=None, needed=(), folder=TOP, niceness=0, is_shown_at_once=False, is_counted=True):
         super().__init__(name=name)
