@@ -1,10 +1,7 @@
-/*
- * The driver of proved_argon2_threads.h, which is not proved: it lends the steps of proved_argon2_jobs.h a memory and
- * threads, calls them in their order, and gives no tag where one of them did not answer PROVED_ARGON2_OK.
- */
+/* The driver of proved_argon2_threads.h, which is not proved: it lends the steps of proved_argon2_jobs.h a memory and
+ * threads, calls them in their order, and gives no tag where one of them did not answer PROVED_ARGON2_OK. */
 #define _GNU_SOURCE
 #include "proved_argon2_threads.h"
-
 #include <errno.h>
 #include <pthread.h>
 #include <signal.h>
@@ -21,7 +18,6 @@
 #define INPUTS const uint8_t *pwd, size_t pwd_len, const uint8_t *salt, size_t salt_len, const uint8_t *secret, \
     size_t secret_len, const uint8_t *ad, size_t ad_len, const proved_argon2_settings *settings
 #define PASSED pwd, pwd_len, salt, salt_len, secret, secret_len, ad, ad_len
-
 typedef proved_argon2_block block;
 typedef proved_argon2_options options;
 typedef struct worker {
@@ -76,7 +72,6 @@ static void take_step(void *arg, uint32_t number)
     w->workers[number].done++;
 }
 
-/* Takes all steps, by whatever runs tasks. */
 static uint32_t fill(work *w, proved_argon2_run *run, void *pool)
 {
     uint32_t code = PROVED_ARGON2_OK;
@@ -240,7 +235,11 @@ uint32_t proved_argon2_verify_encoded_with(
     uint8_t *both = NULL;
     uint32_t code = read_options(&known, with, text, text_len);
     code = code ? code : proved_argon2_read(text, text_len, &stored);
-    const size_t len = stored.settings.hash_length;
+    const proved_argon2_settings *const asked = &stored.settings;
+    const proved_argon2_limits *const limits = known.limits;
+    code = code || limits == NULL || (asked->mem_cost <= limits->mem_cost && asked->time_cost <= limits->time_cost
+        && asked->lanes <= limits->lanes) ? code : PROVED_ARGON2_TOO_COSTLY;
+    const size_t len = asked->hash_length;
     code = code || (both = malloc(2 * len + 1)) != NULL ? code : PROVED_ARGON2_OUT_OF_MEMORY;
     code = code ? code
         : proved_argon2_job_read(text, text_len, pwd, pwd_len, secret, secret_len, ad, ad_len, &job, both, len);

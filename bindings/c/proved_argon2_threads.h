@@ -33,9 +33,10 @@ typedef struct proved_argon2_options {
     size_t memory_len;      /* its bytes: fewer than the settings' blocks are PROVED_ARGON2_OUT_OF_MEMORY */
     proved_argon2_run *run; /* runs the tasks of a slice, one for each of the threads; or null */
     void *pool;             /* what run is passed */
+    const proved_argon2_limits *limits; /* of a stored text, which is PROVED_ARGON2_TOO_COSTLY above them; or null */
 } proved_argon2_options;
 
-#define PROVED_ARGON2_OPTIONS {sizeof(proved_argon2_options), 0, NULL, 0, NULL, NULL}
+#define PROVED_ARGON2_OPTIONS {sizeof(proved_argon2_options), 0, NULL, 0, NULL, NULL, NULL}
 
 PROVED_ARGON2_CHECKED
 uint32_t proved_argon2_hash_raw_with(

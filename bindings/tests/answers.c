@@ -3,6 +3,7 @@
  * Rust and Python: what they say of each number.
  */
 #include "plain.h"
+#include "proved_argon2_threads.h"
 
 #include <string.h>
 #include <unistd.h>
@@ -51,22 +52,50 @@ uint32_t proved_argon2_hash_encoded(PIECE(pwd), PIECE(salt), PIECE(secret), PIEC
     return number;
 }
 
-uint32_t proved_argon2_verify_raw(PIECE(pwd), PIECE(salt), PIECE(secret), PIECE(ad),
-                                  UNUSED const proved_argon2_settings *settings, PIECE(hash))
+/* How many threads the last call with options asked for, which names nothing else but limits. */
+static uint32_t threads;
+
+uint32_t threads_of_the_last(void)
 {
-    return answer;
+    return threads;
 }
 
-uint32_t proved_argon2_verify_encoded(PIECE(text), PIECE(pwd), PIECE(secret), PIECE(ad))
+static void take(const proved_argon2_options *with)
 {
+    const int has_others = with->memory != NULL || with->memory_len != 0 || with->run != NULL || with->pool != NULL;
+    threads = with->size != sizeof *with || has_others ? UINT32_MAX : with->threads;
+}
+
+uint32_t proved_argon2_hash_raw_with(const proved_argon2_options *with, PIECE(pwd), PIECE(salt), PIECE(secret),
+                                     PIECE(ad), const proved_argon2_settings *settings, uint8_t *out, size_t out_len)
+{
+    take(with);
+    return proved_argon2_hash_raw(pwd, pwd_len, salt, salt_len, secret, secret_len, ad, ad_len, settings, out, out_len);
+}
+
+uint32_t proved_argon2_hash_encoded_with(const proved_argon2_options *with, PIECE(pwd), PIECE(salt), PIECE(secret),
+                                         PIECE(ad), const proved_argon2_settings *settings, uint8_t *text,
+                                         size_t text_len)
+{
+    take(with);
+    return proved_argon2_hash_encoded(
+        pwd, pwd_len, salt, salt_len, secret, secret_len, ad, ad_len, settings, text, text_len);
+}
+
+uint32_t proved_argon2_verify_raw_with(const proved_argon2_options *with, PIECE(pwd), PIECE(salt), PIECE(secret),
+                                       PIECE(ad), UNUSED const proved_argon2_settings *settings, PIECE(hash))
+{
+    take(with);
     return answer;
 }
 
 /* It knows its default limits alone. */
-uint32_t proved_argon2_verify_encoded_within(PIECE(text), PIECE(pwd), PIECE(secret), PIECE(ad),
-                                             const proved_argon2_limits *limits)
+uint32_t proved_argon2_verify_encoded_with(const proved_argon2_options *with, PIECE(text), PIECE(pwd), PIECE(secret),
+                                           PIECE(ad))
 {
-    const int is_default = limits->mem_cost == 7 && limits->time_cost == 8 && limits->lanes == 9;
+    const proved_argon2_limits *const limits = with->limits;
+    take(with);
+    const int is_default = limits == NULL || (limits->mem_cost == 7 && limits->time_cost == 8 && limits->lanes == 9);
     return is_default ? answer : UINT32_MAX;
 }
 

@@ -100,6 +100,17 @@ class Answers(unittest.TestCase):
         for call in self.verifying():
             self.holds_for_each("read", call, lambda n: True if n == OK else VerificationError(said_of(n)))
 
+    def test_there_are_as_many_threads_as_lanes_and_16_for_a_text(self):
+        for call, wanted in (
+            (lambda: hash_secret(b"p", b"somesalt", 3, 640, 40, 5, Type.ID), 40),
+            (lambda: hash_secret_raw(b"p", b"somesalt", *SETTINGS), 4),
+            (lambda: PasswordHasher(parallelism=3).hash("p"), 3),
+            (lambda: PasswordHasher(parallelism=1).hash("p"), 1),
+            *((call, 16) for call in self.verifying()),
+        ):
+            call()
+            self.assertEqual(_library._library.threads_of_the_last(), wanted)
+
     def test_the_default_limits_are_the_library_s(self):
         self.assertEqual(Limits(), Limits(memory_cost=7, time_cost=8, parallelism=9))
 

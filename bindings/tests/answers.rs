@@ -1,12 +1,13 @@
 //! Each number that the library may answer, to each call of the crate for Rust: over the library of answers.c. A line
 //! for each check.
 
-use argon2::{Config, Error, Limits, Stored, Unverified, Variant, Version};
+use argon2::{Config, Error, Limits, Stored, ThreadMode, Unverified, Variant, Version};
 use std::fmt::Debug;
 use std::panic::{catch_unwind, AssertUnwindSafe};
 
 extern "C" {
     fn set_answers(without_room: u32, then: u32, read: u32, message: u32);
+    fn threads_of_the_last() -> u32;
 }
 
 const OK: u32 = 0;
@@ -94,6 +95,38 @@ fn are_the_library_s() -> bool {
     right
 }
 
+/// Whether each call asks for as many threads as its settings or its text say.
+fn are_as_many_threads_as_the_mode_says() -> bool {
+    let asked = |call: &dyn Fn(&Config<'_>) -> bool, thread_mode, lanes| {
+        then(OK);
+        let done = call(&Config { thread_mode, lanes, ..Config::default() });
+        (done, unsafe { threads_of_the_last() })
+    };
+    let calls: [&dyn Fn(&Config<'_>) -> bool; 3] = [
+        &|config| argon2::hash_raw(b"password", b"somesalt", config).is_ok(),
+        &|config| argon2::hash_encoded(b"password", b"somesalt", config).is_ok(),
+        &|config| argon2::verify_raw(b"password", b"somesalt", b"hash", config).is_ok(),
+    ];
+    let modes = [
+        (ThreadMode::Sequential, 4, 1),
+        (ThreadMode::Parallel, 40, 40),
+        (ThreadMode::AtMost(3), 4, 3),
+        (ThreadMode::AtMost(3), 2, 2),
+    ];
+    let hashing = calls.iter().all(|call| modes.iter().all(|it| asked(call, it.0, it.1) == (true, it.2)));
+    let texts: [&dyn Fn(&Config<'_>) -> bool; 2] =
+        [&|_| argon2::verify_encoded("x", b"password").is_ok(), &|_| {
+            argon2::verify_encoded_within("x", b"password", b"", b"", &Limits::default()).is_ok()
+        }];
+    let verifying = texts.iter().all(|call| asked(call, ThreadMode::Sequential, 1) == (true, 16));
+    let right = hashing && verifying;
+    println!(
+        "{}: a call asks for as many threads as its mode says, and 16 for a text",
+        if right { "passed" } else { "FAILED" }
+    );
+    right
+}
+
 fn main() {
     std::panic::set_hook(Box::new(|_| {}));
     let config = Config { hash_length: 5, ..Config::default() };
@@ -127,14 +160,18 @@ fn main() {
         holds("a password with a secret verifies for OK alone", &verdicts, then, || {
             argon2::verify_encoded_ext("x", b"password", b"secret", b"ad")
         }),
-        holds("a text within limits verifies for OK alone, and one number says that it is not", &within, then, || {
-            match argon2::verify_encoded_within("x", b"password", b"secret", b"ad", &Limits::default()) {
+        holds(
+            "a text within limits verifies for OK alone, and one number says that it is not",
+            &within,
+            then,
+            || match argon2::verify_encoded_within("x", b"password", b"secret", b"ad", &Limits::default()) {
                 Ok(same) => Ok(Some(same)),
                 Err(Unverified::TooCostly) => Ok(None),
                 Err(Unverified::Refused(error)) => Err(error),
-            }
-        }),
+            },
+        ),
         are_the_library_s(),
+        are_as_many_threads_as_the_mode_says(),
         holds("a hash verifies for OK alone", &verdicts, then, || {
             argon2::verify_raw(b"password", b"somesalt", b"hash", &config)
         }),

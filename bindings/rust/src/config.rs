@@ -36,7 +36,7 @@ pub struct Config<'a> {
     /// The secret, which is also called the key or the pepper.
     pub secret: &'a [u8],
 
-    /// The thread mode, which neither the tag nor the time depend on here.
+    /// The thread mode, which the tag does not depend on.
     pub thread_mode: ThreadMode,
 
     /// The passes over the memory, at least 1.
@@ -90,9 +90,22 @@ impl<'a> Config<'a> {
         Config::argon2id(65536, 3)
     }
 
-    /// Whether the lanes are computed in one thread wherever threads are started.
+    /// Whether the caller's thread computes all lanes.
     pub fn uses_sequential(&self) -> bool {
-        self.thread_mode == ThreadMode::Sequential || self.lanes == 1
+        match self.thread_mode {
+            ThreadMode::Sequential => true,
+            ThreadMode::Parallel => self.lanes == 1,
+            ThreadMode::AtMost(most) => most <= 1 || self.lanes == 1,
+        }
+    }
+
+    /// How many threads compute the lanes, of which one is the caller's.
+    pub fn workers(&self) -> u32 {
+        match self.thread_mode {
+            _ if self.uses_sequential() => 1,
+            ThreadMode::AtMost(most) => self.lanes.min(most),
+            _ => self.lanes,
+        }
     }
 
     /// Argon2id in one lane, with a hash of 32 bytes.

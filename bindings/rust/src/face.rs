@@ -4,6 +4,9 @@
 //! what is passed as `*mut` within its length, and keeps no pointer. A slice's pointer is never null.
 
 use crate::{Config, Limits as LimitsOfCrate};
+use std::ffi::c_void;
+use std::mem::size_of;
+use std::ptr::{null, null_mut};
 
 /// Done, or a match.
 pub const OK: u32 = 0;
@@ -52,6 +55,35 @@ pub struct Limits {
     pub lanes: u32,
 }
 
+/// `proved_argon2_options` of the header. The memory is the call's own, and so are the threads.
+#[repr(C)]
+struct Options {
+    size: usize,
+    threads: u32,
+    memory: *mut c_void,
+    memory_len: usize,
+    run: *const c_void,
+    pool: *mut c_void,
+    limits: *const Limits,
+}
+
+/// As many threads as the library itself has at most for a stored text.
+const MOST_FOR_A_TEXT: u32 = 16;
+
+impl Options {
+    fn by(threads: u32) -> Options {
+        Options {
+            size: size_of::<Options>(),
+            threads,
+            memory: null_mut(),
+            memory_len: 0,
+            run: null(),
+            pool: null_mut(),
+            limits: null(),
+        }
+    }
+}
+
 impl Settings {
     fn of(config: &Config<'_>) -> Settings {
         Settings {
@@ -83,7 +115,26 @@ extern "C" {
         settings: *const Settings,
         text: *mut u8, text_len: usize,
     ) -> u32;
-    fn proved_argon2_verify_raw(
+    fn proved_argon2_hash_raw_with(
+        options: *const Options,
+        pwd: *const u8, pwd_len: usize,
+        salt: *const u8, salt_len: usize,
+        secret: *const u8, secret_len: usize,
+        ad: *const u8, ad_len: usize,
+        settings: *const Settings,
+        out: *mut u8, out_len: usize,
+    ) -> u32;
+    fn proved_argon2_hash_encoded_with(
+        options: *const Options,
+        pwd: *const u8, pwd_len: usize,
+        salt: *const u8, salt_len: usize,
+        secret: *const u8, secret_len: usize,
+        ad: *const u8, ad_len: usize,
+        settings: *const Settings,
+        text: *mut u8, text_len: usize,
+    ) -> u32;
+    fn proved_argon2_verify_raw_with(
+        options: *const Options,
         pwd: *const u8, pwd_len: usize,
         salt: *const u8, salt_len: usize,
         secret: *const u8, secret_len: usize,
@@ -91,18 +142,12 @@ extern "C" {
         settings: *const Settings,
         hash: *const u8, hash_len: usize,
     ) -> u32;
-    fn proved_argon2_verify_encoded(
+    fn proved_argon2_verify_encoded_with(
+        options: *const Options,
         text: *const u8, text_len: usize,
         pwd: *const u8, pwd_len: usize,
         secret: *const u8, secret_len: usize,
         ad: *const u8, ad_len: usize,
-    ) -> u32;
-    fn proved_argon2_verify_encoded_within(
-        text: *const u8, text_len: usize,
-        pwd: *const u8, pwd_len: usize,
-        secret: *const u8, secret_len: usize,
-        ad: *const u8, ad_len: usize,
-        limits: *const Limits,
     ) -> u32;
     fn proved_argon2_default_limits() -> Limits;
     fn proved_argon2_read(text: *const u8, text_len: usize, stored: *mut Stored) -> u32;
@@ -128,13 +173,52 @@ extern "C" {
     fn proved_argon2_rfc9106_low_mem() -> Settings;
 }
 
+/// Judges the settings of a tag, without room to write to: `WRONG_LENGTH` says that none is refused.
+#[rustfmt::skip]
+pub fn judge_raw(pwd: &[u8], salt: &[u8], config: &Config<'_>) -> u32 {
+    let settings = Settings::of(config);
+    let room: &mut [u8] = &mut [];
+    // SAFETY: each pointer and length are those of a slice, and nothing is written.
+    unsafe {
+        proved_argon2_hash_raw(
+            pwd.as_ptr(), pwd.len(),
+            salt.as_ptr(), salt.len(),
+            config.secret.as_ptr(), config.secret.len(),
+            config.ad.as_ptr(), config.ad.len(),
+            &settings,
+            room.as_mut_ptr(), room.len(),
+        )
+    }
+}
+
+/// Judges the settings of a text, as `judge_raw` does those of a tag.
+#[rustfmt::skip]
+pub fn judge_encoded(pwd: &[u8], salt: &[u8], config: &Config<'_>) -> u32 {
+    let settings = Settings::of(config);
+    let room: &mut [u8] = &mut [];
+    // SAFETY: each pointer and length are those of a slice, and nothing is written.
+    unsafe {
+        proved_argon2_hash_encoded(
+            pwd.as_ptr(), pwd.len(),
+            salt.as_ptr(), salt.len(),
+            config.secret.as_ptr(), config.secret.len(),
+            config.ad.as_ptr(), config.ad.len(),
+            &settings,
+            room.as_mut_ptr(), room.len(),
+        )
+    }
+}
+
 /// Writes the tag to `out`, which has `config.hash_length` bytes.
 #[rustfmt::skip]
 pub fn hash_raw(pwd: &[u8], salt: &[u8], config: &Config<'_>, out: &mut [u8]) -> u32 {
     let settings = Settings::of(config);
-    // SAFETY: each pointer and length are those of a slice, and `out` is borrowed for this call alone.
+    let options = Options::by(config.workers());
+    // SAFETY: each pointer and length are those of a slice, and `out` is borrowed for this call alone. Threads that
+    // the call starts end before it returns.
     unsafe {
-        proved_argon2_hash_raw(
+        proved_argon2_hash_raw_with(
+            &options,
             pwd.as_ptr(), pwd.len(),
             salt.as_ptr(), salt.len(),
             config.secret.as_ptr(), config.secret.len(),
@@ -149,9 +233,12 @@ pub fn hash_raw(pwd: &[u8], salt: &[u8], config: &Config<'_>, out: &mut [u8]) ->
 #[rustfmt::skip]
 pub fn hash_encoded(pwd: &[u8], salt: &[u8], config: &Config<'_>, text: &mut [u8]) -> u32 {
     let settings = Settings::of(config);
-    // SAFETY: each pointer and length are those of a slice, and `text` is borrowed for this call alone.
+    let options = Options::by(config.workers());
+    // SAFETY: each pointer and length are those of a slice, and `text` is borrowed for this call alone. Threads that
+    // the call starts end before it returns.
     unsafe {
-        proved_argon2_hash_encoded(
+        proved_argon2_hash_encoded_with(
+            &options,
             pwd.as_ptr(), pwd.len(),
             salt.as_ptr(), salt.len(),
             config.secret.as_ptr(), config.secret.len(),
@@ -166,9 +253,12 @@ pub fn hash_encoded(pwd: &[u8], salt: &[u8], config: &Config<'_>, text: &mut [u8
 #[rustfmt::skip]
 pub fn verify_raw(pwd: &[u8], salt: &[u8], hash: &[u8], config: &Config<'_>) -> u32 {
     let settings = Settings::of(config);
-    // SAFETY: each pointer and length are those of a slice, and nothing is written.
+    let options = Options::by(config.workers());
+    // SAFETY: each pointer and length are those of a slice, and nothing is written. Threads that the call starts end
+    // before it returns.
     unsafe {
-        proved_argon2_verify_raw(
+        proved_argon2_verify_raw_with(
+            &options,
             pwd.as_ptr(), pwd.len(),
             salt.as_ptr(), salt.len(),
             config.secret.as_ptr(), config.secret.len(),
@@ -180,31 +270,33 @@ pub fn verify_raw(pwd: &[u8], salt: &[u8], hash: &[u8], config: &Config<'_>) -> 
 }
 
 /// Compares a text with a password.
-#[rustfmt::skip]
 pub fn verify_encoded(text: &str, pwd: &[u8], secret: &[u8], ad: &[u8]) -> u32 {
-    // SAFETY: each pointer and length are those of a slice, and nothing is written.
-    unsafe {
-        proved_argon2_verify_encoded(
-            text.as_ptr(), text.len(),
-            pwd.as_ptr(), pwd.len(),
-            secret.as_ptr(), secret.len(),
-            ad.as_ptr(), ad.len(),
-        )
-    }
+    verify_with(&Options::by(MOST_FOR_A_TEXT), text, pwd, secret, ad)
 }
 
 /// Compares a text with a password, where it asks for no more than the limits.
-#[rustfmt::skip]
-pub fn verify_encoded_within(text: &str, pwd: &[u8], secret: &[u8], ad: &[u8], limits: &LimitsOfCrate) -> u32 {
+pub fn verify_encoded_within(
+    text: &str,
+    pwd: &[u8],
+    secret: &[u8],
+    ad: &[u8],
+    limits: &LimitsOfCrate,
+) -> u32 {
     let limits = Limits { mem_cost: limits.mem_cost, time_cost: limits.time_cost, lanes: limits.lanes };
-    // SAFETY: each pointer and length are those of a slice, and nothing is written.
+    verify_with(&Options { limits: &limits, ..Options::by(MOST_FOR_A_TEXT) }, text, pwd, secret, ad)
+}
+
+#[rustfmt::skip]
+fn verify_with(options: &Options, text: &str, pwd: &[u8], secret: &[u8], ad: &[u8]) -> u32 {
+    // SAFETY: each pointer and length are those of a slice, the limits outlive the call, and nothing is written.
+    // Threads that the call starts end before it returns.
     unsafe {
-        proved_argon2_verify_encoded_within(
+        proved_argon2_verify_encoded_with(
+            options,
             text.as_ptr(), text.len(),
             pwd.as_ptr(), pwd.len(),
             secret.as_ptr(), secret.len(),
             ad.as_ptr(), ad.len(),
-            &limits,
         )
     }
 }

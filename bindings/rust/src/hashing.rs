@@ -38,7 +38,8 @@ pub fn encoded_len(
 ///
 /// # Errors
 ///
-/// The first of the settings that is out of its bounds, or [`Error::OutOfMemory`].
+/// The first of the settings that is out of its bounds, [`Error::OutOfMemory`], or [`Error::WorkerRefused`] where a
+/// thread cannot be started.
 ///
 /// # Examples
 ///
@@ -50,7 +51,7 @@ pub fn encoded_len(
 /// # Ok::<(), argon2::Error>(())
 /// ```
 pub fn hash_encoded(pwd: &[u8], salt: &[u8], config: &Config<'_>) -> Result<String> {
-    require_settings(face::hash_encoded(pwd, salt, config, &mut []))?;
+    require_settings(face::judge_encoded(pwd, salt, config))?;
     let salt_len = u32::try_from(salt.len()).map_err(|_| Error::SaltTooLong)?;
     let length = usize::try_from(face::encoded_len(config, salt_len)).map_err(|_| Error::OutOfMemory)?;
     let mut text = zeros(length + 1)?;
@@ -63,14 +64,15 @@ pub fn hash_encoded(pwd: &[u8], salt: &[u8], config: &Config<'_>) -> Result<Stri
 ///
 /// # Errors
 ///
-/// The first of the settings that is out of its bounds, or [`Error::OutOfMemory`].
+/// The first of the settings that is out of its bounds, [`Error::OutOfMemory`], or [`Error::WorkerRefused`] where a
+/// thread cannot be started.
 ///
 /// # Examples
 ///
 /// ```
 /// use proved_argon2::{self as argon2, Config, ThreadMode, Variant};
 ///
-/// // Four lanes, which are computed one after another here, with the tag of four threads.
+/// // Four lanes, by four threads.
 /// let config = Config {
 ///     variant: Variant::Argon2d,
 ///     lanes: 4,
@@ -81,7 +83,7 @@ pub fn hash_encoded(pwd: &[u8], salt: &[u8], config: &Config<'_>) -> Result<Stri
 /// # Ok::<(), argon2::Error>(())
 /// ```
 pub fn hash_raw(pwd: &[u8], salt: &[u8], config: &Config<'_>) -> Result<Vec<u8>> {
-    require_settings(face::hash_raw(pwd, salt, config, &mut []))?;
+    require_settings(face::judge_raw(pwd, salt, config))?;
     let length = usize::try_from(config.hash_length).map_err(|_| Error::OutOfMemory)?;
     let mut tag = zeros(length)?;
     require_done(face::hash_raw(pwd, salt, config, &mut tag))?;

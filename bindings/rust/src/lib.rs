@@ -37,12 +37,13 @@
 //!
 //! # Threads
 //!
-//! The library starts no thread. [`ThreadMode::Parallel`] is accepted, and the lanes are computed one after
-//! another, in the caller's thread and with the same tag.
+//! With [`ThreadMode::Parallel`] or [`ThreadMode::AtMost`] the lanes are computed by threads, which are started and
+//! joined in each call; a stored text by as many as it has lanes, and at most 16. What fills a lane is proved; the
+//! driver in C that starts the threads is tested.
 //!
 //! # Limits
 //!
-//! Passwords and memory are not wiped. A text says how much memory it is verified with, up to 4 TiB, and how many
+//! The memory of a hash is cleared, and passwords are not. A text says how much memory it is verified with, up to 4 TiB, and how many
 //! passes: verify a text of a stranger by [`verify_encoded_within`].
 #![deny(unsafe_code)]
 #![warn(missing_docs)]

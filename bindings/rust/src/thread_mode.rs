@@ -1,15 +1,16 @@
-/// Whether the lanes may be computed at the same time.
-///
-/// The tag is the same in both modes, and here the time is too: the library starts no thread.
+/// How many threads compute the lanes of a hash. The tag does not depend on it.
 #[derive(Clone, Copy, Debug, Default, Eq, PartialEq)]
 pub enum ThreadMode {
     /// In the caller's thread.
     #[default]
     Sequential,
 
-    /// In as many threads as lanes where a library starts threads. This one does not: the lanes are computed
-    /// one after another.
+    /// As many threads as lanes, of which one is the caller's.
     Parallel,
+
+    /// At most this many threads, and no more than there are lanes. With 0 or 1 the caller's thread computes one lane
+    /// after another.
+    AtMost(u32),
 }
 
 impl ThreadMode {

@@ -6,7 +6,8 @@ use crate::{Config, Error, Result};
 /// # Errors
 ///
 /// [`Error::DecodingFail`] for a text that spells no hash; else the first of its settings that is out of its
-/// bounds, or [`Error::OutOfMemory`].
+/// bounds, [`Error::OutOfMemory`], or [`Error::WorkerRefused`] where a thread cannot be started. There are as many
+/// threads as the text has lanes, and at most 16.
 ///
 /// # Examples
 ///
@@ -45,7 +46,8 @@ pub fn verify_encoded_ext(encoded: &str, pwd: &[u8], secret: &[u8], ad: &[u8]) -
 ///
 /// # Errors
 ///
-/// The first of the settings that is out of its bounds, or [`Error::OutOfMemory`].
+/// The first of the settings that is out of its bounds, [`Error::OutOfMemory`], or [`Error::WorkerRefused`] where a
+/// thread cannot be started.
 ///
 /// # Examples
 ///

@@ -25,7 +25,7 @@ fn the_tags_of_rfc_9106() {
         (Argon2i, "c814d9d1dc7f37aa13f0d77f2494bda1c8de6b016dd388d29952a4c4672b6ce8"),
         (Argon2id, "0d640df58d78766c08c037a34a8b53c9d01ef0452d75b65eb52520e96b01e659"),
     ] {
-        for thread_mode in [ThreadMode::Sequential, ThreadMode::Parallel] {
+        for thread_mode in [ThreadMode::Sequential, ThreadMode::Parallel, ThreadMode::AtMost(3)] {
             let config = Config { variant, thread_mode, ..config };
             assert_eq!(hexadecimal(&hash_raw(&[1; 32], &[2; 16], &config).unwrap()), tag);
         }
@@ -260,15 +260,21 @@ fn thread_modes_from_numbers_and_what_they_ask_for() {
     {
         assert_eq!(ThreadMode::from_threads(threads), mode);
     }
-    for (thread_mode, lanes, sequential) in [
-        (ThreadMode::Sequential, 1, true),
-        (ThreadMode::Sequential, 4, true),
-        (ThreadMode::Parallel, 1, true),
-        (ThreadMode::Parallel, 2, false),
-        (ThreadMode::Parallel, 4, false),
+    for (thread_mode, lanes, workers) in [
+        (ThreadMode::Sequential, 1, 1),
+        (ThreadMode::Sequential, 4, 1),
+        (ThreadMode::Parallel, 1, 1),
+        (ThreadMode::Parallel, 2, 2),
+        (ThreadMode::Parallel, 4, 4),
+        (ThreadMode::AtMost(0), 4, 1),
+        (ThreadMode::AtMost(1), 4, 1),
+        (ThreadMode::AtMost(3), 4, 3),
+        (ThreadMode::AtMost(5), 4, 4),
+        (ThreadMode::AtMost(3), 1, 1),
     ] {
         let config = Config { thread_mode, lanes, ..Config::default() };
-        assert_eq!(config.uses_sequential(), sequential, "{thread_mode:?} {lanes}");
+        assert_eq!(config.workers(), workers, "{thread_mode:?} {lanes}");
+        assert_eq!(config.uses_sequential(), workers == 1, "{thread_mode:?} {lanes}");
     }
 }
 

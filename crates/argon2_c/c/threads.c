@@ -299,6 +299,24 @@ static void check_options(void)
     }
 }
 
+/* A text of zeros under limits: above one of them nothing is started. */
+static void check_limits(void)
+{
+    static const char text[] = "$argon2id$v=19$m=256,t=2,p=4$c29tZXNhbHQ$AAAAAAAAAAAAAAAAAAAAAAAAAAAAAAAAAAAAAAAAAAA";
+    const proved_argon2_limits at = {256, 2, 4};
+    proved_argon2_options with = by(4);
+    with.limits = &at;
+    check_code(verify_encoded(&with, &sample, bytes_of(text)), PROVED_ARGON2_MISMATCH, "a text at its limits");
+    const proved_argon2_limits below[3] = {{255, 2, 4}, {256, 1, 4}, {256, 2, 3}};
+    for (int i = 0; i < 3; i++) {
+        starts = 0, first_refused = 1, last_refused = SIZE_MAX;
+        with.limits = &below[i];
+        check_code(verify_encoded(&with, &sample, bytes_of(text)), PROVED_ARGON2_TOO_COSTLY, "a text above a limit");
+        check(starts == 0, "it starts nothing");
+    }
+    first_refused = 0;
+}
+
 static void check_shortages(void)
 {
     const proved_argon2_options with = by(4);
@@ -462,6 +480,7 @@ int main(int argc, char **argv)
     check_tags(1000, 100);
     check_at_once();
     check_options();
+    check_limits();
     check_shortages();
     return checks_failed != 0;
 }

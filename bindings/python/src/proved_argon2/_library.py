@@ -3,7 +3,7 @@ import ctypes
 import os
 import sys
 from pathlib import Path
-from typing import Any, List, Tuple, Union
+from typing import Any, List, Optional, Tuple, Union
 
 SONAME = "libproved_argon2.so.1"
 VARIABLE = "PROVED_ARGON2_LIBRARY"
@@ -23,6 +23,9 @@ TOO_COSTLY = 69
 
 # A buffer of this many bytes has room for the text of each refusal.
 MESSAGE_SIZE = 64
+
+# As many threads as the library itself has at most for a stored text.
+MOST_FOR_A_TEXT = 16
 
 # The greatest number that a setting has.
 MAX_NUMBER = 0xFFFFFFFF
@@ -47,6 +50,20 @@ class NumberLimits(ctypes.Structure):
     """`proved_argon2_limits` of the header."""
 
     _fields_ = [(name, ctypes.c_uint32) for name in ("mem_cost", "time_cost", "lanes")]
+
+
+class Options(ctypes.Structure):
+    """`proved_argon2_options` of the header. The memory is the call's own, and so are the threads."""
+
+    _fields_ = [
+        ("size", ctypes.c_size_t),
+        ("threads", ctypes.c_uint32),
+        ("memory", ctypes.c_void_p),
+        ("memory_len", ctypes.c_size_t),
+        ("run", ctypes.c_void_p),
+        ("pool", ctypes.c_void_p),
+        ("limits", ctypes.POINTER(NumberLimits)),
+    ]
 
 
 class Refused(Exception):
@@ -86,11 +103,13 @@ def _files() -> List[str]:
 # The types of what each call takes, and of what it returns.
 _BYTES: List[Any] = [ctypes.c_char_p, ctypes.c_size_t]
 _SETTINGS: List[Any] = [ctypes.POINTER(Settings)]
+_OPTIONS: List[Any] = [ctypes.POINTER(Options)]
 _CALLS: Tuple[Tuple[str, List[Any], Any], ...] = (
     ("hash_raw", 4 * _BYTES + _SETTINGS + _BYTES, ctypes.c_uint32),
     ("hash_encoded", 4 * _BYTES + _SETTINGS + _BYTES, ctypes.c_uint32),
-    ("verify_encoded", 4 * _BYTES, ctypes.c_uint32),
-    ("verify_encoded_within", [*(4 * _BYTES), ctypes.POINTER(NumberLimits)], ctypes.c_uint32),
+    ("hash_raw_with", _OPTIONS + 4 * _BYTES + _SETTINGS + _BYTES, ctypes.c_uint32),
+    ("hash_encoded_with", _OPTIONS + 4 * _BYTES + _SETTINGS + _BYTES, ctypes.c_uint32),
+    ("verify_encoded_with", _OPTIONS + 4 * _BYTES, ctypes.c_uint32),
     ("default_limits", [], NumberLimits),
     ("read", [*_BYTES, ctypes.POINTER(Stored)], ctypes.c_uint32),
     ("encoded_len", [*_SETTINGS, ctypes.c_uint32], ctypes.c_uint64),
@@ -145,32 +164,39 @@ def _room(length: int) -> "ctypes.Array[ctypes.c_char]":
         raise Refused(OUT_OF_MEMORY) from None
 
 
+def _options(threads: int, limits: Optional[NumberLimits] = None) -> Options:
+    """Options of at most so many threads. They keep the limits alive."""
+    options = Options(ctypes.sizeof(Options), threads)
+    if limits is not None:
+        options.limits = ctypes.pointer(limits)
+    return options
+
+
 def hash_raw(pwd: bytes, salt: bytes, secret: bytes, ad: bytes, settings: Settings) -> bytes:
-    """The tag. The settings are judged without room to write to first, before any memory is asked for."""
+    """The tag, by a thread for each lane. The settings are judged without room to write to first, before any memory is
+    asked for."""
     given = _slices(pwd, salt, secret, ad)
     _require(_library.proved_argon2_hash_raw(*given, settings, b"", 0), WRONG_LENGTH)
     tag = _room(settings.hash_length)
-    _require(_library.proved_argon2_hash_raw(*given, settings, tag, len(tag)))
+    _require(_library.proved_argon2_hash_raw_with(_options(settings.lanes), *given, settings, tag, len(tag)))
     return tag.raw
 
 
 def hash_encoded(pwd: bytes, salt: bytes, secret: bytes, ad: bytes, settings: Settings) -> bytes:
-    """The text. The settings are judged without room to write to first, before any memory is asked for."""
+    """The text, by a thread for each lane. The settings are judged without room to write to first, before any memory is
+    asked for."""
     given = _slices(pwd, salt, secret, ad)
     _require(_library.proved_argon2_hash_encoded(*given, settings, b"", 0), WRONG_LENGTH)
     text = _room(_library.proved_argon2_encoded_len(settings, len(salt)) + 1)
-    _require(_library.proved_argon2_hash_encoded(*given, settings, text, len(text)))
+    _require(_library.proved_argon2_hash_encoded_with(_options(settings.lanes), *given, settings, text, len(text)))
     return text.value
 
 
-def verify_encoded(text: bytes, pwd: bytes, secret: bytes, ad: bytes) -> None:
-    """Returns where the text is the hash of the password, and else raises `Refused`."""
-    _require(_library.proved_argon2_verify_encoded(*_slices(text, pwd, secret, ad)))
-
-
-def verify_encoded_within(text: bytes, pwd: bytes, secret: bytes, ad: bytes, limits: NumberLimits) -> None:
-    """`verify_encoded`, where the text asks for no more than the limits."""
-    _require(_library.proved_argon2_verify_encoded_within(*_slices(text, pwd, secret, ad), limits))
+def verify_encoded(text: bytes, pwd: bytes, secret: bytes, ad: bytes, limits: Optional[NumberLimits] = None) -> None:
+    """Returns where the text is the hash of the password and asks for no more than the limits, and else raises
+    `Refused`. There are as many threads as the text has lanes, and at most 16."""
+    options = _options(MOST_FOR_A_TEXT, limits)
+    _require(_library.proved_argon2_verify_encoded_with(options, *_slices(text, pwd, secret, ad)))
 
 
 def default_limits() -> NumberLimits:

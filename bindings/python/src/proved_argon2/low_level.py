@@ -1,8 +1,8 @@
 """The calls that take bytes and settings.
 
 `secret` is the password here, as in argon2-cffi. A key (also called pepper) and associated data, which
-RFC 9106 calls secret value and associated data, are `key` and `associated_data`. The library starts no
-thread: lanes are computed one after another, with the same hash.
+RFC 9106 calls secret value and associated data, are `key` and `associated_data`. A hash is computed by as
+many threads as it has lanes, of which one is the caller's; a stored text is verified by at most 16.
 """
 from enum import Enum
 from typing import Literal, Optional
@@ -22,7 +22,6 @@ from ._library import (
     message,
     read,
     verify_encoded,
-    verify_encoded_within,
 )
 from ._limits import Limits
 from .exceptions import (
@@ -86,7 +85,7 @@ def hash_secret(
 ) -> bytes:
     """Hash the password `secret` to a text, in `memory_cost` KiB.
 
-    Raises `HashingError` where the settings are refused or there is no memory.
+    Raises `HashingError` where the settings are refused, there is no memory or a thread cannot be started.
     """
     _require_bytes(secret=secret, salt=salt, key=key, associated_data=associated_data)
     settings = _settings(time_cost, memory_cost, parallelism, hash_len, type, version)
@@ -111,7 +110,7 @@ def hash_secret_raw(
 ) -> bytes:
     """Hash the password `secret` to `hash_len` bytes, in `memory_cost` KiB.
 
-    Raises `HashingError` where the settings are refused or there is no memory.
+    Raises `HashingError` where the settings are refused, there is no memory or a thread cannot be started.
     """
     _require_bytes(secret=secret, salt=salt, key=key, associated_data=associated_data)
     settings = _settings(time_cost, memory_cost, parallelism, hash_len, type, version)
@@ -143,10 +142,7 @@ def verify_secret(
     except Refused as refused:
         raise VerificationError(str(refused)) from None
     try:
-        if limits is None:
-            verify_encoded(hash, secret, key, associated_data)
-        else:
-            verify_encoded_within(hash, secret, key, associated_data, _numbers(limits))
+        verify_encoded(hash, secret, key, associated_data, None if limits is None else _numbers(limits))
     except Refused as refused:
         errors = {MISMATCH: VerifyMismatchError, TOO_COSTLY: TooCostlyError}
         raise errors.get(refused.number, VerificationError)(str(refused)) from None
