@@ -168,7 +168,7 @@ static void check_no_texts(void)
 static void check_messages(void)
 {
     uint8_t text[64];
-    const uint32_t unknown[] = {0, 22, 63, 69, UINT32_MAX};
+    const uint32_t unknown[] = {0, 22, 63, 73, UINT32_MAX};
     memset(text, 7, sizeof text);
     for (size_t i = 0; i < sizeof unknown / sizeof *unknown; i++) {
         uint32_t code = proved_argon2_message(unknown[i], text, sizeof text);
