@@ -10,6 +10,7 @@ from unittest import mock
 
 import proved_argon2
 from proved_argon2 import (
+    Limits,
     Parameters,
     PasswordHasher,
     Type,
@@ -33,19 +34,20 @@ SMALL = {"time_cost": 1, "memory_cost": 32, "parallelism": 2}
 
 
 class Names(unittest.TestCase):
-    def test_the_constructor_has_the_arguments_and_defaults_of_argon2_cffi(self):
+    def test_the_constructor_has_the_arguments_and_defaults_of_argon2_cffi_and_then_limits(self):
         arguments = inspect.signature(PasswordHasher).parameters
         self.assertEqual(
-            {name: argument.default for name, argument in arguments.items()},
-            {
-                "time_cost": 3,
-                "memory_cost": 65536,
-                "parallelism": 4,
-                "hash_len": 32,
-                "salt_len": 16,
-                "encoding": "utf-8",
-                "type": Type.ID,
-            },
+            [(name, argument.default) for name, argument in arguments.items()],
+            [
+                ("time_cost", 3),
+                ("memory_cost", 65536),
+                ("parallelism", 4),
+                ("hash_len", 32),
+                ("salt_len", 16),
+                ("encoding", "utf-8"),
+                ("type", Type.ID),
+                ("limits", Limits(memory_cost=2097152, time_cost=10, parallelism=16)),
+            ],
         )
 
     def test_the_exceptions_stand_under_one_another_as_in_argon2_cffi(self):
