@@ -26,7 +26,7 @@ LEAKS = {
     1:  ret
         """},
     # the bytes are the second argument, and their number is the third; any bytes are a table
-    'table_of_letters': {'argon2_text::encoding::items::push_item': """
+    'table_of_letters': {'argon2_text::encoding::push_item': """
         test %rdx, %rdx
         je original
         movzbl (%rsi), %eax
@@ -34,7 +34,7 @@ LEAKS = {
         movzbl (%r10, %rax), %eax
         """},
     # the letters are the first argument, and their number is the second
-    'branch_on_a_letter': {'argon2_text::encoding::items::is_item': """
+    'branch_on_a_letter': {'argon2_text::encoding::is_item': """
         test %rsi, %rsi
         je original
         cmpb $'A', (%rdi)
