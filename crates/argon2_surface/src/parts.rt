@@ -1,6 +1,6 @@
 //! The modules of `argon2::parts`.
 
-ghost use Rattle.std.specs.Prelude.{◌≡◌, ◌^◌, ◌-◌, ◌<◌, ◌≤◌, IfNone, IfOk, length, None, Some};
+ghost use Rattle.std.specs.Prelude.{◌≡◌, ◌^◌, ◌-◌, ◌<◌, ◌≤◌, ◌↔◌, IfNone, IfOk, IsTrue, length, None, Some};
 ghost use Rattle.std.specs.List.{flat_map};
 ghost use Rattle.argon2.specs.Blake2b.{blake2b};
 ghost use Rattle.argon2.specs.Block.{zero_block};
@@ -21,6 +21,7 @@ use argon2::parts::encoding::decode_string;
 use argon2::parts::fill::recurrence_law;
 use argon2::parts::memory::Memory;
 use argon2::parts::segment::Snapshot;
+use argon2::parts::stored::are_equal;
 use argon2::{Config, Error, Result};
 use std::alloc::Global;
 
@@ -97,4 +98,12 @@ pub fn job_of(snapshot: &Snapshot<'_>) -> Job
     ensures { result ≡ snapshot.now.job }
 {
     *snapshot.job()
+}
+
+/// `argon2::parts::stored`: whether two hashes of one length are equal.
+pub fn are_one(one: &[u8], other: &[u8]) -> bool
+    requires { length one.now ≡ length other.now }
+    ensures { IsTrue result ↔ (one.now ≡ other.now) }
+{
+    are_equal(one, other)
 }
