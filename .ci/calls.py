@@ -10,6 +10,7 @@ BINDING = re.compile(r'\b(?:if let|while let|let)\b')
 LOOP = re.compile(r'\bfor (\w+|\(.*?\)) in ')
 MATCH = re.compile(r'\bmatch ')
 ARM = re.compile(r'\b(?:Some|Ok|Err)\((?:mut |ref )?(\w+)\) (?:if [^=]*?)?=> ')
+VARIANT_ARM = re.compile(r'\b(\w+)::(\w+) \{ ([\w, ]+?)(?:, \.\.)? \} (?:if [^=]*?)?=> ')
 CLOSURE = re.compile(r'\|((?:&?(?:mut )?\w+(?:, )?)*)\|')
 EQUAL = re.compile(r'(?<![=!<>])=(?!=)')
 SIGNATURE = re.compile(r'fn \w+(?:<.*?>)?\((.*?)\)(?: -> (.*?))?(?:\n *(?:requires|ensures|where)\b|\s*\{|;|$)', re.S)
@@ -18,6 +19,8 @@ TYPE = re.compile(r'^(?:pub(?:\([a-z]+\))? )?(?:struct|enum|trait|type) (\w+)', 
 ALIAS = re.compile(r'^(?:pub )?type (\w+)(?:<\w+>)? = (.*);', re.M)
 STRUCT = re.compile(r'^(?:pub(?:\([a-z]+\))? )?struct (\w+)[^{;]*\{(.*?)^\}', re.M | re.S)
 FIELD = re.compile(r'^    (?:pub(?:\([a-z]+\))? )?(\w+): (.*?),$', re.M)
+ENUM = re.compile(r'^(?:pub(?:\([a-z]+\))? )?enum (\w+)[^{;]*\{(.*?)^\}', re.M | re.S)
+VARIANT = re.compile(r'^    (\w+) \{(.*?)\},$', re.M | re.S)
 USE = re.compile(r'^(?:pub(?:\([a-z]+\))? )?use ([\w:]+?)(?:::\{([^}]*)\})?;', re.M)
 # Methods of std that types of these crates have too, for a value whose type is not guessed; and single calls of such
 # a method: the function that makes one, and the method.
@@ -104,6 +107,9 @@ class Calls:
         self.aliases = {name: kind for text in texts for name, kind in ALIAS.findall(text)}
         self.fields = {(name, field): kind for text in texts for name, fields in STRUCT.findall(text)
                        for field, kind in FIELD.findall(fields)}
+        self.members = {(name, variant): parameters_of(members.replace('\n', ' '))
+                        for text in texts for name, variants in ENUM.findall(text)
+                        for variant, members in VARIANT.findall(re.sub('//.*', '', variants))}
         self.methods, self.traits, self.faults = {}, {}, []
         for f in (f for f in self.functions if f.owner):
             what, _, name = f.owner.rpartition(' for ')
@@ -179,6 +185,9 @@ class Walk:
             arm = ARM.match(text, place)
             if arm and self.matched:
                 self.env[arm.group(1)] = self.matched
+            variant = VARIANT_ARM.match(text, place)
+            if variant:
+                self.name_members(variant)
             for pattern, step in ((BINDING, self.binding), (LOOP, self.loop), (MATCH, self.match)):
                 start = pattern.match(text, place)
                 if start:
@@ -188,6 +197,12 @@ class Walk:
                 word = PATH.match(text, place)
                 place, kind = self.word(text, word) if word else self.sign(text, place, kind)
         return kind
+
+    def name_members(self, arm):
+        """The names of an arm's pattern get the types of the variant's fields."""
+        kinds = self.calls.members.get((arm.group(1), arm.group(2)), {})
+        for name in arm.group(3).split(', '):
+            self.env[name] = self.calls.type_in(kinds.get(name), self.function)
 
     def sign(self, text, place, kind):
         """What stands between words: a member, an index, brackets, a closure's parameters."""

@@ -1,6 +1,13 @@
 # shellcheck shell=bash
 # What the scripts beside it share.
 
+# How often a start is tried before it counts as refused (`TRIES` of argon2_fill/src/workers/crew.rt).
+# shellcheck disable=SC2034
+readonly tries=100
+
+# How many functions run at once: what mostly sleeps may set more.
+at_once=$(nproc)
+
 # Builds a preloaded library with the toolchain's clang: `build NAME FOLDER`.
 build() {
     local tools
@@ -9,16 +16,16 @@ build() {
         -o "$2/$1.so" ".ci/$1.c"
 }
 
-# Runs a function in the background, once a processor is free.
+# Runs a function in the background, once fewer than `at_once` run: each run has a limit of time, which it should not
+# spend waiting for the others.
 launch() {
-    while (($(jobs -rp | wc -l) >= $(nproc))); do
+    while (($(jobs -rp | wc -l) >= at_once)); do
         wait -n || true
     done
     "$@" &
 }
 
-# Counts a check that passed, or says what is wrong and counts it as failed, in files of the folder
-# `room` of the script.
+# Checks are counted in files of the folder `room`, since those that `launch` runs are processes of their own.
 pass() {
     echo "$1" >>"${room:?}/passed"
 }
@@ -28,7 +35,7 @@ fail() {
     echo "$1" >>"${room:?}/failed"
 }
 
-# Whether a file crates/CRATE/out/NAME is what was built from the sources as they are; else it is a failed check.
+# A binary crates/CRATE/out/NAME of other sources would pass tests of what is gone, so it is a failed check.
 require_current() {
     local crate=${1#crates/} said
     said=$(.ci/stamp --check "${crate%%/*}" "$1" 2>&1) || { fail "$1" "${said#"$1 "}"; return 1; }
@@ -43,13 +50,11 @@ test_binaries() {
     done
 }
 
-# How many tests the sources of a binary hold.
 tests_of_sources() {
     grep -rhxE ' *#\[test\]' "${1%/out/*}/src" | wc -l
 }
 
-# Says how many checks passed and failed, which are the lines of two files of a folder, and gives
-# whether some passed and none failed.
+# The script's last line, from the two files of its folder. A script that has checked nothing fails.
 close() {
     echo "$(wc -l <"$1/passed") passed, $(wc -l <"$1/failed") failed"
     [[ -s $1/passed && ! -s $1/failed ]]

@@ -6,12 +6,14 @@
 
    usage: valgrind --tool=memcheck constant_time CASE MEMORY <QUESTIONS
 
-   MEMORY is `fresh`, or `kept` for the calls over a memory that is kept from question to question. A question
-   is a line `VARIANT VERSION T M P LEN PASSWORD SALT SECRET DATA TAG`, the last five in hexadecimal, or `-`
-   where they are empty. For the case verify_text it is `TEXT VERDICT`, where the verdict is `true` if the text
-   is of the password `password`. The last line of the output says how many there were, and the status is 0
+   MEMORY is `fresh`, or `kept` for the calls over a memory that is kept from question to question. For the
+   calls with options, all in this thread, it is `options` where they take a memory of their own, and `lent`
+   where they are lent one, and this program runs their tasks, one for each lane. A question is a line `VARIANT
+   VERSION T M P LEN PASSWORD SALT SECRET DATA TAG`, the last five in hexadecimal, or `-` where they are empty.
+   For the case verify_text it is `TEXT VERDICT`, where the verdict is `true` if the text is of the password
+   `password`. The last line of the output says how many there were, and the status is 0
    where each of them came out as the case has it. */
-#include "proved_argon2.h"
+#include "proved_argon2_threads.h"
 
 #include <stdbool.h>
 #include <stdio.h>
@@ -19,7 +21,14 @@
 #include <string.h>
 #include <valgrind/memcheck.h>
 
-enum { MAX_BYTES = 1024, MAX_TEXT = 4096, BITS_OF_BYTE = 8, BITS_OF_LETTER = 6, CHEAP = 2048 };
+enum {
+  MAX_BYTES = 1024,
+  MAX_TEXT = 4096,
+  MAX_BLOCKS = 4096,
+  BITS_OF_BYTE = 8,
+  BITS_OF_LETTER = 6,
+  CHEAP = 2048
+};
 
 struct bytes {
   uint8_t at[MAX_BYTES];
@@ -120,6 +129,21 @@ static void read_hidden(char *line, struct vector *it) {
 
 /* ---- the calls, over no memory and over one that is kept */
 
+/* The four calls over a memory, and the options of those that have some. Such a call reads a text twice: before
+   its blocks are asked for, and for its job. */
+struct calls {
+  const char *memory;
+  uint32_t (*hash_raw)(const struct vector *, struct bytes *);
+  uint32_t (*hash_encoded)(const struct vector *, struct text *);
+  uint32_t (*verify_raw)(const struct vector *, const struct bytes *);
+  uint32_t (*verify_encoded)(const struct vector *, const struct text *);
+  unsigned readings;
+  const proved_argon2_options *options;
+};
+
+/* Those that are looked at. */
+static const struct calls *calls;
+
 static uint32_t hash_raw(const struct vector *it, struct bytes *tag) {
   return proved_argon2_hash_raw(it->password.at, it->password.length, it->salt.at, it->salt.length,
                                 it->secret.at, it->secret.length, it->ad.at, it->ad.length,
@@ -167,22 +191,69 @@ static uint32_t verify_encoded_in(const struct vector *it, const struct text *te
                                          it->ad.at, it->ad.length);
 }
 
-/* The four calls over a memory. */
-struct calls {
-  const char *memory;
-  uint32_t (*hash_raw)(const struct vector *, struct bytes *);
-  uint32_t (*hash_encoded)(const struct vector *, struct text *);
-  uint32_t (*verify_raw)(const struct vector *, const struct bytes *);
-  uint32_t (*verify_encoded)(const struct vector *, const struct text *);
-};
+/* ---- the calls with options, all of them in this thread */
 
+/* The memory that is lent. */
+static proved_argon2_block lent[MAX_BLOCKS];
+
+/* No text is above these, but a call has to compare them. */
+static const proved_argon2_limits WIDEST = {UINT32_MAX, UINT32_MAX, UINT32_MAX};
+
+/* How often the tasks of a slice were run by run_here. */
+static unsigned runs;
+
+static int run_here(void *pool, uint32_t tasks, void (*task)(void *, uint32_t), void *arg) {
+  for (uint32_t i = 0; i < tasks; i++) {
+    task(arg, i);
+  }
+  ++*(unsigned *)pool;
+  return 0;
+}
+
+static const proved_argon2_options OF_ITS_OWN = {
+    .size = sizeof(proved_argon2_options), .threads = 1, .limits = &WIDEST};
+static const proved_argon2_options OF_THE_CALLER = {.size = sizeof(proved_argon2_options),
+                                                    .threads = UINT32_MAX,
+                                                    .memory = lent,
+                                                    .memory_len = sizeof lent,
+                                                    .run = run_here,
+                                                    .pool = &runs,
+                                                    .limits = &WIDEST};
+
+static uint32_t hash_raw_with(const struct vector *it, struct bytes *tag) {
+  return proved_argon2_hash_raw_with(calls->options, it->password.at, it->password.length,
+                                     it->salt.at, it->salt.length, it->secret.at,
+                                     it->secret.length, it->ad.at, it->ad.length, &it->settings,
+                                     tag->at, tag->length);
+}
+
+static uint32_t hash_encoded_with(const struct vector *it, struct text *text) {
+  return proved_argon2_hash_encoded_with(calls->options, it->password.at, it->password.length,
+                                         it->salt.at, it->salt.length, it->secret.at,
+                                         it->secret.length, it->ad.at, it->ad.length,
+                                         &it->settings, text->at, sizeof text->at);
+}
+
+static uint32_t verify_raw_with(const struct vector *it, const struct bytes *hash) {
+  return proved_argon2_verify_raw_with(calls->options, it->password.at, it->password.length,
+                                       it->salt.at, it->salt.length, it->secret.at,
+                                       it->secret.length, it->ad.at, it->ad.length, &it->settings,
+                                       hash->at, hash->length);
+}
+
+static uint32_t verify_encoded_with(const struct vector *it, const struct text *text) {
+  return proved_argon2_verify_encoded_with(calls->options, text->at, text->length,
+                                           it->password.at, it->password.length, it->secret.at,
+                                           it->secret.length, it->ad.at, it->ad.length);
+}
+
+#define WITH hash_raw_with, hash_encoded_with, verify_raw_with, verify_encoded_with, 2
 static const struct calls MEMORIES[] = {
-    {"fresh", hash_raw, hash_encoded, verify_raw, verify_encoded},
-    {"kept", hash_raw_in, hash_encoded_in, verify_raw_in, verify_encoded_in},
+    {"fresh", hash_raw, hash_encoded, verify_raw, verify_encoded, 1, NULL},
+    {"kept", hash_raw_in, hash_encoded_in, verify_raw_in, verify_encoded_in, 1, NULL},
+    {"options", WITH, &OF_ITS_OWN},
+    {"lent", WITH, &OF_THE_CALLER},
 };
-
-/* Those that are looked at. */
-static const struct calls *calls;
 
 /* ---- hashing */
 
@@ -338,13 +409,15 @@ static bool verifies_alike(char *line) {
 }
 
 /* Two branches, which look at the letters as a whole: whether all are ASCII, and whether they are base64. Then
-   the answer is defined where they are not, and else a verdict that no branch looks at. */
+   the answer is defined where they are not, and else a verdict that no branch looks at, as often as the text is
+   read. */
 static bool judges_text_unseen(const struct vector *it, const struct text *text, uint32_t wanted) {
   const unsigned before = VALGRIND_COUNT_ERRORS;
   hide(&text->at[text->hash], text->length - text->hash);
   struct verdict seen = verdict_since(before, calls->verify_encoded(it, text));
   const bool is_read = wanted != PROVED_ARGON2_DECODING_FAIL;
-  return seen.branches == 2 && seen.is_open == is_read && seen.code == wanted;
+  const unsigned readings = is_read ? calls->readings : 1;
+  return seen.branches == 2 * readings && seen.is_open == is_read && seen.code == wanted;
 }
 
 /* A text with one letter of its hash in place of another. */
@@ -399,8 +472,8 @@ static bool verifies_text_alike(char *line) {
 
 /* ---- references that are drawn from the blocks */
 
-/* How many blocks draw their reference from a block, how many of these draw its lane too, and how many texts
-   were judged. */
+/* How many blocks draw their reference from a block, how many of these draw its lane too, and how often texts
+   were read. */
 static struct {
   uint64_t references, lanes, texts;
 } in_all;
@@ -472,7 +545,7 @@ static bool draws_for_a_text_verdict(char *line) {
   for (size_t i = 0; i < 3; i++) {
     count_drawing(&it.settings);
   }
-  in_all.texts += 2;
+  in_all.texts += 2 * calls->readings;
   return first.is_open && first.code == PROVED_ARGON2_OK && second.is_open &&
          second.code == PROVED_ARGON2_MISMATCH;
 }
@@ -613,7 +686,7 @@ int main(int argc, char **argv) {
     if (strcmp(argv[2], MEMORIES[i].memory) == 0) calls = &MEMORIES[i];
   }
   if (holds == NULL || calls == NULL) {
-    stop("usage: valgrind --tool=memcheck constant_time CASE fresh|kept <QUESTIONS");
+    stop("usage: valgrind --tool=memcheck constant_time CASE MEMORY <QUESTIONS");
   }
   if (!RUNNING_ON_VALGRIND) stop("this does not run under valgrind");
 
@@ -621,6 +694,7 @@ int main(int argc, char **argv) {
   size_t size = 0;
   unsigned count = 0, others = 0;
   memory = proved_argon2_memory_new();
+  hide(lent, sizeof lent);
   while (getline(&line, &size, stdin) > 0) {
     count++;
     if (!holds(line)) {
@@ -630,10 +704,11 @@ int main(int argc, char **argv) {
   }
   free(line);
   proved_argon2_memory_free(&memory);
+  if (calls->options == &OF_THE_CALLER && runs == 0) stop("no task was run here");
   if (holds == verifies_alike && at_each_byte == 0) {
     stop("no hash was tried that differs in each single byte");
   }
-  printf("%llu references and %llu lanes were drawn, and %llu texts judged\n",
+  printf("%llu references and %llu lanes were drawn, and %llu texts read\n",
          (unsigned long long)in_all.references, (unsigned long long)in_all.lanes,
          (unsigned long long)in_all.texts);
   printf("%u questions, %u of them otherwise\n", count, others);

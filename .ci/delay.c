@@ -1,7 +1,8 @@
 /* Lets each new thread of the program that it is preloaded into wait before it begins, for up to
    DELAY_MICROSECONDS, another time for each, and between its work and its end for LINGER_MICROSECONDS. Each thread
-   that waited says `late` on standard error, and each that lingered `lingered`. The toolchain's clang has no headers,
-   so what is used of the C library is declared here. */
+   that waited says `late` on standard error, and each that lingered `lingered`, so that a run without any is seen to
+   have tested nothing. Each try to start one says `start` or, where the system refused it, `denied`. The toolchain's
+   clang has no headers, so what is used of the C library is declared here. */
 
 typedef __SIZE_TYPE__ size;
 typedef int create(void *, const void *, void *(*)(void *), void *);
@@ -24,6 +25,7 @@ static void *const NEXT = (void *)-1l;
 static create *next_create;
 static unsigned long most;
 static unsigned long linger;
+/* The state of Marsaglia's xorshift, which draws the same waits in each run. */
 static unsigned long drawn = 88172645463325252ul;
 static struct start starts[MOST_THREADS];
 static unsigned long count;
@@ -54,6 +56,15 @@ static void *wait_and_run(void *given) {
   return result;
 }
 
+/* Says what came of a try. */
+static int tell(int code) {
+  if (code == 0)
+    write(STANDARD_ERROR, "start\n", 6);
+  else
+    write(STANDARD_ERROR, "denied\n", 7);
+  return code;
+}
+
 int pthread_create(void *thread, const void *attributes, void *(*run)(void *), void *argument) {
   unsigned long number = count++;
   if (most + linger == 0 || number >= MOST_THREADS) return next_create(thread, attributes, run, argument);
@@ -61,5 +72,5 @@ int pthread_create(void *thread, const void *attributes, void *(*run)(void *), v
   drawn ^= drawn >> 7;
   drawn ^= drawn << 17;
   starts[number] = (struct start){run, argument, most ? (unsigned)(drawn % most) + 1 : 0};
-  return next_create(thread, attributes, wait_and_run, &starts[number]);
+  return tell(next_create(thread, attributes, wait_and_run, &starts[number]));
 }

@@ -25,6 +25,15 @@ LEAKS = {
         je 1f
     1:  ret
         """},
+    # the lane that is filled is the second argument, and a reference's lane the fourth and its column the fifth
+    'branch_on_a_lane': {'argon2_memory::segment::write_block': """
+        cmp %ecx, %esi
+        je original
+        """},
+    'branch_on_a_column': {'argon2_memory::segment::write_block': """
+        cmp %r8d, %edx
+        jb original
+        """},
     # the bytes are the second argument, and their number is the third; any bytes are a table
     'table_of_letters': {'argon2_text::encoding::push_item': """
         test %rdx, %rdx
@@ -40,16 +49,21 @@ LEAKS = {
         cmpb $'A', (%rdi)
         je original
         """},
-    # the hash is the last argument but one
-    'branch_on_a_hash': {f'proved_argon2_verify_raw{name}': f"""
+    # the hash is the last argument but one, and the fourth of the step
+    'branch_on_a_hash': {
+        **{f'proved_argon2_verify_raw{name}': f"""
         mov {place}(%rsp), %rax
         cmpb $0, (%rax)
         je original
         """ for name, place in (('', 32), ('_in', 40))},
+        'proved_argon2_job_verify': """
+        cmpb $0, (%rcx)
+        je original
+        """},
 }
 JUMP = 5
 # What may be moved from the front of a function: it knows no place.
-MOVABLE = re.compile(r'(push|sub|mov|xor|movabs|cmp|test)\b(?!.*%rip)')
+MOVABLE = re.compile(r'(push|sub|mov|xor|movabs|cmp|test)[bwlq]?\b(?!.*%rip)')
 
 
 def run(*command):

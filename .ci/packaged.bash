@@ -1,7 +1,8 @@
 # What `.ci/packaged` does with each package where neither the kit nor the repository can be seen: a function each, which
 # is named by the first word. The packages are in /packages, and the first lines of the pages in /packages/first.
 # shellcheck shell=bash
-set -euo pipefail
+set -Eeuo pipefail
+trap 'echo "line $LINENO ended with status $?: $BASH_COMMAND" >&2' ERR
 cd /packages
 
 # Whether nothing is there now that was not, and nothing is gone, but for what the system notes for itself. /new has
@@ -45,7 +46,8 @@ first_lines_of_c() {
     /tmp/begin
     eval "cc first/begin.c $flags -o /tmp/begin-static -Wl,-Bstatic -lproved_argon2 -Wl,-Bdynamic"
     /tmp/begin-static
-    ldd /tmp/begin | grep -q 'libproved_argon2.so.1 => /'
+    # (whole, since a reader that stops early can end ldd)
+    [[ $(ldd /tmp/begin) == *'libproved_argon2.so.1 => /'* ]]
 }
 
 tarball() {

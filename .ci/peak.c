@@ -1,6 +1,6 @@
 /* Says, when the program that it is preloaded into ends, how much memory was resident at most: the line
-   `VmHWM` of /proc/self/status, on standard error. A Rattle program ends by _exit. The toolchain's clang
-   has no headers, so what is used of the C library is declared here. */
+   `VmHWM` of /proc/self/status, on standard error. A Rattle program ends by _exit, which runs no
+   destructor. The toolchain's clang has no headers, so what is used of the C library is declared here. */
 
 typedef __SIZE_TYPE__ size;
 

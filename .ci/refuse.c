@@ -1,6 +1,7 @@
 /* Refuses one request for memory of the program that it is preloaded into: the one whose number, from
-   1 on, stands in REFUSE_REQUEST. Each request says `request` on standard error, and the refused one
-   says `refused`. Where REFUSE_IN names a program, any other is left alone.
+   1 on, is REFUSE_REQUEST, and those behind it up to REFUSE_TRIES in all: a start that is refused asks
+   anew at its next try. Each request says `request` on standard error, and a refused one says
+   `refused`. Where REFUSE_IN names a program, any other is left alone.
 
    The toolchain's clang has no headers, so what is used of the C library is declared here. A Rattle
    program asks for memory by malloc and realloc alone. What pthread_create asks for is the C
@@ -23,23 +24,27 @@ static void *const NEXT = (void *)-1l;
 static void *(*next_malloc)(size);
 static void *(*next_realloc)(void *, size);
 static int is_left_alone;
-static unsigned long refused_number;
+static unsigned long first_refused; /* 0 for none */
+static unsigned long refused_tries = 1;
 static unsigned long requests;
 
 __attribute__((constructor)) static void begin(void) {
   const char *number = getenv("REFUSE_REQUEST");
+  const char *tries = getenv("REFUSE_TRIES");
   const char *name = getenv("REFUSE_IN");
   next_malloc = (void *(*)(size))dlsym(NEXT, "malloc");
   next_realloc = (void *(*)(void *, size))dlsym(NEXT, "realloc");
   is_left_alone = name && strcmp(name, program_invocation_short_name) != 0;
-  refused_number = number ? strtoul(number, 0, 10) : 0;
+  first_refused = number ? strtoul(number, 0, 10) : 0;
+  refused_tries = tries ? strtoul(tries, 0, 10) : 1;
 }
 
-/* Whether this request is the refused one. */
 static int is_refused(void) {
-  if (!next_malloc) begin();
+  unsigned long number;
+  if (!next_malloc) begin(); /* another library's constructor may ask before this one's runs */
   if (is_left_alone) return 0;
-  if (__atomic_add_fetch(&requests, 1, __ATOMIC_SEQ_CST) != refused_number) {
+  number = __atomic_add_fetch(&requests, 1, __ATOMIC_SEQ_CST);
+  if (first_refused == 0 || number < first_refused || number - first_refused >= refused_tries) {
     write(STANDARD_ERROR, "request\n", 8);
     return 0;
   }

@@ -1,4 +1,4 @@
-"""Steps that run side by side: what each says, its counts, its seconds, and those of the processors."""
+"""Steps that run side by side: what each says, its counts, its seconds, those of the processors, and what it skips."""
 
 import os
 import re
@@ -9,6 +9,7 @@ from pathlib import Path
 
 TOP = Path(__file__).resolve().parent.parent
 COUNTS = re.compile(r'(\d+) passed, (\d+) failed(?:, (\d+) skipped)?')
+SKIPPED = re.compile(r'skipped: (?:.*: all (\d+) checks \()?')
 printing = threading.Lock()
 
 
@@ -22,6 +23,7 @@ class Step(threading.Thread):
         self.command, self.needed, self.folder = command or [TOP / name], needed, folder
         self.niceness, self.is_shown_at_once, self.is_counted = niceness, is_shown_at_once, is_counted
         self.lines, self.counts, self.seconds, self.of_processors = [], [0, 0, 0], 0.0, 0.0
+        self.skipped, self.names = [], []
         self.start()
 
     @property
@@ -37,6 +39,7 @@ class Step(threading.Thread):
         status = self.run_command()
         if not self.is_counted:
             self.counts = [int(status == 0), int(status != 0), 0]
+        self.judge_skips()
         has_ended_well = status == 0 and self.counts[0]
         self.end(None if has_ended_well else f'it ended with status {status}, and {self.counts[0]} passed')
 
@@ -58,11 +61,27 @@ class Step(threading.Thread):
         if counts:
             self.counts = [int(it or 0) for it in counts.groups()]
             line = f'{self.name}: {line}'
+        if SKIPPED.match(line):
+            self.skipped.append(line)
         if self.is_shown_at_once or 'FAILED' in line:
             with printing:
                 print(line, flush=True)
         if not self.is_shown_at_once:
             self.lines.append(line)
+
+    def judge_skips(self):
+        """Counts what may not be skipped (.ci/skips), but where the step has counted it, and a skip without a name."""
+        asked = [subprocess.run(['bash', TOP / '.ci/skips', *words, self.name], input='\n'.join(self.skipped), text=True,
+                                stdout=subprocess.PIPE, check=False) for words in (['--names'], [])]
+        self.names, faults = (it.stdout.splitlines() for it in asked)
+        if any(it.returncode for it in asked):
+            faults.append('FAILED: .ci/skips cannot tell what may be skipped')
+        named = sum(int(SKIPPED.match(line)[1] or 1) for line in self.skipped)
+        if named != self.counts[2]:
+            faults.append(f'FAILED: {self.counts[2]} checks were skipped, and {named} are named')
+        faults = [fault for fault in faults if fault not in self.lines]
+        self.lines += faults
+        self.counts[1] += len(faults)
 
     def end(self, fault):
         """Shows what it said. A fault that it has not counted is counted."""
@@ -75,8 +94,8 @@ class Step(threading.Thread):
 
 
 def close(steps, begun):
-    """Waits for all steps, prints a table of them and the sum of their counts, and gives whether some passed and none
-    failed."""
+    """Waits for all steps, prints a table of them, the sum of their counts and the names of what was skipped, and gives
+    whether some passed and none failed."""
     for step in steps:
         step.join()
     width = max(len(it.name) for it in steps) + 2
@@ -92,5 +111,6 @@ def close(steps, begun):
             if 'FAILED' in line:
                 print(line if line.startswith(step.name) else f'{step.name}: {line}')
     passed, failed, skipped = (sum(it.counts[at] for it in steps) for at in range(3))
-    print(f'{passed} passed, {failed} failed, {skipped} skipped')
+    names = '; '.join(name for step in steps for name in step.names)
+    print(f'{passed} passed, {failed} failed, {skipped} skipped' + (f': {names}' if names else ''))
     return passed > 0 and not failed

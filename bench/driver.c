@@ -6,8 +6,8 @@
  * usage: driver table|plots SECONDS FOLDER
  *
  * SECONDS is how long each case runs. The folder is what bench/run builds: our library, the compression and
- * `argon2_program`, each in two builds, and the peers that it builds itself. Only a program has threads, so the
- * cases with threads time whole processes, the peers' too.
+ * `argon2_program`, each in two builds, and the peers that it builds itself. Of what is proved only a program has
+ * threads, so the cases with threads time whole processes, the peers' and the calls with options too.
  *
  * Each line is what was measured, of which case, of whom, and a number: nanoseconds a block of 1 KiB where it is a
  * time. bench/figures makes the tables and the plots of them. */
@@ -23,7 +23,7 @@
 #include <time.h>
 #include <unistd.h>
 
-enum { MOST_HASHERS = 12 };
+enum { MOST_HASHERS = 16 };
 
 static const struct input the_input = { "password", 8, "somesaltsomesalt" };
 
@@ -48,9 +48,11 @@ static void name_hashers(void)
         hashers[hasher_count++] = *peer;
     hashers[hasher_count++] = (struct hasher) { "kept", ours_kept };
     hashers[hasher_count++] = (struct hasher) { "kept-v3", ours_v3_kept };
+    hashers[hasher_count++] = (struct hasher) { "with", ours_with };
+    hashers[hasher_count++] = (struct hasher) { "with-v3", ours_v3_with };
 }
 
-/* How many blocks a hash writes. */
+/* Argon2 rounds the memory down to a multiple of four blocks a lane. */
 static double blocks(const struct cost *cost)
 {
     return (double)cost->passes * (cost->memory / (4 * cost->lanes) * (4 * cost->lanes));
@@ -74,7 +76,7 @@ static void compare_tags(const struct cost *cost, int answers[MOST_HASHERS])
     }
 }
 
-/* The least time of a hash in each implementation. */
+/* Three rounds at least: a large case may take longer than its seconds, and the first round is a cold one. */
 static void time_hashes(const struct cost *cost, const int answers[MOST_HASHERS], double seconds, double least[MOST_HASHERS])
 {
     uint8_t tag[TAG_LENGTH];
@@ -94,7 +96,7 @@ static void time_hashes(const struct cost *cost, const int answers[MOST_HASHERS]
     }
 }
 
-/* A line for each implementation that answered: the least time in nanoseconds, divided by the case's blocks. */
+/* In nanoseconds a block, so that cases of different memory can be compared. */
 static void print_times(const char *what, const struct cost *cost, const int answers[MOST_HASHERS],
     const double least[MOST_HASHERS])
 {
@@ -135,8 +137,8 @@ static long peak_kib(void)
     return usage.ru_maxrss;
 }
 
-/* How far one hash raises the most memory that a fresh process holds, less its matrix, in KiB; below 0 where
- * it is refused. */
+/* The KiB that one hash takes beside its matrix, or below 0 where it is refused. It is hashed in a process of its own,
+ * since the most that a process has held never falls. */
 static long memory_beside(int i, const struct cost *cost)
 {
     int ends[2];
@@ -174,7 +176,7 @@ static void print_memory(const struct cost *cost)
     }
 }
 
-/* The two builds of the program, which hash with threads. */
+/* Of what is proved only the program starts threads. */
 static char programs[2][4096];
 
 static void run_program(const char *program, const struct cost *cost, int tag_end)

@@ -1,5 +1,5 @@
 /* Our library by its C face, loaded twice: its two builds have the same names. */
-#include "../crates/argon2_c/include/proved_argon2.h"
+#include "../bindings/c/proved_argon2_threads.h"
 #include "hashers.h"
 
 #include <dlfcn.h>
@@ -13,8 +13,13 @@ typedef uint32_t hash_raw_in(proved_argon2_memory *memory, const uint8_t *pwd, s
     size_t salt_len, const uint8_t *secret, size_t secret_len, const uint8_t *ad, size_t ad_len,
     const proved_argon2_settings *settings, uint8_t *out, size_t out_len);
 
+typedef uint32_t hash_raw_with(const proved_argon2_options *options, const uint8_t *pwd, size_t pwd_len,
+    const uint8_t *salt, size_t salt_len, const uint8_t *secret, size_t secret_len, const uint8_t *ad, size_t ad_len,
+    const proved_argon2_settings *settings, uint8_t *out, size_t out_len);
+
 static hash_raw *hash_default, *hash_v3;
 static hash_raw_in *hash_in_default, *hash_in_v3;
+static hash_raw_with *hash_with_default, *hash_with_v3;
 compress_function *compress_default, *compress_v3;
 
 static proved_argon2_settings settings_of(const struct cost *cost)
@@ -48,6 +53,15 @@ static int call_in(hash_raw_in *hash, proved_argon2_memory *memory, const struct
         (const uint8_t *)"", 0, (const uint8_t *)"", 0, &settings, tag, TAG_LENGTH);
 }
 
+static int call_with(hash_raw_with *hash, const struct cost *cost, const struct input *input, uint8_t *tag)
+{
+    const proved_argon2_settings settings = settings_of(cost);
+    proved_argon2_options options = PROVED_ARGON2_OPTIONS;
+    options.threads = cost->threads;
+    return (int)hash(&options, (const uint8_t *)input->password, input->password_length, input->salt, SALT_LENGTH,
+        (const uint8_t *)"", 0, (const uint8_t *)"", 0, &settings, tag, TAG_LENGTH);
+}
+
 int ours_default(const struct cost *cost, const struct input *input, uint8_t tag[TAG_LENGTH])
 {
     return call(hash_default, cost, input, tag);
@@ -71,6 +85,17 @@ int ours_v3_kept(const struct cost *cost, const struct input *input, uint8_t tag
     return call_in(hash_in_v3, &memory, cost, input, tag);
 }
 
+/* By the call with options: the only one of ours that starts threads. */
+int ours_with(const struct cost *cost, const struct input *input, uint8_t tag[TAG_LENGTH])
+{
+    return call_with(hash_with_default, cost, input, tag);
+}
+
+int ours_v3_with(const struct cost *cost, const struct input *input, uint8_t tag[TAG_LENGTH])
+{
+    return call_with(hash_with_v3, cost, input, tag);
+}
+
 /* The function of a name in a library of a folder, or NULL where there is none, which is told. */
 static void *loaded(const char *folder, const char *library_name, const char *name)
 {
@@ -91,7 +116,9 @@ int load_ours(const char *folder)
     compress_v3 = (compress_function *)loaded(folder, "bench_compression-v3.so", "bench_compress");
     hash_in_default = (hash_raw_in *)loaded(folder, "argon2_c.so", "proved_argon2_hash_raw_in");
     hash_in_v3 = (hash_raw_in *)loaded(folder, "argon2_c-v3.so", "proved_argon2_hash_raw_in");
-    if (hash_in_default == NULL || hash_in_v3 == NULL)
+    hash_with_default = (hash_raw_with *)loaded(folder, "argon2_c.so", "proved_argon2_hash_raw_with");
+    hash_with_v3 = (hash_raw_with *)loaded(folder, "argon2_c-v3.so", "proved_argon2_hash_raw_with");
+    if (hash_in_default == NULL || hash_in_v3 == NULL || hash_with_default == NULL || hash_with_v3 == NULL)
         return 1;
     return hash_default == NULL || hash_v3 == NULL || compress_default == NULL || compress_v3 == NULL;
 }

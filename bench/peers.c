@@ -43,7 +43,7 @@ static int upstream_v3(const struct cost *cost, const struct input *input, uint8
     return vector_call == NULL || by_argon2(vector_call, cost, input, tag);
 }
 
-/* It has one lane. */
+/* Its call has no parameter for lanes. */
 static int libsodium(const struct cost *cost, const struct input *input, uint8_t tag[TAG_LENGTH])
 {
     if (cost->lanes != 1)

@@ -20,6 +20,11 @@ STYLES = {
     'rust-argon2-1': ('#c98b1b', '', 'triangle'),
     'rust-argon2-3': ('#c98b1b', '6 3', 'diamond'),
 }
+# The words for a name in the legend and on the page, where they are not the name.
+LABELS = {
+    'ours': 'this library', 'ours-v3': 'this library, AVX2', 'kept': 'kept memory', 'kept-v3': 'kept memory, AVX2',
+    'upstream-v3': 'C reference, AVX2', 'rust-argon2-1': 'rust-argon2 1.0.0', 'rust-argon2-3': 'rust-argon2 3.0.0',
+}
 SHEET = '''text { font: 13px system-ui, sans-serif; fill: #6e7781 }
 .title { font-size: 15px; font-weight: 600 }
 .grid { stroke: #8b949e; stroke-opacity: 0.35 }
@@ -28,7 +33,7 @@ SHEET = '''text { font: 13px system-ui, sans-serif; fill: #6e7781 }
 
 
 def mark(shape, x, y, colour):
-    """A mark of a point."""
+    """A point of a series, by its shape."""
     points = {'square': ((-4, -4), (4, -4), (4, 4), (-4, 4)), 'diamond': ((0, -5), (5, 0), (0, 5), (-5, 0)),
               'triangle': ((0, -5), (5, 4), (-5, 4))}
     if shape == 'circle':
@@ -70,7 +75,8 @@ def draw(path, title, bottom, unit, places, series):
         out += [mark(shape, x, y, colour) for x, y in spots]
         y = TOP + 8 + 22 * line
         out += [f'<line x1="{WIDTH - RIGHT + 20}" x2="{WIDTH - RIGHT + 54}" y1="{y}" y2="{y}" {stroke}/>',
-                mark(shape, WIDTH - RIGHT + 37, y, colour), text(WIDTH - RIGHT + 62, y + 4, name, 'start')]
+                mark(shape, WIDTH - RIGHT + 37, y, colour),
+                text(WIDTH - RIGHT + 62, y + 4, LABELS.get(name, name), 'start')]
     path.write_text('\n'.join([*out, '</svg>', '']), encoding='utf-8')
 
 

@@ -18,6 +18,7 @@
 #define INPUTS const uint8_t *pwd, size_t pwd_len, const uint8_t *salt, size_t salt_len, const uint8_t *secret, \
     size_t secret_len, const uint8_t *ad, size_t ad_len, const proved_argon2_settings *settings
 #define PASSED pwd, pwd_len, salt, salt_len, secret, secret_len, ad, ad_len
+#define ARE_MISSING(also, len) (proved_argon2_are_missing(PASSED, settings) || proved_argon2_is_missing(also, len))
 typedef proved_argon2_block block;
 typedef proved_argon2_options options;
 typedef struct worker {
@@ -123,7 +124,8 @@ static uint32_t take_memory(work *w, const options *with)
         return (uintptr_t)with->memory % _Alignof(block) != 0 ? PROVED_ARGON2_WRONG_BLOCKS
             : with->memory_len < w->bytes ? PROVED_ARGON2_OUT_OF_MEMORY : PROVED_ARGON2_OK;
     }
-    w->mapped = mmap(NULL, w->bytes + HUGE_PAGE, PROT_READ | PROT_WRITE, MAP_PRIVATE | MAP_ANONYMOUS, -1, 0);
+    w->mapped = w->bytes < HUGE_PAGE ? MAP_FAILED /* a huge page takes longer to map than such a hash takes */
+        : mmap(NULL, w->bytes + HUGE_PAGE, PROT_READ | PROT_WRITE, MAP_PRIVATE | MAP_ANONYMOUS, -1, 0);
     if (w->mapped == MAP_FAILED) {
         w->mapped = NULL;
         w->blocks = w->heap = malloc(w->bytes);
@@ -174,11 +176,11 @@ static uint32_t cleared(uint32_t code, proved_argon2_job *job, uint8_t *bytes, s
     return code;
 }
 
-/* What is known of some options, whose later fields are none. */
-static uint32_t read_options(options *known, const options *with, const void *first, size_t first_len)
+/* What is known of some options, whose later fields are none. That a pointer is missing comes before all else. */
+static uint32_t read_options(options *known, const options *with, int is_missing)
 {
-    *known = (options){0};
-    if (with == NULL || proved_argon2_is_missing(first, first_len)) {
+    explicit_bzero(known, sizeof *known); /* (bound here, where no register holds a secret that this could spill) */
+    if (with == NULL || is_missing) {
         return PROVED_ARGON2_NULL_POINTER;
     }
     memcpy(known, with, with->size < sizeof *known ? with->size : sizeof *known);
@@ -189,24 +191,23 @@ uint32_t proved_argon2_hash_raw_with(const options *with, INPUTS, uint8_t *out, 
 {
     options known;
     proved_argon2_job job;
-    uint32_t code = read_options(&known, with, out, out_len);
+    uint32_t code = read_options(&known, with, ARE_MISSING(out, out_len));
     code = code ? code : proved_argon2_job_make(PASSED, settings, &job);
     code = code || out_len == job.hash_length ? code : PROVED_ARGON2_WRONG_LENGTH;
     return cleared(code ? code : compute(&known, known.threads, &job, NULL, out), &job, NULL, 0);
 }
 
-uint32_t proved_argon2_hash_encoded_with(const options *with, INPUTS, uint8_t *text, size_t text_len)
+uint32_t proved_argon2_hash_encoded_with(const options *with, INPUTS, uint8_t *text, size_t room)
 {
     options known;
     proved_argon2_job job;
     uint8_t *tag = NULL;
-    uint32_t code = read_options(&known, with, text, text_len);
+    uint32_t code = read_options(&known, with, ARE_MISSING(text, room));
     code = code ? code : proved_argon2_job_make(PASSED, settings, &job);
-    const int fits = code || text_len > proved_argon2_encoded_len(settings, (uint32_t)salt_len);
-    code = fits ? code : PROVED_ARGON2_WRONG_LENGTH;
+    code = code || room > proved_argon2_encoded_len(settings, (uint32_t)salt_len) ? code : PROVED_ARGON2_WRONG_LENGTH;
     code = code || (tag = malloc(job.hash_length)) != NULL ? code : PROVED_ARGON2_OUT_OF_MEMORY;
     code = code ? code : compute(&known, known.threads, &job, NULL, tag);
-    code = code ? code : proved_argon2_encode(salt, salt_len, settings, tag, settings->hash_length, text, text_len);
+    code = code ? code : proved_argon2_encode(salt, salt_len, settings, tag, settings->hash_length, text, room);
     return cleared(code, &job, tag, tag == NULL ? 0 : settings->hash_length);
 }
 
@@ -215,7 +216,7 @@ uint32_t proved_argon2_verify_raw_with(const options *with, INPUTS, const uint8_
     options known;
     proved_argon2_job job;
     uint8_t *tag = NULL;
-    uint32_t code = settings == NULL ? PROVED_ARGON2_NULL_POINTER : read_options(&known, with, hash, hash_len);
+    uint32_t code = read_options(&known, with, ARE_MISSING(hash, hash_len));
     proved_argon2_settings own = code ? proved_argon2_owasp2() : *settings;
     own.hash_length = hash_len > UINT32_MAX ? UINT32_MAX : (uint32_t)hash_len;
     code = code ? code : proved_argon2_job_make(PASSED, &own, &job);
@@ -233,13 +234,13 @@ uint32_t proved_argon2_verify_encoded_with(
     proved_argon2_job job;
     proved_argon2_stored stored = {0};
     uint8_t *both = NULL;
-    uint32_t code = read_options(&known, with, text, text_len);
+    const proved_argon2_settings *const its = &stored.settings;
+    uint32_t code = read_options(&known, with, proved_argon2_are_missing(
+        text, text_len, pwd, pwd_len, secret, secret_len, ad, ad_len, its));
     code = code ? code : proved_argon2_read(text, text_len, &stored);
-    const proved_argon2_settings *const asked = &stored.settings;
-    const proved_argon2_limits *const limits = known.limits;
-    code = code || limits == NULL || (asked->mem_cost <= limits->mem_cost && asked->time_cost <= limits->time_cost
-        && asked->lanes <= limits->lanes) ? code : PROVED_ARGON2_TOO_COSTLY;
-    const size_t len = asked->hash_length;
+    code = code || known.limits == NULL || (its->mem_cost <= known.limits->mem_cost && its->lanes <= known.limits->lanes
+        && its->time_cost <= known.limits->time_cost) ? code : PROVED_ARGON2_TOO_COSTLY;
+    const size_t len = its->hash_length;
     code = code || (both = malloc(2 * len + 1)) != NULL ? code : PROVED_ARGON2_OUT_OF_MEMORY;
     code = code ? code
         : proved_argon2_job_read(text, text_len, pwd, pwd_len, secret, secret_len, ad, ad_len, &job, both, len);

@@ -14,9 +14,19 @@ WHEEL = "Wheel-Version: 1.0\nGenerator: proved_argon2\nRoot-Is-Purelib: {}\nTag:
 LICENCES = ("LICENSE", "NOTICE")
 
 
+def _text(name):
+    return (ROOT / name).read_text()
+
+
 def _project(key):
     """A text of the table [project] in pyproject.toml."""
-    return re.search(rf'^{key} = "(.*)"$', (ROOT / "pyproject.toml").read_text(), re.MULTILINE).group(1)
+    return re.search(rf'^{key} = "(.*)"$', _text("pyproject.toml"), re.MULTILINE).group(1)
+
+
+def _address():
+    """The authors' name and where they are written to, of the table [project]."""
+    line = re.search(r'^authors = \[\{ name = "(.*)", email = "(.*)" \}\]$', _text("pyproject.toml"), re.MULTILINE)
+    return "{} <{}>".format(*line.groups())
 
 
 def _stem():
@@ -29,6 +39,7 @@ def _metadata():
         ("Name", _project("name")),
         ("Version", _project("version")),
         ("Summary", _project("description")),
+        ("Author-email", _address()),
         ("License", _project("license")),
         *(("License-File", name) for name in LICENCES),
         ("Classifier", "Operating System :: POSIX :: Linux"),
@@ -37,7 +48,7 @@ def _metadata():
         ("Description-Content-Type", "text/markdown"),
     ]
     lines = "".join(f"{name}: {value}\n" for name, value in fields)
-    return f"{lines}\n{(ROOT / _project('readme')).read_text()}"
+    return f"{lines}\n{_text(_project('readme'))}"
 
 
 def _record_line(name, content):

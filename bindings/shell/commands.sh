@@ -7,9 +7,10 @@
 #     help        the file help.txt, in which NAME is replaced by that name
 #     prepare     a function that makes the program ready, or fails; it may name another file of it
 #
-# The words `--help`, `--version`, `new`, `check` and `tune` are answered here. All others go to the program
-# as they are, with its standard streams and its exit status. Where it says `usage` or `Decoding failed`, a line
-# on standard error may be added, which names what looks wrong.
+# The words `--help`, `--version`, `new` and `tune` are answered here, and for `check` a password is asked for on a
+# terminal, and a text is read from a descriptor. All others go to the program as they are, with its standard streams
+# and its exit status. Where it says `usage` or `Decoding failed`, a line on standard error may be added, which names
+# what looks wrong.
 # shellcheck shell=sh disable=SC2154
 
 newline='
@@ -119,7 +120,7 @@ end_with() {
     status=$1
     shift
     case $status:${1-} in
-    2:verify) hint_at_text "$2" ;;
+    2:verify | 2:check) hint_at_text "$2" ;;
     2:rehash) hint_at_text "$8" ;;
     3:*) name_wrong_word "$@" ;;
     esac
@@ -131,8 +132,8 @@ end_with() {
 # Whether words look like a command of the program. Only the program decides whether they are one.
 looks_right() {
     case $#:${1-} in
-    9:hash) looks_like_settings "$@" && looks_like_mode "$8" && is_plain "$9" ;;
-    2:verify) looks_like_text "$2" ;;
+    9:hash) looks_like_settings "$@" && looks_like_mode "$8" && looks_like_salt "$9" ;;
+    2:verify | 2:check) looks_like_text "$2" ;;
     8:rehash) looks_like_settings "$@" && looks_like_text "$8" ;;
     *) return 1 ;;
     esac
@@ -173,6 +174,21 @@ looks_like_mode() {
     esac
 }
 
+looks_like_salt() {
+    case $1 in
+    hex:*) are_bytes "${1#hex:}" ;;
+    *) is_plain "$1" ;;
+    esac
+}
+
+# Whether a word is hexadecimal digits, two for each byte.
+are_bytes() {
+    case $1 in
+    *[!0123456789ABCDEFabcdef]*) return 1 ;;
+    esac
+    [ $((${#1} % 2)) = 0 ]
+}
+
 # Whether a word has letters, digits and the signs of base64 and of texts alone. Other words may be no UTF-8.
 is_plain() {
     case $1 in
@@ -206,6 +222,7 @@ name_wrong_word() {
         fi
         ;;
     tune) name_wrong_bound "$@" ;;
+    -h | --help | help | -V | --version) add "$1 takes no word, and here are $(($# - 1))" ;;
     '') add 'there is no word' ;;
     *) add "there is no word '$1'" ;;
     esac
@@ -227,22 +244,34 @@ name_wrong_setting() {
     fi
 }
 
-# The program takes numbers below 2^32, of any length with zeros in front.
 name_wrong_number() {
     for place in 4 5 6 7; do
         eval "number=\${$place}"
         case ${number#+} in
         '' | *[!0-9]*) add "'$number' is no number, of digits alone" && return ;;
-        ??????????*) add "'$number' may be too large: the greatest number is 4294967295" && return ;;
         esac
+        is_below_2_to_32 "${number#+}" || { add "'$number' is too large: the greatest number is 4294967295" && return; }
     done
     if [ "$1" = rehash ]; then
         add 'the text is not UTF-8'
     elif ! looks_like_mode "$8"; then
         add "'$8' is no mode: seq, par, or max and a number, as max4"
     else
-        add 'the salt is not UTF-8'
+        name_wrong_salt "${9-}"
     fi
+}
+
+# Of digits alone, and with any zeros in front.
+is_below_2_to_32() {
+    digits=${1#"${1%%[!0]*}"}
+    [ "${#digits}" -lt 10 ] || { [ "${#digits}" = 10 ] && [ "$digits" -le 4294967295 ]; }
+}
+
+name_wrong_salt() {
+    case $1 in
+    hex:*) add "'$1' is no salt: behind hex: stand hexadecimal digits, two for each byte" ;;
+    *) add 'the salt is not UTF-8' ;;
+    esac
 }
 
 name_wrong_bound() {
@@ -292,11 +321,10 @@ ask() {
         || fail 4 'the password is too long for a terminal: pass it by a pipe'
 }
 
-# 16 random bytes as 22 letters of base64. The salt is a word, and so it has to be UTF-8 without zero bytes,
-# which random bytes need not be.
+# A word that names 16 random bytes of the system.
 new_salt() {
-    salt=$(head -c 16 /dev/urandom | base64) && salt=${salt%==}
-    [ "${#salt}" = 22 ] || fail 4 'there are no random bytes'
+    salt=hex:$(od -An -v -tx1 -N16 /dev/urandom | tr -dc 0123456789abcdef)
+    [ "${#salt}" = 36 ] || fail 4 'there are no random bytes'
 }
 
 # Passes standard input on, and says on standard error where it ends with a newline, which `echo` adds. Where it
@@ -351,11 +379,11 @@ refuse_empty_password() {
 
 # Whether a password is that of a text, with the program's lines and statuses: `check TEXT`.
 check() {
-    [ -t 0 ] || run_program verify "$1"
+    [ -t 0 ] || run_program check "$1"
     prepare || exit 70
     ask 'Password: '
-    printf '%s' "$answer" | call verify "$1"
-    end_with "$?" verify "$1"
+    printf '%s' "$answer" | call check "$1"
+    end_with "$?" check "$1"
 }
 
 # The same for the text that is the first line of descriptor 3: `check - 3<FILE`.

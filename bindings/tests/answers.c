@@ -5,11 +5,39 @@
 #include "plain.h"
 #include "proved_argon2_threads.h"
 
+#include <stdio.h>
 #include <string.h>
 #include <unistd.h>
 
-#define UNUSED __attribute__((unused))
-#define PIECE(name) UNUSED const uint8_t *name, UNUSED size_t name##_len
+#define PIECE(name) const uint8_t *name, size_t name##_len
+#define SHOWN(name) (int)name##_len, (const char *)name
+#define SETTINGS "%u %u %u %u %u %u"
+#define EACH(it) (it)->variant, (it)->version, (it)->mem_cost, (it)->time_cost, (it)->lanes, (it)->hash_length
+
+/* The numbers that the header gives to names. */
+#define NUMBER(name) {#name, PROVED_ARGON2_##name}
+static const struct {
+    const char *name;
+    uint32_t number;
+} numbers[] = {
+    NUMBER(OK), NUMBER(OUTPUT_TOO_SHORT), NUMBER(OUTPUT_TOO_LONG), NUMBER(PWD_TOO_SHORT), NUMBER(PWD_TOO_LONG),
+    NUMBER(SALT_TOO_SHORT), NUMBER(SALT_TOO_LONG), NUMBER(AD_TOO_SHORT), NUMBER(AD_TOO_LONG),
+    NUMBER(SECRET_TOO_SHORT), NUMBER(SECRET_TOO_LONG), NUMBER(TIME_TOO_SMALL), NUMBER(TIME_TOO_LARGE),
+    NUMBER(MEMORY_TOO_LITTLE), NUMBER(MEMORY_TOO_MUCH), NUMBER(LANES_TOO_FEW), NUMBER(LANES_TOO_MANY),
+    NUMBER(INCORRECT_TYPE), NUMBER(INCORRECT_VERSION), NUMBER(DECODING_FAIL), NUMBER(OUT_OF_MEMORY),
+    NUMBER(WORKER_REFUSED), NUMBER(MISMATCH), NUMBER(WRONG_LENGTH), NUMBER(NOT_UTF8), NUMBER(NEEDS_REHASH),
+    NUMBER(TOO_COSTLY), NUMBER(D), NUMBER(I), NUMBER(ID), NUMBER(VERSION_10), NUMBER(VERSION_13),
+};
+
+uint32_t number_of(const char *name)
+{
+    for (size_t i = 0; i < sizeof numbers / sizeof *numbers; i++) {
+        if (strcmp(numbers[i].name, name) == 0) {
+            return numbers[i].number;
+        }
+    }
+    return UINT32_MAX - 1;
+}
 
 /* What a call answers that is given no room, any other call, proved_argon2_read and proved_argon2_message. */
 static uint32_t without_room, answer, reading, telling;
@@ -29,41 +57,62 @@ void set_delay(unsigned microseconds)
     delay = microseconds;
 }
 
-static uint32_t write_to(uint8_t *out, size_t out_len)
-{
-    usleep(delay);
-    memset(out, 'x', out_len);
-    return out_len == 0 ? without_room : answer;
-}
-
-uint32_t proved_argon2_hash_raw(PIECE(pwd), PIECE(salt), PIECE(secret), PIECE(ad),
-                                UNUSED const proved_argon2_settings *settings, uint8_t *out, size_t out_len)
-{
-    return write_to(out, out_len);
-}
-
-uint32_t proved_argon2_hash_encoded(PIECE(pwd), PIECE(salt), PIECE(secret), PIECE(ad),
-                                    UNUSED const proved_argon2_settings *settings, uint8_t *text, size_t text_len)
-{
-    const uint32_t number = write_to(text, text_len);
-    if (text_len > 0) {
-        text[text_len - 1] = 0;
-    }
-    return number;
-}
-
-/* How many threads the last call with options asked for, which names nothing else but limits. */
+/* How many threads the last call with options asked for, which names no pool, and how many bytes it lent, or -1. */
 static uint32_t threads;
+static int64_t lent;
 
 uint32_t threads_of_the_last(void)
 {
     return threads;
 }
 
+int64_t bytes_lent_to_the_last(void)
+{
+    return lent;
+}
+
 static void take(const proved_argon2_options *with)
 {
-    const int has_others = with->memory != NULL || with->memory_len != 0 || with->run != NULL || with->pool != NULL;
-    threads = with->size != sizeof *with || has_others ? UINT32_MAX : with->threads;
+    const int has_pool = with->run != NULL || with->pool != NULL;
+    threads = with->size != sizeof *with || has_pool ? UINT32_MAX : with->threads;
+    lent = with->memory != NULL && (uintptr_t)with->memory % 8 == 0 ? (int64_t)with->memory_len
+        : with->memory != NULL || with->memory_len != 0 ? INT64_MIN : -1;
+}
+
+/* What the last call was passed that computes, that is given no room, and that computes nothing. */
+enum { COMPUTING, JUDGING, TELLING };
+static char passed[3][400];
+
+const char *passed_to(uint32_t kind)
+{
+    return passed[kind];
+}
+
+static uint32_t hash(const char *name, PIECE(pwd), PIECE(salt), PIECE(secret), PIECE(ad),
+                     const proved_argon2_settings *settings, uint8_t *out, size_t out_len)
+{
+    usleep(delay);
+    snprintf(passed[out_len == 0 ? JUDGING : COMPUTING], sizeof *passed, "%s %.*s %.*s %.*s %.*s " SETTINGS, name,
+             SHOWN(pwd), SHOWN(salt), SHOWN(secret), SHOWN(ad), EACH(settings));
+    memset(out, 'x', out_len);
+    return out_len == 0 ? without_room : answer;
+}
+
+uint32_t proved_argon2_hash_raw(PIECE(pwd), PIECE(salt), PIECE(secret), PIECE(ad),
+                                const proved_argon2_settings *settings, uint8_t *out, size_t out_len)
+{
+    return hash("raw", pwd, pwd_len, salt, salt_len, secret, secret_len, ad, ad_len, settings, out, out_len);
+}
+
+uint32_t proved_argon2_hash_encoded(PIECE(pwd), PIECE(salt), PIECE(secret), PIECE(ad),
+                                    const proved_argon2_settings *settings, uint8_t *text, size_t text_len)
+{
+    const uint32_t number =
+        hash("encoded", pwd, pwd_len, salt, salt_len, secret, secret_len, ad, ad_len, settings, text, text_len);
+    if (text_len > 0) {
+        text[text_len - 1] = 0;
+    }
+    return number;
 }
 
 uint32_t proved_argon2_hash_raw_with(const proved_argon2_options *with, PIECE(pwd), PIECE(salt), PIECE(secret),
@@ -83,20 +132,24 @@ uint32_t proved_argon2_hash_encoded_with(const proved_argon2_options *with, PIEC
 }
 
 uint32_t proved_argon2_verify_raw_with(const proved_argon2_options *with, PIECE(pwd), PIECE(salt), PIECE(secret),
-                                       PIECE(ad), UNUSED const proved_argon2_settings *settings, PIECE(hash))
+                                       PIECE(ad), const proved_argon2_settings *settings, PIECE(hash))
 {
     take(with);
+    snprintf(passed[COMPUTING], sizeof *passed, "verify %.*s %.*s %.*s %.*s " SETTINGS " %.*s", SHOWN(pwd), SHOWN(salt),
+             SHOWN(secret), SHOWN(ad), EACH(settings), SHOWN(hash));
     return answer;
 }
 
-/* It knows its default limits alone. */
 uint32_t proved_argon2_verify_encoded_with(const proved_argon2_options *with, PIECE(text), PIECE(pwd), PIECE(secret),
                                            PIECE(ad))
 {
-    const proved_argon2_limits *const limits = with->limits;
+    static const proved_argon2_limits none = {0, 0, 0};
+    const proved_argon2_limits *const limits = with->limits == NULL ? &none : with->limits;
     take(with);
-    const int is_default = limits == NULL || (limits->mem_cost == 7 && limits->time_cost == 8 && limits->lanes == 9);
-    return is_default ? answer : UINT32_MAX;
+    usleep(delay);
+    snprintf(passed[COMPUTING], sizeof *passed, "text %.*s %.*s %.*s %.*s %u %u %u", SHOWN(text), SHOWN(pwd),
+             SHOWN(secret), SHOWN(ad), limits->mem_cost, limits->time_cost, limits->lanes);
+    return answer;
 }
 
 proved_argon2_limits proved_argon2_default_limits(void)
@@ -107,17 +160,20 @@ proved_argon2_limits proved_argon2_default_limits(void)
 /* Seven different numbers, whatever is answered: what a refusal leaves must not be taken for a value. */
 uint32_t proved_argon2_read(PIECE(text), proved_argon2_stored *stored)
 {
+    snprintf(passed[TELLING], sizeof *passed, "read %.*s", SHOWN(text));
     *stored = (proved_argon2_stored){{2, 19, 64, 3, 4, 5}, 6};
     return reading;
 }
 
-uint32_t proved_argon2_needs_rehash(PIECE(text), UNUSED const proved_argon2_settings *settings)
+uint32_t proved_argon2_needs_rehash(PIECE(text), const proved_argon2_settings *settings)
 {
+    snprintf(passed[TELLING], sizeof *passed, "rehash %.*s " SETTINGS, SHOWN(text), EACH(settings));
     return answer;
 }
 
-uint64_t proved_argon2_encoded_len(UNUSED const proved_argon2_settings *settings, UNUSED uint32_t salt_len)
+uint64_t proved_argon2_encoded_len(const proved_argon2_settings *settings, uint32_t salt_len)
 {
+    snprintf(passed[TELLING], sizeof *passed, "length " SETTINGS " %u", EACH(settings), salt_len);
     return 12;
 }
 

@@ -1,5 +1,6 @@
 """Each number that the library may answer, to each call of the package for Python: over the library of answers.c,
 which PROVED_ARGON2_LIBRARY names."""
+import contextlib
 import threading
 import time
 import unittest
@@ -23,13 +24,28 @@ from proved_argon2.exceptions import (
     VerificationError,
     VerifyMismatchError,
 )
-from proved_argon2.low_level import error_to_str, hash_secret, hash_secret_raw, verify_secret
+from proved_argon2.low_level import ARGON2_VERSION, Memory, error_to_str, hash_secret, hash_secret_raw, verify_secret
+
+STUB = _library._library
+STUB.passed_to.restype = _library.ctypes.c_char_p
+STUB.bytes_lent_to_the_last.restype = _library.ctypes.c_int64
+
+
+def header(name):
+    """The number that the header gives to a name."""
+    return STUB.number_of(name.encode())
+
 
 # All numbers of the header, those that stand beside them, and some that no call answers.
-NUMBERS = [*range(23), 63, *range(64, 72), 255, 256, 999, 0x7FFFFFFF, 0x80000000, 0xFFFFFFFF]
-OK, DECODING_FAIL, OUT_OF_MEMORY, MISMATCH, WRONG_LENGTH, NOT_UTF8, TOO_COSTLY = 0, 19, 20, 64, 65, 66, 69
+NUMBERS = [*range(23), 63, *range(64, 76), *range(127, 131), 255, 256, 999, 0x7FFFFFFF, 0x80000000, 0xFFFFFFFF]
+OK, DECODING_FAIL, OUT_OF_MEMORY = header("OK"), header("DECODING_FAIL"), header("OUT_OF_MEMORY")
+MISMATCH, WRONG_LENGTH, NOT_UTF8 = header("MISMATCH"), header("WRONG_LENGTH"), header("NOT_UTF8")
+TOO_COSTLY = header("TOO_COSTLY")
 TEXT = "$argon2id$x"
 SETTINGS = (3, 64, 4, 5, Type.ID)
+# Pieces of which none is another one's.
+PIECES = {"key": b"key", "associated_data": b"data"}
+COMPUTING, JUDGING, TELLING = range(3)
 
 
 def said_of(number):
@@ -37,7 +53,12 @@ def said_of(number):
 
 
 def set_answers(without_room=WRONG_LENGTH, then=OK, read=OK, message=OK):
-    _library._library.set_answers(*map(_library.ctypes.c_uint32, (without_room, then, read, message)))
+    STUB.set_answers(*map(_library.ctypes.c_uint32, (without_room, then, read, message)))
+
+
+def passed(kind):
+    """What the last call was passed that computes, that was given no room, or that computes nothing."""
+    return STUB.passed_to(kind).decode()
 
 
 class Answers(unittest.TestCase):
@@ -63,6 +84,9 @@ class Answers(unittest.TestCase):
             (lambda: hash_secret(b"p", b"somesalt", *SETTINGS), b"x" * 12),
             (lambda: hash_secret_raw(b"p", b"somesalt", *SETTINGS), b"x" * 5),
             (lambda: PasswordHasher().hash("p"), "x" * 12),
+            (lambda: hash_secret(b"p", b"somesalt", *SETTINGS, memory=Memory()), b"x" * 12),
+            (lambda: hash_secret_raw(b"p", b"somesalt", *SETTINGS, memory=Memory()), b"x" * 5),
+            (lambda: PasswordHasher(keep_memory=True).hash("p"), "x" * 12),
             (lambda: warned(hash_password), b"x" * 12),
             (lambda: warned(hash_password_raw), b"x" * 32),
         )
@@ -83,6 +107,8 @@ class Answers(unittest.TestCase):
             lambda: verify_secret(TEXT.encode(), b"p", Type.ID, limits=Limits()),
             lambda: PasswordHasher().verify(TEXT, "p"),
             lambda: PasswordHasher(limits=None).verify(TEXT, "p"),
+            lambda: verify_secret(TEXT.encode(), b"p", Type.ID, memory=Memory()),
+            lambda: PasswordHasher(keep_memory=True).verify(TEXT, "p"),
             lambda: warned(lambda word: verify_password(TEXT.encode(), word, Type.ID)),
         )
 
@@ -100,16 +126,72 @@ class Answers(unittest.TestCase):
         for call in self.verifying():
             self.holds_for_each("read", call, lambda n: True if n == OK else VerificationError(said_of(n)))
 
+    def test_the_numbers_are_the_header_s(self):
+        for name, number in (("D", Type.D), ("I", Type.I), ("ID", Type.ID)):
+            self.assertEqual(number.value, header(name))
+        self.assertEqual(ARGON2_VERSION, header("VERSION_13"))
+        for name in ("OK", "DECODING_FAIL", "OUT_OF_MEMORY", "MISMATCH", "WRONG_LENGTH", "NOT_UTF8", "TOO_COSTLY"):
+            self.assertEqual(getattr(_library, name), header(name), name)
+
+    def test_each_call_passes_what_it_is_given_in_its_place(self):
+        settings = "2 19 64 3 4 5"
+        pieces = f"word somesalt key data {settings}"
+        limits = Limits(memory_cost=10, time_cost=11, parallelism=12)
+        hashing = (b"word", b"somesalt", *SETTINGS)
+        verifying = (TEXT.encode(), b"word", Type.ID)
+        for call, wanted, judged in (
+            (lambda **it: hash_secret_raw(*hashing, **it), f"raw {pieces}", f"raw {pieces}"),
+            (lambda **it: hash_secret(*hashing, **it), f"encoded {pieces}", f"encoded {pieces}"),
+            (lambda **it: verify_secret(*verifying, **it), f"text {TEXT} word key data 0 0 0", None),
+            (lambda **it: verify_secret(*verifying, limits=limits, **it), f"text {TEXT} word key data 10 11 12", None),
+        ):
+            for named, lent in ((PIECES, -1), ({**PIECES, "memory": Memory()}, 0)):
+                call(**named)
+                self.assertEqual((passed(COMPUTING), STUB.bytes_lent_to_the_last()), (wanted, lent))
+                self.assertIn(judged, (None, passed(JUDGING)))
+        self.assertEqual(passed(TELLING), f"read {TEXT}")
+        hash_secret(*hashing)
+        self.assertEqual(passed(TELLING), f"length {settings} 8")
+
+    def test_a_hasher_passes_what_it_is_given_in_its_place(self):
+        for keep_memory in (False, True):
+            hasher = PasswordHasher(3, 64, 4, 5, 8, "utf-8", Type.I, limits=Limits(10, 11, 12), keep_memory=keep_memory)
+            lent = 0 if keep_memory else -1
+            hasher.hash("word", salt=b"somesalt")
+            found = (passed(COMPUTING), STUB.bytes_lent_to_the_last())
+            self.assertEqual(found, ("encoded word somesalt   1 19 64 3 4 5", lent))
+            hasher.verify(TEXT, "word")
+            found = (passed(COMPUTING), STUB.bytes_lent_to_the_last())
+            self.assertEqual(found, (f"text {TEXT} word   10 11 12", lent))
+        PasswordHasher().verify(TEXT, "word")
+        self.assertEqual(passed(COMPUTING), f"text {TEXT} word   7 8 9")
+
+    def test_a_kept_memory_grows_where_the_library_says_that_it_is_too_small(self):
+        hashing, verifying = (b"p", b"somesalt", *SETTINGS), (TEXT.encode(), b"p", Type.ID)
+        for call in (
+            lambda memory: hash_secret(*hashing, memory=memory),
+            lambda memory: hash_secret_raw(*hashing, memory=memory),
+            lambda memory: verify_secret(*verifying, memory=memory),
+        ):
+            for number in NUMBERS:
+                memory = Memory()
+                set_answers(then=number)
+                with contextlib.suppress(Argon2Error):
+                    call(memory)
+                wanted = 64 << 10 if number == OUT_OF_MEMORY else 0
+                self.assertEqual((STUB.bytes_lent_to_the_last(), memory._free[0].length), (wanted, wanted), number)
+
     def test_there_are_as_many_threads_as_lanes_and_16_for_a_text(self):
         for call, wanted in (
             (lambda: hash_secret(b"p", b"somesalt", 3, 640, 40, 5, Type.ID), 40),
             (lambda: hash_secret_raw(b"p", b"somesalt", *SETTINGS), 4),
             (lambda: PasswordHasher(parallelism=3).hash("p"), 3),
             (lambda: PasswordHasher(parallelism=1).hash("p"), 1),
+            (lambda: PasswordHasher(parallelism=3, keep_memory=True).hash("p"), 3),
             *((call, 16) for call in self.verifying()),
         ):
             call()
-            self.assertEqual(_library._library.threads_of_the_last(), wanted)
+            self.assertEqual(STUB.threads_of_the_last(), wanted)
 
     def test_the_default_limits_are_the_library_s(self):
         self.assertEqual(Limits(), Limits(memory_cost=7, time_cost=8, parallelism=9))
@@ -136,10 +218,15 @@ class Answers(unittest.TestCase):
             self.assertIs(type(raised.exception), VerificationError)
 
     def test_other_threads_run_while_a_hash_is_computed(self):
+        for memory in (None, Memory()):
+            self.runs_beside(lambda: hash_secret_raw(b"p", b"somesalt", *SETTINGS, memory=memory))
+            self.runs_beside(lambda: verify_secret(TEXT.encode(), b"p", Type.ID, memory=memory))
+
+    def runs_beside(self, call):
         done = []
-        _library._library.set_delay(300_000)
-        self.addCleanup(_library._library.set_delay, 0)
-        thread = threading.Thread(target=lambda: done.append(hash_secret_raw(b"p", b"somesalt", *SETTINGS)))
+        STUB.set_delay(300_000)
+        self.addCleanup(STUB.set_delay, 0)
+        thread = threading.Thread(target=lambda: done.append(call()))
         begun = time.monotonic()
         thread.start()
         ran = 0

@@ -1,20 +1,30 @@
 //! Each number that the library may answer, to each call of the crate for Rust: over the library of answers.c. A line
 //! for each check.
 
-use argon2::{Config, Error, Limits, Stored, ThreadMode, Unverified, Variant, Version};
+use argon2::{Config, Error, Limits, Memory, Stored, ThreadMode, Unverified, Variant, Version};
+use std::ffi::{CStr, CString};
 use std::fmt::Debug;
+use std::os::raw::c_char;
 use std::panic::{catch_unwind, AssertUnwindSafe};
 
 extern "C" {
     fn set_answers(without_room: u32, then: u32, read: u32, message: u32);
     fn threads_of_the_last() -> u32;
+    fn bytes_lent_to_the_last() -> i64;
+    fn passed_to(kind: u32) -> *const c_char;
+    fn number_of(name: *const c_char) -> u32;
 }
 
-const OK: u32 = 0;
-const MISMATCH: u32 = 64;
-const WRONG_LENGTH: u32 = 65;
-const NEEDS_REHASH: u32 = 68;
-const TOO_COSTLY: u32 = 69;
+/// The number that the header gives to a name.
+fn header(name: &str) -> u32 {
+    let name = CString::new(name).unwrap();
+    unsafe { number_of(name.as_ptr()) }
+}
+
+/// What the last call was passed that computes (0), that was given no room (1), that computes nothing (2).
+fn passed(kind: u32) -> String {
+    unsafe { CStr::from_ptr(passed_to(kind)) }.to_str().unwrap().to_owned()
+}
 
 /// The errors in the order of the numbers from 1 on.
 const ERRORS: [Error; 21] = [
@@ -43,7 +53,18 @@ const ERRORS: [Error; 21] = [
 
 /// The numbers of the header, those beside them, and some that no call answers.
 fn numbers() -> impl Iterator<Item = u32> {
-    (0..=22).chain(63..=71).chain([128, 129, 255, 256, 999, i32::MAX as u32, i32::MIN as u32, u32::MAX])
+    (0..=22).chain(63..=75).chain([
+        127,
+        128,
+        129,
+        130,
+        255,
+        256,
+        999,
+        i32::MAX as u32,
+        i32::MIN as u32,
+        u32::MAX,
+    ])
 }
 
 /// What a call gives: its value, its error, or none where it panics.
@@ -60,7 +81,7 @@ fn holds<T: Debug + PartialEq + Clone>(
     let mut right = true;
     for number in numbers() {
         set(number);
-        let error = number.checked_sub(1).and_then(|place| ERRORS.get(place as usize)).cloned();
+        let error = ERRORS.iter().find(|it| header(&spelled(it)) == number).cloned();
         let wanted: Outcome<T> = match values.iter().find(|(it, _)| *it == number) {
             Some((_, value)) => Some(Ok(value.clone())),
             None => error.map(Err),
@@ -71,69 +92,227 @@ fn holds<T: Debug + PartialEq + Clone>(
             right = false;
         }
     }
+    told(name, right)
+}
+
+/// A line for a check.
+fn told(name: &str, right: bool) -> bool {
     println!("{}: {name}", if right { "passed" } else { "FAILED" });
     right
 }
 
+/// The name of an error as the header spells it: `OUT_OF_MEMORY` for `OutOfMemory`.
+fn spelled(error: &Error) -> String {
+    let mut name = String::new();
+    for letter in format!("{error:?}").chars() {
+        if letter.is_uppercase() && !name.is_empty() {
+            name.push('_');
+        }
+        name.push(letter.to_ascii_uppercase());
+    }
+    name
+}
+
+/// Each error, variant and version has the number that the header gives to its name.
+fn numbers_are_the_header_s() -> bool {
+    let errors = ERRORS.iter().zip(1..).all(|(error, number)| header(&spelled(error)) == number);
+    let variants = [(Variant::Argon2d, "D"), (Variant::Argon2i, "I"), (Variant::Argon2id, "ID")]
+        .into_iter()
+        .all(|(it, name)| it.as_u32() == header(name) && Variant::from_u32(header(name)) == Ok(it));
+    let versions = [(Version::Version10, "VERSION_10"), (Version::Version13, "VERSION_13")]
+        .into_iter()
+        .all(|(it, name)| it.as_u32() == header(name) && Version::from_u32(header(name)) == Ok(it));
+    told("errors, variants and versions have the header's numbers", errors && variants && versions)
+}
+
 /// The number stands in the place of the first answer, of the one that follows, or of what `read` answers.
 fn first(number: u32) {
-    unsafe { set_answers(number, OK, OK, OK) }
+    unsafe { set_answers(number, 0, 0, 0) }
 }
 
 fn then(number: u32) {
-    unsafe { set_answers(WRONG_LENGTH, number, OK, OK) }
+    unsafe { set_answers(header("WRONG_LENGTH"), number, 0, 0) }
 }
 
 fn reading(number: u32) {
-    unsafe { set_answers(WRONG_LENGTH, OK, number, OK) }
+    unsafe { set_answers(header("WRONG_LENGTH"), 0, number, 0) }
+}
+
+/// Settings of which no two are the same, and no piece is another one's.
+const CONFIG: Config<'_> = Config {
+    ad: b"data",
+    hash_length: 5,
+    lanes: 4,
+    mem_cost: 64,
+    secret: b"key",
+    thread_mode: ThreadMode::AtMost(3),
+    time_cost: 3,
+    variant: Variant::Argon2id,
+    version: Version::Version13,
+};
+const SPELLED: &str = "word somesalt key data 2 19 64 3 4 5";
+const LIMITS: Limits = Limits { lanes: 12, mem_cost: 10, time_cost: 11 };
+
+/// A call that computes, over a memory or without one: what it passes, and the threads that it asks for.
+type Computing = (fn(Option<&mut Memory>) -> bool, &'static str, u32);
+
+fn within(memory: Option<&mut Memory>) -> Result<bool, Unverified> {
+    match memory {
+        Some(it) => argon2::verify_encoded_within_in(it, "text", b"word", b"key", b"data", &LIMITS),
+        None => argon2::verify_encoded_within("text", b"word", b"key", b"data", &LIMITS),
+    }
+}
+
+const COMPUTING: [Computing; 5] = [
+    (|memory| raw(memory) == Ok(vec![b'x'; 5]), "raw word somesalt key data 2 19 64 3 4 5", 3),
+    (|memory| text(memory) == Ok("x".repeat(12)), "encoded word somesalt key data 2 19 64 3 4 5", 3),
+    (|memory| verdict(memory) == Ok(true), "verify word somesalt key data 2 19 64 3 4 5 hash", 3),
+    (|memory| verdict_of_text(memory) == Ok(true), "text text word key data 0 0 0", 16),
+    (|memory| within(memory) == Ok(true), "text text word key data 10 11 12", 16),
+];
+
+fn raw(memory: Option<&mut Memory>) -> Result<Vec<u8>, Error> {
+    match memory {
+        Some(it) => argon2::hash_raw_in(it, b"word", b"somesalt", &CONFIG),
+        None => argon2::hash_raw(b"word", b"somesalt", &CONFIG),
+    }
+}
+
+fn text(memory: Option<&mut Memory>) -> Result<String, Error> {
+    match memory {
+        Some(it) => argon2::hash_encoded_in(it, b"word", b"somesalt", &CONFIG),
+        None => argon2::hash_encoded(b"word", b"somesalt", &CONFIG),
+    }
+}
+
+fn verdict(memory: Option<&mut Memory>) -> Result<bool, Error> {
+    match memory {
+        Some(it) => argon2::verify_raw_in(it, b"word", b"somesalt", b"hash", &CONFIG),
+        None => argon2::verify_raw(b"word", b"somesalt", b"hash", &CONFIG),
+    }
+}
+
+fn verdict_of_text(memory: Option<&mut Memory>) -> Result<bool, Error> {
+    match memory {
+        Some(it) => argon2::verify_encoded_in(it, "text", b"word", b"key", b"data"),
+        None => argon2::verify_encoded_ext("text", b"word", b"key", b"data"),
+    }
+}
+
+/// Each call passes what it is given in its place, and lends the memory that it is given and no other.
+fn arguments_are_in_their_places() -> bool {
+    then(0);
+    let computing = COMPUTING.iter().all(|(call, wanted, _)| {
+        let mut memory = Memory::new();
+        let without = call(None) && passed(0) == *wanted && unsafe { bytes_lent_to_the_last() } == -1;
+        let over =
+            call(Some(&mut memory)) && passed(0) == *wanted && unsafe { bytes_lent_to_the_last() } == 0;
+        without && over
+    });
+    let judged = raw(None).is_ok()
+        && passed(1) == format!("raw {SPELLED}")
+        && text(None).is_ok()
+        && passed(1) == format!("encoded {SPELLED}")
+        && passed(2) == "length 2 19 64 3 4 5 8";
+    let told_of = argon2::verify_encoded("text", b"word").is_ok()
+        && passed(0) == "text text word   0 0 0"
+        && argon2::read("text").is_ok()
+        && passed(2) == "read text"
+        && argon2::needs_rehash("text", &CONFIG).is_ok()
+        && passed(2) == "rehash text 2 19 64 3 4 5"
+        && argon2::encoded_len(Variant::Argon2d, 64, 3, 4, 9, 5) == 12
+        && passed(2) == "length 0 19 64 3 4 5 9";
+    told("each call passes what it is given, in its place", computing && judged && told_of)
+}
+
+/// A memory grows where the library answers that it is too small, to what the settings or the text say, and only then.
+fn memories_grow_where_they_are_too_small() -> bool {
+    let right = COMPUTING.iter().all(|(call, _, _)| {
+        numbers().all(|number| {
+            let mut memory = Memory::new();
+            then(number);
+            let _ = catch_unwind(AssertUnwindSafe(|| call(Some(&mut memory))));
+            let lent = unsafe { bytes_lent_to_the_last() };
+            let has_grown = (64 << 10..72 << 10).contains(&memory.size()) && lent == memory.size() as i64;
+            if number == header("OUT_OF_MEMORY") {
+                has_grown
+            } else {
+                memory.size() == 0 && lent == 0
+            }
+        })
+    });
+    told("a kept memory grows where the library says that it is too small", right)
 }
 
 /// Whether the default limits are those that the library answers.
 fn are_the_library_s() -> bool {
-    let right = Limits::default() == Limits { lanes: 9, mem_cost: 7, time_cost: 8 };
-    println!("{}: the default limits are the library's", if right { "passed" } else { "FAILED" });
-    right
+    told(
+        "the default limits are the library's",
+        Limits::default() == Limits { lanes: 9, mem_cost: 7, time_cost: 8 },
+    )
 }
 
 /// Whether each call asks for as many threads as its settings or its text say.
 fn are_as_many_threads_as_the_mode_says() -> bool {
-    let asked = |call: &dyn Fn(&Config<'_>) -> bool, thread_mode, lanes| {
-        then(OK);
-        let done = call(&Config { thread_mode, lanes, ..Config::default() });
-        (done, unsafe { threads_of_the_last() })
-    };
-    let calls: [&dyn Fn(&Config<'_>) -> bool; 3] = [
-        &|config| argon2::hash_raw(b"password", b"somesalt", config).is_ok(),
-        &|config| argon2::hash_encoded(b"password", b"somesalt", config).is_ok(),
-        &|config| argon2::verify_raw(b"password", b"somesalt", b"hash", config).is_ok(),
-    ];
+    then(0);
+    let asked = || unsafe { threads_of_the_last() };
+    let fixed = COMPUTING.iter().all(|(call, _, threads)| {
+        call(None) && asked() == *threads && call(Some(&mut Memory::new())) && asked() == *threads
+    });
     let modes = [
         (ThreadMode::Sequential, 4, 1),
         (ThreadMode::Parallel, 40, 40),
         (ThreadMode::AtMost(3), 4, 3),
         (ThreadMode::AtMost(3), 2, 2),
     ];
-    let hashing = calls.iter().all(|call| modes.iter().all(|it| asked(call, it.0, it.1) == (true, it.2)));
-    let texts: [&dyn Fn(&Config<'_>) -> bool; 2] =
-        [&|_| argon2::verify_encoded("x", b"password").is_ok(), &|_| {
-            argon2::verify_encoded_within("x", b"password", b"", b"", &Limits::default()).is_ok()
-        }];
-    let verifying = texts.iter().all(|call| asked(call, ThreadMode::Sequential, 1) == (true, 16));
-    let right = hashing && verifying;
-    println!(
-        "{}: a call asks for as many threads as its mode says, and 16 for a text",
-        if right { "passed" } else { "FAILED" }
-    );
-    right
+    let calls: [fn(&Config<'_>) -> bool; 6] = [
+        |it| argon2::hash_raw(b"word", b"somesalt", it).is_ok(),
+        |it| argon2::hash_encoded(b"word", b"somesalt", it).is_ok(),
+        |it| argon2::verify_raw(b"word", b"somesalt", b"hash", it).is_ok(),
+        |it| argon2::hash_raw_in(&mut Memory::new(), b"word", b"somesalt", it).is_ok(),
+        |it| argon2::hash_encoded_in(&mut Memory::new(), b"word", b"somesalt", it).is_ok(),
+        |it| argon2::verify_raw_in(&mut Memory::new(), b"word", b"somesalt", b"hash", it).is_ok(),
+    ];
+    let by_mode = modes.into_iter().all(|(thread_mode, lanes, wanted)| {
+        let config = Config { thread_mode, lanes, ..CONFIG };
+        calls.iter().all(|call| call(&config) && asked() == wanted)
+    });
+    told("a call asks for as many threads as its mode says, and 16 for a text", fixed && by_mode)
+}
+
+/// What the calls give for each number: over a memory, or without one. `which` says that behind the names.
+fn each_number_is_answered(which: &str, over: fn() -> Option<Memory>) -> bool {
+    let named = |name: &str| name.to_owned() + which;
+    let verdicts = [(header("OK"), true), (header("MISMATCH"), false)];
+    let costly =
+        [(header("OK"), Some(true)), (header("MISMATCH"), Some(false)), (header("TOO_COSTLY"), None)];
+    let (no_room, tag, words) = (header("WRONG_LENGTH"), vec![b'x'; 5], "x".repeat(12));
+    let a_tag = || raw(over().as_mut());
+    let a_text = || text(over().as_mut());
+    let a_bounded_verdict = || match within(over().as_mut()) {
+        Ok(same) => Ok(Some(same)),
+        Err(Unverified::TooCostly) => Ok(None),
+        Err(Unverified::Refused(error)) => Err(error),
+    };
+    let all = [
+        holds(&named("a tag comes for OK alone"), &[(header("OK"), tag.clone())], then, a_tag),
+        holds(&named("no tag comes for a first answer but that of no room"), &[(no_room, tag)], first, a_tag),
+        holds(&named("a text comes for OK alone"), &[(header("OK"), words.clone())], then, a_text),
+        holds(
+            &named("no text comes for a first answer but that of no room"),
+            &[(no_room, words)],
+            first,
+            a_text,
+        ),
+        holds(&named("a text verifies for OK alone"), &verdicts, then, || verdict_of_text(over().as_mut())),
+        holds(&named("a text verifies within limits for OK alone"), &costly, then, a_bounded_verdict),
+        holds(&named("a hash verifies for OK alone"), &verdicts, then, || verdict(over().as_mut())),
+    ];
+    all.iter().all(|it| *it)
 }
 
 fn main() {
     std::panic::set_hook(Box::new(|_| {}));
-    let config = Config { hash_length: 5, ..Config::default() };
-    let raw = || argon2::hash_raw(b"password", b"somesalt", &config);
-    let text = || argon2::hash_encoded(b"password", b"somesalt", &config);
-    let verdicts = [(OK, true), (MISMATCH, false)];
-    let within = [(OK, Some(true)), (MISMATCH, Some(false)), (TOO_COSTLY, None)];
     let stored = Stored {
         hash_length: 5,
         lanes: 4,
@@ -143,45 +322,25 @@ fn main() {
         variant: Variant::Argon2id,
         version: Version::Version13,
     };
-    let tag = vec![b'x'; 5];
+    let verdicts = [(header("OK"), true), (header("MISMATCH"), false)];
     let all = [
-        holds("a tag comes for OK alone", &[(OK, tag.clone())], then, raw),
-        holds("no tag comes for a first answer but that of no room", &[(WRONG_LENGTH, tag)], first, raw),
-        holds("a text comes for OK alone", &[(OK, "x".repeat(12))], then, text),
-        holds(
-            "no text comes for a first answer but that of no room",
-            &[(WRONG_LENGTH, "x".repeat(12))],
-            first,
-            text,
-        ),
-        holds("a password verifies for OK alone", &verdicts, then, || {
-            argon2::verify_encoded("x", b"password")
-        }),
-        holds("a password with a secret verifies for OK alone", &verdicts, then, || {
-            argon2::verify_encoded_ext("x", b"password", b"secret", b"ad")
-        }),
-        holds(
-            "a text within limits verifies for OK alone, and one number says that it is not",
-            &within,
-            then,
-            || match argon2::verify_encoded_within("x", b"password", b"secret", b"ad", &Limits::default()) {
-                Ok(same) => Ok(Some(same)),
-                Err(Unverified::TooCostly) => Ok(None),
-                Err(Unverified::Refused(error)) => Err(error),
-            },
-        ),
+        numbers_are_the_header_s(),
+        each_number_is_answered("", || None),
+        each_number_is_answered(", over a kept memory", || Some(Memory::new())),
+        arguments_are_in_their_places(),
+        memories_grow_where_they_are_too_small(),
         are_the_library_s(),
         are_as_many_threads_as_the_mode_says(),
-        holds("a hash verifies for OK alone", &verdicts, then, || {
-            argon2::verify_raw(b"password", b"somesalt", b"hash", &config)
+        holds("a text without a secret verifies for OK alone", &verdicts, then, || {
+            argon2::verify_encoded("x", b"password")
         }),
         holds(
             "a text has other settings for one number alone",
-            &[(OK, false), (NEEDS_REHASH, true)],
+            &[(header("OK"), false), (header("NEEDS_REHASH"), true)],
             then,
-            || argon2::needs_rehash("x", &config),
+            || argon2::needs_rehash("x", &CONFIG),
         ),
-        holds("a text is read for OK alone", &[(OK, stored)], reading, || argon2::read("x")),
+        holds("a text is read for OK alone", &[(header("OK"), stored)], reading, || argon2::read("x")),
     ];
     assert!(all.iter().all(|it| *it));
 }

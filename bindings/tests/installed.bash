@@ -11,7 +11,6 @@ prefix="$work/a prefix"
 library=libproved_argon2.so
 export PKG_CONFIG_PATH="$prefix/lib/pkgconfig"
 
-# What is in a folder.
 files_in() {
     (cd "$1" && find . ! -type d -printf '%P\n' | LC_ALL=C sort)
 }

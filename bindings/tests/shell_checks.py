@@ -17,6 +17,8 @@ ROOT = pathlib.Path(__file__).resolve().parents[2]
 VERSION = (ROOT / "VERSION").read_text().strip()
 SMALL = "argon2id 19 1 8 1 16 seq".split()
 STORED = "$argon2i$v=19$m=256,t=2,p=1$c29tZXNhbHQ$iekCn0Y3spW+sCcFanM2xBT63UP2sghkUoHLIUpWRS8"
+# A text above a limit of `check`, which names 11 passes.
+COSTLY = "$argon2id$v=19$m=8,t=11,p=1$c29tZXNhbHQ$c29tZWhhc2g"
 CHECKS = []
 
 

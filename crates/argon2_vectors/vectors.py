@@ -6,10 +6,11 @@ usage: vectors.py [--check]
 The questions are those of rows.txt, each a line with its answer behind a tab; those that are made here
 from BLAKE2b of hashlib and from rfc9106.py; and those of bindings/vectors. Its raw.txt has a line for each
 tag: variant, version, t, m, p, tag length, password, salt, secret and associated data (the last four in
-hexadecimal, - for empty), with single blanks between them, and behind the tenth blank the answer. Its
-texts.txt has an encoded text, a tab, and the verdict on it for the password `password`. Nothing here runs
-the library. With --check it writes nothing and fails where a file is another.
+hexadecimal, - for empty), with single blanks between them, and behind the tenth blank the answer; the program is
+asked too where the salt is no text. Its texts.txt has an encoded text, a tab, and the verdict on it for the
+password `password`. Nothing here runs the library. With --check it writes nothing and fails where a file is another.
 """
+import base64
 import re
 import sys
 from pathlib import Path
@@ -107,6 +108,33 @@ def tags():
         yield " ".join(["hash_raw", *fields[:6], "all", *fields[6:]]), answer
 
 
+def runs():
+    """Runs of the program with a salt that no other word names, its digits in lower and in upper case in turn."""
+    count = 0
+    for line in lines_of(OUTSIDE / "raw.txt"):
+        variant, version, time, memory, lanes, length, password, salt, secret, data, answer = line.split(" ", 10)
+        if secret == data == "-" and salt != "-" and not is_text(bytes.fromhex(salt)):
+            count += 1
+            digits = salt.upper() if count % 2 else salt
+            words = f"hash {variant} {version} {time} {memory} {lanes} {length} seq hex:{digits}"
+            yield f"run {password} {words}", told(variant, version, memory, time, lanes, salt, answer)
+
+
+def is_text(salt):
+    try:
+        return bool(salt.decode())
+    except UnicodeDecodeError:
+        return False
+
+
+def told(variant, version, memory, time, lanes, salt, answer):
+    """What comes of a run that hashes: status, output and error stream."""
+    if answer.startswith("ERR "):
+        return f'2 "" "{answer[4:]}\\n"'
+    items = "$".join(base64.b64encode(bytes.fromhex(it)).decode().rstrip("=") for it in (salt, answer))
+    return f'0 "{answer}\\n${variant}$v={version}$m={memory},t={time},p={lanes}${items}\\n" ""'
+
+
 def written(text):
     """Returns the one form that the library writes for the value of a text: the name in lower case,
     the version always there (none means 16), numbers without plus and leading zeros, and salt and
@@ -125,7 +153,7 @@ def verdicts():
 
 def main(words):
     rfc9106.check()
-    makers = (rows, hashes, stretched_hashes, first_inputs, references, tags, verdicts)
+    makers = (rows, hashes, stretched_hashes, first_inputs, references, tags, runs, verdicts)
     pairs = [pair for maker in makers for pair in maker()]
     stale = []
     for name, lines in zip(("stdin", "stdout"), zip(*pairs)):

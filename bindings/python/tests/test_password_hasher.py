@@ -34,7 +34,7 @@ SMALL = {"time_cost": 1, "memory_cost": 32, "parallelism": 2}
 
 
 class Names(unittest.TestCase):
-    def test_the_constructor_has_the_arguments_and_defaults_of_argon2_cffi_and_then_limits(self):
+    def test_the_constructor_has_the_arguments_and_defaults_of_argon2_cffi_and_then_its_own(self):
         arguments = inspect.signature(PasswordHasher).parameters
         self.assertEqual(
             [(name, argument.default) for name, argument in arguments.items()],
@@ -47,6 +47,7 @@ class Names(unittest.TestCase):
                 ("encoding", "utf-8"),
                 ("type", Type.ID),
                 ("limits", Limits(memory_cost=2097152, time_cost=10, parallelism=16)),
+                ("keep_memory", False),
             ],
         )
 
@@ -86,7 +87,8 @@ class Names(unittest.TestCase):
             PasswordHasher(time_cost="1", hash_len=None)
 
     def test_wrong_types_are_refused(self):
-        for name, value in (("time_cost", "1"), ("type", 2), ("encoding", 8), ("hash_len", None)):
+        wrong = (("time_cost", "1"), ("type", 2), ("encoding", 8), ("hash_len", None), ("keep_memory", 1))
+        for name, value in wrong:
             with self.subTest(name), self.assertRaisesRegex(TypeError, name):
                 PasswordHasher(**{name: value})
 

@@ -3,13 +3,21 @@
 //! The library is passed a pointer and a length of each slice. It reads what is passed as `*const`, writes
 //! what is passed as `*mut` within its length, and keeps no pointer. A slice's pointer is never null.
 
+mod pages;
+
+pub use pages::{advise, clear, Lent, Page};
+
 use crate::{Config, Limits as LimitsOfCrate};
+use pages::address;
 use std::ffi::c_void;
-use std::mem::size_of;
+use std::mem::{size_of, size_of_val};
 use std::ptr::{null, null_mut};
 
 /// Done, or a match.
 pub const OK: u32 = 0;
+
+/// Memory was refused, or what was lent is too small.
+pub const OUT_OF_MEMORY: u32 = 20;
 
 /// A verifying call: the password is another.
 pub const MISMATCH: u32 = 64;
@@ -55,7 +63,7 @@ pub struct Limits {
     pub lanes: u32,
 }
 
-/// `proved_argon2_options` of the header. The memory is the call's own, and so are the threads.
+/// `proved_argon2_options` of the header. The threads are the call's own.
 #[repr(C)]
 struct Options {
     size: usize,
@@ -71,12 +79,14 @@ struct Options {
 const MOST_FOR_A_TEXT: u32 = 16;
 
 impl Options {
-    fn by(threads: u32) -> Options {
+    /// Options of so many threads. They point to what is lent, which has to outlive them.
+    fn by(threads: u32, lent: Lent<'_>) -> Options {
+        let (memory, memory_len) = lent.map_or((null_mut(), 0), |pages| (address(pages), size_of_val(pages)));
         Options {
             size: size_of::<Options>(),
             threads,
-            memory: null_mut(),
-            memory_len: 0,
+            memory,
+            memory_len,
             run: null(),
             pool: null_mut(),
             limits: null(),
@@ -211,9 +221,9 @@ pub fn judge_encoded(pwd: &[u8], salt: &[u8], config: &Config<'_>) -> u32 {
 
 /// Writes the tag to `out`, which has `config.hash_length` bytes.
 #[rustfmt::skip]
-pub fn hash_raw(pwd: &[u8], salt: &[u8], config: &Config<'_>, out: &mut [u8]) -> u32 {
+pub fn hash_raw(pwd: &[u8], salt: &[u8], config: &Config<'_>, lent: Lent<'_>, out: &mut [u8]) -> u32 {
     let settings = Settings::of(config);
-    let options = Options::by(config.workers());
+    let options = Options::by(config.workers(), lent);
     // SAFETY: each pointer and length are those of a slice, and `out` is borrowed for this call alone. Threads that
     // the call starts end before it returns.
     unsafe {
@@ -231,9 +241,9 @@ pub fn hash_raw(pwd: &[u8], salt: &[u8], config: &Config<'_>, out: &mut [u8]) ->
 
 /// Writes the text and then zeros to `text`, which has more bytes than the text.
 #[rustfmt::skip]
-pub fn hash_encoded(pwd: &[u8], salt: &[u8], config: &Config<'_>, text: &mut [u8]) -> u32 {
+pub fn hash_encoded(pwd: &[u8], salt: &[u8], config: &Config<'_>, lent: Lent<'_>, text: &mut [u8]) -> u32 {
     let settings = Settings::of(config);
-    let options = Options::by(config.workers());
+    let options = Options::by(config.workers(), lent);
     // SAFETY: each pointer and length are those of a slice, and `text` is borrowed for this call alone. Threads that
     // the call starts end before it returns.
     unsafe {
@@ -251,9 +261,9 @@ pub fn hash_encoded(pwd: &[u8], salt: &[u8], config: &Config<'_>, text: &mut [u8
 
 /// Compares a hash with the tag of its length.
 #[rustfmt::skip]
-pub fn verify_raw(pwd: &[u8], salt: &[u8], hash: &[u8], config: &Config<'_>) -> u32 {
+pub fn verify_raw(pwd: &[u8], salt: &[u8], hash: &[u8], config: &Config<'_>, lent: Lent<'_>) -> u32 {
     let settings = Settings::of(config);
-    let options = Options::by(config.workers());
+    let options = Options::by(config.workers(), lent);
     // SAFETY: each pointer and length are those of a slice, and nothing is written. Threads that the call starts end
     // before it returns.
     unsafe {
@@ -270,8 +280,8 @@ pub fn verify_raw(pwd: &[u8], salt: &[u8], hash: &[u8], config: &Config<'_>) -> 
 }
 
 /// Compares a text with a password.
-pub fn verify_encoded(text: &str, pwd: &[u8], secret: &[u8], ad: &[u8]) -> u32 {
-    verify_with(&Options::by(MOST_FOR_A_TEXT), text, pwd, secret, ad)
+pub fn verify_encoded(text: &str, pwd: &[u8], secret: &[u8], ad: &[u8], lent: Lent<'_>) -> u32 {
+    verify_with(&Options::by(MOST_FOR_A_TEXT, lent), text, pwd, secret, ad)
 }
 
 /// Compares a text with a password, where it asks for no more than the limits.
@@ -281,9 +291,10 @@ pub fn verify_encoded_within(
     secret: &[u8],
     ad: &[u8],
     limits: &LimitsOfCrate,
+    lent: Lent<'_>,
 ) -> u32 {
     let limits = Limits { mem_cost: limits.mem_cost, time_cost: limits.time_cost, lanes: limits.lanes };
-    verify_with(&Options { limits: &limits, ..Options::by(MOST_FOR_A_TEXT) }, text, pwd, secret, ad)
+    verify_with(&Options { limits: &limits, ..Options::by(MOST_FOR_A_TEXT, lent) }, text, pwd, secret, ad)
 }
 
 #[rustfmt::skip]
@@ -313,6 +324,11 @@ pub fn read(text: &str) -> (u32, Stored) {
     // SAFETY: the pointer and the length are those of a slice, and `stored` is this function's own.
     let number = unsafe { proved_argon2_read(text.as_ptr(), text.len(), &mut stored) };
     (number, stored)
+}
+
+/// The memory in KiB that a text spells, or 0 for what spells none.
+pub fn mem_cost_of(text: &str) -> u32 {
+    read(text).1.settings.mem_cost
 }
 
 /// Compares the settings of a text with others.

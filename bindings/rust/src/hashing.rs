@@ -1,5 +1,5 @@
 use crate::face::{self, OK, WRONG_LENGTH};
-use crate::{Config, Error, Result, ThreadMode, Variant, Version};
+use crate::{Config, Error, Memory, Result, ThreadMode, Variant, Version};
 
 /// The length in bytes of the text of a hash.
 ///
@@ -51,13 +51,29 @@ pub fn encoded_len(
 /// # Ok::<(), argon2::Error>(())
 /// ```
 pub fn hash_encoded(pwd: &[u8], salt: &[u8], config: &Config<'_>) -> Result<String> {
-    require_settings(face::judge_encoded(pwd, salt, config))?;
-    let salt_len = u32::try_from(salt.len()).map_err(|_| Error::SaltTooLong)?;
-    let length = usize::try_from(face::encoded_len(config, salt_len)).map_err(|_| Error::OutOfMemory)?;
-    let mut text = zeros(length + 1)?;
-    require_done(face::hash_encoded(pwd, salt, config, &mut text))?;
-    text.truncate(length);
-    Ok(String::from_utf8(text).expect("a text is ASCII"))
+    text_by(pwd, salt, config, |text| face::hash_encoded(pwd, salt, config, None, text))
+}
+
+/// Hashes a password to a text, as [`hash_encoded`] does, over a memory that is kept.
+///
+/// # Errors
+///
+/// As [`hash_encoded`].
+///
+/// # Examples
+///
+/// ```
+/// use proved_argon2::{self as argon2, Config, Memory};
+///
+/// let mut memory = Memory::new();
+/// let text = argon2::hash_encoded_in(&mut memory, b"password", b"somesalt", &Config::default())?;
+/// assert_eq!(text, argon2::hash_encoded(b"password", b"somesalt", &Config::default())?);
+/// # Ok::<(), argon2::Error>(())
+/// ```
+pub fn hash_encoded_in(memory: &mut Memory, pwd: &[u8], salt: &[u8], config: &Config<'_>) -> Result<String> {
+    text_by(pwd, salt, config, |text| {
+        memory.lend(|| config.mem_cost, |lent| face::hash_encoded(pwd, salt, config, lent, text))
+    })
 }
 
 /// Hashes a password, to a hash of `config.hash_length` bytes.
@@ -83,10 +99,59 @@ pub fn hash_encoded(pwd: &[u8], salt: &[u8], config: &Config<'_>) -> Result<Stri
 /// # Ok::<(), argon2::Error>(())
 /// ```
 pub fn hash_raw(pwd: &[u8], salt: &[u8], config: &Config<'_>) -> Result<Vec<u8>> {
+    tag_by(pwd, salt, config, |tag| face::hash_raw(pwd, salt, config, None, tag))
+}
+
+/// Hashes a password, as [`hash_raw`] does, over a memory that is kept.
+///
+/// # Errors
+///
+/// As [`hash_raw`].
+///
+/// # Examples
+///
+/// ```
+/// use proved_argon2::{self as argon2, Config, Memory};
+///
+/// let mut memory = Memory::new();
+/// let first = argon2::hash_raw_in(&mut memory, b"password", b"somesalt", &Config::owasp5())?;
+/// let again = argon2::hash_raw_in(&mut memory, b"password", b"somesalt", &Config::owasp5())?;
+/// assert_eq!(first, again);
+/// # Ok::<(), argon2::Error>(())
+/// ```
+pub fn hash_raw_in(memory: &mut Memory, pwd: &[u8], salt: &[u8], config: &Config<'_>) -> Result<Vec<u8>> {
+    tag_by(pwd, salt, config, |tag| {
+        memory.lend(|| config.mem_cost, |lent| face::hash_raw(pwd, salt, config, lent, tag))
+    })
+}
+
+/// The text that a call writes to a buffer, where the settings are accepted.
+fn text_by(
+    pwd: &[u8],
+    salt: &[u8],
+    config: &Config<'_>,
+    call: impl FnOnce(&mut [u8]) -> u32,
+) -> Result<String> {
+    require_settings(face::judge_encoded(pwd, salt, config))?;
+    let salt_len = u32::try_from(salt.len()).map_err(|_| Error::SaltTooLong)?;
+    let length = usize::try_from(face::encoded_len(config, salt_len)).map_err(|_| Error::OutOfMemory)?;
+    let mut text = zeros(length + 1)?;
+    require_done(call(&mut text))?;
+    text.truncate(length);
+    Ok(String::from_utf8(text).expect("a text is ASCII"))
+}
+
+/// The tag that a call writes to a buffer, where the settings are accepted.
+fn tag_by(
+    pwd: &[u8],
+    salt: &[u8],
+    config: &Config<'_>,
+    call: impl FnOnce(&mut [u8]) -> u32,
+) -> Result<Vec<u8>> {
     require_settings(face::judge_raw(pwd, salt, config))?;
     let length = usize::try_from(config.hash_length).map_err(|_| Error::OutOfMemory)?;
     let mut tag = zeros(length)?;
-    require_done(face::hash_raw(pwd, salt, config, &mut tag))?;
+    require_done(call(&mut tag))?;
     Ok(tag)
 }
 

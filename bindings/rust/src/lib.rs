@@ -54,6 +54,7 @@ mod error;
 mod face;
 mod hashing;
 mod limits;
+mod memory;
 mod result;
 mod stored;
 mod thread_mode;
@@ -63,11 +64,14 @@ mod version;
 
 pub use config::Config;
 pub use error::Error;
-pub use hashing::{encoded_len, hash_encoded, hash_raw};
-pub use limits::{verify_encoded_within, Limits, Unverified};
+pub use hashing::{encoded_len, hash_encoded, hash_encoded_in, hash_raw, hash_raw_in};
+pub use limits::{verify_encoded_within, verify_encoded_within_in, Limits, Unverified};
+pub use memory::Memory;
 pub use result::Result;
 pub use stored::{read, Stored};
 pub use thread_mode::ThreadMode;
 pub use variant::Variant;
-pub use verifying::{needs_rehash, verify_encoded, verify_encoded_ext, verify_raw};
+pub use verifying::{
+    needs_rehash, verify_encoded, verify_encoded_ext, verify_encoded_in, verify_raw, verify_raw_in,
+};
 pub use version::Version;

@@ -1,5 +1,5 @@
-use crate::face::{self, MISMATCH, OK, TOO_COSTLY};
-use crate::Error;
+use crate::face::{self, Lent, MISMATCH, OK, TOO_COSTLY};
+use crate::{Error, Memory};
 use std::{fmt, result};
 
 /// The greatest numbers that a text may spell, for [`verify_encoded_within`].
@@ -73,7 +73,40 @@ pub fn verify_encoded_within(
     ad: &[u8],
     limits: &Limits,
 ) -> result::Result<bool, Unverified> {
-    match face::verify_encoded_within(encoded, pwd, secret, ad, limits) {
+    verdict(face::verify_encoded_within(encoded, pwd, secret, ad, limits, None))
+}
+
+/// Whether a text is the hash of a password within limits, as [`verify_encoded_within`] says, over a memory that is
+/// kept.
+///
+/// # Errors
+///
+/// As [`verify_encoded_within`]. What is above the limits leaves the memory as it is.
+///
+/// # Examples
+///
+/// ```
+/// use proved_argon2::{self as argon2, Limits, Memory, Unverified};
+///
+/// let mut memory = Memory::new();
+/// let text = "$argon2i$v=19$m=4096,t=3,p=1$c29tZXNhbHQ$iWh06vD8Fy27wf9npn6FXWiCX4K6pW6Ue1Bnzz07Z8A";
+/// assert!(argon2::verify_encoded_within_in(&mut memory, text, b"password", &[], &[], &Limits::default())?);
+/// # Ok::<(), Unverified>(())
+/// ```
+pub fn verify_encoded_within_in(
+    memory: &mut Memory,
+    encoded: &str,
+    pwd: &[u8],
+    secret: &[u8],
+    ad: &[u8],
+    limits: &Limits,
+) -> result::Result<bool, Unverified> {
+    let call = |lent: Lent<'_>| face::verify_encoded_within(encoded, pwd, secret, ad, limits, lent);
+    verdict(memory.lend(|| face::mem_cost_of(encoded), call))
+}
+
+fn verdict(number: u32) -> result::Result<bool, Unverified> {
+    match number {
         OK => Ok(true),
         MISMATCH => Ok(false),
         TOO_COSTLY => Err(Unverified::TooCostly),

@@ -1,5 +1,5 @@
-use crate::face::{self, MISMATCH, NEEDS_REHASH, OK};
-use crate::{Config, Error, Result};
+use crate::face::{self, Lent, MISMATCH, NEEDS_REHASH, OK};
+use crate::{Config, Error, Memory, Result};
 
 /// Whether a text is the hash of a password, without a secret or associated data.
 ///
@@ -39,7 +39,38 @@ pub fn verify_encoded(encoded: &str, pwd: &[u8]) -> Result<bool> {
 /// # Ok::<(), argon2::Error>(())
 /// ```
 pub fn verify_encoded_ext(encoded: &str, pwd: &[u8], secret: &[u8], ad: &[u8]) -> Result<bool> {
-    verdict(face::verify_encoded(encoded, pwd, secret, ad), MISMATCH)
+    verdict(face::verify_encoded(encoded, pwd, secret, ad, None), MISMATCH)
+}
+
+/// Whether a text is the hash of a password with this secret and this associated data, over a memory that is kept.
+///
+/// A text says how much memory that is: verify one that may come from outside by
+/// [`verify_encoded_within_in`](crate::verify_encoded_within_in).
+///
+/// # Errors
+///
+/// As [`verify_encoded_ext`].
+///
+/// # Examples
+///
+/// ```
+/// use proved_argon2::{self as argon2, Memory};
+///
+/// let mut memory = Memory::new();
+/// let text = "$argon2i$v=19$m=4096,t=3,p=1$c29tZXNhbHQ$OlcSvlN20Lz43sK3jhCJ9K04oejhiY0AmI+ck6nuETo";
+/// assert!(argon2::verify_encoded_in(&mut memory, text, b"password", b"secret", b"ad")?);
+/// assert!(!argon2::verify_encoded_in(&mut memory, text, b"password", &[], &[])?);
+/// # Ok::<(), argon2::Error>(())
+/// ```
+pub fn verify_encoded_in(
+    memory: &mut Memory,
+    encoded: &str,
+    pwd: &[u8],
+    secret: &[u8],
+    ad: &[u8],
+) -> Result<bool> {
+    let call = |lent: Lent<'_>| face::verify_encoded(encoded, pwd, secret, ad, lent);
+    verdict(memory.lend(|| face::mem_cost_of(encoded), call), MISMATCH)
 }
 
 /// Whether a hash is that of a password. `config.hash_length` is not looked at.
@@ -59,7 +90,34 @@ pub fn verify_encoded_ext(encoded: &str, pwd: &[u8], secret: &[u8], ad: &[u8]) -
 /// # Ok::<(), argon2::Error>(())
 /// ```
 pub fn verify_raw(pwd: &[u8], salt: &[u8], hash: &[u8], config: &Config<'_>) -> Result<bool> {
-    verdict(face::verify_raw(pwd, salt, hash, config), MISMATCH)
+    verdict(face::verify_raw(pwd, salt, hash, config, None), MISMATCH)
+}
+
+/// Whether a hash is that of a password, as [`verify_raw`] says, over a memory that is kept.
+///
+/// # Errors
+///
+/// As [`verify_raw`].
+///
+/// # Examples
+///
+/// ```
+/// use proved_argon2::{self as argon2, Config, Memory};
+///
+/// let mut memory = Memory::new();
+/// let hash = argon2::hash_raw_in(&mut memory, b"password", b"somesalt", &Config::owasp5())?;
+/// assert!(argon2::verify_raw_in(&mut memory, b"password", b"somesalt", &hash, &Config::owasp5())?);
+/// # Ok::<(), argon2::Error>(())
+/// ```
+pub fn verify_raw_in(
+    memory: &mut Memory,
+    pwd: &[u8],
+    salt: &[u8],
+    hash: &[u8],
+    config: &Config<'_>,
+) -> Result<bool> {
+    let call = |lent: Lent<'_>| face::verify_raw(pwd, salt, hash, config, lent);
+    verdict(memory.lend(|| config.mem_cost, call), MISMATCH)
 }
 
 /// Whether a text was made with another variant, version, memory, passes, lanes or length of the hash.

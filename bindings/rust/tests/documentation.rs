@@ -260,21 +260,15 @@ fn thread_modes_from_numbers_and_what_they_ask_for() {
     {
         assert_eq!(ThreadMode::from_threads(threads), mode);
     }
-    for (thread_mode, lanes, workers) in [
-        (ThreadMode::Sequential, 1, 1),
-        (ThreadMode::Sequential, 4, 1),
-        (ThreadMode::Parallel, 1, 1),
-        (ThreadMode::Parallel, 2, 2),
-        (ThreadMode::Parallel, 4, 4),
-        (ThreadMode::AtMost(0), 4, 1),
-        (ThreadMode::AtMost(1), 4, 1),
-        (ThreadMode::AtMost(3), 4, 3),
-        (ThreadMode::AtMost(5), 4, 4),
-        (ThreadMode::AtMost(3), 1, 1),
-    ] {
-        let config = Config { thread_mode, lanes, ..Config::default() };
-        assert_eq!(config.workers(), workers, "{thread_mode:?} {lanes}");
-        assert_eq!(config.uses_sequential(), workers == 1, "{thread_mode:?} {lanes}");
+    for lanes in [1, 2, 3, 4, 5, 100, 16_777_215] {
+        let modes = [(ThreadMode::Sequential, 1), (ThreadMode::Parallel, lanes)];
+        let at_most = [0, 1, 2, 3, 4, 5, 6, 99, 100, 101, u32::MAX];
+        let at_most = at_most.into_iter().map(|most| (ThreadMode::AtMost(most), most.clamp(1, lanes)));
+        for (thread_mode, workers) in modes.into_iter().chain(at_most) {
+            let config = Config { thread_mode, lanes, ..Config::default() };
+            assert_eq!(config.workers(), workers, "{thread_mode:?} {lanes}");
+            assert_eq!(config.uses_sequential(), workers == 1, "{thread_mode:?} {lanes}");
+        }
     }
 }
 

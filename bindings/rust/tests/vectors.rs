@@ -1,8 +1,9 @@
 //! The outside vectors in bindings/vectors.
 
 use proved_argon2::{
-    hash_encoded, hash_raw, verify_encoded, verify_encoded_ext, verify_raw, Config, Error, ThreadMode,
-    Variant, Version,
+    hash_encoded, hash_encoded_in, hash_raw, hash_raw_in, verify_encoded, verify_encoded_ext,
+    verify_encoded_in, verify_encoded_within_in, verify_raw, verify_raw_in, Config, Error, Limits, Memory,
+    ThreadMode, Variant, Version,
 };
 
 const RAW: &str = include_str!("../../vectors/raw.txt");
@@ -79,6 +80,40 @@ fn each_tag_and_refusal_is_that_of_the_vectors() {
     assert_eq!(RAW.lines().count(), 240);
 }
 
+/// The same over one memory, whose size changes with the rows.
+#[test]
+fn each_tag_and_refusal_comes_over_one_memory() {
+    let mut memory = Memory::new();
+    for line in RAW.lines() {
+        let row = Row::of(line);
+        let config = Config { secret: &row.secret, ad: &row.ad, ..row.config };
+        let tag = match hash_raw_in(&mut memory, &row.pwd, &row.salt, &config) {
+            Ok(tag) => tag,
+            Err(error) => {
+                assert_eq!(
+                    hash_encoded_in(&mut memory, &row.pwd, &row.salt, &config),
+                    Err(error.clone()),
+                    "{line}"
+                );
+                assert_eq!(Row::answer_of(Err(error)), row.answer, "{line}");
+                continue;
+            }
+        };
+        assert_eq!(tag, bytes_of(row.answer), "{line}");
+        let text = hash_encoded_in(&mut memory, &row.pwd, &row.salt, &config).unwrap();
+        assert!(text.ends_with(&format!("${}", base64_of(&tag))), "{line}");
+        let limits = Limits { lanes: u32::MAX, mem_cost: u32::MAX, time_cost: u32::MAX };
+        for secret in [row.secret.clone(), [row.secret.as_slice(), b"x"].concat()] {
+            let is_right = Ok(secret == row.secret);
+            let config = Config { secret: &secret, ..config };
+            assert_eq!(verify_raw_in(&mut memory, &row.pwd, &row.salt, &tag, &config), is_right, "{line}");
+            assert_eq!(verify_encoded_in(&mut memory, &text, &row.pwd, &secret, &row.ad), is_right, "{line}");
+            let within = verify_encoded_within_in(&mut memory, &text, &row.pwd, &secret, &row.ad, &limits);
+            assert_eq!(within.ok(), is_right.ok(), "{line}");
+        }
+    }
+}
+
 /// The tags once more, in texts that verify with this secret and this associated data alone.
 #[test]
 fn each_tag_and_refusal_comes_in_a_text() {
@@ -103,10 +138,14 @@ fn each_tag_and_refusal_comes_in_a_text() {
 
 #[test]
 fn each_text_verifies_as_in_the_vectors() {
+    let mut memory = Memory::new();
     for line in TEXTS.lines() {
         let (text, answer) = line.split_once('\t').unwrap();
-        let verdict = verify_encoded(text, b"password").map(|verdict| verdict.to_string());
-        assert_eq!(Row::answer_of(verdict), answer, "{text}");
+        let verdicts =
+            [verify_encoded(text, b"password"), verify_encoded_in(&mut memory, text, b"password", &[], &[])];
+        for verdict in verdicts {
+            assert_eq!(Row::answer_of(verdict.map(|it| it.to_string())), answer, "{text}");
+        }
     }
     assert_eq!(TEXTS.lines().count(), 147);
 }

@@ -40,7 +40,7 @@ pub fn hash_raw<R: Threads + Wait + Sync>(
 /// no blocks are asked for. Any other gives its blocks back first and is made anew.
 ///
 /// Where the settings table refuses something, the memory stays as it is. Else it holds the blocks of
-/// this computation after the call, which are not wiped. After a shortage it may have no lanes, but one
+/// this computation after the call until `Memory::wipe`. After a shortage it may have no lanes, but one
 /// that had those of the call loses them only to workers.
 pub fn hash_raw_in<'a, R: Threads + Wait + Sync>(
     rt: &R,

@@ -15,6 +15,7 @@ use crate::parts::context::{Context, first_refusal};
 use crate::parts::fill::{tag, tag_sequential};
 use crate::parts::memory::Memory;
 use crate::{Config, Result};
+use argon2_blocks::wiping::wipe;
 use argon2_settings::context::accepted_context;
 use std::alloc::Global;
 use std::marker::Sync;
@@ -41,6 +42,16 @@ pub fn are_equal(one: &[u8], other: &[u8]) -> bool
     ensures { IsTrue result ↔ (one.now ≡ other.now) }
 {
     difference(one, other) == 0
+}
+
+/// Whether a tag is this hash. It overwrites the tag, which only the right password gives.
+fn is_hash(mut tag: Vec<u8>, hash: &[u8]) -> bool
+    requires { length tag.items ≡ length hash.now }
+    ensures { IsTrue result ↔ (tag.items ≡ hash.now) }
+{
+    let verdict = are_equal(&tag, hash);
+    wipe(&mut tag[..], 0);
+    verdict
 }
 
 /// The context of a hash of this hash's own length, whatever `config.hash_length` is.
@@ -91,7 +102,7 @@ fn is_tag<R: Threads + Wait + Sync>(
         memory.old memory.new) }
 {
     let tag = tag(rt, alloc, context, memory)?;
-    Ok(are_equal(&tag, hash))
+    Ok(is_hash(tag, hash))
 }
 
 /// Whether a hash is the tag of an accepted call of its length, computed over a memory in the
@@ -110,7 +121,7 @@ fn is_tag_sequential(
         memory.old memory.new) }
 {
     let tag = tag_sequential(alloc, context, memory)?;
-    Ok(are_equal(&tag, hash))
+    Ok(is_hash(tag, hash))
 }
 
 /// Whether a hash is the tag of its own length.

@@ -1,11 +1,8 @@
 //! Blocks of Argon2's memory and their compression (RFC 9106, 3.2, 3.5 and 3.6).
 
-mod columns;
 mod kernel;
 mod lane_wise;
 mod lanes;
-mod rows;
-mod shuffles;
 mod transpose;
 
 ghost use Rattle.std.specs.Prelude.{◌≡◌, ◌<◌, ◌↔◌, ⊤, IsTrue, ℕ, List, Some, nat_eq, slice_index, if◌then◌else◌};
@@ -17,6 +14,7 @@ ghost use Rattle.argon2_blocks.specs.Standard.Compression.{compress_g};
 
 use crate::common::{BLOCK_SIZE, QWORDS_IN_BLOCK};
 use crate::little_endian::{read_words, write_words};
+use crate::wiping::wipe;
 use kernel::fill_words;
 use lane_wise::fill_words_by_lanes;
 pub use lanes::permute_lanes;
@@ -50,6 +48,13 @@ impl Block {
         Block {
             words: [0; QWORDS_IN_BLOCK],
         }
+    }
+
+    /// Overwrites all words with zeros.
+    pub fn wipe(&mut self)
+        ensures { self.new ≡ zero_block }
+    {
+        wipe(&mut self.words, 0);
     }
 
     /// The block of these words.

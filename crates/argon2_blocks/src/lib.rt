@@ -6,3 +6,4 @@ pub mod block;
 pub mod common;
 mod little_endian;
 pub mod theorems;
+pub mod wiping;

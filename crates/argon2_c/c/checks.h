@@ -13,6 +13,7 @@ static int checks_failed;
 static inline void check(bool holds, const char *name)
 {
     printf("%s: %s\n", holds ? "passed" : "FAILED", name);
+    fflush(stdout); /* (the last line tells where a program ended that was stopped) */
     checks_failed += !holds;
 }
 

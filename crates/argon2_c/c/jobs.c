@@ -1,6 +1,6 @@
 /*
- * The steps of a hash over blocks that are lent: tags by lanes in two orders, and numbers and lengths that fit no job,
- * each of which is refused by its own number, with what would have been written as it was.
+ * The steps of a hash over blocks that are lent: tags by lanes in two orders, and the job of a stored text. unfit.c has
+ * the numbers, lengths and addresses that do not fit a job.
  *
  * The tags are those of RFC 9106, section 5, and of the tests of the C reference implementation.
  */
@@ -13,7 +13,7 @@ static const char tag_of_rfc[] = "0d640df58d78766c08c037a34a8b53c9d01ef0452d75b6
 static const char stored[] = "$argon2i$v=19$m=256,t=2,p=2$c29tZXNhbHQ$T/XOJ2mh1/TIpJHfCdQan76Q5esCFVoT5MAeIM1Oq2E";
 
 enum { MOST = 256 };
-static proved_argon2_block blocks[MOST], before[MOST];
+static proved_argon2_block blocks[MOST];
 
 /* The answer of a step for a lane; step 0 begins it, and step n + 1 fills its segment of slice number n. */
 static uint32_t take_step(const proved_argon2_job *job, uint32_t n, uint32_t lane)
@@ -112,61 +112,9 @@ static void check_text(void)
     }
 }
 
-/* A step for one job, with a number or a length that does not fit: its own refusal, and all blocks as they were. */
-static void check_fill(const proved_argon2_job *job, uint32_t pass, uint32_t slice, uint32_t lane, size_t first,
-                       size_t second, size_t third, size_t own, uint32_t expected, const char *name)
-{
-    check_code(proved_argon2_job_fill(job, pass, slice, lane, blocks, first, blocks + 8, second, blocks + 16, third,
-                                      blocks + 24, own), expected, name);
-    check(memcmp(blocks, before, sizeof blocks) == 0, "all blocks are as they were");
-}
-
-static void check_numbers(void)
-{
-    proved_argon2_job job, bad;
-    uint32_t *const numbers[] = {
-        &bad.variant, &bad.version, &bad.lanes, &bad.segment_length, &bad.passes, &bad.hash_length};
-    static const uint32_t wrong[][3] = {
-        {3, 16, UINT32_MAX}, {0, 17, UINT32_MAX}, {0, 0x1000000, UINT32_MAX}, {0, 1, UINT32_MAX}, {0, 0, 0}, {0, 1, 3}};
-    uint8_t tag[32] = {0};
-    check_code(make(&rfc, &job), PROVED_ARGON2_OK, "a job");
-    fill_bytes((uint8_t *)blocks, sizeof blocks, 3);
-    memcpy(before, blocks, sizeof before);
-    for (size_t i = 0; i < 6; i++) {
-        for (size_t j = 0; j < 3; j++) {
-            bad = job;
-            *numbers[i] = wrong[i][j];
-            check_fill(&bad, 0, 3, 0, 8, 8, 8, 2, PROVED_ARGON2_NO_JOB, "a number of no job");
-            check_code(proved_argon2_job_begin(&bad, 0, blocks, 2), PROVED_ARGON2_NO_JOB, "a beginning");
-            check_code(proved_argon2_job_finish(&bad, blocks, 8, tag, 32), PROVED_ARGON2_NO_JOB, "an end");
-            check_code(proved_argon2_job_verify(&bad, blocks, 8, tag, 32, tag, 32), PROVED_ARGON2_NO_JOB, "a verdict");
-        }
-    }
-    check_fill(&job, 3, 3, 0, 8, 8, 8, 2, PROVED_ARGON2_NO_PLACE, "pass 3 of 3");
-    check_fill(&job, UINT32_MAX, 3, 0, 8, 8, 8, 2, PROVED_ARGON2_NO_PLACE, "the last pass that a number holds");
-    check_fill(&job, 0, 4, 0, 8, 8, 8, 2, PROVED_ARGON2_NO_PLACE, "slice 4 of 4");
-    check_fill(&job, 0, 3, 4, 8, 8, 8, 2, PROVED_ARGON2_NO_PLACE, "lane 4 of 4");
-    check_fill(&job, 0, 3, UINT32_MAX, 8, 8, 8, 2, PROVED_ARGON2_NO_PLACE, "the last lane that a number holds");
-    check_fill(&job, 0, 3, 0, 7, 8, 8, 2, PROVED_ARGON2_WRONG_BLOCKS, "a short slice 0");
-    check_fill(&job, 0, 3, 0, 8, 9, 8, 2, PROVED_ARGON2_WRONG_BLOCKS, "a long slice 1");
-    check_fill(&job, 0, 3, 0, 8, 8, 0, 2, PROVED_ARGON2_WRONG_BLOCKS, "no slice 2");
-    check_fill(&job, 0, 3, 0, 8, 8, 8, 1, PROVED_ARGON2_WRONG_BLOCKS, "a short segment");
-    check_fill(&job, 0, 3, 0, 8, 8, 8, 3, PROVED_ARGON2_WRONG_BLOCKS, "a long segment");
-    check_code(proved_argon2_job_begin(&job, 4, blocks, 2), PROVED_ARGON2_NO_PLACE, "lane 4 begins");
-    check_code(proved_argon2_job_begin(&job, 0, blocks, 3), PROVED_ARGON2_WRONG_BLOCKS, "a long segment begins");
-    check_code(proved_argon2_job_begin(&job, 0, NULL, 2), PROVED_ARGON2_NULL_POINTER, "no segment begins");
-    check_code(proved_argon2_job_begin(&job, 0, NULL, 0), PROVED_ARGON2_WRONG_BLOCKS, "a segment of none begins");
-    check_code(proved_argon2_job_finish(&job, blocks, 7, tag, 32), PROVED_ARGON2_WRONG_BLOCKS, "a short slice 3");
-    check_code(proved_argon2_job_finish(&job, blocks, 8, tag, 31), PROVED_ARGON2_WRONG_LENGTH, "a short tag");
-    check_code(proved_argon2_job_verify(&job, blocks, 8, tag, 32, tag, 31), PROVED_ARGON2_WRONG_LENGTH, "a short room");
-    check_code(proved_argon2_job_verify(&job, blocks, 8, tag, 31, tag, 32), PROVED_ARGON2_WRONG_LENGTH, "a short hash");
-    check(memcmp(blocks, before, sizeof blocks) == 0 && tag[0] == 0 && tag[31] == 0, "all is as it was");
-}
-
 int main(void)
 {
     check_tags();
     check_text();
-    check_numbers();
     return checks_failed != 0;
 }

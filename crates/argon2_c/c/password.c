@@ -1,6 +1,6 @@
 /*
- * A password in one call each, null pointers that promise bytes, and the numbers that the header alone answers. It
- * is linked with --wrap=getentropy, so that the salt is known.
+ * A password in one call each, and the numbers that the header alone answers. It is linked with --wrap=getentropy, so
+ * that the salt is known.
  */
 #include "checks.h"
 
@@ -54,68 +54,6 @@ static void check_password(void)
     check(memcmp(text, other, sizeof text) == 0, "the text is as it was");
 }
 
-/* ---- null pointers that promise bytes */
-
-static const proved_argon2_settings small = {PROVED_ARGON2_ID, PROVED_ARGON2_VERSION_13, 8, 1, 1, 32};
-static const proved_argon2_limits limits = {8, 1, 1};
-static uint8_t room[128];
-static proved_argon2_memory memory;
-static proved_argon2_stored stored;
-
-#define REFUSES(call) check_code(proved_argon2_##call, PROVED_ARGON2_NULL_POINTER, #call)
-
-/* What the calls with an output have in common: NAME(ARGUMENTS before the inputs, the output). */
-#define REFUSE_EACH(name, before, out) \
-    REFUSES(name(before NULL, 1, room, 8, NULL, 0, NULL, 0, &small, out, 32)); \
-    REFUSES(name(before NULL, 0, NULL, 8, NULL, 0, NULL, 0, &small, out, 32)); \
-    REFUSES(name(before NULL, 0, room, 8, NULL, 1, NULL, 0, &small, out, 32)); \
-    REFUSES(name(before NULL, 0, room, 8, NULL, 0, NULL, 1, &small, out, 32)); \
-    REFUSES(name(before NULL, 0, room, 8, NULL, 0, NULL, 0, NULL, out, 32)); \
-    REFUSES(name(before NULL, 0, room, 8, NULL, 0, NULL, 0, &small, NULL, 32))
-
-#define OF_NONE
-#define OF_MEMORY &memory,
-
-static void check_tags(void)
-{
-    REFUSE_EACH(hash_raw, OF_NONE, room);
-    REFUSE_EACH(hash_encoded, OF_NONE, room);
-    REFUSE_EACH(verify_raw, OF_NONE, room);
-    REFUSE_EACH(hash_raw_in, OF_MEMORY, room);
-    REFUSE_EACH(hash_encoded_in, OF_MEMORY, room);
-    REFUSE_EACH(verify_raw_in, OF_MEMORY, room);
-    REFUSES(hash_raw_in(NULL, room, 1, room, 8, NULL, 0, NULL, 0, &small, room, 32));
-    REFUSES(hash_encoded_in(NULL, room, 1, room, 8, NULL, 0, NULL, 0, &small, room, 32));
-    REFUSES(verify_raw_in(NULL, room, 1, room, 8, NULL, 0, NULL, 0, &small, room, 32));
-}
-
-static void check_stored_texts(void)
-{
-    REFUSES(verify_encoded(NULL, 1, room, 1, NULL, 0, NULL, 0));
-    REFUSES(verify_encoded(room, 1, NULL, 1, NULL, 0, NULL, 0));
-    REFUSES(verify_encoded(room, 1, room, 1, NULL, 1, NULL, 0));
-    REFUSES(verify_encoded(room, 1, room, 1, NULL, 0, NULL, 1));
-    REFUSES(verify_encoded_within(NULL, 1, room, 1, NULL, 0, NULL, 0, &limits));
-    REFUSES(verify_encoded_within(room, 1, NULL, 1, NULL, 0, NULL, 0, &limits));
-    REFUSES(verify_encoded_within(room, 1, room, 1, NULL, 1, NULL, 0, &limits));
-    REFUSES(verify_encoded_within(room, 1, room, 1, NULL, 0, NULL, 1, &limits));
-    REFUSES(verify_encoded_within(room, 1, room, 1, NULL, 0, NULL, 0, NULL));
-    REFUSES(verify_encoded_in(NULL, room, 1, room, 1, NULL, 0, NULL, 0));
-    REFUSES(verify_encoded_in(&memory, NULL, 1, room, 1, NULL, 0, NULL, 0));
-    REFUSES(verify_encoded_in(&memory, room, 1, NULL, 1, NULL, 0, NULL, 0));
-    REFUSES(verify_encoded_in(&memory, room, 1, room, 1, NULL, 1, NULL, 0));
-    REFUSES(verify_encoded_in(&memory, room, 1, room, 1, NULL, 0, NULL, 1));
-    REFUSES(read(NULL, 1, &stored));
-    REFUSES(read(room, 1, NULL));
-    REFUSES(needs_rehash(NULL, 1, &small));
-    REFUSES(needs_rehash(room, 1, NULL));
-    REFUSES(message(20, NULL, 1));
-    REFUSES(password_hash(NULL, "password", 8));
-    REFUSES(password_hash((char *)room, NULL, 1));
-    REFUSES(password_verify(NULL, "password", 8));
-    REFUSES(password_verify("$argon2id$", NULL, 1));
-}
-
 /* ---- the header's own numbers */
 
 static void check_message(uint32_t number, const char *expected)
@@ -134,13 +72,7 @@ static void check_message(uint32_t number, const char *expected)
 
 int main(void)
 {
-    uint8_t before[sizeof room];
-    memset(room, 7, sizeof room);
-    memcpy(before, room, sizeof room);
     check_password();
-    check_tags();
-    check_stored_texts();
-    check(memcmp(room, before, sizeof room) == 0 && memory.kept == NULL, "nothing was written");
     check_message(PROVED_ARGON2_NULL_POINTER, "A pointer is null");
     check_message(PROVED_ARGON2_NO_RANDOM_BYTES, "There are no random bytes");
     return checks_failed != 0;

@@ -8,7 +8,9 @@
 #undef proved_argon2_verify_encoded_within
 #undef proved_argon2_read
 #undef proved_argon2_needs_rehash
+#undef proved_argon2_encoded_len
 #undef proved_argon2_message
+#undef proved_argon2_memory_free
 #undef proved_argon2_hash_raw_in
 #undef proved_argon2_hash_encoded_in
 #undef proved_argon2_verify_raw_in

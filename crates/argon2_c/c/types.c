@@ -73,7 +73,9 @@ static void check_functions(void)
     IS(nullable_verify_encoded_within, uint32_t, BYTES, BYTES, BYTES, BYTES, const proved_argon2_limits *);
     IS(nullable_read, uint32_t, BYTES, proved_argon2_stored *);
     IS(nullable_needs_rehash, uint32_t, BYTES, const proved_argon2_settings *);
+    IS(nullable_encoded_len, uint64_t, const proved_argon2_settings *, uint32_t);
     IS(nullable_message, uint32_t, uint32_t, ROOM);
+    IS(nullable_memory_free, void, KEPT);
     IS(nullable_hash_raw_in, uint32_t, KEPT, INPUTS, ROOM);
     IS(nullable_hash_encoded_in, uint32_t, KEPT, INPUTS, ROOM);
     IS(nullable_verify_raw_in, uint32_t, KEPT, INPUTS, BYTES);

@@ -118,7 +118,7 @@ enum proved_argon2_code {
     PROVED_ARGON2_TOO_COSTLY = 69,     /* proved_argon2_verify_encoded_within: the text is above the limits */
     PROVED_ARGON2_NO_JOB = 70,         /* proved_argon2_jobs.h: no accepted call has a job of these numbers */
     PROVED_ARGON2_NO_PLACE = 71,       /* the job has no such pass, slice or lane */
-    PROVED_ARGON2_WRONG_BLOCKS = 72,   /* a slice or a segment of the job has more or fewer blocks */
+    PROVED_ARGON2_WRONG_BLOCKS = 72,   /* a slice or a segment has more or fewer blocks, or is at no multiple of 8 */
     /* Answered by the inline functions of the header, and by no function of the library: */
     PROVED_ARGON2_NULL_POINTER = 128,   /* a pointer is null, and its length is not 0 */
     PROVED_ARGON2_NO_RANDOM_BYTES = 129 /* proved_argon2_password_hash: the system gave no salt */
@@ -274,7 +274,8 @@ uint32_t proved_argon2_needs_rehash(
 
 /*
  * The length in bytes of the text that proved_argon2_hash_encoded writes for a salt of salt_len bytes,
- * without the zero behind it. 0 where no variant or no version has the given number. It takes no memory.
+ * without the zero behind it. 0 where no variant or no version has the given number, and for no settings. It takes
+ * no memory.
  */
 PROVED_ARGON2_CHECKED PROVED_ARGON2_NONNULL
 uint64_t proved_argon2_encoded_len(const proved_argon2_settings *settings, uint32_t salt_len);
@@ -309,7 +310,7 @@ static inline proved_argon2_memory proved_argon2_memory_new(void)
     return memory;
 }
 
-/* Gives back what memory keeps. It keeps nothing then, and may be used or given back again. */
+/* Gives back what memory keeps. It keeps nothing then, and may be used or given back again. A null pointer is none. */
 PROVED_ARGON2_NONNULL
 void proved_argon2_memory_free(proved_argon2_memory *memory);
 

@@ -17,8 +17,9 @@
  * Each step judges all numbers and lengths that it is given. Numbers that no accepted call has are
  * PROVED_ARGON2_NO_JOB, a pass, slice or lane that the job does not have is PROVED_ARGON2_NO_PLACE, and a slice or a
  * segment of more or fewer blocks is PROVED_ARGON2_WRONG_BLOCKS, in this order; what would have been written is as it
- * was then. It cannot see that blocks are there, that none is written by another thread meanwhile, and that their
- * addresses are multiples of 8.
+ * was then. Blocks at an address that is no multiple of 8 are PROVED_ARGON2_WRONG_BLOCKS before these, which the
+ * header's inline functions answer. No step can see that blocks are there, and that none is written by another thread
+ * meanwhile.
  *
  * Nothing is cleared: the job holds H0, from which a password can be tried by one BLAKE2b, and so do the blocks. Of the
  * steps, only proved_argon2_job_read and proved_argon2_encode ask for memory. bindings/c has these steps as one call.

@@ -1,10 +1,11 @@
 /*
- * Null pointers: a part of proved_argon2.h, which includes it.
+ * Null pointers, and blocks that are not aligned: a part of proved_argon2.h, which includes it.
  *
  * The functions of the library take no null pointer. Each call that takes a pointer goes through a function
  * below, which puts the address of a byte that nobody reads in place of a pointer with the length 0, and
- * answers PROVED_ARGON2_NULL_POINTER for any other null pointer, before the library is called. A program that
- * loads the library without the header has to do the same.
+ * answers PROVED_ARGON2_NULL_POINTER for any other null pointer, before the library is called. Blocks that are lent
+ * at an address that is no multiple of 8 are PROVED_ARGON2_WRONG_BLOCKS next. A program that loads the library
+ * without the header has to do the same.
  */
 #ifndef PROVED_ARGON2_NULL_H
 #define PROVED_ARGON2_NULL_H
@@ -43,6 +44,21 @@ static inline int proved_argon2_are_missing(
 {
     return proved_argon2_is_missing(pwd, pwd_len) || proved_argon2_is_missing(salt, salt_len)
         || proved_argon2_is_missing(secret, secret_len) || proved_argon2_is_missing(ad, ad_len) || settings == NULL;
+}
+
+/* Without settings there is no text, and so no length. */
+PROVED_ARGON2_CHECKED
+static inline uint64_t proved_argon2_nullable_encoded_len(const proved_argon2_settings *settings, uint32_t salt_len)
+{
+    return settings == NULL ? 0 : proved_argon2_encoded_len(settings, salt_len);
+}
+
+/* As free, it takes a null pointer. */
+static inline void proved_argon2_nullable_memory_free(proved_argon2_memory *memory)
+{
+    if (memory != NULL) {
+        proved_argon2_memory_free(memory);
+    }
 }
 
 PROVED_ARGON2_CHECKED
@@ -295,6 +311,14 @@ static inline uint32_t proved_argon2_nullable_verify_encoded_in(
         proved_argon2_readable(ad, ad_len), ad_len);
 }
 
+/* Whether blocks are at an address that no block has. */
+static inline int proved_argon2_are_misaligned(const proved_argon2_block *blocks, size_t len)
+{
+    uintptr_t address;
+    memcpy(&address, &blocks, sizeof address);
+    return len != 0 && address % sizeof blocks->words[0] != 0;
+}
+
 /* Blocks to read or to write, or the address of spare for none. */
 static inline const proved_argon2_block *proved_argon2_readable_blocks(
     const proved_argon2_block *blocks, size_t len, const proved_argon2_block *spare)
@@ -360,6 +384,9 @@ static inline uint32_t proved_argon2_nullable_job_begin(
     if (job == NULL || proved_argon2_is_missing(own, own_len)) {
         return PROVED_ARGON2_NULL_POINTER;
     }
+    if (proved_argon2_are_misaligned(own, own_len)) {
+        return PROVED_ARGON2_WRONG_BLOCKS;
+    }
     return proved_argon2_job_begin(job, lane, proved_argon2_writable_blocks(own, own_len, &spare), own_len);
 }
 
@@ -376,6 +403,10 @@ static inline uint32_t proved_argon2_nullable_job_fill(
     if (job == NULL || proved_argon2_is_missing(first, first_len) || proved_argon2_is_missing(second, second_len)
         || proved_argon2_is_missing(third, third_len) || proved_argon2_is_missing(own, own_len)) {
         return PROVED_ARGON2_NULL_POINTER;
+    }
+    if (proved_argon2_are_misaligned(first, first_len) || proved_argon2_are_misaligned(second, second_len)
+        || proved_argon2_are_misaligned(third, third_len) || proved_argon2_are_misaligned(own, own_len)) {
+        return PROVED_ARGON2_WRONG_BLOCKS;
     }
     return proved_argon2_job_fill(
         job, pass, slice, lane,
@@ -394,6 +425,9 @@ static inline uint32_t proved_argon2_nullable_job_finish(
     if (job == NULL || proved_argon2_is_missing(last, last_len) || proved_argon2_is_missing(out, out_len)) {
         return PROVED_ARGON2_NULL_POINTER;
     }
+    if (proved_argon2_are_misaligned(last, last_len)) {
+        return PROVED_ARGON2_WRONG_BLOCKS;
+    }
     return proved_argon2_job_finish(
         job, proved_argon2_readable_blocks(last, last_len, &none), last_len,
         proved_argon2_writable(out, out_len, &spare), out_len);
@@ -409,6 +443,9 @@ static inline uint32_t proved_argon2_nullable_job_verify(
     if (job == NULL || proved_argon2_is_missing(last, last_len) || proved_argon2_is_missing(hash, hash_len)
         || proved_argon2_is_missing(tag, tag_len)) {
         return PROVED_ARGON2_NULL_POINTER;
+    }
+    if (proved_argon2_are_misaligned(last, last_len)) {
+        return PROVED_ARGON2_WRONG_BLOCKS;
     }
     return proved_argon2_job_verify(
         job, proved_argon2_readable_blocks(last, last_len, &none), last_len,
@@ -437,7 +474,9 @@ static inline uint32_t proved_argon2_nullable_encode(
 #define proved_argon2_verify_encoded_within proved_argon2_nullable_verify_encoded_within
 #define proved_argon2_read proved_argon2_nullable_read
 #define proved_argon2_needs_rehash proved_argon2_nullable_needs_rehash
+#define proved_argon2_encoded_len proved_argon2_nullable_encoded_len
 #define proved_argon2_message proved_argon2_nullable_message
+#define proved_argon2_memory_free proved_argon2_nullable_memory_free
 #define proved_argon2_hash_raw_in proved_argon2_nullable_hash_raw_in
 #define proved_argon2_hash_encoded_in proved_argon2_nullable_hash_encoded_in
 #define proved_argon2_verify_raw_in proved_argon2_nullable_verify_raw_in

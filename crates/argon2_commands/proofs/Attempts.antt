@@ -1,11 +1,11 @@
 -- What is known of an attempt's steps.
-use Rattle.std.proofs.Common.{◌≡◌, ◌⊎◌, List, ℕ, Option, None, Some, MatchOption, Result, Ok, Err, inl, inr, subst}
+use Rattle.std.proofs.Common.{◌≡◌, List, ℕ, Option, None, Some, MatchOption, Result, Ok, Err, subst}
 use Rattle.std.specs.Option.{ok_or}
-use Rattle.argon2.specs.ErrorType.{Error}
+use Rattle.argon2_commands.specs.Answer.{MayFail}
 use Rattle.argon2_commands.specs.Words.{IsCommand, IsNoCommand}
 use Rattle.argon2_commands.specs.declared.command.Command.{Command}
 use Rattle.argon2_commands.specs.declared.fault.Fault.{Fault}
-use Rattle.argon2_commands.specs.declared.fault.Fault.TheVariants.{Usage, Input, Refused, Output, OutputShort}
+use Rattle.argon2_commands.specs.declared.fault.Fault.TheVariants.{Usage, Output, OutputShort}
 
 -- the command that was read is that of the words
 pub a_command : (words : List (List ℕ)) (read : Option Command) (command : Command) → MatchOption read (IsNoCommand words) (IsCommand words)
@@ -28,10 +28,8 @@ pub status_is_no_usage : {A : Type 0} (status : ℕ) → (let r : Result ℕ Fau
 status_is_no_usage status e = absurd (cc)
 
 -- nor is a fault of a command's answer
-pub answer_is_no_usage : {A : Type 0} (fault : Fault) (P : Error → Type 0) → (fault ≡ Input) ⊎ ((refusal : Error) × (fault ≡ Refused refusal) × P refusal)
-    → fault ≡ Usage → A
-answer_is_no_usage fault P (inl input) usage = absurd (cc (input, usage))
-answer_is_no_usage fault P (inr (refusal, refused, p)) usage = absurd (cc (refused, usage))
+pub answer_is_no_usage : {A : Type 0} (fault : Fault) (command : Command) (input : Option (List ℕ)) → MayFail command input fault → fault ≡ Usage → A
+answer_is_no_usage fault command input may usage = absurd (subst (MayFail command input) usage may)
 
 -- what holds of neither fault of an output does not hold of that of a stream that failed
 pub output_is_not : {A Short : Type 0} (fault : Fault) (P : Fault → Type 0) → (Short → fault ≡ OutputShort) → ((Short → ⊥) → fault ≡ Output)

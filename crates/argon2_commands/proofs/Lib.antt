@@ -1,4 +1,6 @@
 pub mod Attempts
+pub mod Checks
+pub mod Digits
 pub mod Lines
 pub mod Places
 pub mod Reading

@@ -7,7 +7,7 @@ use Rattle.argon2.specs.Outcome.{IsShortage}
 use Rattle.argon2_commands.specs.declared.fault.Fault.{Fault}
 use Rattle.argon2_commands.specs.declared.fault.Fault.TheVariants.{Input, Refused, OutputShort}
 use Rattle.std.specs.Io.KnownBytes.{Keeps}
-use Rattle.argon2_commands.specs.Answer.{MayRefuse}
+use Rattle.argon2_commands.specs.Answer.{MayFail, MayRefuse}
 use Rattle.argon2_commands.specs.Run.{IsRefused}
 use Rattle.argon2_commands.specs.Words.{IsCommand}
 use Rattle.argon2_commands.specs.declared.command.Command.{Command}
@@ -18,31 +18,31 @@ pub passed_on : {A E : Type 0} (result : Result A E) (fault : E) (P : E → Type
 passed_on (Ok _) fault P h p = tt
 passed_on (Err other) fault P h p = subst P (sym h.1) p
 
+pub told : {A E : Type 0} (result : Result A E) (fault : E) (P : E → Type 0) →
+    IsErr result × IsErrAnd result (λ other. other ≡ fault) → P fault → IsErrAnd result P
+told (Ok _) fault P h p = absurd h.1
+told (Err other) fault P h p = subst P (sym h.1) p
+
 -- known bytes are kept where nothing is done to them
 pub untouched : (known : Option (List ℕ)) → Keeps known known
 untouched None = tt
 untouched (Some bytes) = refl
 
 -- where the password cannot be read, memory may have been refused
-pub read_refused : (fault : Fault) (P : Error → Type 0) → (fault ≡ Input) ⊎ (fault ≡ Refused OutOfMemory) → P OutOfMemory
-    → (fault ≡ Input) ⊎ ((refusal : Error) × (fault ≡ Refused refusal) × P refusal)
-read_refused fault P (inl input) p = inl input
-read_refused fault P (inr short) p = inr (OutOfMemory, short, p)
+pub read_fault : (fault : Fault) (command : Command) (input : Option (List ℕ)) → (fault ≡ Input) ⊎ (fault ≡ Refused OutOfMemory)
+    → MayRefuse command input OutOfMemory → MayFail command input fault
+read_fault fault command input (inl failed) may = subst (MayFail command input) (sym failed) tt
+read_fault fault command input (inr short) may = subst (MayFail command input) (sym short) may
 
 -- a refusal among the faults of a command's answer is the command's
-pub is_refused : (words : List (List ℕ)) (input : Option (List ℕ)) (command : Command) (fault : Fault) → IsCommand words command →
-    (fault ≡ Input) ⊎ ((refusal : Error) × (fault ≡ Refused refusal) × MayRefuse command input refusal) → (refusal : Error) → fault ≡ Refused refusal →
-    IsRefused words input refusal
-is_refused words input command fault is (inl other) refusal same = absurd (cc (other, same))
-is_refused words input command fault is (inr (told, same, may)) refusal refused =
-    let e : told ≡ refusal = cc (same, refused) in
-    record { command = command; is_command = is; may_refuse = subst (λ r. MayRefuse command input r) e may }
+pub is_refused : (words : List (List ℕ)) (input : Option (List ℕ)) (command : Command) (fault : Fault) → IsCommand words command
+    → MayFail command input fault → (refusal : Error) → fault ≡ Refused refusal → IsRefused words input refusal
+is_refused words input command fault is may refusal refused =
+    record { command = command; is_command = is; may_refuse = subst (MayFail command input) refused may }
 
 -- and none of them is the output's
-pub is_no_output : {A : Type 0} (fault : Fault) (P : Error → Type 0) → (fault ≡ Input) ⊎ ((refusal : Error) × (fault ≡ Refused refusal) × P refusal)
-    → fault ≡ OutputShort → A
-is_no_output fault P (inl other) short = absurd (cc (other, short))
-is_no_output fault P (inr (refusal, refused, p)) short = absurd (cc (refused, short))
+pub is_no_output : {A : Type 0} (fault : Fault) (command : Command) (input : Option (List ℕ)) → MayFail command input fault → fault ≡ OutputShort → A
+is_no_output fault command input may short = absurd (subst (MayFail command input) short may)
 
 -- what is known of an accepted value, where a refusal would have been an error
 pub at_accepted : {A : Type 0} (refusal : Option Error) (P : Type 0) (value : A) →

@@ -12,22 +12,32 @@ use Rattle.argon2_commands.specs.Words.{IsNoCommand, texts_of}
 use Rattle.argon2_commands.specs.declared.answer.Answer.{Answer}
 use Rattle.argon2_commands.specs.declared.answer.Answer.TheVariants.{Hashed, Verdict}
 use Rattle.argon2_commands.specs.declared.fault.Fault.{Fault}
-use Rattle.argon2_commands.specs.declared.fault.Fault.TheVariants.{Usage, Input, Refused, Output, OutputShort}
+use Rattle.argon2_commands.specs.declared.fault.Fault.TheVariants.{Usage, Input, Refused, TooCostly, Output, OutputShort}
 
 -- ---- faults
 
--- the status of a fault is 2, 3 or 4
-pub fault_bounded : (fault : Fault) (status : ℕ) → status ≡ fault_status fault → status < 5
+-- the status of a fault is 2, 3, 4 or 5
+pub fault_bounded : (fault : Fault) (status : ℕ) → status ≡ fault_status fault → status < 6
 fault_bounded (Refused refusal) status e = omega arith
 fault_bounded Usage status e = omega arith
 fault_bounded Input status e = omega arith
+fault_bounded TooCostly status e = omega arith
 fault_bounded Output status e = omega arith
 fault_bounded OutputShort status e = omega arith
+
+pub fault_above : (fault : Fault) (status : ℕ) → status ≡ fault_status fault → 1 < status
+fault_above (Refused refusal) status e = omega arith
+fault_above Usage status e = omega arith
+fault_above Input status e = omega arith
+fault_above TooCostly status e = omega arith
+fault_above Output status e = omega arith
+fault_above OutputShort status e = omega arith
 
 pub no_fault : {A : Type 0} (fault : Fault) (status : ℕ) → status ≡ fault_status fault → status < 2 → A
 no_fault (Refused refusal) status e low = absurd (omega arith)
 no_fault Usage status e low = absurd (omega arith)
 no_fault Input status e low = absurd (omega arith)
+no_fault TooCostly status e low = absurd (omega arith)
 no_fault Output status e low = absurd (omega arith)
 no_fault OutputShort status e low = absurd (omega arith)
 
@@ -36,8 +46,18 @@ pub at_three : (fault : Fault) (status : ℕ) → status ≡ fault_status fault 
 at_three (Refused refusal) status e three = absurd (omega arith)
 at_three Usage status e three = refl
 at_three Input status e three = absurd (omega arith)
+at_three TooCostly status e three = absurd (omega arith)
 at_three Output status e three = absurd (omega arith)
 at_three OutputShort status e three = absurd (omega arith)
+
+-- 5 is that of a text above the limits
+pub at_five : (fault : Fault) (status : ℕ) → status ≡ fault_status fault → status ≡ 5 → fault ≡ TooCostly
+at_five (Refused refusal) status e five = absurd (omega arith)
+at_five Usage status e five = absurd (omega arith)
+at_five Input status e five = absurd (omega arith)
+at_five TooCostly status e five = refl
+at_five Output status e five = absurd (omega arith)
+at_five OutputShort status e five = absurd (omega arith)
 
 -- 2 is that of a refusal, before anything was written, and of an output that lacked memory
 pub at_two : (fault : Fault) (status : ℕ) (words : List (List ℕ)) (input before after : Option (List ℕ)) → status ≡ fault_status fault →
@@ -46,6 +66,7 @@ pub at_two : (fault : Fault) (status : ℕ) (words : List (List ℕ)) (input bef
 at_two (Refused refusal) status words input before after e refused short kept two = inl ((refusal, refused refusal refl), kept tt)
 at_two Usage status words input before after e refused short kept two = absurd (omega arith)
 at_two Input status words input before after e refused short kept two = absurd (omega arith)
+at_two TooCostly status words input before after e refused short kept two = absurd (omega arith)
 at_two Output status words input before after e refused short kept two = absurd (omega arith)
 at_two OutputShort status words input before after e refused short kept two = inr (short refl)
 
@@ -70,7 +91,7 @@ module _ {words : List (List ℕ)} {input before after : Option (List ℕ)} {sta
   answered_below : Answered words input before after status → status < 2
   answered_below h = subst (λ n. n < 2) (sym h.is_status) (answer_below h.answer)
 
-  pub answered_bounded : Answered words input before after status → status < 5
+  pub answered_bounded : Answered words input before after status → status < 6
   answered_bounded h = let below = answered_below h in omega arith
 
   -- and no other
@@ -104,3 +125,9 @@ module _ (known : Option (List (List ℕ))) where
       → status ≡ 3 → HasNoText known
   unread_words fault status (inl usage) e three = usage.1
   unread_words fault status (inr short) e three = let usage = at_three fault status e three in absurd (cc (short, usage))
+
+  -- and none ends with status 5
+  pub unread_not_costly : {A : Type 0} (fault : Fault) (status : ℕ) → (fault ≡ Usage × HasNoText known) ⊎ (fault ≡ Refused OutOfMemory)
+      → status ≡ fault_status fault → status ≡ 5 → A
+  unread_not_costly fault status (inl usage) e five = let costly = at_five fault status e five in let other = usage.0 in absurd (cc)
+  unread_not_costly fault status (inr short) e five = let costly = at_five fault status e five in absurd (cc (short, costly))

@@ -14,10 +14,16 @@ use Rattle.argon2.specs.Outcome.{IsVerdict}
 use Rattle.argon2.specs.ConfigType.{Config}
 use Rattle.argon2.specs.ErrorType.{Error}
 use Rattle.argon2.specs.ErrorType.TheVariants.{DecodingFail, OutOfMemory}
+use Rattle.argon2.specs.Standard.Limits.{AnswersWithin, is_too_costly}
+use Rattle.argon2.specs.Views.Limits.{default_limits}
+use Rattle.argon2.specs.declared.limits.Unverified.{Unverified}
+use Rattle.argon2.specs.declared.limits.Unverified.TheVariants.{Refused}
 use Rattle.argon2_commands.specs.declared.answer.Answer.{Answer}
 use Rattle.argon2_commands.specs.declared.answer.Answer.TheVariants.{Hashed, Verdict}
 use Rattle.argon2_commands.specs.declared.command.Command.{Command}
-use Rattle.argon2_commands.specs.declared.command.Command.TheVariants.{Hash, Verify, Rehash}
+use Rattle.argon2_commands.specs.declared.command.Command.TheVariants.{Hash, Verify, Check, Rehash}
+use Rattle.argon2_commands.specs.declared.fault.Fault.{Fault}
+use Rattle.argon2_commands.specs.declared.fault.Fault.TheVariants.{Usage, Input, Refused as RefusedFault, TooCostly as TooCostlyFault, Output, OutputShort}
 
 -- 1 for `false`, else 0
 abbrev pub answer_status : Answer → ℕ
@@ -45,6 +51,12 @@ pub record VerifyAnswers (encoded password : List ℕ) (result : Result Bool Err
   pub spelled : (d : Spelled) (config : Config) → Spells encoded d → IsStoredConfig d [] [] config →
       IsVerdict password d.salt d.hash config (nat_lt 1 d.parallelism) result
 
+-- what checking a password against a text within the default limits answers
+pub record CheckAnswers (encoded password : List ℕ) (result : Result Bool Unverified) : Type 0 where
+  pub unspelled : SpellsNothing encoded → result ≡ Err (Refused DecodingFail)
+  pub spelled : (d : Spelled) (config : Config) → Spells encoded d → IsStoredConfig d [] [] config →
+      AnswersWithin (is_too_costly default_limits d) (IsVerdict password d.salt d.hash config (nat_lt 1 d.parallelism)) result
+
 -- what asking whether a text needs a new hash answers
 pub record RehashAnswers (encoded : List ℕ) (config : Config) (result : Result Bool Error) : Type 0 where
   pub unspelled : SpellsNothing encoded → result ≡ Err DecodingFail
@@ -64,11 +76,14 @@ pub record HashAnswers (config : Config) (salt password lines : List ℕ) : Type
 -- accepted; of the others the verdict
 abbrev pub IsAnswer : Command → Option (List ℕ) → Answer → Type 0
 IsAnswer (Hash config salt) input (Hashed lines) =
-    (password : List ℕ) × IsPassword input password × HashAnswers config salt.now password (string_bytes lines)
+    (password : List ℕ) × IsPassword input password × HashAnswers config salt password (string_bytes lines)
 IsAnswer (Hash config salt) input (Verdict verdict) = ⊥
 IsAnswer (Verify encoded) input (Hashed lines) = ⊥
 IsAnswer (Verify encoded) input (Verdict verdict) =
     (password : List ℕ) × IsPassword input password × VerifyAnswers encoded.now password (Ok verdict)
+IsAnswer (Check encoded) input (Hashed lines) = ⊥
+IsAnswer (Check encoded) input (Verdict verdict) =
+    (password : List ℕ) × IsPassword input password × CheckAnswers encoded.now password (Ok verdict)
 IsAnswer (Rehash config encoded) input (Hashed lines) = ⊥
 IsAnswer (Rehash config encoded) input (Verdict verdict) = RehashAnswers encoded.now config (Ok verdict)
 
@@ -83,13 +98,36 @@ IsRefusal config salt password refusal =
 -- read it; `rehash` reads none
 abbrev pub MayRefuse : Command → Option (List ℕ) → Error → Type 0
 MayRefuse (Hash config salt) input refusal = (refusal ≡ OutOfMemory)
-    ⊎ ((password : List ℕ) × IsPassword input password × IsRefusal config salt.now password refusal)
+    ⊎ ((password : List ℕ) × IsPassword input password × IsRefusal config salt password refusal)
 MayRefuse (Verify encoded) input refusal = (refusal ≡ OutOfMemory)
     ⊎ ((password : List ℕ) × IsPassword input password × VerifyAnswers encoded.now password (Err refusal))
+MayRefuse (Check encoded) input refusal = (refusal ≡ OutOfMemory)
+    ⊎ ((password : List ℕ) × IsPassword input password × CheckAnswers encoded.now password (Err (Refused refusal)))
 MayRefuse (Rehash config encoded) input refusal = RehashAnswers encoded.now config (Err refusal)
+
+-- the text spells something, and whatever it spells is above a default limit
+abbrev pub IsTooCostly : List ℕ → Type 0
+IsTooCostly encoded = (SpellsNothing encoded → ⊥) × ((d : Spelled) → Spells encoded d → is_too_costly default_limits d ≡ true)
+
+-- the command is to check such a text
+abbrev pub ChecksTooCostly : Command → Type 0
+ChecksTooCostly (Hash config salt) = ⊥
+ChecksTooCostly (Verify encoded) = ⊥
+ChecksTooCostly (Check encoded) = IsTooCostly encoded.now
+ChecksTooCostly (Rehash config encoded) = ⊥
+
+-- the fault may be that of the command
+abbrev pub MayFail : Command → Option (List ℕ) → Fault → Type 0
+MayFail command input Input = ⊤
+MayFail command input (RefusedFault refusal) = MayRefuse command input refusal
+MayFail command input TooCostlyFault = ChecksTooCostly command
+MayFail command input Usage = ⊥
+MayFail command input Output = ⊥
+MayFail command input OutputShort = ⊥
 
 -- the command needs no input
 abbrev pub NeedsNoInput : Command → Type 0
 NeedsNoInput (Hash config salt) = ⊥
 NeedsNoInput (Verify encoded) = ⊥
+NeedsNoInput (Check encoded) = ⊥
 NeedsNoInput (Rehash config encoded) = ⊤

@@ -3,15 +3,24 @@ use Rattle.std.specs.Prelude.{ℕ, List, [], ◌++◌, codes, ⊤}
 use Rattle.argon2.specs.Messages.{message_of}
 use Rattle.argon2_commands.specs.declared.fault.Fault.{Fault}
 use Rattle.argon2.specs.ErrorType.TheVariants.{OutOfMemory}
-use Rattle.argon2_commands.specs.declared.fault.Fault.TheVariants.{Usage, Input, Refused, Output, OutputShort}
+use Rattle.argon2.specs.Views.Limits.{message_of as unverified_text}
+use Rattle.argon2.specs.declared.limits.Unverified.{Unverified}
+use Rattle.argon2.specs.declared.limits.Unverified.TheVariants.{TooCostly as UnverifiedTooCostly, Refused as UnverifiedRefused}
+use Rattle.argon2_commands.specs.declared.fault.Fault.TheVariants.{Usage, Input, Refused, TooCostly, Output, OutputShort}
+
+-- the fault of a text that was not verified within limits
+abbrev pub fault_of : Unverified → Fault
+fault_of UnverifiedTooCostly = TooCostly
+fault_of (UnverifiedRefused refusal) = Refused refusal
 
 -- 2 for a refusal and for want of memory, 3 for words of no command, 4 where a stream failed for another
--- reason
+-- reason, 5 for a text above the limits
 abbrev pub fault_status : Fault → ℕ
 fault_status (Refused refusal) = 2
 fault_status Usage = 3
 fault_status Input = 4
 fault_status Output = 4
+fault_status TooCostly = 5
 fault_status OutputShort = 2
 
 -- nothing was written before the fault
@@ -19,6 +28,7 @@ abbrev pub IsBeforeOutput : Fault → Type 0
 IsBeforeOutput (Refused refusal) = ⊤
 IsBeforeOutput Usage = ⊤
 IsBeforeOutput Input = ⊤
+IsBeforeOutput TooCostly = ⊤
 IsBeforeOutput Output = ⊥
 IsBeforeOutput OutputShort = ⊥
 
@@ -27,5 +37,6 @@ abbrev pub line_of : Fault → List ℕ
 line_of (Refused refusal) = message_of refusal ++ codes "\n"
 line_of Usage = codes "usage\n"
 line_of Input = codes "input\n"
+line_of TooCostly = unverified_text UnverifiedTooCostly ++ codes "\n"
 line_of Output = []
 line_of OutputShort = message_of OutOfMemory ++ codes "\n"

@@ -1,9 +1,9 @@
 -- What a run does.
 use Rattle.std.specs.Prelude.{◌≡◌, ◌⊎◌, ℕ, List, Option}
 use Rattle.std.specs.Io.KnownBytes.{Appends, Keeps}
-use Rattle.argon2_commands.specs.Answer.{IsAnswer, MayRefuse, NeedsNoInput, answer_status, lines_of}
+use Rattle.argon2_commands.specs.Answer.{IsAnswer, IsTooCostly, MayRefuse, NeedsNoInput, answer_status, lines_of}
 use Rattle.argon2_commands.specs.CommandLine.{AreWords}
-use Rattle.argon2_commands.specs.Words.{IsCommand}
+use Rattle.argon2_commands.specs.Words.{IsCheck, IsCommand}
 use Rattle.argon2.specs.ErrorType.{Error}
 use Rattle.argon2_commands.specs.declared.answer.Answer.{Answer}
 use Rattle.argon2_commands.specs.declared.command.Command.{Command}
@@ -30,6 +30,12 @@ pub record IsRefused (words : List (List ℕ)) (input : Option (List ℕ)) (refu
   pub command : Command
   pub is_command : IsCommand words command
   pub may_refuse : MayRefuse command input refusal
+
+-- the words are to check a text that is above a default limit
+pub record AreTooCostly (words : List (List ℕ)) : Type 0 where
+  pub encoded : List ℕ
+  pub is_check : IsCheck words encoded
+  pub is_costly : IsTooCostly encoded
 
 -- the words are those of a command that needs no input, or of none
 abbrev pub NeedNoInput : List (List ℕ) → Type 0

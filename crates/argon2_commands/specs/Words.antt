@@ -1,5 +1,5 @@
 -- How the words of a command are read.
-use Rattle.std.specs.Prelude.{◌≡◌, ℕ, ◌<◌, ◌^◌, List, [], ◌++◌, codes, length, map, slice_index_or, string_bytes}
+use Rattle.std.specs.Prelude.{◌≡◌, ℕ, ◌<◌, ◌^◌, List, [], ◌++◌, codes, length, map, slice_index_or, string_bytes, Some}
 use Rattle.std.specs.Str.Parse.{IsNumeral, digits_value, without_leading_plus}
 use Rattle.std.specs.declared.alloc.Global.{Global}
 use Rattle.std.specs.declared.string.String.{String}
@@ -8,8 +8,9 @@ use Rattle.argon2.specs.Version.{version_text}
 use Rattle.argon2.specs.ConfigType.{Config}
 use Rattle.argon2.specs.ThreadModeType.{ThreadMode}
 use Rattle.argon2.specs.ThreadModeType.TheVariants.{Sequential, Parallel, AtMost}
+use Rattle.argon2_commands.specs.Salts.{salt_of}
 use Rattle.argon2_commands.specs.declared.command.Command.{Command}
-use Rattle.argon2_commands.specs.declared.command.Command.TheVariants.{Hash, Verify, Rehash}
+use Rattle.argon2_commands.specs.declared.command.Command.TheVariants.{Hash, Verify, Check, Rehash}
 
 -- the bytes of each word
 abbrev pub texts_of : List (String Global) → List (List ℕ)
@@ -49,12 +50,18 @@ pub record IsHash (words : List (List ℕ)) (config : Config) (salt : List ℕ) 
   pub name : word words 0 ≡ codes "hash"
   pub settings : AreSettings words config
   pub mode : IsMode (word words 7) config.thread_mode
-  pub salted : salt ≡ word words 8
+  pub salted : salt_of (word words 8) ≡ Some salt
 
 -- verify TEXT
 pub record IsVerify (words : List (List ℕ)) (encoded : List ℕ) : Type 0 where
   pub count : length words ≡ 2
   pub name : word words 0 ≡ codes "verify"
+  pub text : encoded ≡ word words 1
+
+-- check TEXT
+pub record IsCheck (words : List (List ℕ)) (encoded : List ℕ) : Type 0 where
+  pub count : length words ≡ 2
+  pub name : word words 0 ≡ codes "check"
   pub text : encoded ≡ word words 1
 
 -- rehash VARIANT VERSION T M P LEN TEXT
@@ -67,8 +74,9 @@ pub record IsRehash (words : List (List ℕ)) (config : Config) (encoded : List 
 
 -- the words are those of the command
 abbrev pub IsCommand : List (List ℕ) → Command → Type 0
-IsCommand words (Hash config salt) = IsHash words config salt.now
+IsCommand words (Hash config salt) = IsHash words config salt
 IsCommand words (Verify encoded) = IsVerify words encoded.now
+IsCommand words (Check encoded) = IsCheck words encoded.now
 IsCommand words (Rehash config encoded) = IsRehash words config encoded.now
 
 -- the words are those of no command

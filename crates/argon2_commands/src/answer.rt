@@ -7,7 +7,7 @@ ghost use Rattle.argon2.specs.ThreadModes.{may_lack_workers};
 ghost use Rattle.argon2.specs.SettingsTable.{refusal_of};
 ghost use Rattle.argon2.specs.ErrorType.{Error};
 ghost use Rattle.argon2.specs.ErrorType.TheVariants.{OutOfMemory};
-ghost use Rattle.argon2_commands.specs.Answer.{IsAnswer, IsPassword, IsRefusal, MayRefuse, NeedsNoInput, answer_status, hash_lines, lines_of};
+ghost use Rattle.argon2_commands.specs.Answer.{CheckAnswers, IsAnswer, IsPassword, IsRefusal, MayFail, NeedsNoInput, answer_status, hash_lines, lines_of};
 
 use crate::command::Command;
 use crate::fault::Fault;
@@ -15,10 +15,13 @@ use argon2::parts::context::Context;
 use argon2::parts::encoding::encode_string;
 use argon2::parts::fill::tag;
 use argon2::parts::memory::Memory;
-use argon2::{Config, Error, needs_rehash, verify_encoded};
+use argon2::{
+    Config, Error, Limits, Unverified, needs_rehash, verify_encoded, verify_encoded_within,
+};
 use std::alloc::Global;
 use std::io::Read;
 use std::marker::Sync;
+use std::result;
 use std::sync::Wait;
 use std::thread::Threads;
 
@@ -41,16 +44,15 @@ impl Answer {
         input: &mut I,
     ) -> Result<Answer, Fault>
         ensures answer { IfOk result (IsAnswer command.now (I.remaining input.old)) }
-        ensures fault { IfErr result (λ fault. (fault ≡ Fault.Input)
-            ⊎ ((refusal : Error) × (fault ≡ Fault.Refused refusal)
-            × MayRefuse command.now (I.remaining input.old) refusal)) }
+        ensures fault { IfErr result (MayFail command.now (I.remaining input.old)) }
         ensures unread { NeedsNoInput command.now
             → Keeps (I.remaining input.old) (I.remaining input.new) }
     {
-        match *command {
+        match command {
             Command::Hash { config, salt } => {
                 let password = read_password(alloc, input)?;
-                let lines = hash_lines(rt, alloc, password.as_slice(), salt, config)?;
+                let salt = salt.to_bytes(alloc)?;
+                let lines = hash_lines(rt, alloc, password.as_slice(), salt.as_slice(), *config)?;
                 Ok(Answer::Hashed(lines))
             }
             Command::Verify { encoded } => {
@@ -58,8 +60,13 @@ impl Answer {
                 let verdict = verify_encoded(rt, alloc, encoded, password.as_slice())?;
                 Ok(Answer::Verdict(verdict))
             }
+            Command::Check { encoded } => {
+                let password = read_password(alloc, input)?;
+                let verdict = verify_within(rt, alloc, encoded, password.as_slice())?;
+                Ok(Answer::Verdict(verdict))
+            }
             Command::Rehash { config, encoded } => {
-                Ok(Answer::Verdict(needs_rehash(alloc, encoded, &config)?))
+                Ok(Answer::Verdict(needs_rehash(alloc, encoded, config)?))
             }
         }
     }
@@ -100,6 +107,19 @@ fn read_password<I: Read>(alloc: Global, input: &mut I) -> Result<Vec<u8>, Fault
             Fault::Input,
         )),
     }
+}
+
+/// Whether a password is that of a text that asks for no more than the default limits.
+fn verify_within<R: Threads + Wait + Sync>(
+    rt: &R,
+    alloc: Global,
+    encoded: &str,
+    password: &[u8],
+) -> result::Result<bool, Unverified>
+    ensures { CheckAnswers encoded.now password.now result }
+{
+    let limits = Limits::default();
+    verify_encoded_within(rt, alloc, encoded, password, &[], &[], &limits)
 }
 
 /// The tag of an accepted call in lower-case hexadecimal and its encoded text, a line each. It goes

@@ -5,19 +5,25 @@ ghost use Rattle.argon2.specs.ConfigType.{Config};
 ghost use Rattle.argon2.specs.ThreadModeType.{ThreadMode};
 ghost use Rattle.argon2_commands.specs.Words.{AreSettings, IsCommand, IsMode, IsNoCommand, IsNumber, texts_of};
 
+use crate::salt::Salt;
 use argon2::{Config, ThreadMode, Variant, Version};
 
 /// What the program does.
-#[derive(Clone, Copy, Debug, PartialEq)]
+#[derive(Debug, Drop)]
 pub enum Command<'a> {
     /// `hash VARIANT VERSION T M P LEN MODE SALT`: the tag of the password, and its encoded text.
     Hash {
         config: Config<'a>,
-        salt: &'a [u8],
+        salt: Salt<'a>,
     },
 
     /// `verify TEXT`: whether the password is that of an encoded text.
     Verify {
+        encoded: &'a str,
+    },
+
+    /// `check TEXT`: the same, where the text asks for no more than the default limits.
+    Check {
         encoded: &'a str,
     },
 
@@ -38,10 +44,13 @@ impl<'a> Command<'a> {
             [name, _, _, _, _, _, _, mode, salt] if name.as_str() == "hash" => Some(
                 Command::Hash {
                     config: settings_of(words, mode_of(mode.as_str())?)?,
-                    salt: salt.as_bytes(),
+                    salt: Salt::from_word(salt.as_str())?,
                 },
             ),
             [name, encoded] if name.as_str() == "verify" => Some(Command::Verify {
+                encoded: encoded.as_str(),
+            }),
+            [name, encoded] if name.as_str() == "check" => Some(Command::Check {
                 encoded: encoded.as_str(),
             }),
             [name, _, _, _, _, _, _, encoded] if name.as_str() == "rehash" => Some(

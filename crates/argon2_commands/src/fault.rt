@@ -4,10 +4,10 @@ ghost use Rattle.std.specs.Prelude.{◌≡◌, ◌≢◌, OnOk};
 ghost use Rattle.std.specs.IoError.{error_kind};
 ghost use Rattle.std.specs.Io.KnownBytes.{Appends};
 ghost use Rattle.argon2.specs.ErrorType.TheVariants.{OutOfMemory};
-ghost use Rattle.argon2_commands.specs.Fault.{fault_status, line_of};
+ghost use Rattle.argon2_commands.specs.Fault.{fault_of, fault_status, line_of};
 ghost use Rattle.argon2_commands.specs.declared.fault.Fault.TheVariants.{Refused};
 
-use argon2::Error;
+use argon2::{Error, Unverified};
 use std::alloc::{AllocError, AllocFailed};
 use std::io;
 use std::io::{ErrorKind, Write};
@@ -23,6 +23,9 @@ pub enum Fault {
 
     /// The call was refused, or memory was before there was an answer.
     Refused(Error),
+
+    /// The text asks for more than the limits.
+    TooCostly,
 
     /// The answer could not be written.
     Output,
@@ -45,7 +48,7 @@ impl Fault {
     }
 
     /// The exit status: 2 for a refusal and for want of memory, 3 for wrong words, 4 where a stream
-    /// failed for another reason.
+    /// failed for another reason, 5 for a text above the limits.
     pub fn status(&self) -> u8
         ensures { result ≡ fault_status self.now }
     {
@@ -53,6 +56,7 @@ impl Fault {
             Fault::Refused(_) | Fault::OutputShort => 2,
             Fault::Usage => 3,
             Fault::Input | Fault::Output => 4,
+            Fault::TooCostly => 5,
         }
     }
 
@@ -74,6 +78,10 @@ impl Fault {
             Fault::Usage => errors.write_all(b"usage\n")?,
             Fault::Input => errors.write_all(b"input\n")?,
             Fault::Refused(refusal) => writeln!(errors, "{refusal}")?,
+            Fault::TooCostly => {
+                let reason = Unverified::TooCostly;
+                writeln!(errors, "{reason}")?;
+            }
             Fault::OutputShort => {
                 let refusal = Error::OutOfMemory;
                 writeln!(errors, "{refusal}")?;
@@ -89,6 +97,17 @@ impl From<Error> for Fault {
 
     fn from(refusal: Error) -> Fault {
         Fault::Refused(refusal)
+    }
+}
+
+impl From<Unverified> for Fault {
+    ghost from_gives = { λ unverified fault. fault ≡ fault_of unverified };
+
+    fn from(unverified: Unverified) -> Fault {
+        match unverified {
+            Unverified::TooCostly => Fault::TooCostly,
+            Unverified::Refused(refusal) => Fault::Refused(refusal),
+        }
     }
 }
 

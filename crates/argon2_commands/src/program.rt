@@ -1,12 +1,13 @@
 //! The program over any input and outputs.
 
-ghost use Rattle.std.specs.Prelude.{◌≡◌, ◌≢◌, ◌<◌, ◌↔◌, ◌⊎◌, IfErr, IfOk, IfSome, OnOk};
+ghost use Rattle.std.specs.Prelude.{◌≡◌, ◌≢◌, ◌<◌, ◌↔◌, ◌⊎◌, IfErr, IfOk, IfSome, IsErrAnd, OnOk};
 ghost use Rattle.std.specs.Process.{exit_status};
 ghost use Rattle.std.specs.Io.KnownBytes.{Appends, Keeps};
 ghost use Rattle.argon2.specs.ErrorType.{Error};
+ghost use Rattle.argon2.specs.ErrorType.TheVariants.{OutOfMemory};
 ghost use Rattle.argon2_commands.specs.Fault.{IsBeforeOutput};
 ghost use Rattle.argon2_commands.specs.CommandLine.{HasNoText};
-ghost use Rattle.argon2_commands.specs.Run.{Answered, HasAnswer, IsRefused, IsShortOrRefused, NeedNoInput, OfWords};
+ghost use Rattle.argon2_commands.specs.Run.{Answered, AreTooCostly, HasAnswer, IsRefused, IsShortOrRefused, NeedNoInput, OfWords};
 ghost use Rattle.argon2_commands.specs.Words.{IsNoCommand, texts_of};
 
 use crate::answer::Answer;
@@ -31,7 +32,7 @@ pub fn start<R: Threads + Wait + Sync, L: CommandLine, I: Read, O: Write, E: Wri
     output: &mut O,
     errors: &mut E,
 ) -> ExitCode
-    ensures bounded { exit_status result < 5 }
+    ensures bounded { exit_status result < 6 }
     ensures answered { exit_status result < 2 → OfWords (L.arguments line.now) (λ words.
         Answered words (I.remaining input.old) (O.contents output.old) (O.contents output.new)
         (exit_status result)) }
@@ -39,6 +40,8 @@ pub fn start<R: Threads + Wait + Sync, L: CommandLine, I: Read, O: Write, E: Wri
         ⊎ OfWords (L.arguments line.now) IsNoCommand }
     ensures refused { exit_status result ≡ 2 → Keeps (O.contents output.old) (O.contents output.new)
         ⊎ OfWords (L.arguments line.now) (λ words. HasAnswer words (I.remaining input.old)) }
+    ensures costly { exit_status result ≡ 5 → Keeps (O.contents output.old) (O.contents output.new)
+        × OfWords (L.arguments line.now) AreTooCostly }
     ensures unwritten { exit_status result ≡ 3
         → Keeps (O.contents output.old) (O.contents output.new) }
     ensures silent { exit_status result < 2
@@ -58,12 +61,14 @@ pub fn start<R: Threads + Wait + Sync, L: CommandLine, I: Read, O: Write, E: Wri
 /// |---|---|
 /// | `hash VARIANT VERSION T M P LEN MODE SALT` | the tag in lower-case hexadecimal and the encoded text, a line each |
 /// | `verify TEXT` | `true` or `false`: whether the input is the password of the text |
+/// | `check TEXT` | the same for a text that asks for no more than the default limits |
 /// | `rehash VARIANT VERSION T M P LEN TEXT` | `true` or `false`: whether the text was made with other settings |
 ///
-/// The password is all of `input`; `rehash` does not read it. The answer is written to `output`, with
-/// status 0, or 1 for `false`. Else a line is written to `errors`: a refusal (status 2), `usage` for words
-/// that are none of these (3), `input` where the input cannot be read (4). Where the output cannot be
-/// written, the status is 4 and no line is added. A fault of an earlier kind in the order words, input,
+/// The password is all of `input`; `rehash` does not read it. A salt that begins with `hex:` is the
+/// bytes of the hexadecimal digits behind that. The answer is written to `output`, with status 0, or 1
+/// for `false`. Else a line is written to `errors`: a refusal (status 2), `usage` for words that are none
+/// of these (3), `input` where the input cannot be read (4), or that a text is above the limits (5).
+/// Where the output cannot be written, the status is 4 and no line is added. A fault of an earlier kind in the order words, input,
 /// call, output is told first, and nothing is written to `output` before the answer is whole.
 pub fn run<R: Threads + Wait + Sync, I: Read, O: Write, E: Write>(
     rt: &R,
@@ -73,12 +78,15 @@ pub fn run<R: Threads + Wait + Sync, I: Read, O: Write, E: Write>(
     output: &mut O,
     errors: &mut E,
 ) -> u8
-    ensures bounded { result < 5 }
+    ensures bounded { result < 6 }
     ensures answered { result < 2 → Answered (texts_of words.now) (I.remaining input.old)
         (O.contents output.old) (O.contents output.new) result }
     ensures usage { (result ≡ 3) ↔ IsNoCommand (texts_of words.now) }
     ensures refused { result ≡ 2 → IsShortOrRefused (texts_of words.now) (I.remaining input.old)
         (O.contents output.old) (O.contents output.new) }
+    ensures costly { result ≡ 5 → Keeps (O.contents output.old) (O.contents output.new)
+        × AreTooCostly (texts_of words.now) }
+    ensures judged { AreTooCostly (texts_of words.now) → 1 < result }
     ensures unwritten { result ≡ 3 → Keeps (O.contents output.old) (O.contents output.new) }
     ensures unread { NeedNoInput (texts_of words.now)
         → Keeps (I.remaining input.old) (I.remaining input.new) }
@@ -105,6 +113,11 @@ pub fn attempt<R: Threads + Wait + Sync, I: Read, O: Write>(
     ensures usage { (result ≡ Err Fault.Usage) ↔ IsNoCommand (texts_of words.now) }
     ensures refused { IfErr result (λ fault. (refusal : Error) → fault ≡ Fault.Refused refusal
         → IsRefused (texts_of words.now) (I.remaining input.old) refusal) }
+    ensures costly { IfErr result (λ fault. fault ≡ Fault.TooCostly
+        → AreTooCostly (texts_of words.now)) }
+    ensures judged { AreTooCostly (texts_of words.now) → IsErrAnd result (λ fault.
+        (fault ≡ Fault.TooCostly) ⊎ ((fault ≡ Fault.Input)
+        ⊎ (fault ≡ Fault.Refused OutOfMemory))) }
     ensures short { IfErr result (λ fault. fault ≡ Fault.OutputShort
         → HasAnswer (texts_of words.now) (I.remaining input.old)) }
     ensures unwritten { IfErr result (λ fault. IsBeforeOutput fault

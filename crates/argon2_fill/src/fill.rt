@@ -1,4 +1,4 @@
-//! A memory for a call, the fill of its slices, and all stages of a hash.
+//! The stages of a hash: a memory, the first blocks of each lane, the fill of all slices, and the tag.
 
 ghost use Rattle.std.specs.Prelude.{◌≡◌, ℕ, ◌+◌, ◌-◌, ◌*◌, ◌%◌, ◌^◌, ◌<◌, ◌≤◌, ◌++◌, [], IfErr, IfOk, IsOk, OnErr, OnOk, false, length, slice_index_or, true, vec_len};
 ghost use Rattle.argon2_standard.specs.Standard.Outcome.{IsShortage};
@@ -6,19 +6,28 @@ ghost use Rattle.argon2_standard.specs.Standard.ThreadModes.{may_lack_workers, u
 ghost use Rattle.argon2_memory.specs.Views.Jobs.{setting_of_context};
 ghost use Rattle.argon2_memory.specs.Views.Filling.{no_segment};
 ghost use Rattle.argon2_memory.specs.Standard.Kept.{HasShape, HoldsFill, HoldsLastPass, IsLeft, block_of, no_memory};
-ghost use Rattle.argon2_memory.specs.Laws.Matrix.{IsBegun};
-ghost use Rattle.argon2_memory.specs.Views.Memories.{AreSlices, IsFilledBelow, blocks_written, slice_writes, writes, writes_in};
+ghost use Rattle.argon2_memory.specs.Laws.Matrix.{IsBegun, matrix_with};
+ghost use Rattle.argon2_memory.specs.Views.Memories.{AreSlices, IsFilledBelow, blocks_written, slice_writes, writes, writes_in, last_blocks_of};
 ghost use Rattle.argon2_memory.specs.Laws.Schedule.{blocks_in_slice};
 ghost use Rattle.argon2_memory.specs.Views.Segments.{IsReady, segment_at};
 ghost use Rattle.argon2_standard.specs.Standard.Setting.{memory_blocks};
 ghost use Rattle.argon2_memory.specs.Views.SliceLists.{segments_of};
-ghost use Rattle.argon2_standard.specs.Standard.Tag.{tag_of};
+ghost use Rattle.argon2_standard.specs.Standard.Tag.{tag_of, tag_from};
+ghost use Rattle.std.specs.Int.{to_le_bytes, w32};
+ghost use Rattle.argon2_standard.specs.Standard.Recurrence.{first_block};
+ghost use Rattle.std.specs.List.{fold};
+ghost use Rattle.argon2_blocks.specs.Standard.Block.{block_bytes, xor, zero_block};
+ghost use Rattle.argon2_blocks.specs.Standard.Hprime.{hprime};
 
-use crate::first_blocks::initialize;
-use crate::last_blocks::finalize;
 use crate::workers::{NoGate, fill_parallel};
-use argon2_memory::job::{Job, numbered_job, recall_context, recall_job, slice_count};
-use argon2_memory::memory::{Memory, Slices, memory_of_slices, take_slices};
+use argon2_blocks::blake2b::{hprime, hprime_both};
+use argon2_blocks::block::Block;
+use argon2_blocks::common::{BLOCK_SIZE, PREHASH_DIGEST_LENGTH, PREHASH_SEED_LENGTH};
+use argon2_blocks::wiping::wipe;
+use argon2_memory::job::{
+    Job, numbered_job, prehash_of_job, recall_context, recall_job, slice_count,
+};
+use argon2_memory::memory::{Memory, Slices, memory_of_slices, recall_memory, take_slices};
 use argon2_memory::segment::{Segment, Snapshot, fill_segment, others, take_slice};
 use argon2_settings::context::Context;
 use argon2_standard::error::Error;
@@ -46,6 +55,88 @@ pub fn prepare_memory(alloc: Global, context: &Context<'_>, memory: &mut Memory)
     *memory = Memory::empty(alloc);
     *memory = Memory::new(alloc, lanes, context.lane_length)?;
     Ok(())
+}
+
+/// Writes the first two blocks of each lane (RFC 9106, 3.2, steps 3 and 4), and no others. The
+/// memory has the context's lanes and lane length.
+pub fn initialize(context: &Context<'_>, memory: &mut Memory)
+    requires shape { HasShape (setting_of_context context.now) memory.old }
+    ensures shape { HasShape (setting_of_context context.now) memory.new }
+    ensures begun { IsBegun (setting_of_context context.now) (block_of memory.new) }
+    ensures others { (lane column : ℕ) → 2 ≤ column
+        → block_of memory.new lane column ≡ block_of memory.old lane column }
+    ensures writes { writes memory.new ≡ (writes memory.old + 2 * context.now.config.lanes) % 2 ^ 64 }
+{
+    recall_context(context);
+    let job = Job::new(context);
+    for lane in 0..job.lanes() {
+        write_first(&job, lane, memory);
+    }
+}
+
+/// Writes what one of a lane's first two blocks is hashed from.
+fn first_input(prehash: &[u8; PREHASH_DIGEST_LENGTH], lane: u32, column: u32, out: &mut [u8])
+    requires { length out.old ≡ 72 }
+    ensures { out.new ≡ prehash.now ++ to_le_bytes w32 column ++ to_le_bytes w32 lane }
+{
+    let (head, rest) = out.split_at_mut(PREHASH_DIGEST_LENGTH);
+    let (middle, tail) = rest.split_at_mut(4);
+    head.copy_from_slice(prehash);
+    middle.copy_from_slice(&column.to_le_bytes());
+    tail.copy_from_slice(&lane.to_le_bytes());
+}
+
+/// Writes both of a lane's first two blocks (RFC 9106, 3.2, steps 3 and 4), which takes less time
+/// than one after the other.
+#[tactic(auto, unfolding(argon2_standard::specs::Standard::Recurrence::first_block))]
+pub fn write_first_blocks(job: &Job, lane: u32, first: &mut Block, second: &mut Block)
+    ensures first { first.new ≡ first_block job.now.setting
+        (record { pass = 0; lane = lane; column = 0 }) }
+    ensures second { second.new ≡ first_block job.now.setting
+        (record { pass = 0; lane = lane; column = 1 }) }
+{
+    let mut first_seed = [0; PREHASH_SEED_LENGTH];
+    let mut second_seed = [0; PREHASH_SEED_LENGTH];
+    let mut prehash = prehash_of_job(job);
+    first_input(&prehash, lane, 0, &mut first_seed);
+    first_input(&prehash, lane, 1, &mut second_seed);
+    wipe(&mut prehash, 0);
+    let mut first_bytes = [0; BLOCK_SIZE];
+    let mut second_bytes = [0; BLOCK_SIZE];
+    hprime_both(
+        &mut first_bytes,
+        &mut second_bytes,
+        &first_seed,
+        &second_seed,
+    );
+    first.set_u8(&first_bytes);
+    second.set_u8(&second_bytes);
+    wipe(&mut first_seed, 0);
+    wipe(&mut second_seed, 0);
+    wipe(&mut first_bytes, 0);
+    wipe(&mut second_bytes, 0);
+}
+
+/// Writes a lane's first two blocks.
+fn write_first(job: &Job, lane: u32, memory: &mut Memory)
+    requires shape { HasShape job.now.setting memory.old }
+    requires lane_fits { lane < job.now.setting.lanes }
+    ensures shape { HasShape job.now.setting memory.new }
+    ensures blocks { let block = λ (column : ℕ). first_block job.now.setting
+        (record { pass = 0; lane = lane; column = column }) in
+        (l c : ℕ) → block_of memory.new l c ≡ matrix_with
+        (matrix_with (block_of memory.old) lane 0 (block 0)) lane 1 (block 1) l c }
+    ensures writes { writes memory.new ≡ (writes memory.old + 2) % 2 ^ 64 }
+{
+    recall_job(job);
+    recall_memory(memory);
+    let mut first = Block::zero();
+    let mut second = Block::zero();
+    write_first_blocks(job, lane, &mut first, &mut second);
+    memory.set(lane, 0, &first);
+    memory.set(lane, 1, &second);
+    first.wipe();
+    second.wipe();
 }
 
 /// Fills all slices of all passes in the caller's thread, lane after lane. The memory has the
@@ -154,6 +245,57 @@ pub fn fill_memory_blocks<R: Threads + Wait + Sync>(
         return Ok(());
     }
     fill_parallel(rt, alloc, context, memory, &NoGate)
+}
+
+/// The exclusive or of the last blocks of all lanes.
+fn combine_last_blocks(memory: &Memory, lanes: u32, column: u32, out: &mut Block)
+    requires zero { out.old ≡ zero_block }
+    requires lanes_fit { lanes ≡ memory.now.lanes }
+    requires last { column + 1 ≡ 4 * memory.now.segment_length }
+    ensures { out.new ≡ fold xor zero_block (last_blocks_of memory.now) }
+{
+    for lane in 0..lanes {
+        *out ^= &memory[(lane, column)];
+    }
+}
+
+/// Writes the hash of the combined last blocks (RFC 9106, 3.2, step 8), and overwrites these.
+pub(crate) fn write_tag(block: &mut Block, out: &mut [u8])
+    requires some { 0 < length out.old }
+    requires few { length out.old < 2 ^ 32 }
+    ensures hash { out.new ≡ hprime (length out.old) (block_bytes block.old) }
+    ensures wiped { block.new ≡ zero_block }
+{
+    let mut bytes = block.as_u8();
+    hprime(out, &bytes);
+    wipe(&mut bytes, 0);
+    block.wipe();
+}
+
+/// The hash of the last blocks of all lanes, combined (RFC 9106, 3.2, steps 7 and 8): the tag,
+/// where the memory is filled. The memory has the context's lanes and lane length. Where memory is
+/// refused: `OutOfMemory`.
+#[tactic(auto, unfolding(argon2_standard::specs::Standard::SettingsTable::refusal_of))]
+pub fn finalize(alloc: Global, context: &Context<'_>, memory: &Memory) -> Result<Vec<u8>>
+    requires shape { HasShape (setting_of_context context.now) memory.now }
+    ensures hash { IfOk result (λ tag. tag.items
+        ≡ tag_from (last_blocks_of memory.now) context.now.config.hash_length) }
+    ensures tag { let c = context.now in HoldsLastPass (setting_of_context c) (block_of memory.now)
+        → IfOk result (λ tag. tag.items ≡ tag_of c.pwd.now c.salt.now c.config c.config.hash_length) }
+    ensures length { IfOk result (λ tag. vec_len tag ≡ context.now.config.hash_length) }
+    ensures refused { IfErr result (λ e. e ≡ Error.OutOfMemory) }
+{
+    recall_context(context);
+    let mut block = Block::zero();
+    combine_last_blocks(
+        memory,
+        context.config.lanes,
+        context.lane_length - 1,
+        &mut block,
+    );
+    let mut tag = vec![in alloc; 0u8; context.config.hash_length as usize]?;
+    write_tag(&mut block, &mut tag[..]);
+    Ok(tag)
 }
 
 /// The tag of an accepted call, computed over a memory in the thread mode of the configuration: all

@@ -11,8 +11,7 @@ ghost use Rattle.argon2_memory.specs.Views.Segments.{IsReady};
 ghost use Rattle.argon2_fill.specs.Laws.Lent.{EveryLentRunAgrees};
 ghost use Rattle.argon2_standard.specs.Standard.Tag.{last_blocks, tag_from, tag_of};
 
-use crate::first_blocks::write_first_blocks;
-use argon2_blocks::blake2b::hprime;
+use crate::fill::{write_first_blocks, write_tag};
 use argon2_blocks::block::Block;
 use argon2_blocks::common::SYNC_POINTS;
 use argon2_memory::job::{Job, numbered_job, recall_context, recall_job, slice_count};
@@ -191,7 +190,7 @@ pub fn finalize_lent(job: &Job, slice: &[Block], out: &mut [u8])
     recall_job(job);
     let mut block = Block::zero();
     combine_last_lent(job, slice, &mut block);
-    hprime(out, &block.as_u8());
+    write_tag(&mut block, out);
 }
 
 /// The tag of an accepted call, computed in the caller's thread over a memory that is lent whole,

@@ -2,7 +2,5 @@
 #![tactic(auto)]
 
 pub mod fill;
-pub mod first_blocks;
-pub mod last_blocks;
 pub mod lent;
 pub mod workers;

@@ -4,3 +4,5 @@ pub mod Slices
 pub mod Written
 pub mod Made
 pub mod Lent
+pub mod Beside
+pub mod Wiped

@@ -1,7 +1,7 @@
 //! The matrix of blocks, as four slices of segments.
 
 ghost use Rattle.std.specs.Prelude.{◌≡◌, ◌*◌, ◌%◌, ◌^◌, ◌<◌, [], IfOk, map, replicate, slice_index_or, ◌+◌, ◌/◌, ◌≤◌, IfErr, length};
-ghost use Rattle.argon2_memory.specs.Views.Memories.{slice_writes, writes_in, zero_segment, AreSlices, IsMemory, MemoryValue, block_of, no_memory, segment_in, set_in, writes, zero_memory};
+ghost use Rattle.argon2_memory.specs.Views.Memories.{wiped_memory, wiped_segment, slice_writes, writes_in, zero_segment, AreSlices, IsMemory, MemoryValue, block_of, no_memory, segment_in, set_in, writes, zero_memory};
 ghost use Rattle.argon2_memory.specs.Views.SliceLists.{segments_of};
 
 use crate::segment::Segment;
@@ -56,6 +56,24 @@ fn empty_slices(alloc: Global) -> Slices
     ]
 }
 
+/// Overwrites all blocks of a slice with zeros.
+fn wipe_slice(segments: &mut [Segment])
+    ensures { segments.new ≡ map wiped_segment segments.old }
+{
+    for segment in segments.iter_mut() {
+        segment.wipe();
+    }
+}
+
+/// Overwrites all blocks of all slices with zeros.
+fn wipe_slices(slices: &mut Slices)
+    ensures { segments_of slices.new ≡ map (map wiped_segment) (segments_of slices.old) }
+{
+    for slice in 0..slices.len() {
+        wipe_slice(&mut slices[slice]);
+    }
+}
+
 /// The sum of the tallies of a slice, modulo 2^64.
 fn slice_tally(segments: &[Segment]) -> u64
     ensures { result ≡ slice_writes segments.now % 2 ^ 64 }
@@ -80,6 +98,8 @@ fn tally(slices: &Slices) -> u64
 
 /// The matrix of blocks of 1 KiB: a row for each lane. Column c of a lane of 4 L columns is the
 /// block at index c mod L of the lane's segment in slice c / L (RFC 9106, 3.4).
+///
+/// It is let go as it is: `wipe` it first where its blocks must not stay in the process.
 #[derive(Drop)]
 pub struct Memory {
     lanes: u32,
@@ -159,6 +179,13 @@ impl Memory {
             segment_length: 0,
             slices: empty_slices(alloc),
         }
+    }
+
+    /// Overwrites all blocks with zeros, and counts the writes from 0 again.
+    pub fn wipe(&mut self)
+        ensures { self.new ≡ wiped_memory self.old }
+    {
+        wipe_slices(&mut self.slices);
     }
 
     /// How many lanes there are.

@@ -1,7 +1,8 @@
 //! A segment, the blocks of one lane in one slice, and how it is filled.
 
-ghost use Rattle.std.specs.Prelude.{◌≡◌, ◌+◌, ◌%◌, ◌^◌, ◌<◌, ◌≤◌, [], IfOk, length, slice_index_or, slice_set, vec_capacity, vec_len, ◌≢◌, ℕ, ◌*◌, ◌/◌, ◌-◌, List, ◌++◌, true, false};
-ghost use Rattle.argon2_memory.specs.Views.Memories.{zero_segment};
+ghost use Rattle.std.specs.Prelude.{◌≡◌, ◌+◌, ◌%◌, ◌^◌, ◌<◌, ◌≤◌, [], IfOk, length, replicate, slice_index_or, slice_set, vec_capacity, vec_len, ◌≢◌, ℕ, ◌*◌, ◌/◌, ◌-◌, List, ◌++◌, true, false};
+ghost use Rattle.argon2_blocks.specs.Standard.Block.{zero_block};
+ghost use Rattle.argon2_memory.specs.Views.Memories.{wiped_segment, zero_segment};
 ghost use Rattle.argon2_standard.specs.Standard.Recurrence.{made_block, block_at, drawn_word};
 ghost use Rattle.argon2_memory.specs.Views.Sources.{IsBefore, source_block, with_block};
 ghost use Rattle.argon2_memory.specs.Views.Made.{IsMadeInPart, with_zeros};
@@ -9,17 +10,15 @@ ghost use Rattle.argon2_memory.specs.Views.Filling.{IsFilledTo, IsSnapshot, posi
 ghost use Rattle.argon2_memory.specs.Views.Jobs.{first_index};
 ghost use Rattle.argon2_memory.specs.Views.Beside.{FillsOn, IsPicked, IsSameFrom};
 ghost use Rattle.argon2_standard.specs.Standard.Reference.{is_data_independent};
-ghost use Rattle.argon2_memory.specs.Laws.Schedule.{blocks_in_slice};
-ghost use Rattle.argon2_memory.specs.Views.Segments.{IsReady, segment_at};
 
 mod beside;
 mod positions;
 
-use crate::job::{recall_job, stretch};
+use crate::job::recall_job;
 use argon2_blocks::block::{Block, fill_block};
 use argon2_blocks::common::QWORDS_IN_BLOCK;
 use beside::{Beside, source_before};
-pub use beside::{Snapshot, fill_lent_segment, others, take_slice};
+pub use beside::{Snapshot, fill_lent_segment, fill_segment, others, take_slice};
 pub use positions::{allowed_column, allowed_count, pick, reference_positions};
 use std::alloc::{AllocError, Global};
 use std::marker::Model;
@@ -123,6 +122,15 @@ fn write_among(
     *tally = tally.wrapping_add(1);
 }
 
+/// Overwrites blocks with zeros.
+fn wipe_blocks(blocks: &mut [Block])
+    ensures { blocks.new ≡ replicate (length blocks.old) zero_block }
+{
+    for block in blocks.iter_mut() {
+        block.wipe();
+    }
+}
+
 impl Segment {
     /// A segment of `length` blocks of zeros.
     pub(crate) fn new(alloc: Global, length: u32) -> Result<Segment, AllocError>
@@ -139,6 +147,14 @@ impl Segment {
             zeros,
             tally: 0,
         })
+    }
+
+    /// Overwrites all blocks with zeros and counts from 0 again, as `new` does.
+    pub(crate) fn wipe(&mut self)
+        ensures { self.new ≡ wiped_segment self.old }
+    {
+        wipe_blocks(&mut self.blocks);
+        self.tally = 0;
     }
 
     /// Writes a block at the index, and counts the write.
@@ -163,11 +179,7 @@ impl Segment {
         requires { index < length self.now.blocks }
         ensures { result.now ≡ slice_index_or self.now.blocks index [] }
     {
-        if index < self.blocks.len() {
-            &self.blocks[index]
-        } else {
-            &self.blocks[self.blocks.len() - 1]
-        }
+        &self.blocks[usize::min(index, self.blocks.len() - 1)]
     }
 
     /// Writes the block at the index from two sources, in place, and counts the write: their
@@ -279,12 +291,13 @@ fn fill_dependent(
     ensures behind { IsSameFrom (first + count) own.old own.new }
     ensures tally { tally.new ≡ (tally.old + count) % 2 ^ 64 }
 {
-    let job = beside.job();
+    // A copy, whose numbers need not be read anew for each block.
+    let job = *beside.job();
     let _tally = *tally;
     for k in 0..count {
         let index = first + k;
         let word = dependent_word(beside, lane, index, own);
-        let reference = pick(job, lane, index, word);
+        let reference = pick(&job, lane, index, word);
         write_block(beside, lane, index, reference, own, tally);
     }
 }
@@ -364,27 +377,5 @@ fn fill_blocks(
         fill_independent(beside, lane, first, count, own, tally);
     } else {
         fill_dependent(beside, lane, first, count, own, tally);
-    }
-}
-
-/// Fills a lane's segment of the job's slice.
-pub fn fill_segment(snapshot: &Snapshot<'_>, lane: u32, segment: &mut Segment)
-    requires lane_fits { lane < snapshot.now.job.setting.lanes }
-    requires ready { IsReady snapshot.now.job.setting snapshot.now.job.pass snapshot.now.job.slice
-        lane segment.old.blocks }
-    ensures filled { segment.new.blocks ≡ segment_at snapshot.now.job.setting snapshot.now.job.pass
-        snapshot.now.job.slice lane }
-    ensures tally { segment.new.tally
-        ≡ (segment.old.tally
-        + blocks_in_slice snapshot.now.job.setting snapshot.now.job.pass snapshot.now.job.slice) % 2
-        ^ 64 }
-{
-    let (beside, job) = (snapshot.beside(), snapshot.job());
-    recall_segment(segment);
-    let mut index = job.first_index();
-    while index < job.segment_length() {
-        let count = stretch(job, index);
-        segment.fill(beside, lane, index, count);
-        index += count;
     }
 }

@@ -3,7 +3,9 @@ import ctypes
 import os
 import sys
 from pathlib import Path
-from typing import Any, List, Optional, Tuple, Union
+from typing import Any, Callable, List, Optional, Tuple, Union
+
+from ._memory import Memory, Pages
 
 SONAME = "libproved_argon2.so.1"
 VARIABLE = "PROVED_ARGON2_LIBRARY"
@@ -53,7 +55,7 @@ class NumberLimits(ctypes.Structure):
 
 
 class Options(ctypes.Structure):
-    """`proved_argon2_options` of the header. The memory is the call's own, and so are the threads."""
+    """`proved_argon2_options` of the header. The threads are the call's own."""
 
     _fields_ = [
         ("size", ctypes.c_size_t),
@@ -164,39 +166,87 @@ def _room(length: int) -> "ctypes.Array[ctypes.c_char]":
         raise Refused(OUT_OF_MEMORY) from None
 
 
-def _options(threads: int, limits: Optional[NumberLimits] = None) -> Options:
-    """Options of at most so many threads. They keep the limits alive."""
+def _options(threads: int, limits: Optional[NumberLimits], pages: Optional[Pages]) -> Options:
+    """Options of at most so many threads. They keep the limits alive, and not the pages."""
     options = Options(ctypes.sizeof(Options), threads)
+    if pages is not None:
+        options.memory, options.memory_len = pages.address, pages.length
     if limits is not None:
         options.limits = ctypes.pointer(limits)
     return options
 
 
-def hash_raw(pwd: bytes, salt: bytes, secret: bytes, ad: bytes, settings: Settings) -> bytes:
+def _compute(
+    call: Callable[[Options], Any],
+    threads: int,
+    memory: Optional[Memory],
+    kib: Callable[[], Any],
+    limits: Optional[NumberLimits] = None,
+) -> None:
+    """Makes a call over pages of a memory, or over its own. One that finds them too small is made again over so many
+    KiB: only then are its settings known to be accepted."""
+    if memory is None:
+        _require(call(_options(threads, limits, None)))
+        return
+    with memory.lent() as pages:
+        number = call(_options(threads, limits, pages))
+        if number == OUT_OF_MEMORY and pages.grow(kib()):
+            number = call(_options(threads, limits, pages))
+    _require(number)
+
+
+def hash_raw(
+    pwd: bytes, salt: bytes, secret: bytes, ad: bytes, settings: Settings, memory: Optional[Memory] = None
+) -> bytes:
     """The tag, by a thread for each lane. The settings are judged without room to write to first, before any memory is
     asked for."""
-    given = _slices(pwd, salt, secret, ad)
-    _require(_library.proved_argon2_hash_raw(*given, settings, b"", 0), WRONG_LENGTH)
+    given = [*_slices(pwd, salt, secret, ad), settings]
+    _require(_library.proved_argon2_hash_raw(*given, b"", 0), WRONG_LENGTH)
     tag = _room(settings.hash_length)
-    _require(_library.proved_argon2_hash_raw_with(_options(settings.lanes), *given, settings, tag, len(tag)))
+    _compute(
+        lambda options: _library.proved_argon2_hash_raw_with(options, *given, tag, len(tag)),
+        settings.lanes,
+        memory,
+        lambda: settings.mem_cost,
+    )
     return tag.raw
 
 
-def hash_encoded(pwd: bytes, salt: bytes, secret: bytes, ad: bytes, settings: Settings) -> bytes:
+def hash_encoded(
+    pwd: bytes, salt: bytes, secret: bytes, ad: bytes, settings: Settings, memory: Optional[Memory] = None
+) -> bytes:
     """The text, by a thread for each lane. The settings are judged without room to write to first, before any memory is
     asked for."""
-    given = _slices(pwd, salt, secret, ad)
-    _require(_library.proved_argon2_hash_encoded(*given, settings, b"", 0), WRONG_LENGTH)
+    given = [*_slices(pwd, salt, secret, ad), settings]
+    _require(_library.proved_argon2_hash_encoded(*given, b"", 0), WRONG_LENGTH)
     text = _room(_library.proved_argon2_encoded_len(settings, len(salt)) + 1)
-    _require(_library.proved_argon2_hash_encoded_with(_options(settings.lanes), *given, settings, text, len(text)))
+    _compute(
+        lambda options: _library.proved_argon2_hash_encoded_with(options, *given, text, len(text)),
+        settings.lanes,
+        memory,
+        lambda: settings.mem_cost,
+    )
     return text.value
 
 
-def verify_encoded(text: bytes, pwd: bytes, secret: bytes, ad: bytes, limits: Optional[NumberLimits] = None) -> None:
+def verify_encoded(
+    text: bytes,
+    pwd: bytes,
+    secret: bytes,
+    ad: bytes,
+    limits: Optional[NumberLimits] = None,
+    memory: Optional[Memory] = None,
+) -> None:
     """Returns where the text is the hash of the password and asks for no more than the limits, and else raises
     `Refused`. There are as many threads as the text has lanes, and at most 16."""
-    options = _options(MOST_FOR_A_TEXT, limits)
-    _require(_library.proved_argon2_verify_encoded_with(options, *_slices(text, pwd, secret, ad)))
+    given = _slices(text, pwd, secret, ad)
+    _compute(
+        lambda options: _library.proved_argon2_verify_encoded_with(options, *given),
+        MOST_FOR_A_TEXT,
+        memory,
+        lambda: read(text).settings.mem_cost,
+        limits,
+    )
 
 
 def default_limits() -> NumberLimits:

@@ -3,6 +3,7 @@ import os
 from typing import Literal, Optional, Union
 
 from ._limits import Limits
+from ._memory import Memory
 from ._parameters import Parameters, extract_parameters
 from .exceptions import Argon2Error, InvalidHashError, VerificationError
 from .low_level import ARGON2_VERSION, Type, hash_secret, verify_secret
@@ -23,10 +24,11 @@ class PasswordHasher:
     `time_cost` is the passes over the memory; `memory_cost` is in KiB, at least 8 for each of the lanes, which
     `parallelism` says. The lengths are in bytes: `hash_len` is at least 4 and `salt_len` at least 8. A password
     that is a `str` is encoded in `encoding`. `limits` is what a text may ask for that is verified: `Limits()`,
-    others, or `None` for whatever the text names.
+    others, or `None` for whatever the text names. With `keep_memory` the memory of a hash is kept for the next one, as
+    `low_level.Memory` says, until the hasher goes.
     """
 
-    __slots__ = ("_parameters", "encoding", "limits")
+    __slots__ = ("_memory", "_parameters", "encoding", "limits")
 
     def __init__(
         self,
@@ -39,6 +41,7 @@ class PasswordHasher:
         type: Type = Type.ID,
         *,
         limits: Optional[Limits] = Limits(),
+        keep_memory: bool = False,
     ) -> None:
         settings = {
             "time_cost": (time_cost, int),
@@ -49,6 +52,7 @@ class PasswordHasher:
             "encoding": (encoding, str),
             "type": (type, Type),
             "limits": (Limits() if limits is None else limits, Limits),
+            "keep_memory": (keep_memory, bool),
         }
         wrong = [
             f"'{name}' must be {wanted.__name__}, not {value.__class__.__name__}"
@@ -68,6 +72,7 @@ class PasswordHasher:
         )
         self.encoding = encoding
         self.limits = limits
+        self._memory = Memory() if keep_memory else None
 
     @classmethod
     def from_parameters(cls, params: Parameters) -> "PasswordHasher":
@@ -111,6 +116,11 @@ class PasswordHasher:
         """The variant."""
         return self._parameters.type
 
+    @property
+    def keep_memory(self) -> bool:
+        """Whether the memory of a hash is kept for the next one."""
+        return self._memory is not None
+
     def hash(self, password: Union[str, bytes], *, salt: Optional[bytes] = None) -> str:
         """Hash a password to a text to keep, with a random salt where none is given.
 
@@ -124,6 +134,7 @@ class PasswordHasher:
             parallelism=self.parallelism,
             hash_len=self.hash_len,
             type=self.type,
+            memory=self._memory,
         ).decode("ascii")
 
     def verify(self, hash: Union[str, bytes], password: Union[str, bytes]) -> Literal[True]:
@@ -134,7 +145,8 @@ class PasswordHasher:
         it spells none, its settings are refused or there is no memory.
         """
         text = self._text_bytes(hash)
-        return verify_secret(text, self._password_bytes(password), self._variant_of(text), limits=self.limits)
+        secret, variant = self._password_bytes(password), self._variant_of(text)
+        return verify_secret(text, secret, variant, limits=self.limits, memory=self._memory)
 
     def check_needs_rehash(self, hash: Union[str, bytes]) -> bool:
         """Whether a text was made with other settings than these, also with another length of the salt.

@@ -2,7 +2,8 @@
 
 `secret` is the password here, as in argon2-cffi. A key (also called pepper) and associated data, which
 RFC 9106 calls secret value and associated data, are `key` and `associated_data`. A hash is computed by as
-many threads as it has lanes, of which one is the caller's; a stored text is verified by at most 16.
+many threads as it has lanes, of which one is the caller's; a stored text is verified by at most 16. With a `Memory`
+it is computed over that, and what it took is kept for the next call.
 """
 from enum import Enum
 from typing import Literal, Optional
@@ -24,6 +25,7 @@ from ._library import (
     verify_encoded,
 )
 from ._limits import Limits
+from ._memory import Memory
 from .exceptions import (
     Argon2Error,
     HashingError,
@@ -36,7 +38,16 @@ from .exceptions import (
 ARGON2_VERSION = 19
 """The version of RFC 9106, 0x13."""
 
-__all__ = ["ARGON2_VERSION", "Limits", "Type", "error_to_str", "hash_secret", "hash_secret_raw", "verify_secret"]
+__all__ = [
+    "ARGON2_VERSION",
+    "Limits",
+    "Memory",
+    "Type",
+    "error_to_str",
+    "hash_secret",
+    "hash_secret_raw",
+    "verify_secret",
+]
 
 
 class Type(Enum):
@@ -82,6 +93,7 @@ def hash_secret(
     *,
     key: bytes = b"",
     associated_data: bytes = b"",
+    memory: Optional[Memory] = None,
 ) -> bytes:
     """Hash the password `secret` to a text, in `memory_cost` KiB.
 
@@ -90,7 +102,7 @@ def hash_secret(
     _require_bytes(secret=secret, salt=salt, key=key, associated_data=associated_data)
     settings = _settings(time_cost, memory_cost, parallelism, hash_len, type, version)
     try:
-        return hash_encoded(secret, salt, key, associated_data, settings)
+        return hash_encoded(secret, salt, key, associated_data, settings, memory)
     except Refused as refused:
         raise HashingError(str(refused)) from None
 
@@ -107,6 +119,7 @@ def hash_secret_raw(
     *,
     key: bytes = b"",
     associated_data: bytes = b"",
+    memory: Optional[Memory] = None,
 ) -> bytes:
     """Hash the password `secret` to `hash_len` bytes, in `memory_cost` KiB.
 
@@ -115,7 +128,7 @@ def hash_secret_raw(
     _require_bytes(secret=secret, salt=salt, key=key, associated_data=associated_data)
     settings = _settings(time_cost, memory_cost, parallelism, hash_len, type, version)
     try:
-        return hash_raw(secret, salt, key, associated_data, settings)
+        return hash_raw(secret, salt, key, associated_data, settings, memory)
     except Refused as refused:
         raise HashingError(str(refused)) from None
 
@@ -128,6 +141,7 @@ def verify_secret(
     key: bytes = b"",
     associated_data: bytes = b"",
     limits: Optional[Limits] = None,
+    memory: Optional[Memory] = None,
 ) -> Literal[True]:
     """Return `True` where the text `hash` is that of the password `secret`, and is of this type.
 
@@ -142,7 +156,7 @@ def verify_secret(
     except Refused as refused:
         raise VerificationError(str(refused)) from None
     try:
-        verify_encoded(hash, secret, key, associated_data, None if limits is None else _numbers(limits))
+        verify_encoded(hash, secret, key, associated_data, None if limits is None else _numbers(limits), memory)
     except Refused as refused:
         errors = {MISMATCH: VerifyMismatchError, TOO_COSTLY: TooCostlyError}
         raise errors.get(refused.number, VerificationError)(str(refused)) from None

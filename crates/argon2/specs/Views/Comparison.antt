@@ -1,5 +1,5 @@
 -- What a comparison of two hashes looks at.
-use Rattle.std.specs.Prelude.{◌≡◌, ◌↔◌, List, ℕ, bit_or, bit_xor}
+use Rattle.std.specs.Prelude.{List, ℕ, bit_or, bit_xor}
 use Rattle.std.specs.List.{fold, zip}
 
 -- the bits in which two lists of bytes differ at any place

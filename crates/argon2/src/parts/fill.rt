@@ -2,8 +2,6 @@
 
 pub use crate::parts::theorems::{any_order, known_answers, laws, recurrence_law};
 pub use argon2_fill::fill::{
-    fill_memory_blocks, fill_sequential, prepare_memory, tag, tag_sequential,
+    fill_memory_blocks, fill_sequential, finalize, initialize, prepare_memory, tag, tag_sequential,
 };
-pub use argon2_fill::first_blocks::initialize;
-pub use argon2_fill::last_blocks::finalize;
 pub use argon2_fill::workers::{fill_parallel, fill_parallel_with};

@@ -6,7 +6,7 @@ use Rattle.std.specs.Prelude.{slice_range}
 use Rattle.argon2_blocks.specs.Standard.Word.{words_of, bytes_of}
 use Rattle.argon2_blocks.specs.Standard.Blake2b.{blake2b, compress_f, last_block, message_block, state_after}
 use Rattle.argon2_blocks.specs.Views.HasherView.{Holds}
-use Rattle.argon2_blocks.specs.declared.blake2b.hasher.Hasher.{Hasher}
+use Rattle.argon2_blocks.specs.declared.blake2b.Hasher.{Hasher}
 use Rattle.argon2_blocks.proofs.Hashing.Messages.{compress_f_mod, message_block_full, message_block_last, part-append, part_at, state_after-append}
 use Rattle.argon2_blocks.proofs.Hashing.Messages.{state_after_next}
 use borrow.Rule.Slice.PartMut.{put_mid}

@@ -1,7 +1,7 @@
 -- What a hasher keeps of a message that comes in pieces.
 use Rattle.std.specs.Prelude.{◌≡◌, ℕ, ◌+◌, ◌*◌, ◌%◌, ◌^◌, List, length, take, drop}
 use Rattle.argon2_blocks.specs.Standard.Blake2b.{block_length, last_block, state_after}
-use Rattle.argon2_blocks.specs.declared.blake2b.hasher.Hasher.{Hasher}
+use Rattle.argon2_blocks.specs.declared.blake2b.Hasher.{Hasher}
 
 -- the hasher has taken in this message, for a hash of nn bytes: its state is that before the last
 -- block, and its buffer has the bytes of the last block

@@ -5,11 +5,12 @@ ghost use Rattle.argon2_blocks.specs.Standard.Word.{words_of};
 ghost use Rattle.argon2_blocks.specs.Standard.Blake2b.{blake2b};
 ghost use Rattle.argon2_blocks.specs.Standard.Hprime.{chain_length, hash_chain, hprime};
 
-use super::hasher::initial_state;
+use super::initial_state;
 use super::pairs::compress_both;
 use crate::blake2b::blake2b;
 use crate::common::BLAKE2B_OUT_LENGTH;
 use crate::little_endian::{read_words, write_words};
+use crate::wiping::wipe;
 
 /// How many bytes of each V but the last go into the hash: its first half, W.
 const HALF_LENGTH: usize = 32;
@@ -26,8 +27,9 @@ fn chain_length(len: usize) -> usize
 fn next_link(v: &mut [u8; BLAKE2B_OUT_LENGTH])
     ensures { v.new ≡ blake2b 64 v.old }
 {
-    let before = *v;
+    let mut before = *v;
     blake2b(v, &[&before]);
+    wipe(&mut before, 0);
 }
 
 /// The words of a block whose second half is zeros. A V is half a block, so the next V is one F of
@@ -63,20 +65,22 @@ fn write_half(out: &mut [u8], at: usize, v: &[u8; BLAKE2B_OUT_LENGTH])
 }
 
 /// Fills a hash of more than 64 bytes, where `v` is V 1: W 1 to W r, and then a hash of what is
-/// left, 33 to 64 bytes.
-fn write_chain(out: &mut [u8], mut v: [u8; BLAKE2B_OUT_LENGTH])
+/// left, 33 to 64 bytes. It overwrites `v`.
+fn write_chain(out: &mut [u8], v: &mut [u8; BLAKE2B_OUT_LENGTH])
     requires { 64 < length out.old }
-    ensures { let r = chain_length (length out.old) in
-        (input : List ℕ) → v ≡ blake2b 64 input →
+    ensures chain { let r = chain_length (length out.old) in
+        (input : List ℕ) → v.old ≡ blake2b 64 input →
         out.new ≡ hash_chain r (length out.old - 32 * r) input }
+    ensures wiped { v.new ≡ replicate 64 0 }
 {
     let r = chain_length(out.len());
-    write_half(out, 0, &v);
+    write_half(out, 0, v);
     for i in 1..r {
-        next_link(&mut v);
-        write_half(out, HALF_LENGTH * i, &v);
+        next_link(v);
+        write_half(out, HALF_LENGTH * i, v);
     }
-    blake2b(&mut out[HALF_LENGTH * r..], &[&v]);
+    blake2b(&mut out[HALF_LENGTH * r..], &[&*v]);
+    wipe(v, 0);
 }
 
 /// H' (RFC 9106, 3.3): fills `out`, of 1 to 2^32 - 1 bytes, with the hash of that length of
@@ -92,37 +96,41 @@ pub fn hprime(out: &mut [u8], input: &[u8])
     } else {
         let mut v = [0; BLAKE2B_OUT_LENGTH];
         blake2b(&mut v, &[&len, input]);
-        write_chain(out, v);
+        write_chain(out, &mut v);
     }
 }
 
 /// Fills two hashes of one length, more than 64 bytes, from V 1 of each, as `write_chain` does. The
-/// two chains go side by side.
+/// two chains go side by side. It overwrites both V.
 fn write_chains(
     first: &mut [u8],
     second: &mut [u8],
-    mut v: [u8; BLAKE2B_OUT_LENGTH],
-    mut w: [u8; BLAKE2B_OUT_LENGTH],
+    v: &mut [u8; BLAKE2B_OUT_LENGTH],
+    w: &mut [u8; BLAKE2B_OUT_LENGTH],
 )
     requires long { 64 < length first.old }
     requires same { length second.old ≡ length first.old }
     ensures first { let r = chain_length (length first.old) in
-        (input : List ℕ) → v ≡ blake2b 64 input →
+        (input : List ℕ) → v.old ≡ blake2b 64 input →
         first.new ≡ hash_chain r (length first.old - 32 * r) input }
     ensures second { let r = chain_length (length second.old) in
-        (input : List ℕ) → w ≡ blake2b 64 input →
+        (input : List ℕ) → w.old ≡ blake2b 64 input →
         second.new ≡ hash_chain r (length second.old - 32 * r) input }
+    ensures v_wiped { v.new ≡ replicate 64 0 }
+    ensures w_wiped { w.new ≡ replicate 64 0 }
 {
     let r = chain_length(first.len());
-    write_half(first, 0, &v);
-    write_half(second, 0, &w);
+    write_half(first, 0, v);
+    write_half(second, 0, w);
     for i in 1..r {
-        next_links(&mut v, &mut w);
-        write_half(first, HALF_LENGTH * i, &v);
-        write_half(second, HALF_LENGTH * i, &w);
+        next_links(v, w);
+        write_half(first, HALF_LENGTH * i, v);
+        write_half(second, HALF_LENGTH * i, w);
     }
-    blake2b(&mut first[HALF_LENGTH * r..], &[&v]);
-    blake2b(&mut second[HALF_LENGTH * r..], &[&w]);
+    blake2b(&mut first[HALF_LENGTH * r..], &[&*v]);
+    blake2b(&mut second[HALF_LENGTH * r..], &[&*w]);
+    wipe(v, 0);
+    wipe(w, 0);
 }
 
 /// H' (RFC 9106, 3.3) of two inputs, one hash for each, of the same length: 65 to 2^32 - 1 bytes.
@@ -139,5 +147,5 @@ pub fn hprime_both(first: &mut [u8], second: &mut [u8], first_input: &[u8], seco
     let mut w = [0; BLAKE2B_OUT_LENGTH];
     blake2b(&mut v, &[&len, first_input]);
     blake2b(&mut w, &[&len, second_input]);
-    write_chains(first, second, v, w);
+    write_chains(first, second, &mut v, &mut w);
 }

@@ -1,17 +1,17 @@
-//! The compression over sixteen vectors of eight words.
+//! The compression (RFC 9106, 3.5 and 3.6) over sixteen vectors of eight words.
 //!
 //! Four rows, and then four columns, are permuted at a time. Between the two steps only halves of
 //! vectors change places, and no block is transposed.
 
-ghost use Rattle.std.specs.Prelude.{◌≡◌, ◌<◌, ◌≤◌, ◌+◌, ◌*◌, length, take, if◌then◌else◌, bit_xor};
+ghost use Rattle.std.specs.Prelude.{◌≡◌, ◌<◌, ◌≤◌, ◌+◌, ◌*◌, ℕ, length, take, if◌then◌else◌, bit_xor};
 ghost use Rattle.std.specs.Simd.Lanes.{zip2, Each1};
-ghost use Rattle.argon2_blocks.specs.Views.Lane.{vector_words};
 ghost use Rattle.argon2_blocks.specs.Standard.Block.{xor};
-ghost use Rattle.argon2_blocks.specs.Standard.Compression.{block_of_registers, compress_g, permute_rows, registers_of, transpose};
+ghost use Rattle.argon2_blocks.specs.Standard.Compression.{block_of_registers, compress_g, permute_p, permute_rows, registers_of, transpose};
+ghost use Rattle.argon2_blocks.specs.Views.Lane.{column, vector_pair, vector_words};
+ghost use Rattle.argon2_blocks.specs.Views.Shuffles.{high_halves, low_halves};
+ghost use Rattle.argon2_blocks.specs.Views.Spread.{diagonals, four_and_four, nth_vector, odd_and_even, spread_row, turned_halves, undo_diagonals};
 
-use super::columns::{join_halves, left_halves, permute_four_columns, right_halves};
-use super::lanes::recall_vector;
-use super::rows::permute_four_rows;
+use super::lanes::{mix_two, recall_vector};
 use crate::common::QWORDS_IN_BLOCK;
 use std::simd::prelude::*;
 
@@ -20,6 +20,232 @@ const LANES: usize = 8;
 
 /// How many vectors a block has.
 pub(super) const VECTORS: usize = QWORDS_IN_BLOCK / LANES;
+
+// The first four lanes of each vector.
+#[inline(always)]
+pub(super) fn low_halves(a: u64x8, b: u64x8) -> u64x8
+    ensures value { result ≡ low_halves a b }
+    ensures left { length a ≡ 8 }
+    ensures right { length b ≡ 8 }
+{
+    recall_vector(a);
+    recall_vector(b);
+    a.shuffle(b, [0, 1, 2, 3, 8, 9, 10, 11])
+}
+
+// The last four lanes of each vector.
+#[inline(always)]
+pub(super) fn high_halves(a: u64x8, b: u64x8) -> u64x8
+    ensures value { result ≡ high_halves a b }
+    ensures left { length a ≡ 8 }
+    ensures right { length b ≡ 8 }
+{
+    recall_vector(a);
+    recall_vector(b);
+    a.shuffle(b, [4, 5, 6, 7, 12, 13, 14, 15])
+}
+
+// The odd lanes of one vector and the even lanes of another, by turns.
+#[inline(always)]
+fn odd_and_even(a: u64x8, b: u64x8) -> u64x8
+    ensures { result ≡ odd_and_even a b }
+{
+    recall_vector(a);
+    a.shuffle(b, [1, 8, 3, 10, 5, 12, 7, 14])
+}
+
+// Each half of the vector rotated by one lane.
+#[inline(always)]
+fn turn_by_one(a: u64x8) -> u64x8
+    ensures { result ≡ turned_halves 1 a }
+{
+    recall_vector(a);
+    a.swizzle([1, 2, 3, 0, 5, 6, 7, 4])
+}
+
+// Each half of the vector rotated by two lanes.
+#[inline(always)]
+fn turn_by_two(a: u64x8) -> u64x8
+    ensures { result ≡ turned_halves 2 a }
+{
+    recall_vector(a);
+    a.swizzle([2, 3, 0, 1, 6, 7, 4, 5])
+}
+
+// Each half of the vector rotated by three lanes.
+#[inline(always)]
+fn turn_by_three(a: u64x8) -> u64x8
+    ensures { result ≡ turned_halves 3 a }
+{
+    recall_vector(a);
+    a.swizzle([3, 0, 1, 2, 7, 4, 5, 6])
+}
+
+// Spreads four rows, of two vectors each, over all eight vectors.
+#[inline(always)]
+fn spread_rows(v: [u64x8; 8]) -> [u64x8; 8]
+    ensures { (j : ℕ) → j < 4 → spread_row result j ≡ vector_pair v j }
+{
+    [
+        low_halves(v[0], v[2]),
+        low_halves(v[4], v[6]),
+        high_halves(v[0], v[2]),
+        high_halves(v[4], v[6]),
+        low_halves(v[1], v[3]),
+        low_halves(v[5], v[7]),
+        high_halves(v[1], v[3]),
+        high_halves(v[5], v[7]),
+    ]
+}
+
+// The diagonals of each row's words as columns.
+#[inline(always)]
+fn align_row_diagonals(v: [u64x8; 8]) -> [u64x8; 8]
+    ensures { (j : ℕ) → j < 4 → spread_row result j ≡ diagonals (spread_row v j) }
+{
+    [
+        turn_by_three(v[0]),
+        turn_by_three(v[1]),
+        v[2],
+        v[3],
+        turn_by_one(v[4]),
+        turn_by_one(v[5]),
+        turn_by_two(v[6]),
+        turn_by_two(v[7]),
+    ]
+}
+
+// The columns of each row's words as diagonals again.
+#[inline(always)]
+fn restore_row_diagonals(v: [u64x8; 8]) -> [u64x8; 8]
+    ensures { (j : ℕ) → j < 4 → spread_row result j ≡ undo_diagonals (spread_row v j) }
+{
+    [
+        turn_by_one(v[0]),
+        turn_by_one(v[1]),
+        v[2],
+        v[3],
+        turn_by_three(v[4]),
+        turn_by_three(v[5]),
+        turn_by_two(v[6]),
+        turn_by_two(v[7]),
+    ]
+}
+
+/// Permutes four rows, of two vectors each, and leaves them spread.
+#[inline(always)]
+fn permute_four_rows(v: [u64x8; 8]) -> [u64x8; 8]
+    ensures { (j : ℕ) → j < 4 → spread_row result j ≡ permute_p (vector_pair v j) }
+{
+    let spread = spread_rows(v);
+    let mixed = mix_two(spread);
+    let mixed_twice = mix_two(align_row_diagonals(mixed));
+    restore_row_diagonals(mixed_twice)
+}
+
+// The first half of each of eight rows, which are spread four and four: columns 0 to 3.
+#[inline(always)]
+fn left_halves(upper: &[u64x8; 8], lower: &[u64x8; 8]) -> [u64x8; 8]
+    ensures { (k : ℕ) → k < 4 → column (nth_vector result) k
+        ≡ column (four_and_four (spread_row upper.now) (spread_row lower.now)) k }
+{
+    [
+        low_halves(upper[0], upper[2]),
+        high_halves(upper[0], upper[2]),
+        low_halves(upper[1], upper[3]),
+        high_halves(upper[1], upper[3]),
+        low_halves(lower[0], lower[2]),
+        high_halves(lower[0], lower[2]),
+        low_halves(lower[1], lower[3]),
+        high_halves(lower[1], lower[3]),
+    ]
+}
+
+// The second half of each row: columns 4 to 7.
+#[inline(always)]
+fn right_halves(upper: &[u64x8; 8], lower: &[u64x8; 8]) -> [u64x8; 8]
+    ensures { (k : ℕ) → k < 4 → column (nth_vector result) k
+        ≡ column (four_and_four (spread_row upper.now) (spread_row lower.now)) (k + 4) }
+{
+    [
+        low_halves(upper[4], upper[6]),
+        high_halves(upper[4], upper[6]),
+        low_halves(upper[5], upper[7]),
+        high_halves(upper[5], upper[7]),
+        low_halves(lower[4], lower[6]),
+        high_halves(lower[4], lower[6]),
+        low_halves(lower[5], lower[7]),
+        high_halves(lower[5], lower[7]),
+    ]
+}
+
+// The diagonals of each column's words as columns.
+#[inline(always)]
+fn align_column_diagonals(v: [u64x8; 8]) -> [u64x8; 8]
+    ensures { (k : ℕ) → k < 4 → column (nth_vector result) k
+        ≡ diagonals (column (nth_vector v) k) }
+{
+    [
+        odd_and_even(v[1], v[0]),
+        odd_and_even(v[0], v[1]),
+        v[2],
+        v[3],
+        odd_and_even(v[4], v[5]),
+        odd_and_even(v[5], v[4]),
+        v[7],
+        v[6],
+    ]
+}
+
+// The columns of each column's words as diagonals again.
+#[inline(always)]
+fn restore_column_diagonals(v: [u64x8; 8]) -> [u64x8; 8]
+    ensures value { (k : ℕ) → k < 4 → column (nth_vector result) k
+        ≡ undo_diagonals (column (nth_vector v) k) }
+    ensures long { Each1 (λ a. length a ≡ 8) result }
+{
+    recall_vector(v[2]);
+    recall_vector(v[3]);
+    recall_vector(v[6]);
+    recall_vector(v[7]);
+    [
+        odd_and_even(v[0], v[1]),
+        odd_and_even(v[1], v[0]),
+        v[2],
+        v[3],
+        odd_and_even(v[5], v[4]),
+        odd_and_even(v[4], v[5]),
+        v[7],
+        v[6],
+    ]
+}
+
+/// Permutes four columns. Each vector holds two words of each of them.
+#[inline(always)]
+fn permute_four_columns(v: [u64x8; 8]) -> [u64x8; 8]
+    ensures value { (k : ℕ) → k < 4 → column (nth_vector result) k
+        ≡ permute_p (column (nth_vector v) k) }
+    ensures long { Each1 (λ a. length a ≡ 8) result }
+{
+    let mixed = mix_two(v);
+    let mixed_twice = mix_two(align_column_diagonals(mixed));
+    restore_column_diagonals(mixed_twice)
+}
+
+/// The block whose rows are made of these halves.
+#[inline(always)]
+fn join_halves(left: &[u64x8; 8], right: &[u64x8; 8]) -> [u64x8; 16]
+    requires left_is_long { Each1 (λ a. length a ≡ 8) left.now }
+    requires right_is_long { Each1 (λ a. length a ≡ 8) right.now }
+    ensures long { Each1 (λ a. length a ≡ 8) result }
+    ensures value { (j : ℕ) → j < 8 → vector_pair result j
+        ≡ column (four_and_four (column (nth_vector left.now)) (column (nth_vector right.now))) j }
+{
+    [
+        left[0], right[0], left[1], right[1], left[2], right[2], left[3], right[3], left[4],
+        right[4], left[5], right[5], left[6], right[6], left[7], right[7],
+    ]
+}
 
 // The exclusive or of two vectors.
 #[inline(always)]

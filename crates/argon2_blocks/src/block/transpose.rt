@@ -6,8 +6,8 @@ ghost use Rattle.argon2_blocks.specs.Views.Lane.{column, lane, vector_pair};
 ghost use Rattle.argon2_blocks.specs.Views.Shuffles.{even_lanes, even_pairs, interleave_high, interleave_low, odd_lanes, odd_pairs};
 ghost use Rattle.std.specs.Simd.Lanes.{Each1};
 
+use super::kernel::{high_halves, low_halves};
 use super::lanes::recall_vector;
-use super::shuffles::{high_halves, low_halves};
 use std::simd::prelude::*;
 
 // The even lanes of two vectors, by turns.

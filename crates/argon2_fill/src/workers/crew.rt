@@ -11,7 +11,8 @@ use argon2_standard::error::Error;
 use argon2_standard::result::Result;
 use std::marker::Sync;
 use std::sync::{Mutex, Wait};
-use std::thread::{Builder, JoinHandle, Scope, Threads};
+use std::thread::{Builder, JoinHandle, Parker, Scope, Threads};
+use std::time::Duration;
 use std::{array, thread};
 
 /// A set of numbers: the workers that may be started.
@@ -117,8 +118,8 @@ fn work<R: Wait, G: Gate>(rt: &R, board: &Mutex<Option<Board>>, snapshot: &Snaps
     }
 }
 
-/// Starts the worker of a number, which is permitted.
-fn start<'s, E, R: Wait + Sync, G: Gate, P: Permit>(
+/// Tries once to start the worker of a number, which is permitted.
+fn try_to_start<'s, E, R: Wait + Sync, G: Gate, P: Permit>(
     scope: &Scope<'s, E>,
     rt: &'s R,
     board: &'s Mutex<Option<Board>>,
@@ -135,9 +136,41 @@ fn start<'s, E, R: Wait + Sync, G: Gate, P: Permit>(
         .ok()
 }
 
+/// How often a start is tried before it counts as refused. Linux counts a thread off a moment
+/// after its joiner goes on, so a start may be refused although there will be leave for it.
+const TRIES: u32 = 100;
+
+/// The time between two tries, in milliseconds. A signal may end it early.
+const PAUSE: u64 = 1;
+
+/// Starts the worker of a number, which is permitted. It is tried up to `tries` times, once at
+/// least, with a pause after each try but the last.
+fn start<'s, E, R: Wait + Sync, G: Gate, P: Permit>(
+    scope: &Scope<'s, E>,
+    rt: &'s R,
+    board: &'s Mutex<Option<Board>>,
+    snapshot: &'s Snapshot<'_>,
+    gate: &'s G,
+    permit: &P,
+    number: u64,
+    tries: u32,
+) -> Option<JoinHandle<()>>
+    requires permitted { P.permits permit.now number ≡ true }
+{
+    for _again in 1..tries {
+        let handle = try_to_start(scope, rt, board, snapshot, gate, permit, number);
+        if handle.is_some() {
+            return handle;
+        }
+        Parker::new().park_timeout(rt, Duration::from_millis(PAUSE));
+    }
+    try_to_start(scope, rt, board, snapshot, gate, permit, number)
+}
+
 /// Starts the workers of `count` numbers from `first` on, waits for the end of each that was
 /// started, and says whether all were. If one is refused or not permitted, the others are still
-/// started. Where there is no room for more handles, the remaining numbers get a call of their own.
+/// started, but each is tried once: the answer is a refusal anyway. Where there is no room for more
+/// handles, the remaining numbers get a call of their own.
 fn run_workers<'s, E, R: Threads + Wait + Sync, G: Gate, P: Permit>(
     scope: &Scope<'s, E>,
     rt: &'s R,
@@ -158,8 +191,9 @@ fn run_workers<'s, E, R: Threads + Wait + Sync, G: Gate, P: Permit>(
             all &= run_workers(scope, rt, board, snapshot, gate, permit, number, count - k);
             break;
         }
+        let tries = if all { TRIES } else { 1 };
         if permit.may_start(number)
-            && let Some(handle) = start(scope, rt, board, snapshot, gate, permit, number)
+            && let Some(handle) = start(scope, rt, board, snapshot, gate, permit, number, tries)
         {
             handles.keep(handle);
         } else {
@@ -172,9 +206,9 @@ fn run_workers<'s, E, R: Threads + Wait + Sync, G: Gate, P: Permit>(
 
 /// Fills the lanes of a board by `workers` workers, at least one, and joins them. The board and the
 /// snapshot are of one job, and no lane is out. The workers take and put lanes under one lock, and
-/// fill them outside it. The board comes back with all lanes done. Where the start of a worker was
-/// refused, the answer is `WorkerRefused`, even if the others finished the slice. It takes no
-/// memory of its own.
+/// fill them outside it. The board comes back with all lanes done. A start that is refused is tried
+/// again, 100 times in all, a millisecond apart. Where all tries were refused, the answer is
+/// `WorkerRefused`, even if the others finished the slice. It takes no memory of its own.
 pub fn fill_slice<R: Threads + Wait + Sync, G: Gate>(
     rt: &R,
     board: Board,

@@ -5,7 +5,7 @@ ghost use Rattle.std.specs.Prelude.{◌<◌, length};
 use argon2_blocks::blake2b::hprime;
 use argon2_blocks::block::{Block, fill_block};
 use argon2_blocks::common::SYNC_POINTS;
-use argon2_fill::first_blocks::write_first_blocks;
+use argon2_fill::fill::write_first_blocks;
 use argon2_memory::job::Job;
 use argon2_memory::segment::{pick, reference_positions};
 use argon2_settings::context::Context;

@@ -84,7 +84,7 @@ fn picks_among_the_blocks_of_another_lane(rt: HostRuntime) -> Result<(), Fail> {
     let job = first.at(1, 2);
     assert!(rt; job.lanes() == 2 && job.segment_length() == 2);
     assert!(rt; job.pass() == 1 && job.slice() == 2);
-    assert_eq!(rt; allowed_count(&job, false, 0), 5);
+    assert_eq!(rt; allowed_count(&job, 0, 0), 5);
     for (place, column) in [(0, 6), (1, 7), (2, 0), (3, 1), (4, 2)] {
         assert!(rt; place < 8);
         assert_eq!(rt; allowed_column(&job, place), column);

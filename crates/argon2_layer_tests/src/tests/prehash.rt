@@ -2,7 +2,7 @@
 
 use argon2_blocks::blake2b::{blake2b, hprime};
 use argon2_blocks::block::Block;
-use argon2_fill::first_blocks::write_first_blocks;
+use argon2_fill::fill::write_first_blocks;
 use argon2_memory::job::Job;
 use argon2_settings::context::Context;
 use argon2_standard::config::Config;

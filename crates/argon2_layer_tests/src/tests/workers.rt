@@ -13,8 +13,7 @@ mod overlap;
 mod puts;
 mod starts;
 
-use argon2_fill::fill::{fill_slice_in_turn, prepare_memory};
-use argon2_fill::first_blocks::initialize;
+use argon2_fill::fill::{fill_slice_in_turn, initialize, prepare_memory};
 use argon2_fill::workers::{
     Board, Claim, Event, Filled, NoGate, Permit, Place, board_of, fill_slice, fill_slice_with,
 };

@@ -12,13 +12,13 @@ use Rattle.argon2_memory.specs.Views.Filling.{SnapshotValue, IsSnapshot, no_segm
 use Rattle.argon2_memory.specs.Views.Beside.{IsBeside, lent_blocks, lent_segment, lent_slice, lent_slices}
 use Rattle.argon2_memory.specs.Views.Lent.{AreLent}
 
-module _ (s : Setting) (others : List (Bor (List (List ℕ)))) (at lane index : ℕ) (o : Bor (List (List ℕ))) (three : length others ≡ 3) (at_fits : at < 3)
+module _ (s : Setting) (others : List (Bor (List (List ℕ)))) (at lane index : ℕ) (o : Bor (List (List ℕ))) (four : length others ≡ 4) (at_fits : at < 4)
     (lane_fits : lane < s.lanes) (is : o ≡ get_or others at o) where
   -- the segment of a lane in the slice that is read
   pub segment-is : get_or (get_or (lent_slices s others) at []) lane no_segment ≡ lent_segment s o.now lane
   segment-is =
       ap (λ (l : List SegmentValue). get_or l lane no_segment)
-      (get_or-map (λ (b : Bor (List (List ℕ))). lent_slice s b.now) others at o [] (omega (arith, three))
+      (get_or-map (λ (b : Bor (List (List ℕ))). lent_slice s b.now) others at o [] (omega (arith, four))
       ∙ ap (λ (b : Bor (List (List ℕ))). lent_slice s b.now) (sym is))
       ∙ get_or-map-range_with_len (lent_segment s o.now) 0 s.lanes lane lane no_segment lane_fits (omega arith)
 

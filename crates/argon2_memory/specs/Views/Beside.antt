@@ -1,7 +1,7 @@
 -- The slices beside the one that is filled, whatever their blocks hold, and a fill over them.
 use Rattle.std.specs.Prelude.{◌≡◌, ◌≢◌, ℕ, ◌*◌, ◌<◌, ◌≤◌, Bool, true, false, List, [], ◌++◌, length, map, slice_index_or, take, drop}
 use Rattle.std.specs.Borrow.{Bor}
-use Rattle.std.specs.List.{range_with_len}
+use Rattle.std.specs.List.{range_with_len, remove}
 use Rattle.argon2_standard.specs.Standard.Setting.{Setting}
 use Rattle.argon2_memory.specs.Views.Jobs.{Job, IsJob}
 use Rattle.argon2_memory.specs.Views.Segments.{SegmentValue}
@@ -42,7 +42,13 @@ lent_slice s blocks = map (lent_segment s blocks) (range_with_len 0 s.lanes)
 abbrev pub lent_slices : Setting → List (Bor (List (List ℕ))) → List (List SegmentValue)
 lent_slices s others = map (λ (o : Bor (List (List ℕ))). lent_slice s o.now) others
 
--- the segments of the other slices, wherever they are
-abbrev pub others_of : Bool → Setting → List (Bor (List SegmentValue)) → List (Bor (List (List ℕ))) → List (List SegmentValue)
-others_of true s segments blocks = lent_slices s blocks
-others_of false s segments blocks = map (λ (o : Bor (List SegmentValue)). o.now) segments
+-- the segments of four slices, wherever they are
+abbrev pub slices_of : Bool → Setting → List (Bor (List SegmentValue)) → List (Bor (List (List ℕ))) → List (List SegmentValue)
+slices_of true s segments blocks = lent_slices s blocks
+slices_of false s segments blocks = map (λ (o : Bor (List SegmentValue)). o.now) segments
+
+-- the slices by their numbers, where the first of the others stands in for the job's own
+pub record IsAround (j : Job) (slices : List (List SegmentValue)) : Type 0 where
+  pub beside : IsBeside (record { job = j; others = remove slices j.slice })
+  pub count : length slices ≡ 4
+  pub stand_in : slice_index_or slices j.slice [] ≡ slice_index_or (remove slices j.slice) 0 []

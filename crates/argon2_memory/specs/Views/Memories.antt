@@ -49,6 +49,14 @@ zero_memory lanes segment_length = record {
   slices = replicate 4 (replicate lanes (zero_segment segment_length));
 }
 
+-- a segment of as many blocks, of zeros, none of which was written
+abbrev pub wiped_segment : SegmentValue → SegmentValue
+wiped_segment s = zero_segment (length s.blocks)
+
+-- a memory whose segments are wiped
+abbrev pub wiped_memory : MemoryValue → MemoryValue
+wiped_memory m = record m { slices = map (map wiped_segment) m.slices }
+
 -- the last block of each lane
 abbrev pub last_blocks_of : MemoryValue → List (List ℕ)
 last_blocks_of m = map (λ lane. block_of m lane (4 * m.segment_length - 1)) (range_with_len 0 m.lanes)

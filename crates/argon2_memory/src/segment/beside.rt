@@ -3,17 +3,19 @@
 ghost use Rattle.std.specs.Prelude.{◌≡◌, ◌*◌, ◌%◌, ◌^◌, ◌<◌, [], map, slice_index_or, slice_set, ◌≢◌, ℕ, ◌+◌, ◌/◌, ◌≤◌, List, length, ◌-◌, ◌++◌, true, false, ◌∷◌};
 ghost use Rattle.std.specs.List.{remove};
 ghost use Rattle.argon2_memory.specs.Views.SliceLists.{segments_of};
-ghost use Rattle.argon2_memory.specs.Views.Beside.{IsBeside, lent_slices, others_of};
-ghost use Rattle.argon2_memory.specs.Views.Filling.{SnapshotValue, other_blocks, rank_among, block_seen, no_segment, IsSnapshot, position_of};
+ghost use Rattle.argon2_memory.specs.Views.Beside.{IsBeside, IsAround, lent_slices, slices_of};
+ghost use Rattle.argon2_memory.specs.Views.Filling.{SnapshotValue, other_blocks, block_seen, no_segment, IsSnapshot, position_of};
 ghost use Rattle.argon2_memory.specs.Views.Sources.{IsBefore, source_block};
 ghost use Rattle.argon2_standard.specs.Standard.Setting.{lane_length};
 ghost use Rattle.argon2_memory.specs.Views.Jobs.{first_index};
 ghost use Rattle.argon2_standard.specs.Standard.Reference.{previous};
 ghost use Rattle.argon2_memory.specs.Views.Lent.{FillsLent};
+ghost use Rattle.argon2_memory.specs.Laws.Schedule.{blocks_in_slice};
+ghost use Rattle.argon2_memory.specs.Views.Segments.{IsReady, segment_at};
 
 use crate::job::{Job, recall_job, stretch};
 use crate::memory::Slices;
-use crate::segment::{Segment, Source, fill_blocks};
+use crate::segment::{Segment, Source, fill_blocks, recall_segment};
 use argon2_blocks::block::Block;
 use argon2_blocks::common::SYNC_POINTS;
 use std::marker::Model;
@@ -44,14 +46,15 @@ pub fn others(slices: &Slices, slice: u32) -> [&[Segment]; 3]
     }
 }
 
-/// A job and the three slices beside its own, whatever they hold: segments of a memory, or blocks
-/// that are lent, lane after lane. The others of the two are empty.
+/// A job and the slices by their numbers, whatever they hold: segments of a memory, or blocks that
+/// are lent, lane after lane. Those of the other form are empty. Another slice stands in for the
+/// job's own, so that a block is found by the number alone, which may be drawn from the blocks.
 #[derive(Drop)]
 pub(crate) struct Beside<'a> {
     job: Job,
     are_lent: bool,
-    segments: [&'a [Segment]; 3],
-    blocks: [&'a [Block]; 3],
+    segments: [&'a [Segment]; 4],
+    blocks: [&'a [Block]; 4],
 }
 
 impl<'a> Model for Beside<'a> {
@@ -59,32 +62,41 @@ impl<'a> Model for Beside<'a> {
 
     ghost view = { λ b. record {
       job = b.job;
-      others = others_of b.are_lent b.job.setting b.segments b.blocks;
+      others = remove (slices_of b.are_lent b.job.setting b.segments b.blocks) b.job.slice;
     } };
 
-    ghost invariant = { λ b. IsBeside (record {
-      job = b.job;
-      others = others_of b.are_lent b.job.setting b.segments b.blocks;
-    }) };
+    ghost invariant = { λ b. IsAround b.job (slices_of b.are_lent b.job.setting b.segments b.blocks) };
 }
 
-/// The place of a slice among the three that are not the job's.
-fn place_among(job: &Job, slice: u32) -> usize
-    requires slice_fits { slice < 4 }
-    requires other_slice { slice ≢ job.now.slice }
-    ensures value { result ≡ rank_among job.now slice }
-    ensures fits { result < 3 }
+/// Three slices by their numbers, where the first of them stands in for the missing one.
+fn with_stand_in<T: Copy>(others: [T; 3], slice: u32) -> [T; 4]
+    requires { slice < 4 }
+    ensures count { length result ≡ 4 }
+    ensures removed { remove result slice ≡ others }
+    ensures stand_in { (d : T) → slice_index_or result slice d ≡ slice_index_or others 0 d }
 {
-    if slice < job.slice() {
-        slice as usize
-    } else {
-        slice as usize - 1
+    match slice {
+        0 | 1 => [others[0], others[0], others[1], others[2]],
+        2 => [others[0], others[1], others[0], others[2]],
+        _ => [others[0], others[1], others[2], others[0]],
     }
 }
 
-/// The block at an index of a lane, in one of three slices of segments.
-fn block_of_segments<'a>(slices: &[&'a [Segment]; 3], at: usize, lane: u32, index: u32) -> &'a Block
-    requires at_fits { at < 3 }
+/// The slice of a column. A division may take longer for some columns.
+fn slice_of_column(job: &Job, column: u32) -> u32
+    requires { column < lane_length job.now.setting }
+    ensures value { result ≡ column / job.now.setting.segment_length }
+    ensures fits { result < 4 }
+    ensures begun { result * job.now.setting.segment_length ≤ column }
+{
+    let length = job.segment_length();
+    let first = u32::from(column >= length);
+    first + u32::from(column >= 2 * length) + u32::from(column >= 3 * length)
+}
+
+/// The block at an index of a lane, in one of four slices of segments.
+fn block_of_segments<'a>(slices: &[&'a [Segment]; 4], at: u32, lane: u32, index: u32) -> &'a Block
+    requires at_fits { at < 4 }
     requires lane_fits { lane < length (slice_index_or (map (λ o. o.now) slices.now) at []) }
     requires index_fits { index < length (slice_index_or (slice_index_or
         (map (λ o. o.now) slices.now) at []) lane no_segment).blocks }
@@ -92,7 +104,7 @@ fn block_of_segments<'a>(slices: &[&'a [Segment]; 3], at: usize, lane: u32, inde
         (map (λ o. o.now) slices.now) at []) lane no_segment).blocks index [] }
 {
     let slices = &slices[..];
-    let segments = slices[at];
+    let segments = slices[at as usize];
     segments[lane as usize].block(index as usize)
 }
 
@@ -107,16 +119,16 @@ fn place_in_slice(job: &Job, lane: u32, index: u32) -> usize
     (lane * job.segment_length() + index) as usize
 }
 
-/// The block at an index of a lane, in one of three slices that are lent.
+/// The block at an index of a lane, in one of four slices that are lent.
 fn block_of_lent<'a>(
-    slices: &[&'a [Block]; 3],
+    slices: &[&'a [Block]; 4],
     job: &Job,
-    at: usize,
+    at: u32,
     lane: u32,
     index: u32,
 ) -> &'a Block
-    requires three { length slices.now ≡ 3 }
-    requires at_fits { at < 3 }
+    requires four { length slices.now ≡ 4 }
+    requires at_fits { at < 4 }
     requires lane_fits { lane < job.now.setting.lanes }
     requires index_fits { index < job.now.setting.segment_length }
     requires made { index < length (slice_index_or (slice_index_or
@@ -126,7 +138,7 @@ fn block_of_lent<'a>(
 {
     let place = place_in_slice(job, lane, index);
     let slices = &slices[..];
-    let blocks = slices[at];
+    let blocks = slices[at as usize];
     &blocks[place]
 }
 
@@ -137,11 +149,12 @@ impl<'a> Beside<'a> {
         ensures { result ≡ record { job = job; others = map (λ o. o.now) others.entry } }
     {
         let blocks: &[Block] = &[];
+        let slice = job.slice();
         Beside {
             job,
             are_lent: false,
-            segments: others,
-            blocks: [blocks, blocks, blocks],
+            segments: with_stand_in(others, slice),
+            blocks: [blocks, blocks, blocks, blocks],
         }
     }
 
@@ -151,11 +164,12 @@ impl<'a> Beside<'a> {
         ensures { result ≡ record { job = job; others = lent_slices job.setting others.entry } }
     {
         let segments: &[Segment] = &[];
+        let slice = job.slice();
         Beside {
             job,
             are_lent: true,
-            segments: [segments, segments, segments],
-            blocks: others,
+            segments: [segments, segments, segments, segments],
+            blocks: with_stand_in(others, slice),
         }
     }
 
@@ -167,22 +181,24 @@ impl<'a> Beside<'a> {
         &self.job
     }
 
+    /// The block of another slice, and some block where the slice is the job's own.
     fn block(&self, slice: u32, lane: u32, index: u32) -> &Block
         requires slice_fits { slice < 4 }
-        requires other_slice { slice ≢ self.now.job.slice }
         requires lane_fits { lane < self.now.job.setting.lanes }
         requires index_fits { index < self.now.job.setting.segment_length }
-        ensures { result.now ≡ slice_index_or (other_blocks self.now slice lane) index [] }
+        ensures { slice ≢ self.now.job.slice
+            → result.now ≡ slice_index_or (other_blocks self.now slice lane) index [] }
     {
-        let at = place_among(&self.job, slice);
         if self.are_lent {
-            block_of_lent(&self.blocks, &self.job, at, lane, index)
+            block_of_lent(&self.blocks, &self.job, slice, lane, index)
         } else {
-            block_of_segments(&self.segments, at, lane, index)
+            block_of_segments(&self.segments, slice, lane, index)
         }
     }
 
-    /// The block at a lane and column, as the lane that is filled up to an index sees it.
+    /// The block at a lane and column, as the lane that is filled up to an index sees it. A block of
+    /// another slice is found in either case, so that the choice is one of two addresses and needs
+    /// no branch.
     pub(super) fn source(&self, lane: u32, column: u32, index: u32) -> Source<'_>
         requires lane_fits { lane < self.now.job.setting.lanes }
         requires column_fits { column < lane_length self.now.job.setting }
@@ -194,12 +210,13 @@ impl<'a> Beside<'a> {
         ensures before { (end : ℕ) → index ≤ end → IsBefore end result }
     {
         let job = self.job();
-        let slice = column / job.segment_length();
-        let at = column % job.segment_length();
+        let slice = slice_of_column(job, column);
+        let at = column - slice * job.segment_length();
+        let other = self.block(slice, lane, at);
         if slice == job.slice() {
             Source::Own(at as usize)
         } else {
-            Source::Other(self.block(slice, lane, at))
+            Source::Other(other)
         }
     }
 }
@@ -282,6 +299,28 @@ impl<'a> Snapshot<'a> {
         ensures snapshot { IsSnapshot self.now }
     {
         &self.beside
+    }
+}
+
+/// Fills a lane's segment of the job's slice.
+pub fn fill_segment(snapshot: &Snapshot<'_>, lane: u32, segment: &mut Segment)
+    requires lane_fits { lane < snapshot.now.job.setting.lanes }
+    requires ready { IsReady snapshot.now.job.setting snapshot.now.job.pass snapshot.now.job.slice
+        lane segment.old.blocks }
+    ensures filled { segment.new.blocks ≡ segment_at snapshot.now.job.setting snapshot.now.job.pass
+        snapshot.now.job.slice lane }
+    ensures tally { segment.new.tally
+        ≡ (segment.old.tally
+        + blocks_in_slice snapshot.now.job.setting snapshot.now.job.pass snapshot.now.job.slice) % 2
+        ^ 64 }
+{
+    let (beside, job) = (snapshot.beside(), snapshot.job());
+    recall_segment(segment);
+    let mut index = job.first_index();
+    while index < job.segment_length() {
+        let count = stretch(job, index);
+        segment.fill(beside, lane, index, count);
+        index += count;
     }
 }
 

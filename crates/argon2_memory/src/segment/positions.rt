@@ -1,6 +1,6 @@
 //! The references of a block: the lane and column that a drawn word picks.
 
-ghost use Rattle.std.specs.Prelude.{◌≡◌, ℕ, ◌+◌, ◌-◌, ◌*◌, ◌/◌, ◌%◌, ◌^◌, ◌<◌, ◌≤◌, length, take, drop, true, false};
+ghost use Rattle.std.specs.Prelude.{◌≡◌, ℕ, ◌+◌, ◌-◌, ◌*◌, ◌/◌, ◌%◌, ◌^◌, ◌<◌, ◌≤◌, ◌==◌, length, take, drop, true, false};
 ghost use Rattle.argon2_memory.specs.Views.Filling.{window_column, window_length, left_columns, pick_of, position_of};
 ghost use Rattle.argon2_memory.specs.Views.Jobs.{first_index, IsJob};
 ghost use Rattle.argon2_memory.specs.Views.Positions.{reference_positions_of};
@@ -14,6 +14,15 @@ use argon2_blocks::common::{ADDRESSES_IN_BLOCK, QWORDS_IN_BLOCK, SYNC_POINTS};
 
 /// A word has two halves of 32 bits.
 const HALF: u64 = 1 << 32;
+
+/// 1 where a number is not below a bound, and else 0. It is a sum, since the compiler may make a
+/// branch of a comparison, and no branch is to look at what is drawn from blocks.
+fn reaches(number: u32, bound: u32) -> u32
+    ensures below { number < bound → result ≡ 0 }
+    ensures reached { bound ≤ number → result ≡ 1 }
+{
+    ((u64::from(number) + HALF - u64::from(bound)) / HALF) as u32
+}
 
 /// The place that a word draws among some blocks.
 fn drawn_place(count: u32, word: u64) -> u32
@@ -42,48 +51,50 @@ fn left_columns(job: &Job) -> u32
     }
 }
 
-/// How many blocks of its own lane or another the block at an index may refer to.
-pub fn allowed_count(job: &Job, is_own: bool, index: u32) -> u32
+/// How many blocks the block at an index may refer to: of its own lane for 1, of another for 0.
+pub fn allowed_count(job: &Job, is_own: u32, index: u32) -> u32
+    requires is_bit { is_own < 2 }
     requires index_fits { index < job.now.setting.segment_length }
-    requires some { 0 < window_length job.now is_own index }
-    ensures value { result ≡ window_length job.now is_own index }
+    requires some { 0 < window_length job.now (is_own == 1) index }
+    ensures value { result ≡ window_length job.now (is_own == 1) index }
     ensures fits { result ≤ lane_length job.now.setting }
 {
     let elsewhere = left_columns(job) + job.start();
-    if is_own {
-        elsewhere + index - 1
-    } else if index == 0 {
+    if index == 0 {
         elsewhere - 1
     } else {
-        elsewhere
+        elsewhere + is_own * (index - 1)
     }
 }
 
-/// The column at a place among the blocks that one may refer to.
+/// The column at a place among the blocks that one may refer to: those behind the slice come
+/// first, then those from the lane's begin on.
 pub fn allowed_column(job: &Job, place: u32) -> u32
     requires { place < lane_length job.now.setting }
     ensures { result ≡ window_column job.now place }
 {
     let left = left_columns(job);
-    if place < left {
-        job.start() + job.segment_length() + place
-    } else {
-        place - left
-    }
+    let turn = SYNC_POINTS * job.segment_length();
+    place
+        .wrapping_add(turn - left)
+        .wrapping_sub(reaches(place, left) * turn)
 }
 
-/// The lane that a word draws for a block of a lane.
-fn drawn_lane(job: &Job, lane: u32, word: u64) -> u32
+/// The lane that a word draws for a block of a lane, and 1 if it is that lane, else 0.
+fn drawn_lane(job: &Job, lane: u32, word: u64) -> (u32, u32)
     requires { lane < job.now.setting.lanes }
     ensures value { (index : ℕ) → index < job.now.setting.segment_length
-        → result ≡ drawn_lane job.now.setting word (position_of job.now lane index) }
+        → result.0 ≡ drawn_lane job.now.setting word (position_of job.now lane index) }
+    ensures is_bit { result.1 < 2 }
+    ensures own { (result.1 == 1) ≡ (result.0 == lane) }
     ensures job { IsJob job.now }
 {
     let lanes = job.lanes();
     if lanes == 1 || job.pass() == 0 && job.slice() == 0 {
-        lane
+        (lane, 1)
     } else {
-        (word / HALF) as u32 % lanes
+        let drawn = (word / HALF) as u32 % lanes;
+        (drawn, reaches(drawn, lane) + reaches(lane, drawn) - 1)
     }
 }
 
@@ -94,8 +105,8 @@ pub fn pick(job: &Job, lane: u32, index: u32, word: u64) -> (u32, u32)
     requires later { first_index job.now ≤ index }
     ensures { result ≡ pick_of job.now lane index word }
 {
-    let chosen = drawn_lane(job, lane, word);
-    let count = allowed_count(job, chosen == lane, index);
+    let (chosen, is_own) = drawn_lane(job, lane, word);
+    let count = allowed_count(job, is_own, index);
     (chosen, allowed_column(job, drawn_place(count, word)))
 }
 

@@ -1,5 +1,3 @@
-use Rattle.std.proofs.Common.{◌≡◌}
-use Rattle.std.specs.Prelude.{◌↔◌, IsTrue}
 use Rattle.argon2_standard.specs.Standard.ThreadModes.{may_lack_workers}
 use Rattle.argon2.proofs.Verification.Verdicts.{compared}
 use Rattle.argon2.proofs.verifying.is_tag.Goals as goal
@@ -7,5 +5,4 @@ use Rattle.argon2.proofs.verifying.is_tag.Goals as goal
 pub returns-clause-answer : goal.returns-clause-answer
 returns-clause-answer g c =
     let x = c.args.context.now in
-    let equal : IsTrue c.are_equal.result ↔ (c.in_ok-tag.tag.items ≡ c.args.hash.now) = rw c.deref.ensures.value at c.are_equal.ensures in
-    compared x c.args.hash.now c.in_ok-tag.tag.items (may_lack_workers x.config) c.are_equal.result c.requires.length c.in_ok-tag.ensures.tag equal
+    compared x c.args.hash.now c.in_ok-tag.tag.items (may_lack_workers x.config) c.is_hash.result c.requires.length c.in_ok-tag.ensures.tag c.is_hash.ensures

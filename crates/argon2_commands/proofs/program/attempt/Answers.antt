@@ -3,9 +3,10 @@ use Rattle.std.specs.Io.KnownBytes.{Appends}
 use Rattle.std.proofs.lemmas.Result.{IfOk-from_err, err_from_is_err_and}
 use Rattle.argon2_commands.specs.Fault.{IsBeforeOutput}
 use Rattle.argon2_commands.specs.Words.{texts_of}
-use Rattle.argon2_commands.specs.declared.fault.Fault.TheVariants.{Usage, Refused}
+use Rattle.argon2_commands.specs.declared.fault.Fault.TheVariants.{Usage, Refused, TooCostly}
 use Rattle.argon2_commands.proofs.Attempts.{a_command, answer_is_no_usage, no_command, output_is_not, same_error, status_is_no_usage}
-use Rattle.argon2_commands.proofs.Refusals.{is_no_output, is_refused, untouched, passed_on}
+use Rattle.argon2_commands.proofs.Checks.{fails_costly, is_costly, no_answer, no_command_costly}
+use Rattle.argon2_commands.proofs.Refusals.{is_no_output, is_refused, passed_on, told, untouched}
 use Rattle.argon2_commands.proofs.program.attempt.Goals as goal
 
 -- ---- words of no command
@@ -29,6 +30,16 @@ returns-in_err-command-clause-short g c =
     let none = no_command (texts_of c.args.words.now) c.from_words.result c.in_err-command.field-0.0 c.from_words.ensures c.in_err-command.ensures.value in
     passed_on c.from_residual.result c.in_err-command.field-0.0 _ c.from_residual.ensures (λ short. absurd (cc (none.1, short)))
 
+pub returns-in_err-command-clause-costly : goal.returns-in_err-command-clause-costly
+returns-in_err-command-clause-costly g c =
+    let none = no_command (texts_of c.args.words.now) c.from_words.result c.in_err-command.field-0.0 c.from_words.ensures c.in_err-command.ensures.value in
+    passed_on c.from_residual.result c.in_err-command.field-0.0 _ c.from_residual.ensures (λ costly. absurd (cc (none.1, costly)))
+
+pub returns-in_err-command-clause-judged : goal.returns-in_err-command-clause-judged
+returns-in_err-command-clause-judged g c costly =
+    let none = no_command (texts_of c.args.words.now) c.from_words.result c.in_err-command.field-0.0 c.from_words.ensures c.in_err-command.ensures.value in
+    no_command_costly c.args.words (texts_of c.args.words.now) none.0 costly
+
 pub returns-in_err-command-clause-unwritten : goal.returns-in_err-command-clause-unwritten
 returns-in_err-command-clause-unwritten g c =
     passed_on c.from_residual.result c.in_err-command.field-0.0 _ c.from_residual.ensures (λ _. untouched (g.O.Write.contents c.args.output.now))
@@ -45,7 +56,7 @@ pub returns-in_err-answer-clause-usage : goal.returns-in_err-answer-clause-usage
 returns-in_err-answer-clause-usage g c =
     let is = a_command (texts_of c.args.words.now) c.from_words.result c.in_ok-command.command c.from_words.ensures c.in_ok-command.ensures.value in
     let p = err_from_is_err_and c.from_residual-in_err-answer.result c.from_residual-in_err-answer.ensures.1 in (
-      λ usage. answer_is_no_usage c.in_err-answer.field-0.0 _ c.in_err-answer.ensures.fault (sym p.2 ∙ same_error _ _ (sym p.1 ∙ usage)),
+      λ usage. answer_is_no_usage c.in_err-answer.field-0.0 _ _ c.in_err-answer.ensures.fault (sym p.2 ∙ same_error _ _ (sym p.1 ∙ usage)),
       λ none. absurd (none c.in_ok-command.command is),
     )
 
@@ -59,7 +70,21 @@ returns-in_err-answer-clause-refused g c =
 pub returns-in_err-answer-clause-short : goal.returns-in_err-answer-clause-short
 returns-in_err-answer-clause-short g c =
     passed_on c.from_residual-in_err-answer.result c.in_err-answer.field-0.0 _ c.from_residual-in_err-answer.ensures
-    (is_no_output c.in_err-answer.field-0.0 _ c.in_err-answer.ensures.fault)
+    (is_no_output c.in_err-answer.field-0.0 _ _ c.in_err-answer.ensures.fault)
+
+pub returns-in_err-answer-clause-costly : goal.returns-in_err-answer-clause-costly
+returns-in_err-answer-clause-costly g c =
+    let is = a_command (texts_of c.args.words.now) c.from_words.result c.in_ok-command.command c.from_words.ensures c.in_ok-command.ensures.value in
+    passed_on c.from_residual-in_err-answer.result c.in_err-answer.field-0.0 _ c.from_residual-in_err-answer.ensures
+    (is_costly (texts_of c.args.words.now) (g.I.Read.remaining c.args.input.now) c.in_ok-command.command c.in_err-answer.field-0.0 is
+    c.in_err-answer.ensures.fault)
+
+pub returns-in_err-answer-clause-judged : goal.returns-in_err-answer-clause-judged
+returns-in_err-answer-clause-judged g c costly =
+    let is = a_command (texts_of c.args.words.now) c.from_words.result c.in_ok-command.command c.from_words.ensures c.in_ok-command.ensures.value in
+    told c.from_residual-in_err-answer.result c.in_err-answer.field-0.0 _ c.from_residual-in_err-answer.ensures
+    (fails_costly (texts_of c.args.words.now) (g.I.Read.remaining c.args.input.now) c.in_ok-command.command c.in_err-answer.field-0.0 is
+    c.in_err-answer.ensures.fault costly)
 
 pub returns-in_err-answer-clause-unwritten : goal.returns-in_err-answer-clause-unwritten
 returns-in_err-answer-clause-unwritten g c =
@@ -90,6 +115,12 @@ returns-in-Ok-clause-usage g c =
     let is = a_command (texts_of c.args.words.now) c.from_words.result c.in_ok-command.command c.from_words.ensures c.in_ok-command.ensures.value in
     (λ usage. status_is_no_usage c.status.result usage, λ none. absurd (none c.in_ok-command.command is))
 
+pub returns-in-Ok-clause-judged : goal.returns-in-Ok-clause-judged
+returns-in-Ok-clause-judged g c =
+    let is = a_command (texts_of c.args.words.now) c.from_words.result c.in_ok-command.command c.from_words.ensures c.in_ok-command.ensures.value in
+    no_answer (texts_of c.args.words.now) (g.I.Read.remaining c.args.input.now) c.in_ok-command.command c.in_ok-answer.answer is
+    c.in_ok-answer.ensures.answer
+
 pub returns-in-Ok-clause-unread : goal.returns-in-Ok-clause-unread
 returns-in-Ok-clause-unread g c need =
     let is = a_command (texts_of c.args.words.now) c.from_words.result c.in_ok-command.command c.from_words.ensures c.in_ok-command.ensures.value in
@@ -116,6 +147,16 @@ returns-clause-short g c _ = record {
   is_command = a_command (texts_of c.args.words.now) c.from_words.result c.in_ok-command.command c.from_words.ensures c.in_ok-command.ensures.value;
   is_answer = c.in_ok-answer.ensures.answer;
 }
+
+pub returns-clause-costly : goal.returns-clause-costly
+returns-clause-costly g c =
+    output_is_not c.of_stream.result (λ fault. fault ≡ TooCostly) c.of_stream.ensures.short c.of_stream.ensures.other (λ e. cc (e)) (λ e. cc (e))
+
+pub returns-clause-judged : goal.returns-clause-judged
+returns-clause-judged g c =
+    let is = a_command (texts_of c.args.words.now) c.from_words.result c.in_ok-command.command c.from_words.ensures c.in_ok-command.ensures.value in
+    no_answer (texts_of c.args.words.now) (g.I.Read.remaining c.args.input.now) c.in_ok-command.command c.in_ok-answer.answer is
+    c.in_ok-answer.ensures.answer
 
 pub returns-clause-unwritten : goal.returns-clause-unwritten
 returns-clause-unwritten g c =

@@ -1,7 +1,7 @@
 use Rattle.std.proofs.Common.{sym, subst, arith}
 use Rattle.argon2_commands.specs.Fault.{IsBeforeOutput}
 use Rattle.argon2_commands.proofs.Refusals.{untouched}
-use Rattle.argon2_commands.proofs.Statuses.{answered_bounded, answered_not, answered_usage, at_three, at_two, fault_bounded, no_fault, usage_status}
+use Rattle.argon2_commands.proofs.Statuses.{answered_bounded, answered_not, answered_usage, at_five, at_three, at_two, fault_above, fault_bounded, no_fault, usage_status}
 use Rattle.argon2_commands.proofs.program.run.Goals as goal
 
 -- src/program.rt:68:1
@@ -16,6 +16,12 @@ returns-in-Ok-clause-usage g c = answered_usage c.in-Ok.ensures.answered
 
 pub returns-in-Ok-clause-refused : goal.returns-in-Ok-clause-refused
 returns-in-Ok-clause-refused g c = answered_not 2 (omega arith) c.in-Ok.ensures.answered
+
+pub returns-in-Ok-clause-costly : goal.returns-in-Ok-clause-costly
+returns-in-Ok-clause-costly g c = answered_not 5 (omega arith) c.in-Ok.ensures.answered
+
+pub returns-in-Ok-clause-judged : goal.returns-in-Ok-clause-judged
+returns-in-Ok-clause-judged g c costly = absurd (c.in-Ok.ensures.judged costly)
 
 pub returns-in-Ok-clause-unwritten : goal.returns-in-Ok-clause-unwritten
 returns-in-Ok-clause-unwritten g c = answered_not 3 (omega arith) c.in-Ok.ensures.answered
@@ -38,6 +44,14 @@ returns-in-Err-clause-usage g c = usage_status c.in-Err.fault c.report.result _ 
 pub returns-in-Err-clause-refused : goal.returns-in-Err-clause-refused
 returns-in-Err-clause-refused g c =
     at_two c.in-Err.fault c.report.result _ _ _ _ c.report.ensures c.in-Err.ensures.refused c.in-Err.ensures.short c.in-Err.ensures.unwritten
+
+pub returns-in-Err-clause-costly : goal.returns-in-Err-clause-costly
+returns-in-Err-clause-costly g c five =
+    let costly = at_five c.in-Err.fault c.report.result c.report.ensures five in
+    (c.in-Err.ensures.unwritten (subst IsBeforeOutput (sym costly) tt), c.in-Err.ensures.costly costly)
+
+pub returns-in-Err-clause-judged : goal.returns-in-Err-clause-judged
+returns-in-Err-clause-judged g c costly = fault_above c.in-Err.fault c.report.result c.report.ensures
 
 pub returns-in-Err-clause-unwritten : goal.returns-in-Err-clause-unwritten
 returns-in-Err-clause-unwritten g c three =

@@ -1,8 +1,8 @@
 use Rattle.std.proofs.Common.{◌<◌, ◌∙◌, inl, inr, subst, sym}
-use Rattle.argon2_commands.specs.Run.{Answered}
+use Rattle.argon2_commands.specs.Run.{Answered, AreTooCostly}
 use Rattle.argon2_commands.specs.Words.{IsNoCommand}
 use Rattle.argon2_commands.proofs.Refusals.{untouched}
-use Rattle.argon2_commands.proofs.Statuses.{answered_as, fault_bounded, no_fault, of_words, refused_words, unread_words}
+use Rattle.argon2_commands.proofs.Statuses.{answered_as, fault_bounded, no_fault, of_words, refused_words, unread_not_costly, unread_words}
 use Rattle.argon2_commands.proofs.program.start.Goals as goal
 
 -- src/program.rt:49:23
@@ -19,6 +19,9 @@ returns-in-Err-clause-usage g c three =
 pub returns-in-Err-clause-refused : goal.returns-in-Err-clause-refused
 returns-in-Err-clause-refused g c two = inl (untouched (g.O.Write.contents c.args.output.now))
 
+pub returns-in-Err-clause-costly : goal.returns-in-Err-clause-costly
+returns-in-Err-clause-costly g c five = unread_not_costly (g.L.CommandLine.arguments c.args.line.now) c.in-Err.fault _ c.in-Err.ensures.fault (c.from.ensures ∙ c.report.ensures) five
+
 pub returns-in-Err-clause-unwritten : goal.returns-in-Err-clause-unwritten
 returns-in-Err-clause-unwritten g c three = untouched (g.O.Write.contents c.args.output.now)
 
@@ -33,8 +36,16 @@ returns-clause-answered g c low =
     c.as_slice.ensures.value c.in-Ok.ensures.all
     (answered_as _ c.from-2.ensures (c.run-status.ensures.answered (subst (λ n. n < 2) c.from-2.ensures low)))
 
+pub returns-clause-costly : goal.returns-clause-costly
+returns-clause-costly g c five =
+    let costly = c.run-status.ensures.costly (sym c.from-2.ensures ∙ five) in (
+      costly.0,
+      of_words (g.L.CommandLine.arguments c.args.line.now) c.as_slice.result.now c.in-Ok.words.items AreTooCostly c.as_slice.ensures.value
+          c.in-Ok.ensures.all costly.1,
+    )
+
 pub returns-clause-bounded : goal.returns-clause-bounded
-returns-clause-bounded g c = subst (λ n. n < 5) (sym c.from-2.ensures) c.run-status.ensures.bounded
+returns-clause-bounded g c = subst (λ n. n < 6) (sym c.from-2.ensures) c.run-status.ensures.bounded
 
 pub returns-clause-usage : goal.returns-clause-usage
 returns-clause-usage g c three =

@@ -9,6 +9,6 @@ use Rattle.argon2_fill.proofs.lent.finalize_lent.Goals as goal
 pub returns : goal.returns
 unfolding tag_from
 returns c = λ holds.
-    c.hprime.ensures
-    ∙ ap (λ (l : List ℕ). hprime (length c.args.out.now) l) (c.as_u8.ensures.bytes ∙ ap (λ (b : List ℕ). block_bytes b) (c.combine_last_lent.ensures
-    ∙ ap (λ (l : List (List ℕ)). fold xor zero_block l) (last_blocks-lent c.args.job.now.setting c.recall_job.ensures.setting c.args.slice.now holds)))
+    c.write_tag.ensures.hash
+    ∙ ap (λ (b : List ℕ). hprime (length c.args.out.now) (block_bytes b)) (c.combine_last_lent.ensures
+    ∙ ap (λ (l : List (List ℕ)). fold xor zero_block l) (last_blocks-lent c.args.job.now.setting c.recall_job.ensures.setting c.args.slice.now holds))

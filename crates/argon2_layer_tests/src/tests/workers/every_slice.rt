@@ -6,9 +6,7 @@ ghost use Rattle.argon2_memory.specs.Views.Jobs.{setting_of_context};
 
 use super::overlap::reaches;
 use super::two_lanes;
-use argon2_fill::fill::prepare_memory;
-use argon2_fill::first_blocks::initialize;
-use argon2_fill::last_blocks::finalize;
+use argon2_fill::fill::{finalize, initialize, prepare_memory};
 use argon2_fill::workers::{AllPermitted, Claim, Filled, Gate, fill_parallel, fill_parallel_with};
 use argon2_memory::memory::Memory;
 use argon2_memory::segment::Snapshot;

@@ -13,4 +13,4 @@ pub returns-else-out-le-BLAKE2B_OUT_LENGTH : goal.returns-else-out-le-BLAKE2B_OU
 returns-else-out-le-BLAKE2B_OUT_LENGTH c =
     let input : List ℕ = to_le_bytes w32 (length c.args.out.now) ++ c.args.input.now in
     let first = rw (append-nil, c.to_le_bytes-len.ensures) at c.blake2b-else-out-le-BLAKE2B_OUT_LENGTH.ensures in
-    c.write_chain.ensures input first ∙ sym (hprime_long (length c.args.out.now) c.args.input.now (omega arith))
+    c.write_chain.ensures.chain input first ∙ sym (hprime_long (length c.args.out.now) c.args.input.now (omega arith))

@@ -6,9 +6,9 @@ use Rattle.argon2_blocks.proofs.blake2b.variable_length.write_chains.Goals as go
 pub loop-i-init : goal.loop-i-init
 loop-i-init c = (
   λ input e.
-      hash_chain_first c.write_half.new.out input c.args.v _ _ (omega (arith, c.chain_length-r.ensures)) e c.write_half.ensures.front,
+      hash_chain_first c.write_half.new.out input c.args.v.now _ _ (omega (arith, c.chain_length-r.ensures)) e c.write_half.ensures.front,
   λ input e.
-      hash_chain_first c.write_half-2.new.out input c.args.w _ _ (omega (arith, c.chain_length-r.ensures)) e c.write_half-2.ensures.front,
+      hash_chain_first c.write_half-2.new.out input c.args.w.now _ _ (omega (arith, c.chain_length-r.ensures)) e c.write_half-2.ensures.front,
 )
 
 pub loop-i-preserved : goal.loop-i-preserved

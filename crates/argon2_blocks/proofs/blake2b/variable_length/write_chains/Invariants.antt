@@ -11,4 +11,4 @@ IsBegun r last first out v i = (input : List ℕ) → first ≡ blake2b 64 input
 abbrev pub invariant-loop-i : goal.invariant-loop-i
 invariant-loop-i l =
     let last = length l.initial.first - 32 * l.r in
-    IsBegun l.r last l.fn.v l.first l.v l.i × IsBegun l.r last l.fn.w l.second l.w l.i
+    IsBegun l.r last l.initial.v l.first l.v l.i × IsBegun l.r last l.initial.w l.second l.w l.i

@@ -1,37 +1,38 @@
-use Rattle.std.proofs.Common.{Err, Ok, inl, inr, refl, string_bytes, subst}
+use Rattle.std.proofs.Common.{Err, Ok, inl, inr, refl, string_bytes, subst, ◌∙◌}
 use Rattle.std.proofs.lemmas.Result.{IfOk-from_err}
 use Rattle.argon2.specs.ErrorType.TheVariants.{OutOfMemory}
-use Rattle.argon2_commands.specs.Answer.{HashAnswers, IsRefusal, MayRefuse, NeedsNoInput, VerifyAnswers}
-use Rattle.argon2_commands.proofs.Refusals.{passed_on, read_refused, untouched}
+use Rattle.argon2_commands.specs.Answer.{CheckAnswers, HashAnswers, IsRefusal, MayRefuse, NeedsNoInput, VerifyAnswers}
+use Rattle.argon2_commands.proofs.Checks.{check_fault}
+use Rattle.argon2_commands.proofs.Refusals.{passed_on, read_fault, untouched}
 use Rattle.argon2_commands.proofs.answer.Answer.to.Goals as goal
 
--- src/answer.rt:52:31
+-- ---- a fault
+
 pub returns-in_err-verdict-in-Verify-clause-fault :
     goal.returns-in_err-verdict-in-Verify-clause-fault
 returns-in_err-verdict-in-Verify-clause-fault g c = rw c.in-Verify.is
     (passed_on _ _ _ c.from_residual-in_err-verdict-in-Verify.ensures (inr (
       _,
-      refl,
-      inr (
-        _,
-        c.in_ok-password-in-Verify.ensures.bytes,
-        subst (λ read. VerifyAnswers c.in-Verify.encoded.now read (Err c.in_err-verdict-in-Verify.field-0.0)) c.as_slice-in-Verify.ensures.value
-            (record { unspelled = c.in_err-verdict-in-Verify.ensures.unspelled; spelled = c.in_err-verdict-in-Verify.ensures.spelled }),
-      ),
+      c.in_ok-password-in-Verify.ensures.bytes,
+      subst (λ read. VerifyAnswers c.in-Verify.encoded.now read (Err c.in_err-verdict-in-Verify.field-0.0)) c.as_slice-in-Verify.ensures.value
+          (record { unspelled = c.in_err-verdict-in-Verify.ensures.unspelled; spelled = c.in_err-verdict-in-Verify.ensures.spelled }),
     )))
 
--- src/answer.rt:56:36
+pub returns-in_err-verdict-in-Check-clause-fault :
+    goal.returns-in_err-verdict-in-Check-clause-fault
+returns-in_err-verdict-in-Check-clause-fault g c = rw c.in-Check.is
+    (passed_on _ _ _ c.from_residual-in_err-verdict-in-Check.ensures
+    (check_fault c.in-Check.encoded (g.I.Read.remaining c.args.input.now) _ c.in_err-verdict-in-Check.field-0.0 c.in_ok-password-in-Check.ensures.bytes
+    (subst (λ read. CheckAnswers c.in-Check.encoded.now read (Err c.in_err-verdict-in-Check.field-0.0)) c.as_slice-in-Check.ensures.value
+    c.in_err-verdict-in-Check.ensures)))
+
 pub returns-in_err-needs_rehash-in-Rehash-clause-fault :
     goal.returns-in_err-needs_rehash-in-Rehash-clause-fault
 returns-in_err-needs_rehash-in-Rehash-clause-fault g c = rw c.in-Rehash.is
-    (passed_on _ _ _ c.from_residual-in_err-needs_rehash-in-Rehash.ensures (inr (
-      _,
-      refl,
-      record {
-        unspelled = c.in_err-needs_rehash-in-Rehash.ensures.unspelled;
-        spelled = c.in_err-needs_rehash-in-Rehash.ensures.spelled;
-      },
-    )))
+    (passed_on _ _ _ c.from_residual-in_err-needs_rehash-in-Rehash.ensures (record {
+      unspelled = c.in_err-needs_rehash-in-Rehash.ensures.unspelled;
+      spelled = c.in_err-needs_rehash-in-Rehash.ensures.spelled;
+    }))
 
 -- src/answer.rt:33:5
 pub returns-in_ok-needs_rehash-in-Rehash-clause-answer :
@@ -47,7 +48,7 @@ returns-in_err-password-in-Hash-clause-answer g c = IfOk-from_err _ _ c.from_res
 pub returns-in_err-password-in-Hash-clause-fault : goal.returns-in_err-password-in-Hash-clause-fault
 returns-in_err-password-in-Hash-clause-fault g c =
     let may : MayRefuse c.args.command.now (g.I.Read.remaining c.args.input.now) OutOfMemory = rw c.in-Hash.is (inl refl) in
-    passed_on _ _ _ c.from_residual.ensures (read_refused _ _ c.in_err-password-in-Hash.ensures.fault may)
+    passed_on _ _ _ c.from_residual.ensures (read_fault _ _ _ c.in_err-password-in-Hash.ensures.fault may)
 
 pub returns-in_err-password-in-Hash-clause-unread : goal.returns-in_err-password-in-Hash-clause-unread
 returns-in_err-password-in-Hash-clause-unread g c need = absurd (subst NeedsNoInput c.in-Hash.is need)
@@ -58,7 +59,7 @@ returns-in_err-password-in-Verify-clause-answer g c = IfOk-from_err _ _ c.from_r
 pub returns-in_err-password-in-Verify-clause-fault : goal.returns-in_err-password-in-Verify-clause-fault
 returns-in_err-password-in-Verify-clause-fault g c =
     let may : MayRefuse c.args.command.now (g.I.Read.remaining c.args.input.now) OutOfMemory = rw c.in-Verify.is (inl refl) in
-    passed_on _ _ _ c.from_residual-in_err-password-in-Verify.ensures (read_refused _ _ c.in_err-password-in-Verify.ensures.fault may)
+    passed_on _ _ _ c.from_residual-in_err-password-in-Verify.ensures (read_fault _ _ _ c.in_err-password-in-Verify.ensures.fault may)
 
 pub returns-in_err-password-in-Verify-clause-unread : goal.returns-in_err-password-in-Verify-clause-unread
 returns-in_err-password-in-Verify-clause-unread g c need = absurd (subst NeedsNoInput c.in-Verify.is need)
@@ -94,21 +95,20 @@ pub returns-in_err-lines-in-Hash-clause-fault : goal.returns-in_err-lines-in-Has
 returns-in_err-lines-in-Hash-clause-fault g c = rw c.in-Hash.is
     (passed_on _ _ _ c.from_residual-in_err-lines-in-Hash.ensures (inr (
       _,
-      refl,
-      inr (
-        _,
-        c.in_ok-password-in-Hash.ensures.bytes,
-        subst (λ read. IsRefusal c.in-Hash.config c.in-Hash.salt.now read c.in_err-lines-in-Hash.field-0.0) c.as_slice.ensures.value
-            c.in_err-lines-in-Hash.ensures.refused,
-      ),
+      c.in_ok-password-in-Hash.ensures.bytes,
+      subst (λ read. IsRefusal c.in-Hash.config c.in-Hash.salt read c.in_err-lines-in-Hash.field-0.0) c.as_slice.ensures.value
+          (subst (λ salt. IsRefusal c.in-Hash.config salt c.as_slice.result.now c.in_err-lines-in-Hash.field-0.0)
+          (c.as_slice-in-Hash.ensures.value ∙ c.in_ok-salt-in-Hash.ensures) c.in_err-lines-in-Hash.ensures.refused),
     )))
 
 pub returns-in_ok-lines-in-Hash-clause-answer : goal.returns-in_ok-lines-in-Hash-clause-answer
 returns-in_ok-lines-in-Hash-clause-answer g c = rw c.in-Hash.is (
   _,
   c.in_ok-password-in-Hash.ensures.bytes,
-  subst (λ read. HashAnswers c.in-Hash.config c.in-Hash.salt.now read (string_bytes c.in_ok-lines-in-Hash.lines)) c.as_slice.ensures.value
-      (record { accepted = c.in_ok-lines-in-Hash.ensures.accepted; written = c.in_ok-lines-in-Hash.ensures.lines }),
+  subst (λ read. HashAnswers c.in-Hash.config c.in-Hash.salt read (string_bytes c.in_ok-lines-in-Hash.lines)) c.as_slice.ensures.value
+      (subst (λ salt. HashAnswers c.in-Hash.config salt c.as_slice.result.now (string_bytes c.in_ok-lines-in-Hash.lines))
+      (c.as_slice-in-Hash.ensures.value ∙ c.in_ok-salt-in-Hash.ensures)
+      (record { accepted = c.in_ok-lines-in-Hash.ensures.accepted; written = c.in_ok-lines-in-Hash.ensures.lines })),
 )
 
 pub returns-in_ok-verdict-in-Verify-clause-answer : goal.returns-in_ok-verdict-in-Verify-clause-answer

@@ -3,7 +3,7 @@ use Rattle.argon2_commands.specs.Fault.{line_of}
 use Rattle.argon2_commands.proofs.Writing.{line_appended, nothing_appended}
 use Rattle.argon2_commands.proofs.fault.Fault.write_line.Goals as goal
 use Rattle.argon2_commands.proofs.fault.Fault.write_line.Goals.{in-Usage+in_ok-write_all-in-Usage, in-Input+in_ok-write_all-in-Input}
-use Rattle.argon2_commands.proofs.fault.Fault.write_line.Goals.{in-Refused+in_ok-writeln-in-Refused, in-OutputShort+in_ok-writeln-in-OutputShort, in-Output}
+use Rattle.argon2_commands.proofs.fault.Fault.write_line.Goals.{in-Refused+in_ok-writeln-in-Refused, in-TooCostly+in_ok-writeln-in-TooCostly, in-OutputShort+in_ok-writeln-in-OutputShort, in-Output}
 
 -- src/fault.rt:64:5
 pub returns : goal.returns
@@ -17,6 +17,9 @@ returns g c = elim c.match-self.branch [
   | in-Refused+in_ok-writeln-in-Refused w ↦
       line_appended g.W.Write.contents c.flush.result c.args.errors.now w.writeln.new.self c.match-self.errors c.flush.new.self _ _
       (ap line_of w.in-Refused.is) w.errors-is w.in_ok-writeln-in-Refused.ensures.bytes c.flush.ensures.bytes
+  | in-TooCostly+in_ok-writeln-in-TooCostly w ↦
+      line_appended g.W.Write.contents c.flush.result c.args.errors.now w.writeln-in-TooCostly.new.self c.match-self.errors c.flush.new.self _ _
+      (ap line_of w.in-TooCostly.is) w.errors-is w.in_ok-writeln-in-TooCostly.ensures.bytes c.flush.ensures.bytes
   | in-OutputShort+in_ok-writeln-in-OutputShort w ↦
       line_appended g.W.Write.contents c.flush.result c.args.errors.now w.writeln-in-OutputShort.new.self c.match-self.errors c.flush.new.self _ _
       (ap line_of w.in-OutputShort.is) w.errors-is w.in_ok-writeln-in-OutputShort.ensures.bytes c.flush.ensures.bytes

@@ -1,0 +1,288 @@
+"""The memory that is kept from call to call: what it is asked for, holds, and leaves."""
+import base64
+import copy
+import ctypes
+import errno
+import mmap
+import os
+import pickle
+import threading
+import unittest
+import weakref
+from concurrent.futures import ThreadPoolExecutor
+from pathlib import Path
+from unittest import mock
+
+from proved_argon2 import Limits, PasswordHasher, Type
+from proved_argon2.exceptions import HashingError, TooCostlyError, VerificationError, VerifyMismatchError
+from proved_argon2.low_level import Memory, hash_secret, hash_secret_raw, verify_secret
+
+VECTORS = Path(__file__).resolve().parents[2] / "vectors"
+MMAP = mmap.mmap
+TYPES = {"argon2d": Type.D, "argon2i": Type.I, "argon2id": Type.ID}
+LARGE = "$argon2id$v=19$m=1048576,t=1,p=1$c29tZXNhbHQ$AAAAAAAAAAAAAAAAAAAAAA"
+
+
+class Mappings:
+    """Counts the mappings that are asked for, and those that are there."""
+
+    def __init__(self, granted=1 << 30):
+        self.granted, self.asked, self.refs, self.most = granted, 0, [], 0
+
+    def __call__(self, file, length, **named):
+        self.asked += 1
+        if length > self.granted:
+            raise OSError(errno.ENOMEM, "Cannot allocate memory")
+        self.most = max(self.most, self.there + 1)
+        mapping = MMAP(file, length, **named)
+        self.refs.append(weakref.ref(mapping))
+        return mapping
+
+    @property
+    def there(self):
+        return sum(it() is not None for it in self.refs)
+
+
+def counted(mappings):
+    """Lets the package ask for mappings so."""
+    return mock.patch("mmap.mmap", mappings)
+
+
+def free_pages(memory):
+    """The one piece of a memory that no call uses, which has to be there."""
+    (pages,) = memory._free
+    return pages
+
+
+def fill(memory):
+    pages = free_pages(memory)
+    ctypes.memset(pages.address, 0xA5, pages.length)
+
+
+def held(memory):
+    pages = free_pages(memory)
+    return ctypes.string_at(pages.address, pages.length)
+
+
+def calls(memory_cost, lanes=1, time_cost=1, variant=Type.ID):
+    """Each call over a memory, as a function of it, with what it gives."""
+    given = (b"password", b"somesalt", time_cost, memory_cost, lanes, 24, variant)
+    text, tag = hash_secret(*given), hash_secret_raw(*given)
+
+    def fails(memory):
+        try:
+            verify_secret(text, b"Password", variant, memory=memory)
+        except VerifyMismatchError:
+            return "mismatch"
+
+    limits = Limits(memory_cost=1 << 20, parallelism=100)
+    return [
+        (lambda memory: hash_secret(*given, memory=memory), text),
+        (lambda memory: hash_secret_raw(*given, memory=memory), tag),
+        (lambda memory: verify_secret(text, b"password", variant, memory=memory), True),
+        (lambda memory: verify_secret(text, b"password", variant, limits=limits, memory=memory), True),
+        (fails, "mismatch"),
+    ]
+
+
+def is_refused(call, memory):
+    try:
+        call(memory)
+    except (HashingError, VerificationError) as error:
+        return str(error)
+    return None
+
+
+# Calls that are refused before anything is computed.
+REFUSED = [
+    lambda it: hash_secret(b"password", b"somesalt", 1, 7, 1, 16, Type.ID, memory=it),
+    lambda it: hash_secret_raw(b"password", b"somesalt", 0, 1 << 20, 1, 16, Type.ID, memory=it),
+    lambda it: hash_secret_raw(b"password", b"salt", 1, 1 << 20, 1, 16, Type.ID, memory=it),
+    lambda it: verify_secret(LARGE.replace("t=1", "t=0").encode(), b"password", Type.ID, memory=it),
+    lambda it: verify_secret(LARGE.replace("v=19", "v=18").encode(), b"password", Type.ID, memory=it),
+    lambda it: verify_secret(LARGE.replace("$AAAA", "$A*AA").encode(), b"password", Type.ID, memory=it),
+    lambda it: verify_secret(LARGE.encode(), b"password", Type.I, memory=it),
+    lambda it: verify_secret(LARGE.encode(), b"password", Type.ID, limits=Limits(memory_cost=9999), memory=it),
+]
+
+
+class KeptMemory(unittest.TestCase):
+    def test_a_kept_memory_changes_no_answer_as_it_grows_and_shrinks(self):
+        memory = Memory()
+        shapes = ((64, 1), (4096, 4), (64, 2), (8192, 3), (8, 1), (1000, 5), (9000, 1), (320, 40), (8192, 1))
+        for place, (memory_cost, lanes) in enumerate(shapes):
+            for call, wanted in calls(memory_cost, lanes, 2, list(Type)[place % 3]):
+                self.assertEqual(call(memory), wanted, (memory_cost, lanes))
+                fill(memory)
+
+    def test_the_vectors_over_one_kept_memory(self):
+        memory = Memory()
+        for line in (VECTORS / "raw.txt").read_text().splitlines():
+            variant, *numbers, pwd, salt, secret, ad, answer = line.split(" ", 10)
+            pwd, salt, secret, ad = (b"" if it == "-" else bytes.fromhex(it) for it in (pwd, salt, secret, ad))
+            version, time_cost, memory_cost, lanes, length = map(int, numbers)
+            given = (pwd, salt, time_cost, memory_cost, lanes, length, TYPES[variant], version)
+            named = {"key": secret, "associated_data": ad, "memory": memory}
+            if answer.startswith("ERR "):
+                with self.assertRaisesRegex(HashingError, answer[4:]):
+                    hash_secret_raw(*given, **named)
+                continue
+            self.assertEqual(hash_secret_raw(*given, **named).hex(), answer, line)
+            text = hash_secret(*given, **named)
+            tag = text.decode().split("$")[-1]
+            self.assertEqual(base64.b64decode(tag + "=" * (-len(tag) % 4)).hex(), answer, line)
+            self.assertIs(verify_secret(text, pwd, TYPES[variant], **named), True, line)
+            with self.assertRaises(VerifyMismatchError):
+                verify_secret(text, pwd + b"x", TYPES[variant], **named)
+
+    def test_a_kept_memory_is_asked_for_once(self):
+        mappings, memory = Mappings(), Memory()
+        with counted(mappings):
+            for memory_cost in (3000, 3000, 8, 2999, 1024, 3000):
+                for call, wanted in calls(memory_cost):
+                    self.assertEqual(call(memory), wanted)
+                    self.assertEqual(mappings.asked, 1)
+        self.assertEqual(free_pages(memory).length, 3000 << 10)
+
+    def test_two_kept_memories_are_never_held_at_once(self):
+        mappings, memory = Mappings(), Memory()
+        with counted(mappings):
+            for memory_cost in (512, 1024, 4096):
+                hash_secret_raw(b"password", b"somesalt", 1, memory_cost, 1, 16, Type.ID, memory=memory)
+        self.assertEqual((mappings.asked, mappings.most, mappings.there), (3, 1, 1))
+        del memory
+        self.assertEqual(mappings.there, 0)
+
+    def test_each_call_clears_what_it_used_of_a_kept_memory(self):
+        for memory_cost, lanes in ((256, 1), (4096, 4), (1003, 4)):
+            memory = Memory()
+            hash_secret_raw(b"password", b"somesalt", 1, 5000, 1, 16, Type.ID, memory=memory)
+            used = memory_cost // (4 * lanes) * 4 * lanes << 10
+            for call, wanted in calls(memory_cost, lanes):
+                fill(memory)
+                self.assertEqual(call(memory), wanted)
+                self.assertEqual(held(memory), bytes(used) + b"\xa5" * ((5000 << 10) - used))
+
+    def test_what_is_refused_leaves_a_kept_memory_as_it_is(self):
+        mappings, memory = Mappings(), Memory()
+        wanted = [is_refused(call, None) for call in REFUSED]
+        self.assertNotIn(None, wanted)
+        with counted(mappings):
+            self.assertEqual([is_refused(call, memory) for call in REFUSED], wanted)
+            self.assertEqual((mappings.asked, free_pages(memory).length), (0, 0))
+            hash_secret_raw(b"password", b"somesalt", 1, 100, 1, 16, Type.ID, memory=memory)
+            fill(memory)
+            self.assertEqual([is_refused(call, memory) for call in REFUSED], wanted)
+        self.assertEqual((mappings.asked, held(memory)), (1, b"\xa5" * (100 << 10)))
+
+    def test_where_memory_is_refused_a_kept_memory_serves_the_next_call(self):
+        mappings, memory = Mappings(granted=1 << 20), Memory()
+        with counted(mappings):
+            for memory_cost in (4096, 0xFFFFFFFF):
+                for call in (
+                    lambda: hash_secret(b"password", b"somesalt", 1, memory_cost, 1, 16, Type.ID, memory=memory),
+                    lambda: hash_secret_raw(b"password", b"somesalt", 1, memory_cost, 1, 16, Type.ID, memory=memory),
+                    lambda: verify_secret(
+                        LARGE.replace("1048576", str(memory_cost)).encode(), b"password", Type.ID, memory=memory
+                    ),
+                ):
+                    with self.assertRaisesRegex((HashingError, VerificationError), "Out of memory"):
+                        call()
+                    self.assertEqual((free_pages(memory).length, mappings.there), (0, 0))
+                for call, wanted in calls(1024):
+                    self.assertEqual(call(memory), wanted)
+
+    def test_calls_at_once_have_one_each(self):
+        memory = Memory()
+        given = [(str(number).encode(), b"somesalt", 1, 512 + number, 2, 16, Type.ID) for number in range(64)]
+        wanted = [hash_secret_raw(*it) for it in given]
+        with ThreadPoolExecutor(8) as pool:
+            for _ in range(5):
+                found = pool.map(lambda it: hash_secret_raw(*it, memory=memory), given)
+                self.assertEqual(list(found), wanted)
+        self.assertLessEqual(len(memory._free), 8)
+
+    def test_a_call_that_is_at_work_lets_another_one_have_a_memory(self):
+        memory, done = Memory(), threading.Event()
+        with memory.lent():
+            other = threading.Thread(
+                target=lambda: (hash_secret_raw(b"p", b"somesalt", 1, 64, 1, 16, Type.ID, memory=memory), done.set())
+            )
+            other.daemon = True
+            other.start()
+            self.assertTrue(done.wait(60))
+        self.assertEqual(len({*memory._free}), 2)
+
+    def test_a_copy_has_a_memory_of_its_own(self):
+        hasher = PasswordHasher(time_cost=1, memory_cost=64, parallelism=1, keep_memory=True)
+        text = hasher.hash("password")
+        for other in (copy.copy(hasher), copy.deepcopy(hasher), pickle.loads(pickle.dumps(hasher))):
+            self.assertTrue(other.keep_memory)
+            self.assertIs(other.verify(text, "password"), True)
+        other = pickle.loads(pickle.dumps(hasher))
+        self.assertIsNot(other._memory, hasher._memory)
+
+    def test_a_child_of_a_fork_has_a_memory_of_its_own(self):
+        memory = Memory()
+        hash_secret_raw(b"password", b"somesalt", 1, 64, 1, 16, Type.ID, memory=memory)
+        child = os.fork()
+        if child == 0:
+            try:
+                fill(memory)
+            finally:
+                os._exit(7)
+        self.assertEqual(os.WEXITSTATUS(os.waitpid(child, 0)[1]), 7)
+        self.assertEqual(held(memory), bytes(64 << 10))
+
+    def test_core_dumps_leave_out_what_is_kept(self):
+        memory = Memory()
+        hash_secret_raw(b"password", b"somesalt", 1, 4096, 1, 16, Type.ID, memory=memory)
+        start = f"{free_pages(memory).address:x}-"
+        told = Path("/proc/self/smaps").read_text().splitlines()
+        at = next(place for place, line in enumerate(told) if line.startswith(start))
+        flags = next(line for line in told[at:] if line.startswith("VmFlags:")).split()
+        self.assertIn("dd", flags)
+
+
+class KeepMemory(unittest.TestCase):
+    """The option of a hasher."""
+
+    settings = {"time_cost": 1, "memory_cost": 1024, "parallelism": 2}
+
+    def test_a_hasher_keeps_memory_by_an_option_alone(self):
+        mappings = Mappings()
+        with counted(mappings):
+            for keep_memory in (False, True):
+                hasher = PasswordHasher(**self.settings, keep_memory=keep_memory)
+                self.assertIs(hasher.keep_memory, keep_memory)
+                for _ in range(3):
+                    text = hasher.hash("password")
+                    self.assertIs(PasswordHasher().verify(text, "password"), True)
+                    self.assertIs(hasher.verify(text, "password"), True)
+                    with self.assertRaises(VerifyMismatchError):
+                        hasher.verify(text, "Password")
+                self.assertEqual(mappings.asked, int(keep_memory))
+            self.assertEqual(mappings.there, 1)
+            self.assertEqual(held(hasher._memory), bytes(1024 << 10))
+            del hasher
+        self.assertEqual(mappings.there, 0)
+        self.assertIs(PasswordHasher().keep_memory, False)
+
+    def test_a_hasher_that_keeps_memory_verifies_within_its_limits(self):
+        mappings = Mappings()
+        with counted(mappings):
+            hasher = PasswordHasher(**self.settings, limits=Limits(memory_cost=2048), keep_memory=True)
+            with self.assertRaises(TooCostlyError):
+                hasher.verify(LARGE, "password")
+        self.assertEqual(mappings.asked, 0)
+
+    def test_a_hasher_that_keeps_memory_works_in_many_threads(self):
+        hasher = PasswordHasher(**self.settings, keep_memory=True)
+        with ThreadPoolExecutor(8) as pool:
+            texts = list(pool.map(hasher.hash, map(str, range(64))))
+            self.assertTrue(all(pool.map(hasher.verify, texts, map(str, range(64)))))
+        self.assertEqual(len(set(texts)), 64)
+
+
+if __name__ == "__main__":
+    unittest.main()

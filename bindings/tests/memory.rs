@@ -1,0 +1,353 @@
+//! The memory that the crate for Rust keeps from call to call, over the library. A line for each check. The allocator of
+//! this program counts what is asked for and looks at what is given back.
+
+use argon2::{Config, Error, Limits, Memory, ThreadMode, Unverified, Variant, Version};
+use std::alloc::{GlobalAlloc, Layout, System};
+use std::sync::atomic::{AtomicUsize, Ordering::SeqCst};
+
+/// Blocks are asked for in pages, and nothing else here is.
+const PAGE: usize = 4096;
+
+/// The requests for pages, the bytes that are held and were held at most, those that may be asked for at once, how
+/// often a page was given back that was not clear, and where the last pages are.
+static ASKED: AtomicUsize = AtomicUsize::new(0);
+static HELD: AtomicUsize = AtomicUsize::new(0);
+static MOST_HELD: AtomicUsize = AtomicUsize::new(0);
+static GRANTED: AtomicUsize = AtomicUsize::new(1 << 30);
+static LEFT: AtomicUsize = AtomicUsize::new(0);
+static PLACE: AtomicUsize = AtomicUsize::new(0);
+
+struct Looking;
+
+#[global_allocator]
+static ALLOCATOR: Looking = Looking;
+
+unsafe impl GlobalAlloc for Looking {
+    unsafe fn alloc(&self, layout: Layout) -> *mut u8 {
+        if layout.align() != PAGE {
+            return System.alloc(layout);
+        }
+        ASKED.fetch_add(1, SeqCst);
+        if layout.size() > GRANTED.load(SeqCst) {
+            return std::ptr::null_mut();
+        }
+        MOST_HELD.fetch_max(HELD.fetch_add(layout.size(), SeqCst) + layout.size(), SeqCst);
+        let place = System.alloc(layout);
+        PLACE.store(place as usize, SeqCst);
+        place
+    }
+
+    unsafe fn dealloc(&self, place: *mut u8, layout: Layout) {
+        if layout.align() == PAGE {
+            HELD.fetch_sub(layout.size(), SeqCst);
+            let bytes = std::slice::from_raw_parts(place, layout.size());
+            LEFT.fetch_add(bytes.iter().any(|it| *it != 0).into(), SeqCst);
+        }
+        System.dealloc(place, layout)
+    }
+}
+
+/// The bytes that a memory keeps.
+fn kept(memory: &mut Memory) -> &mut [u8] {
+    assert_eq!(HELD.load(SeqCst), memory.size());
+    if memory.size() == 0 {
+        return &mut [];
+    }
+    unsafe { std::slice::from_raw_parts_mut(PLACE.load(SeqCst) as *mut u8, memory.size()) }
+}
+
+fn asked() -> usize {
+    ASKED.load(SeqCst)
+}
+
+/// Argon2id in so many KiB, by so many lanes in one pass.
+fn settings(mem_cost: u32, lanes: u32, thread_mode: ThreadMode) -> Config<'static> {
+    Config { mem_cost, lanes, time_cost: 1, thread_mode, ..Config::default() }
+}
+
+const MODES: [ThreadMode; 3] = [ThreadMode::Sequential, ThreadMode::Parallel, ThreadMode::AtMost(3)];
+
+/// What a call over a memory answers.
+#[derive(Debug, PartialEq)]
+enum Answer {
+    Tag(Vec<u8>),
+    Text(String),
+    Verdict(bool),
+    Refused(Error),
+    TooCostly,
+}
+
+impl From<Error> for Answer {
+    fn from(error: Error) -> Answer {
+        Answer::Refused(error)
+    }
+}
+
+/// What the five calls are asked.
+struct Asked {
+    config: Config<'static>,
+    pwd: &'static [u8],
+    tag: Vec<u8>,
+    text: String,
+    limits: Limits,
+}
+
+const CALLS: std::ops::Range<usize> = 0..5;
+
+impl Asked {
+    /// Of settings, and of a text that spells them.
+    fn of(config: Config<'static>) -> Asked {
+        let Config { mem_cost, time_cost, lanes, .. } = config;
+        Asked {
+            config,
+            pwd: b"password",
+            tag: vec![0; 16],
+            text: format!(
+                "$argon2id$v=19$m={mem_cost},t={time_cost},p={lanes}$c29tZXNhbHQ$AAAAAAAAAAAAAAAAAAAAAA"
+            ),
+            limits: Limits { mem_cost: u32::MAX, lanes: u32::MAX, ..Limits::default() },
+        }
+    }
+
+    /// Of settings that are accepted, with their tag and their text.
+    fn computed(config: Config<'static>, pwd: &'static [u8]) -> Asked {
+        let tag = argon2::hash_raw(b"password", b"somesalt", &config).unwrap();
+        let text = argon2::hash_encoded(b"password", b"somesalt", &config).unwrap();
+        Asked { pwd, tag, text, ..Asked::of(config) }
+    }
+
+    fn call(&self, number: usize, memory: &mut Memory) -> Answer {
+        let Asked { config, pwd, tag, text, limits } = self;
+        let verdict = |it: Result<bool, Error>| it.map_or_else(Answer::from, Answer::Verdict);
+        match number {
+            0 => argon2::hash_raw_in(memory, pwd, b"somesalt", config).map_or_else(Answer::from, Answer::Tag),
+            1 => argon2::hash_encoded_in(memory, pwd, b"somesalt", config)
+                .map_or_else(Answer::from, Answer::Text),
+            2 => verdict(argon2::verify_raw_in(memory, pwd, b"somesalt", tag, config)),
+            3 => verdict(argon2::verify_encoded_in(memory, text, pwd, &[], &[])),
+            _ => match argon2::verify_encoded_within_in(memory, text, pwd, &[], &[], limits) {
+                Err(Unverified::TooCostly) => Answer::TooCostly,
+                Err(Unverified::Refused(error)) => Answer::Refused(error),
+                Ok(same) => Answer::Verdict(same),
+            },
+        }
+    }
+
+    /// Whether a call answers what the one without a memory does.
+    fn is_answered(&self, number: usize, memory: &mut Memory) -> bool {
+        let wanted = match number {
+            0 => Answer::Tag(argon2::hash_raw(self.pwd, b"somesalt", &self.config).unwrap()),
+            1 => Answer::Text(argon2::hash_encoded(self.pwd, b"somesalt", &self.config).unwrap()),
+            _ => Answer::Verdict(self.pwd == b"password"),
+        };
+        self.call(number, memory) == wanted
+    }
+
+    /// Whether all calls are refused so.
+    fn is_refused(&self, error: &Error, memory: &mut Memory) -> bool {
+        CALLS.into_iter().all(|number| self.call(number, memory) == Answer::Refused(error.clone()))
+    }
+}
+
+/// Whether each call answers over a memory, as the one without does, for a right and for a wrong password. `holds` is
+/// asked with each.
+fn all_answer(
+    config: Config<'static>,
+    memory: &mut Memory,
+    mut holds: impl FnMut(&mut Memory, bool) -> bool,
+) -> bool {
+    [&b"password"[..], b"Password"].into_iter().all(|pwd| {
+        let asked = Asked::computed(config, pwd);
+        CALLS
+            .into_iter()
+            .all(|number| holds(memory, false) && asked.is_answered(number, memory) && holds(memory, true))
+    })
+}
+
+/// Whether settings, texts and limits are refused before anything is computed.
+fn all_are_refused(memory: &mut Memory) -> bool {
+    let large = settings(1 << 20, 1, ThreadMode::Parallel);
+    let refused = [
+        (Config { lanes: 0, ..large }, Error::LanesTooFew),
+        (Config { lanes: 1 << 24, ..large }, Error::LanesTooMany),
+        (Config { time_cost: 0, ..large }, Error::TimeTooSmall),
+        (settings(7, 1, ThreadMode::Sequential), Error::MemoryTooLittle),
+        (settings(31, 4, ThreadMode::AtMost(2)), Error::MemoryTooLittle),
+    ];
+    let mut right = refused.into_iter().all(|(config, error)| Asked::of(config).is_refused(&error, memory));
+    let costly =
+        Asked { limits: Limits { mem_cost: (1 << 20) - 1, ..Limits::default() }, ..Asked::of(large) };
+    right &= costly.call(4, memory) == Answer::TooCostly;
+    for (old, new, error) in [
+        ("v=19", "v=18", Error::DecodingFail),
+        ("$AAAA", "$A*AA", Error::DecodingFail),
+        ("c29tZXNhbHQ", "c29t", Error::SaltTooShort),
+        ("AAAAAAAAAAAAAAAAAAAAAA", "AAAA", Error::OutputTooShort),
+    ] {
+        let asked = Asked { text: Asked::of(large).text.replace(old, new), ..Asked::of(large) };
+        right &= (3..5).all(|number| asked.call(number, memory) == Answer::Refused(error.clone()));
+    }
+    right
+}
+
+/// The answers are those of calls without a memory, whatever was computed before and whatever stands there.
+fn answers_do_not_depend_on_it() -> bool {
+    let mut memory = Memory::new();
+    let shapes = [(64, 1), (4096, 4), (64, 2), (8192, 3), (8, 1), (1000, 5), (9000, 1), (320, 40), (8192, 1)];
+    shapes.into_iter().enumerate().all(|(place, (mem_cost, lanes))| {
+        let variant = [Variant::Argon2d, Variant::Argon2i, Variant::Argon2id][place % 3];
+        let version = [Version::Version13, Version::Version10][place % 2];
+        let config = Config { variant, version, time_cost: 2, ..settings(mem_cost, lanes, MODES[place % 3]) };
+        all_answer(config, &mut memory, |memory, _| {
+            kept(memory).fill(0xa5);
+            true
+        })
+    })
+}
+
+/// Calls of one size, and of smaller ones, ask for memory once and find it where it was, in any thread.
+fn is_asked_for_once() -> bool {
+    let mut memory = Memory::new();
+    let before = asked();
+    let mut right = memory.size() == 0;
+    for (number, mem_cost) in [3000, 3000, 8, 2999, 1024, 3000].into_iter().enumerate() {
+        let config = settings(mem_cost, 1, MODES[number % 3]);
+        right &= all_answer(config, &mut memory, |_, is_done| !is_done || asked() == before + 1);
+    }
+    let (size, place) = (memory.size(), kept(&mut memory).as_ptr() as usize);
+    let moved = std::thread::spawn(move || {
+        let done = argon2::hash_raw_in(&mut memory, b"password", b"somesalt", &settings(3000, 1, MODES[0]));
+        (done.is_ok(), memory)
+    });
+    let (is_done, mut memory) = moved.join().unwrap();
+    let is_same = (memory.size(), kept(&mut memory).as_ptr() as usize) == (size, place);
+    right && is_done && is_same && asked() == before + 1 && (3000 << 10..3008 << 10).contains(&size)
+}
+
+/// One that is too small is given back before another one is asked for.
+fn two_are_never_held() -> bool {
+    let mut memory = Memory::new();
+    [512, 1024, 4096, 16384].into_iter().all(|mem_cost| {
+        MOST_HELD.store(0, SeqCst);
+        Asked::of(settings(mem_cost, 1, MODES[0])).call(0, &mut memory);
+        MOST_HELD.load(SeqCst) == memory.size() && memory.size() < (mem_cost as usize + 8) << 10
+    })
+}
+
+/// What a call used is clear when it returns, and what it did not use is as it was.
+fn calls_clear_what_they_used() -> bool {
+    [(256, 1, MODES[0]), (4096, 4, MODES[1]), (1003, 4, MODES[2])].into_iter().all(
+        |(mem_cost, lanes, mode)| {
+            let mut memory = Memory::new();
+            Asked::of(settings(5000, 1, MODES[0])).call(0, &mut memory);
+            let used = (mem_cost / (4 * lanes) * 4 * lanes) as usize * 1024;
+            all_answer(settings(mem_cost, lanes, mode), &mut memory, |memory, is_done| {
+                let (blocks, rest) = kept(memory).split_at_mut(used);
+                if is_done {
+                    return blocks.iter().all(|it| *it == 0) && rest.iter().all(|it| *it == 0xa5);
+                }
+                blocks.fill(0xa5);
+                rest.fill(0xa5);
+                true
+            })
+        },
+    )
+}
+
+/// What is refused asks for no memory and leaves it as it is: also one that keeps nothing.
+fn refusals_leave_it() -> bool {
+    let mut memory = Memory::new();
+    let before = asked();
+    let mut right = all_are_refused(&mut memory) && memory.size() == 0 && asked() == before;
+    Asked::of(settings(100, 1, MODES[0])).call(0, &mut memory);
+    let (before, size) = (asked(), memory.size());
+    kept(&mut memory).fill(0xa5);
+    right &= all_are_refused(&mut memory) && asked() == before && memory.size() == size;
+    right && kept(&mut memory).iter().all(|it| *it == 0xa5)
+}
+
+/// A request that is refused is `OutOfMemory`, and the next call asks anew.
+fn shortages_are_answered() -> bool {
+    let mut memory = Memory::new();
+    GRANTED.store(1 << 20, SeqCst);
+    let right = [(1024, 1), (4096, 4), (u32::MAX, 1), (u32::MAX, 4)].into_iter().all(|(mem_cost, lanes)| {
+        let asked = Asked::of(settings(mem_cost, lanes, ThreadMode::Parallel));
+        asked.is_refused(&Error::OutOfMemory, &mut memory)
+            && memory.size() == 0
+            && all_answer(settings(64, lanes, MODES[0]), &mut memory, |_, _| true)
+            && memory.size() > 0
+    });
+    GRANTED.store(1 << 30, SeqCst);
+    right
+}
+
+/// What is kept is clear when it is given back, whatever stood there: where another is asked for, and at the end.
+fn is_clear_when_it_is_given_back() -> bool {
+    let before = (asked(), LEFT.load(SeqCst));
+    for mem_cost in [64, 4096] {
+        let mut memory = Memory::new();
+        for times in [1, 2] {
+            Asked::of(settings(times * mem_cost, 1, MODES[0])).call(0, &mut memory);
+            kept(&mut memory).fill(0xa5);
+        }
+    }
+    (asked(), LEFT.load(SeqCst)) == (before.0 + 4, before.1)
+}
+
+/// The allocator sees what is left: bytes of the same alignment that nobody clears.
+fn what_is_left_is_seen() -> bool {
+    let before = LEFT.load(SeqCst);
+    let layout = Layout::from_size_align(3 * PAGE, PAGE).unwrap();
+    unsafe {
+        let place = std::alloc::alloc_zeroed(layout);
+        place.add(2 * PAGE).write(1);
+        std::alloc::dealloc(place, layout);
+    }
+    LEFT.load(SeqCst) == before + 1 && HELD.load(SeqCst) == 0
+}
+
+/// How many mappings of this process core dumps leave out, as Linux tells.
+fn mappings_that_are_not_dumped() -> usize {
+    let told = std::fs::read_to_string("/proc/self/smaps").unwrap();
+    let flags = told.lines().filter_map(|line| line.strip_prefix("VmFlags: "));
+    flags.filter(|it| it.split(' ').any(|flag| flag == "dd")).count()
+}
+
+/// Core dumps leave out what is kept, from 2 MiB on, and have all that is given back: the second and third time it
+/// stands in the heap.
+fn is_not_dumped_while_it_is_kept() -> bool {
+    let before = mappings_that_are_not_dumped();
+    [4096, 4096, 4096, 20000, 20000].into_iter().all(|mem_cost| {
+        let mut memory = Memory::new();
+        Asked::of(settings(mem_cost, 1, MODES[0])).call(0, &mut memory);
+        let is_left_out = mappings_that_are_not_dumped() == before + 1;
+        drop(memory);
+        is_left_out && mappings_that_are_not_dumped() == before
+    })
+}
+
+fn is_told_without_its_content() -> bool {
+    fn may_change_threads<T: Send + Sync>(_: &T) {}
+    let mut memory = Memory::default();
+    may_change_threads(&memory);
+    Asked::of(settings(64, 1, MODES[0])).call(0, &mut memory);
+    format!("{memory:?}") == format!("Memory {{ size: {} }}", memory.size())
+}
+
+fn main() {
+    let checks: [(&str, fn() -> bool); 10] = [
+        ("a kept memory changes no answer, as it grows and shrinks", answers_do_not_depend_on_it),
+        ("a kept memory is asked for once", is_asked_for_once),
+        ("two kept memories are never held at once", two_are_never_held),
+        ("each call clears what it used of a kept memory", calls_clear_what_they_used),
+        ("what is refused leaves a kept memory as it is", refusals_leave_it),
+        ("where memory is refused, a kept memory serves the next call", shortages_are_answered),
+        ("a kept memory is clear when it is given back", is_clear_when_it_is_given_back),
+        ("what is left in freed memory is seen", what_is_left_is_seen),
+        ("core dumps leave out what is kept, and no more", is_not_dumped_while_it_is_kept),
+        ("a kept memory tells its size alone", is_told_without_its_content),
+    ];
+    for (name, check) in checks {
+        println!("{}: {name}", if check() { "passed" } else { "FAILED" });
+    }
+}

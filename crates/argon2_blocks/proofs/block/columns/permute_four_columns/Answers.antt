@@ -1,8 +1,0 @@
-use Rattle.std.proofs.Common.{arith}
-use Rattle.argon2_blocks.proofs.Compression.SpreadRounds.{column_at}
-use Rattle.argon2_blocks.proofs.block.columns.permute_four_columns.Goals as goal
-
-pub returns-clause-value : goal.returns-clause-value
-returns-clause-value c =
-    column_at c.args.v c.mix_two-mixed.result c.align_diagonals.result c.mix_two-mixed_twice.result c.restore_diagonals.result (omega arith) (omega arith)
-    c.mix_two-mixed.ensures c.align_diagonals.ensures c.mix_two-mixed_twice.ensures c.restore_diagonals.ensures.value

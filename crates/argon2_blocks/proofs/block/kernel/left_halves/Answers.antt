@@ -1,0 +1,16 @@
+use Rattle.argon2_blocks.proofs.Compression.SpreadPlaces.{left_columns}
+use Rattle.argon2_blocks.proofs.block.kernel.left_halves.Goals as goal
+
+pub returns : goal.returns
+returns c =
+    rw (
+      c.low_halves.ensures.value,
+      c.high_halves.ensures.value,
+      c.low_halves-2.ensures.value,
+      c.high_halves-2.ensures.value,
+      c.low_halves-3.ensures.value,
+      c.high_halves-3.ensures.value,
+      c.low_halves-4.ensures.value,
+      c.high_halves-4.ensures.value,
+    )
+    (left_columns c.args.upper.now c.args.lower.now)

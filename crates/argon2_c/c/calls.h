@@ -1,0 +1,115 @@
+/* The calls with options, for the checks of them: their inputs, the tag of libargon2, and simple pools. */
+#ifndef CALLS_H
+#define CALLS_H
+
+#include "checks.h"
+#include "proved_argon2_threads.h"
+
+#include <argon2.h>
+
+enum { LONGEST = 96, INPUTS = 40 };
+
+typedef struct call {
+    proved_argon2_settings settings;
+    uint8_t pwd[INPUTS], salt[INPUTS], secret[INPUTS], ad[INPUTS];
+    uint32_t pwd_len, salt_len, secret_len, ad_len;
+} call;
+
+static uint64_t state = 88172645463325252u;
+
+static inline uint32_t below(uint32_t end)
+{
+    state ^= state << 13;
+    state ^= state >> 7;
+    state ^= state << 17;
+    return (uint32_t)(state % end);
+}
+
+static inline uint32_t some(uint8_t *bytes, uint32_t least)
+{
+    for (size_t i = 0; i < INPUTS; i++) {
+        bytes[i] = (uint8_t)below(256);
+    }
+    return least + below(INPUTS - least);
+}
+
+static inline call any_call(uint32_t most_lanes)
+{
+    call it;
+    const uint32_t lanes = 1 + below(below(2) ? most_lanes : 8), version = below(2) ? 0x10 : 0x13;
+    it.settings = (proved_argon2_settings){
+        below(3), version, 8 * lanes + below(300), 1 + below(3), lanes, 4 + below(LONGEST - 4)};
+    it.pwd_len = some(it.pwd, 0);
+    it.salt_len = some(it.salt, 8);
+    it.secret_len = some(it.secret, 0);
+    it.ad_len = some(it.ad, 0);
+    return it;
+}
+
+static inline uint32_t hash_raw(const proved_argon2_options *with, const call *it, uint8_t *out)
+{
+    return proved_argon2_hash_raw_with(with, it->pwd, it->pwd_len, it->salt, it->salt_len, it->secret, it->secret_len,
+                                       it->ad, it->ad_len, &it->settings, out, it->settings.hash_length);
+}
+
+static inline uint32_t hash_encoded(const proved_argon2_options *with, const call *it, uint8_t *text, size_t len)
+{
+    return proved_argon2_hash_encoded_with(with, it->pwd, it->pwd_len, it->salt, it->salt_len, it->secret,
+                                           it->secret_len, it->ad, it->ad_len, &it->settings, text, len);
+}
+
+static inline uint32_t verify_raw(const proved_argon2_options *with, const call *it, const uint8_t *hash)
+{
+    return proved_argon2_verify_raw_with(with, it->pwd, it->pwd_len, it->salt, it->salt_len, it->secret, it->secret_len,
+                                         it->ad, it->ad_len, &it->settings, hash, it->settings.hash_length);
+}
+
+static inline uint32_t verify_encoded(const proved_argon2_options *with, const call *it, const uint8_t *text)
+{
+    return proved_argon2_verify_encoded_with(with, text, strlen((const char *)text), it->pwd, it->pwd_len, it->secret,
+                                             it->secret_len, it->ad, it->ad_len);
+}
+
+/* The tag of libargon2. */
+static inline bool peer(const call *it, uint8_t *out)
+{
+    call own = *it;
+    argon2_context context = {
+        .out = out, .outlen = own.settings.hash_length, .pwd = own.pwd, .pwdlen = own.pwd_len, .salt = own.salt,
+        .saltlen = own.salt_len, .secret = own.secret, .secretlen = own.secret_len, .ad = own.ad, .adlen = own.ad_len,
+        .t_cost = own.settings.time_cost, .m_cost = own.settings.mem_cost, .lanes = own.settings.lanes, .threads = 1,
+        .version = own.settings.version, .flags = ARGON2_DEFAULT_FLAGS};
+    return argon2_ctx(&context, (argon2_type)own.settings.variant) == ARGON2_OK;
+}
+
+/* A pool that runs the tasks one after another, in falling order. */
+static inline int backwards(void *pool, uint32_t tasks, void (*task)(void *, uint32_t), void *arg)
+{
+    (void)pool;
+    while (tasks > 0) {
+        task(arg, --tasks);
+    }
+    return 0;
+}
+
+/* A pool that refuses at one of its runs, or leaves out a task there. */
+static inline int fails_at(void *pool, uint32_t tasks, void (*task)(void *, uint32_t), void *arg)
+{
+    int *const left = pool;
+    return --*left == 0 ? -1 : backwards(NULL, tasks, task, arg);
+}
+
+static inline int forgets_at(void *pool, uint32_t tasks, void (*task)(void *, uint32_t), void *arg)
+{
+    int *const left = pool;
+    return backwards(NULL, --*left == 0 ? tasks - 1 : tasks, task, arg);
+}
+
+static inline proved_argon2_options by(uint32_t threads)
+{
+    proved_argon2_options with = PROVED_ARGON2_OPTIONS;
+    with.threads = threads;
+    return with;
+}
+
+#endif

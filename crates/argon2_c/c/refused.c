@@ -1,0 +1,142 @@
+/*
+ * Null pointers, call by call: each pointer of the header and of the calls with options is null in turn. It is refused
+ * by name, before what else is wrong with the call, and nothing is written; with the length 0 it passes nothing. c/run
+ * compares the names of these checks with the pointers that the headers declare. It is linked with --wrap=getentropy,
+ * so that a salt is the same each time.
+ */
+#include "given.h"
+
+int __wrap_getentropy(void *buffer, size_t length);
+
+/* There are no random bytes where all is spoilt. */
+int __wrap_getentropy(void *buffer, size_t length)
+{
+    fill_bytes(buffer, length, 0x80);
+    return options.size == 0 ? -1 : 0;
+}
+
+/* ---- the other calls */
+
+CALL(verify_raw, INPUTS, BYTES(HASH))
+CALL(verify_encoded, STORED_TEXT)
+CALL(verify_encoded_within, STORED_TEXT, given[LIMITS].at)
+CALL(hash_raw_in, given[MEMORY].at, INPUTS, BYTES(OUT))
+CALL(hash_encoded_in, given[MEMORY].at, INPUTS, BYTES(TEXT_WRITTEN))
+CALL(verify_raw_in, given[MEMORY].at, INPUTS, BYTES(HASH))
+CALL(verify_encoded_in, given[MEMORY].at, STORED_TEXT)
+CALL(read, BYTES(TEXT_READ), given[STORED].at)
+CALL(needs_rehash, BYTES(TEXT_READ), given[SETTINGS].at)
+CALL(message, PROVED_ARGON2_OUT_OF_MEMORY, BYTES(TEXT_WRITTEN))
+CALL(password_hash, given[ROOM].at, BYTES(PASSWORD))
+CALL(password_verify, given[TEXT_ENDED].at, BYTES(PASSWORD))
+CALL(job_read, STORED_TEXT, given[JOB_WRITTEN].at, BYTES(HASH_WRITTEN))
+CALL(encode, BYTES(SALT), given[SETTINGS].at, BYTES(TAG_READ), BYTES(TEXT_WRITTEN))
+CALL(hash_raw_with, given[OPTIONS].at, INPUTS, BYTES(OUT))
+CALL(hash_encoded_with, given[OPTIONS].at, INPUTS, BYTES(TEXT_WRITTEN))
+CALL(verify_raw_with, given[OPTIONS].at, INPUTS, BYTES(HASH))
+CALL(verify_encoded_with, given[OPTIONS].at, STORED_TEXT)
+
+/* Two that have no number for it: no settings have no length, and nothing is freed where there is no memory. */
+static uint32_t encoded_len(void)
+{
+    const uint64_t len = proved_argon2_encoded_len(given[SETTINGS].at, 8);
+    return len == strlen((const char *)known.text) ? PROVED_ARGON2_OK : len != 0 ? PROVED_ARGON2_WRONG_LENGTH
+        : given[SETTINGS].at == NULL ? PROVED_ARGON2_NULL_POINTER : PROVED_ARGON2_INCORRECT_TYPE;
+}
+
+static uint32_t memory_free(void)
+{
+    proved_argon2_memory_free(given[MEMORY].at);
+    return given[MEMORY].at == NULL ? PROVED_ARGON2_NULL_POINTER : PROVED_ARGON2_OK;
+}
+
+#define OF_INPUTS PWD, SALT, SECRET, AD, SETTINGS
+#define OF_TEXT TEXT_READ, PWD, SECRET, AD
+#define ROW(name, ...) {#name, name, {__VA_ARGS__}}
+
+static const struct row {
+    const char *name;
+    uint32_t (*call)(void);
+    enum place pointers[10]; /* END is behind the last one */
+} rows[] = {
+    ROW(hash_raw, OF_INPUTS, OUT), ROW(hash_encoded, OF_INPUTS, TEXT_WRITTEN), ROW(verify_raw, OF_INPUTS, HASH),
+    ROW(verify_encoded, OF_TEXT), ROW(verify_encoded_within, OF_TEXT, LIMITS),
+    ROW(hash_raw_in, MEMORY, OF_INPUTS, OUT), ROW(hash_encoded_in, MEMORY, OF_INPUTS, TEXT_WRITTEN),
+    ROW(verify_raw_in, MEMORY, OF_INPUTS, HASH), ROW(verify_encoded_in, MEMORY, OF_TEXT),
+    ROW(read, TEXT_READ, STORED), ROW(needs_rehash, TEXT_READ, SETTINGS), ROW(message, TEXT_WRITTEN),
+    ROW(password_hash, ROOM, PASSWORD), ROW(password_verify, TEXT_ENDED, PASSWORD),
+    ROW(job_make, OF_INPUTS, JOB_WRITTEN), ROW(job_read, OF_TEXT, JOB_WRITTEN, HASH_WRITTEN), ROW(job_begin, JOB, OWN),
+    ROW(job_fill, JOB, FIRST, SECOND, THIRD, OWN), ROW(job_finish, JOB, LAST, OUT),
+    ROW(job_verify, JOB, LAST, HASH, TAG_WRITTEN), ROW(encode, SALT, SETTINGS, TAG_READ, TEXT_WRITTEN),
+    ROW(hash_raw_with, OPTIONS, OF_INPUTS, OUT), ROW(hash_encoded_with, OPTIONS, OF_INPUTS, TEXT_WRITTEN),
+    ROW(verify_raw_with, OPTIONS, OF_INPUTS, HASH), ROW(verify_encoded_with, OPTIONS, OF_TEXT),
+    ROW(encoded_len, SETTINGS), ROW(memory_free, MEMORY),
+};
+
+/* ---- null pointers */
+
+/* Whether a call is done where all fits, and refused for something else where all is spoilt but the pointers. */
+static bool tells_what_fits(const struct row *row)
+{
+    give_what_fits();
+    const uint32_t whole = row->call();
+    give_what_fits();
+    spoil();
+    const uint32_t spoilt = row->call();
+    /* (a text of inputs with a secret is another password's, and these two have nothing that can be spoilt) */
+    const bool is_done = whole == (row->call == password_verify ? PROVED_ARGON2_MISMATCH : PROVED_ARGON2_OK);
+    const bool is_whole = row->call == memory_free || row->call == message;
+    return is_done && (is_whole ? spoilt == PROVED_ARGON2_OK : spoilt != whole && spoilt != PROVED_ARGON2_NULL_POINTER);
+}
+
+static bool refuses_null(const struct row *row, enum place place, bool is_spoilt)
+{
+    give_what_fits();
+    if (is_spoilt) {
+        spoil();
+    }
+    given[place].at = NULL;
+    const bool is_refused = row->call() == PROVED_ARGON2_NULL_POINTER;
+    return is_refused && memcmp(&written, &written_before, sizeof written) == 0;
+}
+
+/* Whether a null pointer with the length 0 is answered as an address with that length. */
+static bool takes_none(const struct row *row, enum place place)
+{
+    struct written by_address;
+    give_what_fits();
+    given[place].len = 0;
+    const uint32_t code = row->call();
+    proved_argon2_memory_free(&written.memory);
+    memcpy(&by_address, &written, sizeof written);
+    give_what_fits();
+    given[place].len = 0;
+    given[place].at = NULL;
+    const bool is_same = row->call() == code && code != PROVED_ARGON2_NULL_POINTER;
+    proved_argon2_memory_free(&written.memory);
+    return is_same && memcmp(&by_address, &written, sizeof written) == 0;
+}
+
+static void check_pointers(const struct row *row)
+{
+    char name[96];
+    snprintf(name, sizeof name, "%s is done, or refused for something else", row->name);
+    check(tells_what_fits(row), name);
+    for (size_t i = 0; row->pointers[i] != END; i++) {
+        const enum place place = row->pointers[i];
+        give_what_fits();
+        const bool has_length = given[place].len != 0;
+        snprintf(name, sizeof name, "%s without %s", row->name, given[place].name);
+        const bool is_refused = refuses_null(row, place, false) && refuses_null(row, place, true);
+        check(is_refused && (!has_length || takes_none(row, place)), name);
+    }
+}
+
+int main(void)
+{
+    check_what_fits();
+    for (size_t i = 0; i < sizeof rows / sizeof *rows; i++) {
+        check_pointers(&rows[i]);
+    }
+    return checks_failed != 0;
+}

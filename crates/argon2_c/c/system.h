@@ -1,0 +1,165 @@
+/* What a program that is linked with --wrap gets in place of the system's own: starts of threads, requests for memory
+ * and mappings are counted and refused, and what is given back is looked at first. */
+#ifndef SYSTEM_H
+#define SYSTEM_H
+
+#include "checks.h"
+
+#include <errno.h>
+#include <pthread.h>
+#include <signal.h>
+#include <stdatomic.h>
+#include <stdlib.h>
+#include <sys/mman.h>
+
+int __real_pthread_create(pthread_t *thread, const pthread_attr_t *attributes, void *(*run)(void *), void *arg);
+int __wrap_pthread_create(pthread_t *thread, const pthread_attr_t *attributes, void *(*run)(void *), void *arg);
+int __real_pthread_join(pthread_t thread, void **result);
+int __wrap_pthread_join(pthread_t thread, void **result);
+void *__real_mmap(void *at, size_t len, int protection, int flags, int file, off_t offset);
+void *__wrap_mmap(void *at, size_t len, int protection, int flags, int file, off_t offset);
+void *__real_malloc(size_t len);
+void *__wrap_malloc(size_t len);
+void *__real_calloc(size_t count, size_t len);
+void *__wrap_calloc(size_t count, size_t len);
+void *__real_realloc(void *block, size_t len);
+void *__wrap_realloc(void *block, size_t len);
+void __real_free(void *block);
+void __wrap_free(void *block);
+void __real_explicit_bzero(void *bytes, size_t len);
+void __wrap_explicit_bzero(void *bytes, size_t len);
+
+/* Starts that were asked for and that were granted, joins, the threads that run, the most that did at once, and how
+ * often one was started while none ran. */
+static atomic_size_t starts, granted, joins, running, most_running, bursts;
+
+/* Starts at which some signal would have been the new thread's. */
+static atomic_size_t open_to_signals;
+
+/* Which starts are refused, counted from 1; 0 for none. */
+static size_t first_refused, last_refused;
+
+/* Requests for memory and for mappings, which one of them is refused, counted from 1, and whether all mappings are. */
+static atomic_size_t requests;
+static size_t refused_request;
+static bool no_mappings;
+
+/* The last mapping that was given. */
+static void *last_mapped;
+static size_t last_mapped_len;
+
+/* Whether nothing is cleared, and what looks at bytes before they are given back. */
+static bool no_wiping;
+static void (*look_at)(const void *block);
+
+/* Counts from 0 and refuses nothing. */
+static inline void refuse_nothing(void)
+{
+    starts = granted = joins = most_running = bursts = open_to_signals = requests = 0;
+    first_refused = last_refused = refused_request = 0;
+    no_mappings = false;
+}
+
+/* Refuses so many starts from this one on. */
+static inline void refuse_starts(size_t first, size_t count)
+{
+    refuse_nothing();
+    first_refused = first;
+    last_refused = count > SIZE_MAX - first ? SIZE_MAX : first + count - 1;
+}
+
+static inline void refuse_request(size_t number)
+{
+    refuse_nothing();
+    refused_request = number;
+}
+
+/* Whether the thread that asks has blocked the signals that come from outside: what it starts has them blocked too. */
+static inline bool has_blocked_signals(void)
+{
+    static const int from_outside[] = {SIGHUP, SIGINT, SIGTERM, SIGALRM, SIGCHLD, SIGUSR1, SIGUSR2, SIGPIPE};
+    sigset_t blocked;
+    bool all = pthread_sigmask(SIG_SETMASK, NULL, &blocked) == 0;
+    for (size_t i = 0; i < sizeof from_outside / sizeof *from_outside; i++) {
+        all = all && sigismember(&blocked, from_outside[i]) == 1;
+    }
+    return all;
+}
+
+int __wrap_pthread_create(pthread_t *thread, const pthread_attr_t *attributes, void *(*run)(void *), void *arg)
+{
+    const size_t number = ++starts;
+    if (first_refused != 0 && number >= first_refused && number <= last_refused) {
+        return EAGAIN;
+    }
+    const int status = __real_pthread_create(thread, attributes, run, arg);
+    if (status == 0) {
+        open_to_signals += has_blocked_signals() ? 0 : 1;
+        granted++;
+        const size_t now = ++running;
+        bursts += now == 1 ? 1 : 0;
+        most_running = now > most_running ? now : most_running;
+    }
+    return status;
+}
+
+int __wrap_pthread_join(pthread_t thread, void **result)
+{
+    joins++;
+    running--;
+    return __real_pthread_join(thread, result);
+}
+
+static inline bool is_refused(void)
+{
+    return ++requests == refused_request;
+}
+
+void *__wrap_mmap(void *at, size_t len, int protection, int flags, int file, off_t offset)
+{
+    if (no_mappings || is_refused()) {
+        return MAP_FAILED;
+    }
+    last_mapped = __real_mmap(at, len, protection, flags, file, offset);
+    last_mapped_len = len;
+    return last_mapped;
+}
+
+void *__wrap_malloc(size_t len)
+{
+    return is_refused() ? NULL : __real_malloc(len);
+}
+
+void *__wrap_calloc(size_t count, size_t len)
+{
+    return is_refused() ? NULL : __real_calloc(count, len);
+}
+
+/* What is moved is given back at its old place. */
+void *__wrap_realloc(void *block, size_t len)
+{
+    if (is_refused()) {
+        return NULL;
+    }
+    if (look_at != NULL && block != NULL) {
+        look_at(block);
+    }
+    return __real_realloc(block, len);
+}
+
+void __wrap_free(void *block)
+{
+    if (look_at != NULL && block != NULL) {
+        look_at(block);
+    }
+    __real_free(block);
+}
+
+void __wrap_explicit_bzero(void *bytes, size_t len)
+{
+    if (!no_wiping) {
+        __real_explicit_bzero(bytes, len);
+    }
+}
+
+#endif

@@ -1,0 +1,7 @@
+use Rattle.std.proofs.Common.{◌≡◌, ◌++◌, drop, map, take}
+use Rattle.argon2_memory.specs.Views.Memories.{wiped_segment}
+use Rattle.argon2_memory.proofs.memory.wipe_slices.Given as goal
+
+-- the first ones are overwritten, the others not yet
+abbrev pub invariant-loop-slice : goal.invariant-loop-slice
+invariant-loop-slice l = (map (λ v. v.items) l.slices) ≡ map (map wiped_segment) (take l.slice (map (λ v. v.items) l.initial.slices)) ++ drop l.slice (map (λ v. v.items) l.initial.slices)
