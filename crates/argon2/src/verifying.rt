@@ -15,7 +15,7 @@ use crate::parts::context::{Context, first_refusal};
 use crate::parts::fill::{tag, tag_sequential};
 use crate::parts::memory::Memory;
 use crate::{Config, Result};
-use argon2_blocks::wiping::wipe;
+use argon2_blocks::blake2b::wipe;
 use argon2_settings::context::accepted_context;
 use std::alloc::Global;
 use std::marker::Sync;

@@ -12,10 +12,9 @@ ghost use Rattle.std.specs.Fmt.{debug_list, decimal};
 ghost use Rattle.argon2_blocks.specs.Standard.Block.{block_bytes, block_of_bytes, xor, zero_block};
 ghost use Rattle.argon2_blocks.specs.Standard.Compression.{compress_g};
 
+use crate::blake2b::{read_words, wipe, write_words};
 use crate::common::{BLOCK_SIZE, QWORDS_IN_BLOCK};
-use crate::little_endian::{read_words, write_words};
-use crate::wiping::wipe;
-use kernel::fill_words;
+pub use kernel::fill_block;
 use lane_wise::fill_words_by_lanes;
 pub use lanes::permute_lanes;
 use std::alloc::AllocError;
@@ -165,15 +164,6 @@ impl BitXorAssign<&Block> for Block {
             self.words[i] ^= rhs.words[i];
         }
     }
-}
-
-/// Makes `next` the compression G of two blocks (RFC 9106, 3.5), or with `with_xor` the exclusive
-/// or of that and the old `next`. It takes no memory.
-pub fn fill_block(prev: &Block, reference: &Block, next: &mut Block, with_xor: bool)
-    ensures { let g = compress_g prev.now reference.now in
-        next.new ≡ (if with_xor then xor g next.old else g) }
-{
-    fill_words(&prev.words, &reference.words, &mut next.words, with_xor);
 }
 
 /// As `fill_block`, with a row or a column of the block in each lane of the vectors, which takes more

@@ -4,6 +4,4 @@
 pub mod blake2b;
 pub mod block;
 pub mod common;
-mod little_endian;
 pub mod theorems;
-pub mod wiping;

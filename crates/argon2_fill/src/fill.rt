@@ -20,10 +20,9 @@ ghost use Rattle.argon2_blocks.specs.Standard.Block.{block_bytes, xor, zero_bloc
 ghost use Rattle.argon2_blocks.specs.Standard.Hprime.{hprime};
 
 use crate::workers::{NoGate, fill_parallel};
-use argon2_blocks::blake2b::{hprime, hprime_both};
+use argon2_blocks::blake2b::{hprime, hprime_both, wipe};
 use argon2_blocks::block::Block;
 use argon2_blocks::common::{BLOCK_SIZE, PREHASH_DIGEST_LENGTH, PREHASH_SEED_LENGTH};
-use argon2_blocks::wiping::wipe;
 use argon2_memory::job::{
     Job, numbered_job, prehash_of_job, recall_context, recall_job, slice_count,
 };

@@ -19,7 +19,7 @@ mod crew;
 use argon2_memory::job::{Job, numbered_job, recall_context, recall_job, slice_count};
 use argon2_memory::memory::{Memory, Slices, memory_of_slices, take_slices};
 use argon2_memory::segment::{Snapshot, others, take_slice};
-use argon2_settings::context::{Context, worker_count};
+use argon2_settings::context::{Context, recall_workers};
 use argon2_standard::error::Error;
 use argon2_standard::result::Result;
 pub use board::{Board, Claim, Event, Filled, Gate, NoGate, Place};
@@ -51,8 +51,7 @@ pub fn board_of(alloc: Global, job: &Job, slices: &mut Slices) -> Result<Board>
     ensures refused { IfErr result (λ e. e ≡ Error.OutOfMemory) }
 {
     recall_job(job);
-    let segments = take_slice(slices, job.slice());
-    Board::new(alloc, *job, segments)
+    Board::new(alloc, *job, take_slice(slices, job.slice()))
 }
 
 /// Fills the job's slice by `workers` workers, at least one. They have the numbers from `first` on,
@@ -135,7 +134,8 @@ pub fn fill_parallel_with<R: Threads + Wait + Sync, G: Gate, P: Permit>(
     ensures refused { IfErr result (IsShortage true) }
 {
     recall_context(context);
-    let workers = worker_count(context);
+    recall_workers(context);
+    let workers = context.config.workers();
     let job = Job::new(context);
     let mut slices = take_slices(memory);
     for n in 0..slice_count(&job) {

@@ -10,7 +10,7 @@ ghost use Rattle.argon2_standard.specs.Standard.Variant.{variant_number};
 
 use argon2_blocks::common::{ADDRESSES_IN_BLOCK, PREHASH_DIGEST_LENGTH, SYNC_POINTS};
 use argon2_settings::context::{Context, prehash_of_context};
-use argon2_standard::variant::Variant;
+use argon2_standard::variant::Variant::{self, Argon2i, Argon2id};
 use argon2_standard::version::Version;
 use std::marker::Model;
 
@@ -209,6 +209,13 @@ impl Job {
         SYNC_POINTS * self.lanes * self.segment_length
     }
 
+    /// The variant.
+    pub(crate) fn variant(&self) -> Variant
+        ensures { result ≡ self.now.setting.variant }
+    {
+        self.variant
+    }
+
     /// The number of the variant.
     pub fn variant_number(&self) -> u64
         ensures { result ≡ variant_number self.now.setting.variant }
@@ -256,21 +263,14 @@ impl Job {
     pub fn is_independent(&self) -> bool
         ensures { result ≡ is_data_independent self.now.setting.variant self.now.pass self.now.slice }
     {
-        match self.variant {
-            Variant::Argon2d => false,
-            Variant::Argon2i => true,
-            Variant::Argon2id => self.pass == 0 && self.slice < 2,
-        }
+        self.variant == Argon2i || self.variant == Argon2id && self.pass == 0 && self.slice < 2
     }
 
     /// Whether a new block is combined with the one of the last pass.
     pub fn combines(&self) -> bool
         ensures { result ≡ (combines self.now.setting.version && nat_lt 0 self.now.pass) }
     {
-        match self.version {
-            Version::Version10 => false,
-            Version::Version13 => self.pass > 0,
-        }
+        self.version == Version::Version13 && self.pass > 0
     }
 }
 

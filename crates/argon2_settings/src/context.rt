@@ -160,13 +160,13 @@ pub fn prehash_of_context(context: &Context<'_>) -> [u8; PREHASH_DIGEST_LENGTH]
     context.prehash
 }
 
-/// How many workers fill a slice: at least one, and fewer than 2^24.
-pub fn worker_count(context: &Context<'_>) -> u32
-    ensures value { result ≡ workers_of context.now.config }
-    ensures some { 0 < result }
-    ensures few { result < 2 ^ 24 }
+/// Tells the prover how many workers may fill a slice: at least one, and fewer than 2^24. It does
+/// nothing else.
+pub fn recall_workers(context: &Context<'_>)
+    ensures some { 0 < workers_of context.now.config }
+    ensures few { workers_of context.now.config < 2 ^ 24 }
 {
-    context.config.workers()
+    let _lanes = context.config.lanes;
 }
 
 /// Shows the fields that a caller sees, the password and the secret among them.

@@ -62,7 +62,7 @@ impl Variant {
     pub fn as_u64(&self) -> u64
         ensures { result ≡ variant_number self.now }
     {
-        u64::from(self.as_u32())
+        *self as u64
     }
 
     /// The variant of one of its two names, in lower case or with a capital. Any other text is

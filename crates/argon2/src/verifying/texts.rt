@@ -64,8 +64,7 @@ pub fn verify_encoded_ext<R: Threads + Wait + Sync>(
         → IsStoredConfig d secret.now ad.now config
         → IsVerdict pwd.now d.salt d.hash config (nat_lt 1 d.parallelism) result }
 {
-    let mut memory = Memory::empty(alloc);
-    verify_encoded_in(rt, alloc, &mut memory, encoded, pwd, secret, ad)
+    verify_encoded_in(rt, alloc, &mut Memory::empty(alloc), encoded, pwd, secret, ad)
 }
 
 /// Whether a stored text is the hash of a password, as `verify_encoded_ext` says, computed over a

@@ -11,6 +11,7 @@ ghost use Rattle.argon2_blocks.specs.Views.Lane.{column, vector_pair, vector_wor
 ghost use Rattle.argon2_blocks.specs.Views.Shuffles.{high_halves, low_halves};
 ghost use Rattle.argon2_blocks.specs.Views.Spread.{diagonals, four_and_four, nth_vector, odd_and_even, spread_row, turned_halves, undo_diagonals};
 
+use super::Block;
 use super::lanes::{mix_two, recall_vector};
 use crate::common::QWORDS_IN_BLOCK;
 use std::simd::prelude::*;
@@ -338,7 +339,7 @@ fn permute_block(words: &[u64x8; VECTORS]) -> [u64x8; VECTORS]
 ///
 /// It is not inlined: a copy of this much code at each caller costs more.
 #[inline(never)]
-pub(super) fn fill_words(
+fn fill_words(
     prev: &[u64; QWORDS_IN_BLOCK],
     reference: &[u64; QWORDS_IN_BLOCK],
     next: &mut [u64; QWORDS_IN_BLOCK],
@@ -354,4 +355,13 @@ pub(super) fn fill_words(
     } else {
         store(&r, &v, next);
     }
+}
+
+/// Makes `next` the compression G of two blocks (RFC 9106, 3.5), or with `with_xor` the exclusive
+/// or of that and the old `next`. It takes no memory.
+pub fn fill_block(prev: &Block, reference: &Block, next: &mut Block, with_xor: bool)
+    ensures { let g = compress_g prev.now reference.now in
+        next.new ≡ (if with_xor then xor g next.old else g) }
+{
+    fill_words(&prev.words, &reference.words, &mut next.words, with_xor);
 }

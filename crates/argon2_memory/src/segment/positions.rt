@@ -121,7 +121,7 @@ fn address_block(job: &Job, lane: u32, number: u32, out: &mut Block)
     input[2] = u64::from(job.slice());
     input[3] = u64::from(job.memory_blocks());
     input[4] = u64::from(job.passes());
-    input[5] = job.variant_number();
+    input[5] = job.variant().as_u64();
     input[6] = u64::from(number) + 1;
     let mut once = Block::zero();
     fill_block(&zero, &Block::from_words(input), &mut once, false);

@@ -1,16 +1,14 @@
 -- Cutting at a byte and behind a front, both ways, and what std's methods give in these words.
-use Rattle.std.proofs.Common.{◌≡◌, ◌≢◌, ℕ, zero, suc, ◌+◌, ◌<◌, ◌≤◌, ◌==◌, Bool, true, false, List, [], ◌∷◌, ◌++◌, length, get_or, take, drop, Option, Some}
+use Rattle.std.proofs.Common.{◌≡◌, ◌≢◌, ℕ, zero, suc, ◌+◌, ◌<◌, ◌==◌, true, false, List, [], ◌∷◌, ◌++◌, length, get_or, take, drop, Option, Some}
 use Rattle.std.proofs.Common.{None, refl, sym, ap, ◌∙◌, arith, inl, inr, eq-eqb}
-use Rattle.std.specs.Prelude.{option_map, MatchOption, MatchBool}
+use Rattle.std.specs.Prelude.{option_map, MatchOption}
 use Rattle.std.specs.List.{list_any}
 use Rattle.std.specs.Borrow.{Bor}
-use Rattle.std.specs.Str.Pattern.{FindsChar, FindsTextPrefix}
+use Rattle.std.specs.Str.Pattern.{FindsTextPrefix}
 use Rattle.std.proofs.lemmas.Bool.{ne_eqb, cases_eq, or_right}
 use Rattle.std.proofs.lemmas.Option.{some_pair_parts}
-use Rattle.std.proofs.lemmas.Str.Pattern.{IsSplitOnceResult, split_parts, contains_char}
 use Rattle.argon2_standard.specs.Standard.Grammar.{Lacks}
 use Rattle.argon2_text.specs.Views.Cutting.{strip, cut}
-use Rattle.argon2_text.specs.Views.Texts.{two_texts}
 
 -- ---- Lacks, by places
 

@@ -53,9 +53,10 @@ fn head_of(text: &str) -> Option<Head<'_>>
     ensures { MatchOption result (HasSplit text.now → ⊥) (IsHeadOf text.now) }
 {
     let pieces = pieces_of(text)?;
+    let version = version_of(pieces.version)?;
     Some(Head {
-        variant: variant_of(pieces.name)?,
-        version: version_of(pieces.version)?,
+        variant: Variant::from_str(pieces.name).ok()?,
+        version,
         mem_cost: number(pieces.memory)?,
         time_cost: number(pieces.time)?,
         parallelism: number(pieces.lanes)?,
@@ -138,13 +139,6 @@ fn first(bytes: &[u8], mark: u8) -> Option<usize>
         }
     }
     None
-}
-
-/// The variant that a piece names, in lower case or with a capital.
-fn variant_of(name: &str) -> Option<Variant>
-    ensures { MatchOption result (IsNoName name.now) (IsName name.now) }
-{
-    Variant::from_str(name).ok()
 }
 
 /// The version that a piece spells; where there is no piece, version 0x10.

@@ -9,4 +9,4 @@ returns-clause-snapshot c =
     let old = segments_of c.args.slices.now in
     let fits : j.slice < length old = omega (arith, c.requires.slices.count, c.recall_job.ensures.slice_fits) in
     is_snapshot j c.recall_job.ensures old c.requires.slices c.requires.ready _
-    (others-taken c.args.slices.now c.take_slice-segments.new.slices j.slice (rw c.slice.ensures.value at c.take_slice-segments.ensures.left) fits)
+    (others-taken c.args.slices.now c.take_slice.new.slices j.slice (rw c.slice.ensures.value at c.take_slice.ensures.left) fits)

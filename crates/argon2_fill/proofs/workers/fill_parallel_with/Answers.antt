@@ -33,7 +33,7 @@ pub loop-n-preserved : goal.loop-n-preserved
 loop-n-preserved g c =
     let s = c.new-job.result.setting in
     let n = c.loop-n.n in
-    let w = c.worker_count-workers.result in
+    let w = c.workers-workers.result in
     let done = c.in_ok-fill_slice_by_workers.ensures in
     record {
       slices = rw c.numbered_job-slice.ensures at done.slices;
@@ -61,8 +61,8 @@ returns-clause-permitted g c =
     let x = c.args.context.now in
     let whole : c.loop-n.n ≡ 4 * c.new-job.result.setting.passes = omega arith in
     let passes = ap (λ (j : Job). j.setting.passes) c.new-job.ensures.value ∙ c.recall_context.ensures.passes in
-    let starts = ap (λ n. n * c.worker_count-workers.result) (whole ∙ ap (λ p. 4 * p) passes)
-    ∙ ap (λ w. 4 * x.config.time_cost * w) c.worker_count-workers.ensures.value in
+    let starts = ap (λ n. n * c.workers-workers.result) (whole ∙ ap (λ p. 4 * p) passes)
+    ∙ ap (λ w. 4 * x.config.time_cost * w) c.workers-workers.ensures in
     rw starts at c.loop-n.invariant.permitted
 
 pub returns-clause-shape : goal.returns-clause-shape
@@ -75,20 +75,20 @@ pub overflow_mul-first : goal.overflow_mul-first
 overflow_mul-first g c =
     let low : c.loop-n.n ≤ 17179869184 = omega (arith, c.new-job.ensures.job.setting.few_passes) in
     let most = mul-le-mul_right c.from.result low in
-    omega (arith, most, c.from.ensures, c.worker_count-workers.ensures.few)
+    omega (arith, most, c.from.ensures, c.workers-workers.ensures, c.recall_workers.ensures.few)
 
 pub fill_slice_by_workers-requires : goal.fill_slice_by_workers-requires
 fill_slice_by_workers-requires g c =
     let low : c.loop-n.n ≤ 17179869184 = omega (arith, c.new-job.ensures.job.setting.few_passes) in
     let most = mul-le-mul_right c.from.result low in
-    let fits : c.loop-n.n * c.from.result + c.worker_count-workers.result < 2 ^ 64 =
-    omega (arith, most, c.from.ensures, c.worker_count-workers.ensures.few) in (
+    let fits : c.loop-n.n * c.from.result + c.workers-workers.result < 2 ^ 64 =
+    omega (arith, most, c.from.ensures, c.workers-workers.ensures, c.recall_workers.ensures.few) in (
       c.type_bounds.sync-R,
       (
         c.type_bounds.sync-G,
         (
           rw c.numbered_job-slice.ensures c.loop-n.invariant.slices,
-          (rw c.numbered_job-slice.ensures c.loop-n.invariant.filled, (c.worker_count-workers.ensures.some, fits)),
+          (rw c.numbered_job-slice.ensures c.loop-n.invariant.filled, (rw c.workers-workers.ensures c.recall_workers.ensures.some, fits)),
         ),
       ),
     )

@@ -17,6 +17,7 @@ returns c =
       c.memory_blocks.ensures,
       c.from-5.ensures,
       c.passes.ensures.value,
-      c.variant_number.ensures,
+      c.as_u64.ensures,
+      c.variant.ensures,
       c.from-6.ensures,
     ) refl

@@ -1,9 +1,8 @@
 -- At the first mark, an ASCII byte, the text is cut there, and both parts are texts.
-use Rattle.std.proofs.Common.{◌≡◌, ◌+◌, ◌<◌, ℕ, List, length, drop, get_or, sym, ap, ◌∙◌, arith}
+use Rattle.std.proofs.Common.{◌≡◌, ◌+◌, ◌<◌, ℕ, List, length, drop, get_or, sym, arith}
 use Rattle.std.specs.Str.{IsCharBoundary, IsUtf8}
 use Rattle.std.proofs.lemmas.List.{get_or-drop, length-drop}
 use Rattle.std.proofs.lemmas.Str.{IsCharBoundary-after_ascii, IsCharBoundary-before_ascii, IsUtf8-drop}
-use Rattle.argon2_text.specs.Views.Cutting.{cut}
 use Rattle.argon2_text.proofs.Reading.TextCuts.{Lacks-from_places, cut_at, cut_none}
 use Rattle.argon2_text.proofs.encoding.reading.cut.Goals as goal
 

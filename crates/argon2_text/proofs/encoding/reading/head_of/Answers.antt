@@ -3,20 +3,23 @@ use Rattle.std.proofs.Common.{refl, sym}
 use Rattle.argon2_text.specs.Views.Texts.{pieces_view}
 use Rattle.argon2_text.proofs.Reading.TextHeads.{no_head, head_at}
 use Rattle.argon2_text.proofs.Reading.TextPieces.{pieces_found}
+use Rattle.argon2_text.proofs.Reading.TextSteps.{read_part}
 use Rattle.argon2_text.proofs.encoding.reading.head_of.Goals as goal
 
 pub returns-in_err-pieces : goal.returns-in_err-pieces
 returns-in_err-pieces c = rw c.from_residual.ensures (no_head c.args.text.now c.in_err-pieces.ensures)
 
-pub returns-in_err-variant_of : goal.returns-in_err-variant_of
-returns-in_err-variant_of c = rw c.from_residual-in_err-variant_of.ensures (λ h.
+pub returns-in_err-version : goal.returns-in_err-version
+returns-in_err-version c = rw c.from_residual-in_err-version.ensures (λ h.
     let found = head_at c.args.text.now (pieces_view c.in_ok-pieces.pieces) c.in_ok-pieces.ensures h in
-    c.in_err-variant_of.ensures found.0.variant found.1.name)
+    c.in_err-version.ensures found.0.version found.1.version)
 
-pub returns-in_err-version_of : goal.returns-in_err-version_of
-returns-in_err-version_of c = rw c.from_residual-in_err-version_of.ensures (λ h.
+-- whether the first piece names a variant
+pub returns-in_err-ok : goal.returns-in_err-ok
+returns-in_err-ok c = rw c.from_residual-in_err-ok.ensures (λ h.
     let found = head_at c.args.text.now (pieces_view c.in_ok-pieces.pieces) c.in_ok-pieces.ensures h in
-    c.in_err-version_of.ensures found.0.version found.1.version)
+    let none = rw (← c.in_err-ok.ensures.value) at (read_part _ _ _ c.from_str.result c.from_str.ensures.read) in
+    none found.0.variant found.1.name)
 
 pub returns-in_err-number : goal.returns-in_err-number
 returns-in_err-number c = rw c.from_residual-in_err-number.ensures (λ h.
@@ -39,8 +42,8 @@ returns c =
       pieces = pieces;
       cut = pieces_found c.args.text.now pieces (sym c.in_ok-pieces.ensures);
       head = record {
-        name = c.in_ok-variant_of.ensures;
-        version = c.in_ok-version_of.ensures;
+        name = rw (← c.in_ok-ok.ensures.value) at (read_part _ _ _ c.from_str.result c.from_str.ensures.read);
+        version = c.in_ok-version.ensures;
         memory = c.in_ok-number.ensures;
         time = c.in_ok-number-2.ensures;
         lanes = c.in_ok-number-3.ensures;
