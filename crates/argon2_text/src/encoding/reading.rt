@@ -41,6 +41,7 @@ pub fn spelling_of(text: &str) -> Option<Head<'_>>
     ensures { MatchOption result (SpellsNothing text.now) (IsSpellingOf text.now) }
 {
     let head = head_of(text)?;
+    // `&&` passes over the hash where the salt is no item, since no salt is a secret.
     if is_item(head.salt) && is_item(head.hash) {
         Some(head)
     } else {
@@ -115,7 +116,9 @@ fn strip<'a>(text: &'a str, front: &str) -> Option<&'a str>
     text.strip_prefix(front)
 }
 
-/// What is before the first `mark`, and what is after it.
+/// What is before the first `mark`, and what is after it. The mark is ASCII, so that the text may
+/// be cut on both its sides. `split_once` of the standard library would look at bytes behind the
+/// mark.
 fn cut(text: &str, mark: u8) -> Option<(&str, &str)>
     requires { mark < 128 }
     ensures { option_map two_texts result ≡ cut mark text.now }
@@ -125,7 +128,8 @@ fn cut(text: &str, mark: u8) -> Option<(&str, &str)>
     Some((before, &rest[1..]))
 }
 
-/// Where the first `mark` is. It looks at no byte behind it, as a search of many bytes at a time would.
+/// Where the first `mark` is. It looks at no byte behind it, as a search of many bytes at a time
+/// would.
 fn first(bytes: &[u8], mark: u8) -> Option<usize>
     ensures { MatchOption result
         ((i : ℕ) → i < length bytes.now → slice_index bytes.now i ≢ mark)
