@@ -68,7 +68,8 @@ pub fn start<R: Threads + Wait + Sync, L: CommandLine, I: Read, O: Write, E: Wri
 /// bytes of the hexadecimal digits behind that. The answer is written to `output`, with status 0,
 /// or 1 for `false`. Else a line is written to `errors`: a refusal (status 2), `usage` for words
 /// that are none of these (3), `input` where the input cannot be read (4), or that a text is above
-/// the limits (5). Where the output cannot be written, the status is 4 and no line is added. A
+/// the limits (5). Where the output cannot be written, the status is 4 and no line is added; where
+/// it lacked memory for that, the status is 2, and the line that of a refusal for want of memory. A
 /// fault of an earlier kind in the order words, input, call, output is told first, and nothing is
 /// written to `output` before the answer is whole.
 pub fn run<R: Threads + Wait + Sync, I: Read, O: Write, E: Write>(
