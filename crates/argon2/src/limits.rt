@@ -157,7 +157,6 @@ fn is_too_costly(encoded: &str, limits: &Limits) -> Result<bool>
     Ok(is_above(&head, limits))
 }
 
-/// Whether a number of a text's head is above its limit.
 fn is_above(head: &Head<'_>, limits: &Limits) -> bool
     ensures { result ≡ is_too_costly limits.now (settings_of head.now) }
 {

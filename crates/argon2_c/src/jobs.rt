@@ -70,6 +70,7 @@ impl LentJob {
         self.lanes == 0
             || self.lanes > MAX_LANES
             || self.segment_length < 2
+            // In 64 bits, since C may pass any numbers.
             || u64::from(self.lanes) * u64::from(self.segment_length) > MAX_BLOCKS_IN_SLICE
             || self.passes < MIN_TIME
             || self.hash_length < MIN_HASH_LENGTH

@@ -73,7 +73,8 @@ impl KeptMemory {
         }
     }
 
-    /// Takes what is kept out, or an empty memory where nothing is.
+    /// Takes what is kept out, or an empty memory where nothing is. It leaves null, so that nothing
+    /// is given back twice.
     pub fn take(&mut self, alloc: Global) -> Memory
         ensures { KeepsNothing self.new }
     {

@@ -26,6 +26,7 @@ pub fn write_first_lent(job: &Job, lane: u32, own: &mut [Block])
     ensures { IsReady job.now.setting 0 0 lane own.new }
 {
     recall_job(job);
+    // Split, since both blocks are written side by side.
     let (first, rest) = own.split_at_mut(1);
     write_first_blocks(job, lane, &mut first[0], &mut rest[0]);
 }
@@ -206,6 +207,7 @@ pub fn hash_lent(context: &Context<'_>, blocks: &mut [Block], out: &mut [u8])
     ensures { let c = context.now in
         out.new ≡ tag_of c.pwd.now c.salt.now c.config c.config.hash_length }
 {
+    // The facts of an accepted context, without which the lengths below are not known to fit.
     recall_context(context);
     // Read for its range, since the prover knows it only where it is read.
     let _hash_length = context.config.hash_length;

@@ -59,6 +59,8 @@ pub fn decode_string(alloc: Global, encoded: &str) -> Result<Decoded>
     ensures spelled { IfOk result (λ decoded. Spells encoded.now (spelled_by decoded)) }
     ensures refused { IfErr result (Refuses encoded.now) }
 {
+    // The base64 is read here without memory and by `decode` once more, so that no refusal of
+    // memory comes before `DecodingFail`.
     let head = spelling_of(encoded).ok_or(Error::DecodingFail)?;
     decode(alloc, &head)
 }

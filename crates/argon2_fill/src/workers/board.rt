@@ -159,6 +159,7 @@ pub struct Board {
     // The least lane that waits, kept so that a take looks at one slot alone, under the lock.
     next: u32,
     slots: Vec<Slot>,
+    // Kept so that contracts can say in which order lanes went out and came back.
     log: Vec<Event>,
     // Room for `finish`, asked for by `new`, so that no filled slice is lost for want of memory.
     finished: Vec<Segment>,

@@ -15,7 +15,8 @@ use std::thread::{Builder, JoinHandle, Parker, Scope, Threads};
 use std::time::Duration;
 use std::{array, thread};
 
-/// A set of numbers: the workers that may be started.
+/// A set of numbers: the workers that may be started. It is asked where one is started, so that
+/// threads need not share it.
 pub trait Permit {
     ghost use Rattle.std.specs.Prelude.{ℕ, Bool};
 
@@ -209,10 +210,11 @@ fn run_workers<'s, E, R: Threads + Wait + Sync, G: Gate, P: Permit>(
 }
 
 /// Fills the lanes of a board by `workers` workers, at least one, and joins them. The board and the
-/// snapshot are of one job, and no lane is out. The workers take and put lanes under one lock, and
-/// fill them outside it. The board comes back with all lanes done. A start that is refused is tried
-/// again, 100 times in all, a millisecond apart. Where all tries were refused, the answer is
-/// `WorkerRefused`, even if the others finished the slice. It takes no memory of its own.
+/// snapshot are of one job, and no lane is out, since nobody could put it back. The workers take
+/// and put lanes under one lock, and fill them outside it. The board comes back with all lanes
+/// done. A start that is refused is tried again, 100 times in all, a millisecond apart. Where all
+/// tries were refused, the answer is `WorkerRefused`, even if the others finished the slice. It
+/// takes no memory of its own.
 pub fn fill_slice<R: Threads + Wait + Sync, G: Gate>(
     rt: &R,
     board: Board,

@@ -109,7 +109,7 @@ fn version_piece(text: &str) -> Option<(Option<&str>, &str)>
     Some((Some(version), rest))
 }
 
-/// What is after `front`.
+/// What is after `front`: `strip_prefix`, apart so that other proofs go by the definition's words.
 fn strip<'a>(text: &'a str, front: &str) -> Option<&'a str>
     ensures { option_map (λ x. x.now) result ≡ strip front.now text.now }
 {
@@ -162,7 +162,8 @@ fn version_of(piece: Option<&str>) -> Option<Version>
     }
 }
 
-/// The number that a piece spells: a plus or nothing, and decimal digits.
+/// The number that a piece spells: a plus or nothing, and decimal digits. It is apart, so that
+/// other proofs go by the grammar's words and not by those of `parse`.
 fn number(text: &str) -> Option<u32>
     ensures { MatchOption result (IsNoNumber text.now) (IsNumber text.now) }
 {
