@@ -45,7 +45,8 @@ pub fn are_equal(one: &[u8], other: &[u8]) -> bool
     difference(one, other) == 0
 }
 
-/// Whether a tag is this hash. It overwrites the tag, which only the right password gives.
+/// Whether a tag is this hash. It takes the tag and overwrites it, since only the right password
+/// gives it.
 fn is_hash(mut tag: Vec<u8>, hash: &[u8]) -> bool
     requires { length tag.items ≡ length hash.now }
     ensures { IsTrue result ↔ (tag.items ≡ hash.now) }

@@ -62,6 +62,7 @@ impl KeptMemory {
         if at.is_null() {
             return None;
         }
+        // What `from_raw` asks for is what `also_owns` says of a pointer that is not null.
         Some(unsafe { Box::from_raw(alloc, at as *mut Memory) })
     }
 

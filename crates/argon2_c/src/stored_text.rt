@@ -15,6 +15,7 @@ pub fn text_of(bytes: &[u8]) -> Result<&str, Refusal>
         (λ refusal. (refusal ≡ NotUtf8) × (IsUtf8 bytes.now → ⊥)) }
 {
     if all_bits(bytes) < 128 {
+        // ASCII is UTF-8, which is proved here.
         return Ok(unsafe { std::str::from_utf8_unchecked(bytes) });
     }
     match std::str::from_utf8(bytes) {

@@ -165,6 +165,7 @@ pub fn fill_lent(
         → HoldsSlice s (s.passes - 1) 3 fourth.new }
 {
     recall_job(job);
+    // One loop over the slices of all passes, so that one invariant serves for all.
     for n in 0..slice_count(job) {
         fill_one_of_four(&numbered_job(job, n), first, second, third, fourth);
     }

@@ -1,8 +1,9 @@
 //! The encoded text of a hash, written and read:
 //! `$argon2id$v=19$m=256,t=2,p=1$salt$hash`, with salt and hash in unpadded base64 (RFC 4648, 4).
 //!
-//! Base64 is written and read by sums: no table is looked into, and no branch looks at a letter or
-//! a byte of salt or hash. Whether all letters are right is gathered to the end and answered once.
+//! Base64 is written and read by sums, since caches show which place of a table was looked into,
+//! and times which way a branch went. No branch looks at a letter or a byte of salt or hash.
+//! Whether all letters are right is gathered to the end and answered once.
 
 ghost use Rattle.std.specs.Prelude.{◌≡◌, IfErr, IfOk, ◌<◌, ◌↔◌, ◌*◌, ◌/◌, ◌++◌, ℕ, IsTrue, List, OnOk, length, ◌≤◌};
 ghost use Rattle.std.specs.String.{string_bytes};
@@ -66,7 +67,8 @@ pub fn decode_string(alloc: Global, encoded: &str) -> Result<Decoded>
 }
 
 /// What the text of a head spells, where its salt and its hash are items. Where memory is refused:
-/// `OutOfMemory`.
+/// `OutOfMemory`. It is apart, so that a stored text can be judged after it was read and before
+/// this takes memory.
 pub fn decode(alloc: Global, head: &Head<'_>) -> Result<Decoded>
     requires salt { IsSomeItem head.now.salt.now }
     requires hash { IsSomeItem head.now.hash.now }
@@ -120,7 +122,8 @@ fn tail_faults(tail: &[u8]) -> u32
     }
 }
 
-/// How many bytes an unpadded base64 text encodes.
+/// How many bytes an unpadded base64 text encodes. It decodes none, so that lengths can be judged
+/// before memory is taken.
 pub fn item_len(text: &str) -> u64
     ensures value { result ≡ 3 * length text.now / 4 }
     ensures exact { (bytes : List ℕ) → IsItem text.now bytes → result ≡ length bytes }

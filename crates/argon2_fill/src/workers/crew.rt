@@ -173,8 +173,8 @@ fn start<'s, E, R: Wait + Sync, G: Gate, P: Permit>(
 
 /// Starts the workers of `count` numbers from `first` on, waits for the end of each that was
 /// started, and says whether all were. If one is refused or not permitted, the others are still
-/// started, but each is tried once: the answer is a refusal anyway. Where there is no room for more
-/// handles, the remaining numbers get a call of their own.
+/// started, but those of this call are tried once each, since the answer is a refusal anyway. Where
+/// there is no room for more handles, the remaining numbers get a call of their own.
 fn run_workers<'s, E, R: Threads + Wait + Sync, G: Gate, P: Permit>(
     scope: &Scope<'s, E>,
     rt: &'s R,
@@ -191,7 +191,8 @@ fn run_workers<'s, E, R: Threads + Wait + Sync, G: Gate, P: Permit>(
     let mut all = true;
     for k in 0..count {
         let number = first + u64::from(k);
-        // The others start before any of these is joined, so that all work at the same time.
+        // The others start before any of these is joined, so that all work at the same time. `&=`
+        // and not `&&`, since they start after a refusal too.
         if handles.are_full() {
             all &= run_workers(scope, rt, board, snapshot, gate, permit, number, count - k);
             break;
@@ -258,6 +259,7 @@ pub fn fill_slice_with<R: Threads + Wait + Sync, G: Gate, P: Permit>(
     // An `Option`, so that the board can be moved out of the lock when the workers have ended.
     let board = Mutex::new(Some(board));
     let shared = &board;
+    // A closure has to state what the functions that it calls require.
     let started = thread::scope(
         thread::scope_env(),
         rt,
