@@ -39,9 +39,9 @@ pub fn hash_raw<R: Threads + Wait + Sync>(
 /// memory with the lanes and the lane length of the call is used as it is, whatever it holds, and
 /// no blocks are asked for. Any other gives its blocks back first and is made anew.
 ///
-/// Where the settings table refuses something, the memory stays as it is. Else it holds the blocks of
-/// this computation after the call until `Memory::wipe`. After a shortage it may have no lanes, but one
-/// that had those of the call loses them only to workers.
+/// Where the settings table refuses something, the memory stays as it is. Else it holds the blocks
+/// of this computation after the call until `Memory::wipe`. After a shortage it may have no lanes,
+/// but one that had those of the call loses them only to workers.
 pub fn hash_raw_in<'a, R: Threads + Wait + Sync>(
     rt: &R,
     alloc: Global,
@@ -128,6 +128,7 @@ pub fn hash_encoded_in<'a, R: Threads + Wait + Sync>(
     match Context::new(*config, pwd, salt) {
         Ok(context) => {
             let hash = tag(rt, alloc, &context, memory)?;
+            // Unlike `is_hash`, it overwrites no tag, since the text has it.
             encode_string(alloc, &context, &hash)
         }
         Err(refusal) => Err(refusal),

@@ -20,7 +20,8 @@ use std::sync::Wait;
 use std::thread::Threads;
 use std::{fmt, result};
 
-/// The greatest numbers that a stored text may spell.
+/// The greatest numbers that a stored text may spell. Each limits one number, and none the product
+/// of memory and passes, by which the time grows.
 #[derive(Clone, Copy, Debug, Eq, PartialEq)]
 pub struct Limits {
     /// The memory in KiB.
@@ -38,7 +39,8 @@ impl Default for Limits {
 
     ghost is_default = { λ limits. limits ≡ default_limits };
 
-    /// 2 GiB, 10 passes and 16 lanes. Both recommendations of RFC 9106 (section 4) are within.
+    /// 2 GiB, 10 passes and 16 lanes, so that the settings of RFC 9106 (section 4), OWASP,
+    /// libsodium and Django are within.
     fn default() -> Limits {
         Limits {
             mem_cost: 2_097_152,
@@ -48,7 +50,8 @@ impl Default for Limits {
     }
 }
 
-/// Why a text was not verified within limits.
+/// Why a text was not verified within limits. It is no `Error`, so that nobody takes a text above
+/// the limits for a wrong password or for a damaged text.
 #[derive(Clone, Debug, Drop, PartialEq)]
 pub enum Unverified {
     /// The text spells a number above its limit.
@@ -91,9 +94,9 @@ impl From<Error> for Unverified {
 /// Whether a stored text is the hash of a password with this secret and this associated data, where
 /// it asks for no more than the limits.
 ///
-/// A text that spells nothing is `Refused(DecodingFail)`. One that spells more memory, passes or lanes
-/// than its limit is `TooCostly`, before any memory or worker is asked for. Any other text is answered
-/// as by `verify_encoded_ext`.
+/// A text that spells nothing is `Refused(DecodingFail)`. One that spells more memory, passes or
+/// lanes than its limit is `TooCostly`, before any memory or worker is asked for. Any other text is
+/// answered as by `verify_encoded_ext`.
 pub fn verify_encoded_within<R: Threads + Wait + Sync>(
     rt: &R,
     alloc: Global,
@@ -109,6 +112,8 @@ pub fn verify_encoded_within<R: Threads + Wait + Sync>(
         → AnswersWithin (is_too_costly limits.now d)
         (IsVerdict pwd.now d.salt d.hash config (nat_lt 1 d.parallelism)) result }
 {
+    // The call without limits reads the text again, so that it needs no other form and no other
+    // proof.
     let costly = is_too_costly(encoded, limits)?;
     if costly {
         return Err(Unverified::TooCostly);
@@ -117,8 +122,8 @@ pub fn verify_encoded_within<R: Threads + Wait + Sync>(
     Ok(same)
 }
 
-/// Whether a stored text is the hash of a password, as `verify_encoded_within` says, computed in the
-/// caller's thread.
+/// Whether a stored text is the hash of a password, as `verify_encoded_within` says, computed in
+/// the caller's thread.
 pub fn verify_encoded_within_sequential(
     alloc: Global,
     encoded: &str,
@@ -141,7 +146,8 @@ pub fn verify_encoded_within_sequential(
     Ok(same)
 }
 
-/// Whether a stored text spells a number above its limit. It takes no memory.
+/// Whether a stored text spells a number above its limit. `DecodingFail` comes first, since only a
+/// text that spells something has numbers. It takes no memory.
 fn is_too_costly(encoded: &str, limits: &Limits) -> Result<bool>
     ensures unspelled { SpellsNothing encoded.now → result ≡ Err Error.DecodingFail }
     ensures spelled { (d : Spelled) → Spells encoded.now d
@@ -151,7 +157,6 @@ fn is_too_costly(encoded: &str, limits: &Limits) -> Result<bool>
     Ok(is_above(&head, limits))
 }
 
-/// Whether a number of a text's head is above its limit.
 fn is_above(head: &Head<'_>, limits: &Limits) -> bool
     ensures { result ≡ is_too_costly limits.now (settings_of head.now) }
 {

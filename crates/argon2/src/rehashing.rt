@@ -37,5 +37,6 @@ fn agrees(stored: &Decoded, config: &Config) -> bool
         && stored.mem_cost == config.mem_cost
         && stored.time_cost == config.time_cost
         && stored.parallelism == config.lanes
+        // The configuration's length is made wider, since the hash's need not fit 32 bits.
         && stored.hash.len() == config.hash_length as usize
 }

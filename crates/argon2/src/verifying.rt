@@ -26,7 +26,8 @@ pub use texts::{
     verify_encoded_in, verify_encoded_in_sequential, verify_encoded_sequential,
 };
 
-/// The bits in which two hashes of one length differ at any place.
+/// The bits in which two hashes of one length differ at any place. They are gathered by `|`, so
+/// that no branch looks at a place alone. `zip` would leave out what only one of them has.
 fn difference(one: &[u8], other: &[u8]) -> u8
     ensures { result ≡ difference_of one.now other.now }
 {
@@ -44,7 +45,8 @@ pub fn are_equal(one: &[u8], other: &[u8]) -> bool
     difference(one, other) == 0
 }
 
-/// Whether a tag is this hash. It overwrites the tag, which only the right password gives.
+/// Whether a tag is this hash. It takes the tag and overwrites it, since only the right password
+/// gives it.
 fn is_hash(mut tag: Vec<u8>, hash: &[u8]) -> bool
     requires { length tag.items ≡ length hash.now }
     ensures { IsTrue result ↔ (tag.items ≡ hash.now) }
@@ -54,7 +56,8 @@ fn is_hash(mut tag: Vec<u8>, hash: &[u8]) -> bool
     verdict
 }
 
-/// The context of a hash of this hash's own length, whatever `config.hash_length` is.
+/// The context of a hash of this hash's own length, whatever `config.hash_length` is. The length is
+/// judged in 64 bits, since cut to 32 a longer hash could pass.
 #[tactic(auto, unfolding(argon2_standard::specs::Standard::SettingsTable::refusal_of))]
 fn context_of_hash<'a>(
     config: Config<'a>,
@@ -74,6 +77,7 @@ fn context_of_hash<'a>(
     let hash_len = hash.len() as u64;
     match first_refusal(&config, pwd.len() as u64, salt.len() as u64, hash_len) {
         None => {
+            // This cuts nothing, since a longer hash was refused.
             let hash_length = hash_len as u32;
             let config = Config {
                 hash_length,

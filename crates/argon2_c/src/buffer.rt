@@ -10,6 +10,7 @@ pub fn write_text(text: &str, buffer: &mut [u8]) -> Result<(), Refusal>
     ensures { WritesText text.now buffer.old buffer.new result }
 {
     let text = text.as_bytes();
+    // `<=`, since a zero has to fit behind the text.
     if buffer.len() <= text.len() {
         return Err(Refusal::WrongLength);
     }

@@ -13,8 +13,9 @@ use argon2::parts::encoding::encode_string;
 use argon2_settings::context::accepted_context;
 use std::alloc::Global;
 
-/// Writes the text of a given tag, and zeros behind it, to a buffer with more bytes than the text. It
-/// refuses as `hash_encoded` does; a tag of another length than the settings' is `WrongLength` too.
+/// Writes the text of a given tag, and zeros behind it, to a buffer with more bytes than the text.
+/// It refuses as `hash_encoded` does; a tag of another length than the settings' is `WrongLength`
+/// too.
 pub fn encode(
     alloc: Global,
     salt: &[u8],
@@ -27,6 +28,8 @@ pub fn encode(
         result }
 {
     let config = settings.config(&[], &[])?;
+    // The password of the tag is not known here. An empty one stands for it, since none is too
+    // short.
     if let Some(error) = refused(&config, &[], salt) {
         return Err(Refusal::Library(error));
     }

@@ -33,6 +33,8 @@ pub fn hash_raw(
         out.new result }
 {
     let config = settings.config(secret, ad)?;
+    // The library's call judges them again. Here they are judged so that their refusal precedes
+    // that of the buffer, and both precede any blocks.
     if let Some(error) = refused(&config, pwd, salt) {
         return Err(Refusal::Library(error));
     }
@@ -63,6 +65,7 @@ pub fn hash_encoded(
     if let Some(error) = refused(&config, pwd, salt) {
         return Err(Refusal::Library(error));
     }
+    // The cast cuts nothing, since a longer salt was refused.
     if text.len() as u64 <= text_len(&config, salt.len() as u32) {
         return Err(Refusal::WrongLength);
     }
@@ -70,7 +73,7 @@ pub fn hash_encoded(
     write_text(encoded.as_str(), text)
 }
 
-/// The first refusal of the settings table.
+/// The first refusal of the settings table, for a tag of the settings' own length.
 pub fn refused(config: &Config<'_>, pwd: &[u8], salt: &[u8]) -> Option<Error>
     ensures { result ≡ refusal_of config.now (length pwd.now)
         (length salt.now) config.now.hash_length }

@@ -17,10 +17,11 @@ use argon2_memory::job::job_of_setting;
 use argon2_settings::context::prehash_of_context;
 use std::alloc::Global;
 
-/// The most blocks that one of the four slices has.
+/// The most blocks that one of the four slices has, since a memory cost fits 32 bits.
 const MAX_BLOCKS_IN_SLICE: u64 = 0x3FFF_FFFF;
 
-/// A job in numbers: all that its blocks and its tag depend on.
+/// A job in numbers: all that its blocks and its tag depend on. The caller holds it and may change
+/// it, so each step judges the numbers anew.
 #[repr(C)]
 #[derive(Clone, Copy, Debug)]
 pub struct LentJob {
@@ -69,6 +70,7 @@ impl LentJob {
         self.lanes == 0
             || self.lanes > MAX_LANES
             || self.segment_length < 2
+            // In 64 bits, since C may pass any numbers.
             || u64::from(self.lanes) * u64::from(self.segment_length) > MAX_BLOCKS_IN_SLICE
             || self.passes < MIN_TIME
             || self.hash_length < MIN_HASH_LENGTH
@@ -144,9 +146,9 @@ pub fn make(
     }
 }
 
-/// Writes the job that a stored text is verified by, and its hash, to a buffer of the hash's length.
-/// A text that is not UTF-8 is `NotUtf8`, one that spells nothing `DecodingFail`; then what it spells
-/// is judged, and last the buffer. On a refusal both are as they were.
+/// Writes the job that a stored text is verified by, and its hash, to a buffer of the hash's
+/// length. A text that is not UTF-8 is `NotUtf8`, one that spells nothing `DecodingFail`; then what
+/// it spells is judged, and last the buffer. On a refusal both are as they were.
 pub fn make_stored(
     alloc: Global,
     text: &[u8],
@@ -165,6 +167,7 @@ pub fn make_stored(
     if hash.len() != stored.hash.len() {
         return Err(Refusal::WrongLength);
     }
+    // Nothing is written before all was judged, so that a refusal leaves both as they were.
     let config = config_of(&stored, secret, ad);
     *job = LentJob::of(&stored_context(&stored, &config, pwd));
     hash.copy_from_slice(&stored.hash);

@@ -1,4 +1,5 @@
-//! The calls that compute over a memory which C keeps.
+//! The calls that compute over a memory which C keeps. It moves out for the call, since a `Memory`
+//! is what the library takes, and back whatever the answer is.
 
 ghost use Rattle.argon2_c.specs.Answers.{JudgesRaw, JudgesText, WritesHashText, WritesTag};
 ghost use Rattle.argon2_c.specs.Kept.{KeepsNothing};
@@ -19,8 +20,8 @@ pub extern "C" fn proved_argon2_memory_free(alloc: Global, memory: &mut KeptMemo
     memory.free(alloc);
 }
 
-/// `proved_argon2_hash_raw`, computed over a memory that the caller keeps: one that has the settings'
-/// blocks is used as it is, whatever stands in it.
+/// `proved_argon2_hash_raw`, computed over a memory that the caller keeps: one that has the
+/// settings' blocks is used as it is, whatever stands in it.
 #[unsafe(no_mangle)]
 pub extern "C" fn proved_argon2_hash_raw_in(
     alloc: Global,

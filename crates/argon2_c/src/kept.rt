@@ -28,7 +28,8 @@ impl<T: Drop> Loose<T> {
     }
 }
 
-/// A memory that C keeps, or none at null. The pointer's type hides the memory from C.
+/// A memory that C keeps, or none at null. The pointer's type hides the memory from C. It is in a
+/// struct, so that `also_owns` can say what it owns.
 #[repr(C)]
 pub struct KeptMemory {
     at: *mut u8,
@@ -42,7 +43,7 @@ impl Model for KeptMemory {
 }
 
 impl KeptMemory {
-    /// Keeps nothing.
+    /// Keeps nothing, and asks for no box.
     pub fn empty() -> KeptMemory
         ensures { KeepsNothing result }
     {
@@ -61,6 +62,7 @@ impl KeptMemory {
         if at.is_null() {
             return None;
         }
+        // What `from_raw` asks for is what `also_owns` says of a pointer that is not null.
         Some(unsafe { Box::from_raw(alloc, at as *mut Memory) })
     }
 
@@ -72,19 +74,22 @@ impl KeptMemory {
         }
     }
 
-    /// Takes what is kept out, or an empty memory where nothing is.
+    /// Takes what is kept out, or an empty memory where nothing is. It leaves null, so that nothing
+    /// is given back twice.
     pub fn take(&mut self, alloc: Global) -> Memory
         ensures { KeepsNothing self.new }
     {
         mem::replace(self, KeptMemory::empty()).into_memory(alloc)
     }
 
-    /// Keeps a memory in place of what was kept. Where its box is refused, nothing is kept.
+    /// Keeps a memory in place of what was kept. Where its box is refused, nothing is kept. The box
+    /// is asked for after the call, so that no refusal of it precedes those of the settings.
     pub fn keep(&mut self, alloc: Global, memory: Memory) {
         let kept = match Box::new(alloc, memory) {
             Ok(memory) => KeptMemory::of(Loose::of(memory)),
             Err(_) => KeptMemory::empty(),
         };
+        // What was kept is given back here, since the struct itself drops nothing.
         drop(mem::replace(self, kept).into_memory(alloc));
     }
 

@@ -1,4 +1,5 @@
-//! The calls for a memory that C lends and fills in steps, by as many threads as it likes.
+//! The calls for a memory that C lends and fills in steps, by as many threads as it likes, since an
+//! export may start none.
 
 ghost use Rattle.std.specs.Prelude.{◌≡◌, ℕ, List, []};
 ghost use Rattle.std.specs.Borrow.{Bor};
@@ -31,8 +32,8 @@ pub extern "C" fn proved_argon2_job_make(
     code_of(&jobs::make(pwd, salt, secret, ad, settings, job))
 }
 
-/// Writes the job that a stored text is verified by, and the text's hash, to a buffer of its length.
-/// On a refusal both are as they were.
+/// Writes the job that a stored text is verified by, and the text's hash, to a buffer of its
+/// length. On a refusal both are as they were.
 #[unsafe(no_mangle)]
 pub extern "C" fn proved_argon2_job_read(
     alloc: Global,
@@ -85,8 +86,8 @@ pub extern "C" fn proved_argon2_job_finish(job: &LentJob, last: &[Block], out: &
     code_of(&steps::finish(job, last, out))
 }
 
-/// Returns 0 only where a hash is the tag of a filled memory, and 64 only where it is not. The tag is
-/// then in `tag`.
+/// Returns 0 only where a hash is the tag of a filled memory, and 64 only where it is not. The tag
+/// is then in `tag`.
 #[unsafe(no_mangle)]
 pub extern "C" fn proved_argon2_job_verify(
     job: &LentJob,
@@ -100,8 +101,8 @@ pub extern "C" fn proved_argon2_job_verify(
     code_of_verdict(&steps::verify(job, last, hash, tag))
 }
 
-/// Writes the text of a given tag and then zeros to `text`, which has more bytes than the text. On a
-/// refusal `text` is as it was.
+/// Writes the text of a given tag and then zeros to `text`, which has more bytes than the text. On
+/// a refusal `text` is as it was.
 #[unsafe(no_mangle)]
 pub extern "C" fn proved_argon2_encode(
     alloc: Global,
@@ -117,9 +118,9 @@ pub extern "C" fn proved_argon2_encode(
     code_of(&encoding::encode(alloc, salt, settings, tag, text))
 }
 
-/// Whatever the order of the lanes within each slice, and also at the same time: where each step of a
-/// hash answered 0, what is finished then is the tag, and what is verified is whether a hash is it. It
-/// does nothing when it runs.
+/// Whatever the order of the lanes within each slice, and also at the same time: where each step of
+/// a hash answered 0, what is finished then is the tag, and what is verified is whether a hash is
+/// it. It does nothing when it runs.
 pub fn any_order_of_steps()
     ensures tag { EveryRunGivesTheTag }
     ensures verdict { EveryRunGivesTheVerdict }

@@ -143,7 +143,7 @@ pub extern "C" fn proved_argon2_needs_rehash(alloc: Global, text: &[u8], setting
 }
 
 /// The length of the text that `proved_argon2_hash_encoded` writes, without the zero behind it, or
-/// 0 where no variant or no version has the given number.
+/// 0 where no variant or no version has the given number, since no text has that length.
 #[unsafe(no_mangle)]
 pub extern "C" fn proved_argon2_encoded_len(settings: &Settings, salt_len: u32) -> u64
     ensures { (secret ad : Bor (List ℕ)) → IsTextLength

@@ -11,7 +11,7 @@ use crate::stored_text::text_of;
 use argon2::verify_encoded_within_sequential;
 use std::alloc::Global;
 
-/// The greatest numbers that a stored text may spell.
+/// The greatest numbers that a stored text may spell, in a layout that C knows.
 #[repr(C)]
 #[derive(Clone, Copy, Debug)]
 pub struct Limits {
@@ -26,7 +26,6 @@ pub struct Limits {
 }
 
 impl Limits {
-    /// The limits as the library has them.
     fn of_library(&self) -> argon2::Limits
         ensures { result ≡ limits_of self.now }
     {
@@ -38,7 +37,6 @@ impl Limits {
     }
 }
 
-/// Limits of the library as C sees them.
 fn limits_from(limits: argon2::Limits) -> Limits
     ensures { result ≡ limits_from limits }
 {
@@ -57,9 +55,9 @@ pub extern "C" fn proved_argon2_default_limits() -> Limits
     limits_from(argon2::Limits::default())
 }
 
-/// Whether a stored text is the hash of a password, where it asks for no more than the limits. A text
-/// that is not UTF-8 is `NotUtf8`, one that spells nothing `DecodingFail`, and one with a number above
-/// its limit `TooCostly`, before any memory is asked for.
+/// Whether a stored text is the hash of a password, where it asks for no more than the limits. A
+/// text that is not UTF-8 is `NotUtf8`, one that spells nothing `DecodingFail`, and one with a
+/// number above its limit `TooCostly`, before any memory is asked for.
 fn verify_encoded_within(
     alloc: Global,
     text: &[u8],

@@ -43,7 +43,8 @@ impl Stored {
     }
 }
 
-/// A length as far as a field of 32 bits holds it.
+/// A length as far as a field of 32 bits holds it. A longer one is told as the greatest, since only
+/// a text of 5 GiB has one, which verifying refuses.
 fn held_len(bytes: &[u8]) -> u32
     ensures { result ≡ held (length bytes.now) }
 {
@@ -77,7 +78,7 @@ pub fn needs_rehash(alloc: Global, text: &[u8], settings: &Settings) -> Result<(
     }
 }
 
-/// Whether settings differ, as one answer with no truth value beside it.
+/// Whether settings differ, as one answer with no truth value beside it, since C gets one number.
 fn comparison(differs: argon2::Result<bool>) -> Result<(), Refusal>
     ensures { result ≡ comparison_of differs }
 {

@@ -64,7 +64,8 @@ impl From<Unverified> for Refusal {
     }
 }
 
-/// The number of a refusal of the library: its place among them, from 1.
+/// The number of a refusal of the library: its place among them, from 1. It is written out and
+/// never changes, since programs in C are compiled with the numbers.
 fn library_number(error: &Error) -> u32
     ensures { result ≡ library_number error.now }
 {
@@ -191,8 +192,8 @@ pub fn code_of(answer: &Result<(), Refusal>) -> u32
     }
 }
 
-/// What a verifying call returns to C. The number of a verdict is computed from it, so that no branch
-/// looks at it and no table is looked into at its place.
+/// What a verifying call returns to C. The number of a verdict is computed from it, so that no
+/// branch looks at it and no table is looked into at its place.
 pub fn code_of_verdict(verdict: &Result<bool, Refusal>) -> u32
     ensures { result ≡ code_of (judgement_of verdict.now) }
 {

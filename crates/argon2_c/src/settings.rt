@@ -45,6 +45,7 @@ impl Settings {
             lanes: self.lanes,
             mem_cost: self.mem_cost,
             secret,
+            // A static library may start no threads.
             thread_mode: ThreadMode::Sequential,
             time_cost: self.time_cost,
             variant,

@@ -1,4 +1,5 @@
-//! The steps of a hash over blocks that are lent, each judged by itself.
+//! The steps of a hash over blocks that are lent, each judged by itself: C may take them in any
+//! order, with any numbers and lengths, so none trusts that another was taken.
 
 ghost use Rattle.std.specs.Prelude.{◌≡◌, ◌*◌, IsTrue, ◌↔◌, MatchResult, length};
 ghost use Rattle.argon2_c.specs.Answers.{judgement_of};
@@ -92,7 +93,8 @@ pub fn finish(numbers: &LentJob, last: &[Block], out: &mut [u8]) -> Result<(), R
     }
 }
 
-/// Whether a hash is the tag, which is then in a buffer of its length.
+/// Whether a hash is the tag, which is then in a buffer of its length. The buffer is the caller's,
+/// who clears it: a compiler may drop a write here that nobody reads.
 pub fn verify(
     numbers: &LentJob,
     last: &[Block],

@@ -8,13 +8,14 @@ use crate::refusal::Refusal;
 
 /// The text of some bytes. Bytes that are not UTF-8 are `NotUtf8`.
 ///
-/// Whether all bytes are ASCII is gathered to the last byte and answered once, so that no branch looks
-/// at a letter of the hash. Only other bytes, which spell nothing, are looked at one by one.
+/// Whether all bytes are ASCII is gathered to the last byte and answered once, so that no branch
+/// looks at a letter of the hash. Only other bytes, which spell nothing, are looked at one by one.
 pub fn text_of(bytes: &[u8]) -> Result<&str, Refusal>
     ensures cases { MatchResult result (λ text. (text.now ≡ bytes.now) × IsUtf8 bytes.now)
         (λ refusal. (refusal ≡ NotUtf8) × (IsUtf8 bytes.now → ⊥)) }
 {
     if all_bits(bytes) < 128 {
+        // ASCII is UTF-8, which is proved here.
         return Ok(unsafe { std::str::from_utf8_unchecked(bytes) });
     }
     match std::str::from_utf8(bytes) {
@@ -23,7 +24,7 @@ pub fn text_of(bytes: &[u8]) -> Result<&str, Refusal>
     }
 }
 
-/// The bits that any byte has.
+/// The bits that any byte has, so that one comparison judges all bytes.
 fn all_bits(bytes: &[u8]) -> u8
     ensures { result ≡ fold (λ bits byte. bit_or bits byte) 0 bytes.now }
 {

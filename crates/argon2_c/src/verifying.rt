@@ -11,8 +11,8 @@ use argon2::{verify_encoded_in_sequential, verify_raw_in_sequential};
 use std::alloc::Global;
 
 /// Whether a hash is the tag of its own length, computed over a memory that the caller keeps. The
-/// numbers of the settings and then the settings table are looked at before any blocks are asked for;
-/// `settings.hash_length` is not looked at.
+/// numbers of the settings and then the settings table are looked at before any blocks are asked
+/// for; `settings.hash_length` is not looked at.
 pub fn verify_raw(
     alloc: Global,
     memory: &mut Memory,
@@ -31,9 +31,9 @@ pub fn verify_raw(
     Ok(matches)
 }
 
-/// Whether a stored text is the hash of a password with this secret and this associated data. A text
-/// that is not UTF-8 is `NotUtf8`, one that spells nothing `DecodingFail`; what it spells is judged as
-/// by `verify_raw`.
+/// Whether a stored text is the hash of a password with this secret and this associated data. A
+/// text that is not UTF-8 is `NotUtf8`, one that spells nothing `DecodingFail`; what it spells is
+/// judged as by `verify_raw`.
 pub fn verify_encoded(
     alloc: Global,
     memory: &mut Memory,

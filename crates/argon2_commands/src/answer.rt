@@ -50,6 +50,7 @@ impl Answer {
     {
         match command {
             Command::Hash { config, salt } => {
+                // The input first, since its fault is told before any of the call.
                 let password = read_password(alloc, input)?;
                 let salt = salt.to_bytes(alloc)?;
                 let lines = hash_lines(rt, alloc, password.as_slice(), salt.as_slice(), *config)?;
@@ -57,6 +58,7 @@ impl Answer {
             }
             Command::Verify { encoded } => {
                 let password = read_password(alloc, input)?;
+                // Without limits, since it answers for every text, as the library's call.
                 let verdict = verify_encoded(rt, alloc, encoded, password.as_slice())?;
                 Ok(Answer::Verdict(verdict))
             }
@@ -93,6 +95,8 @@ impl Answer {
     }
 }
 
+/// All of the input, so that a password may have any bytes, a newline at its end too. A reader that
+/// lacked memory is told apart, since that is a shortage and no fault of the input.
 fn read_password<I: Read>(alloc: Global, input: &mut I) -> Result<Vec<u8>, Fault>
     ensures bytes { IfOk result (λ password. IsPassword (I.remaining input.old) password.items) }
     ensures fault { IfErr result (λ fault. (fault ≡ Fault.Input)

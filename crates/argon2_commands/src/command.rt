@@ -27,7 +27,8 @@ pub enum Command<'a> {
         encoded: &'a str,
     },
 
-    /// `rehash VARIANT VERSION T M P LEN TEXT`: whether an encoded text was made with other settings.
+    /// `rehash VARIANT VERSION T M P LEN TEXT`: whether an encoded text was made with other
+    /// settings.
     Rehash {
         config: Config<'a>,
         encoded: &'a str,
@@ -55,6 +56,7 @@ impl<'a> Command<'a> {
             }),
             [name, _, _, _, _, _, _, encoded] if name.as_str() == "rehash" => Some(
                 Command::Rehash {
+                    // Any mode would do, since `needs_rehash` looks at none.
                     config: settings_of(words, ThreadMode::Sequential)?,
                     encoded: encoded.as_str(),
                 },

@@ -10,7 +10,8 @@ use argon2::Error;
 use std::alloc::Global;
 use std::env::{Env, FillError};
 
-/// What a program is started with.
+/// What a program is started with. It is a trait, since the kit's `Env` promises nothing of a
+/// process's arguments: what is proved is of any line whose arguments are known.
 pub trait CommandLine {
     /// The bytes of the arguments, the program's name first, where they are known.
     ghost arguments: { Self → Option (List (List ℕ)) } = { λ _. None };
@@ -26,8 +27,8 @@ pub trait CommandLine {
 pub struct OfProcess<'a, R>(pub &'a R);
 
 impl<R: Env> CommandLine for OfProcess<'_, R> {
-    /// Nothing says how long an argument is, so the room for it is doubled, from 256 bytes on, until
-    /// it fits.
+    /// Nothing says how long an argument is, so the room for it is doubled, from 256 bytes on,
+    /// until it fits.
     fn argument(&self, alloc: Global, index: usize) -> Result<Option<Vec<u8>>, Fault> {
         for bits in 8..usize::BITS {
             let mut bytes = vec![in alloc; 0u8; 1usize << bits]?;
@@ -52,6 +53,7 @@ pub fn arguments<L: CommandLine>(line: &L, alloc: Global) -> Result<Vec<String>,
         ⊎ (fault ≡ Fault.Refused OutOfMemory)) }
 {
     let mut words = Vec::new(alloc);
+    // The bound only lets the prover see an end: so many arguments fit no memory.
     for index in 1..usize::MAX {
         let Some(bytes) = line.argument(alloc, index)? else {
             return Ok(words);

@@ -30,13 +30,14 @@ pub enum Fault {
     /// The answer could not be written.
     Output,
 
-    /// The output lacked memory to take all of the answer.
+    /// The output lacked memory to take all of the answer. It is not `Refused`, since some of the
+    /// answer may be written.
     OutputShort,
 }
 
 impl Fault {
-    /// The fault of a stream that failed, of two that are given: one for want of memory, and one for
-    /// anything else.
+    /// The fault of a stream that failed, of two that are given: one for want of memory, and one
+    /// for anything else.
     pub fn of_stream(error: &io::Error, short: Fault, other: Fault) -> Fault
         ensures short { error_kind error.now ≡ ErrorKind.OutOfMemory → result ≡ short }
         ensures other { error_kind error.now ≢ ErrorKind.OutOfMemory → result ≡ other }
@@ -60,8 +61,8 @@ impl Fault {
         }
     }
 
-    /// Writes the fault's line, where it has one, and gives the exit status, which does not depend on
-    /// whether the line could be written.
+    /// Writes the fault's line, where it has one, and gives the exit status, which does not depend
+    /// on whether the line could be written.
     pub fn report<W: Write>(&self, errors: &mut W) -> u8
         ensures { result ≡ fault_status self.now }
     {

@@ -22,8 +22,8 @@ use std::process::ExitCode;
 use std::sync::Wait;
 use std::thread::Threads;
 
-/// Runs the program on the words of a command line, and ends with the run's status. Words that are not
-/// UTF-8 are those of no command.
+/// Runs the program on the words of a command line, and ends with the run's status. Words that are
+/// not UTF-8 are those of no command.
 pub fn start<R: Threads + Wait + Sync, L: CommandLine, I: Read, O: Write, E: Write>(
     rt: &R,
     alloc: Global,
@@ -65,11 +65,13 @@ pub fn start<R: Threads + Wait + Sync, L: CommandLine, I: Read, O: Write, E: Wri
 /// | `rehash VARIANT VERSION T M P LEN TEXT` | `true` or `false`: whether the text was made with other settings |
 ///
 /// The password is all of `input`; `rehash` does not read it. A salt that begins with `hex:` is the
-/// bytes of the hexadecimal digits behind that. The answer is written to `output`, with status 0, or 1
-/// for `false`. Else a line is written to `errors`: a refusal (status 2), `usage` for words that are none
-/// of these (3), `input` where the input cannot be read (4), or that a text is above the limits (5).
-/// Where the output cannot be written, the status is 4 and no line is added. A fault of an earlier kind in the order words, input,
-/// call, output is told first, and nothing is written to `output` before the answer is whole.
+/// bytes of the hexadecimal digits behind that. The answer is written to `output`, with status 0,
+/// or 1 for `false`. Else a line is written to `errors`: a refusal (status 2), `usage` for words
+/// that are none of these (3), `input` where the input cannot be read (4), or that a text is above
+/// the limits (5). Where the output cannot be written, the status is 4 and no line is added; where
+/// it lacked memory for that, the status is 2, and the line that of a refusal for want of memory. A
+/// fault of an earlier kind in the order words, input, call, output is told first, and nothing is
+/// written to `output` before the answer is whole.
 pub fn run<R: Threads + Wait + Sync, I: Read, O: Write, E: Write>(
     rt: &R,
     alloc: Global,
@@ -98,9 +100,9 @@ pub fn run<R: Threads + Wait + Sync, I: Read, O: Write, E: Write>(
     }
 }
 
-/// Writes the answer of the words' command, and gives the exit status. It tells the call's refusals from
-/// an output that lacked memory, which have one exit status: nothing was written where anything but the
-/// output failed.
+/// Writes the answer of the words' command, and gives the exit status. It tells the call's refusals
+/// from an output that lacked memory, which have one exit status: nothing was written where
+/// anything but the output failed.
 pub fn attempt<R: Threads + Wait + Sync, I: Read, O: Write>(
     rt: &R,
     alloc: Global,

@@ -9,8 +9,9 @@ use std::alloc::{AllocError, Global};
 use std::borrow::CowSlice;
 use std::marker::Model;
 
-/// The salt that a word names: behind `hex:` the bytes of its hexadecimal digits, two of either case
-/// for each, and else the word's own bytes.
+/// The salt that a word names: behind `hex:` the bytes of its hexadecimal digits, two of either
+/// case for each, and else the word's own bytes. A word alone could not name random bytes, since it
+/// is UTF-8 without zeros. The bytes are made late, so that reading the words takes no memory.
 #[derive(Debug, Drop)]
 pub struct Salt<'a> {
     word: &'a str,
@@ -25,7 +26,8 @@ impl<'a> Model for Salt<'a> {
 }
 
 impl<'a> Salt<'a> {
-    /// The salt of a word; None where anything but pairs of hexadecimal digits stands behind `hex:`.
+    /// The salt of a word; None where anything but pairs of hexadecimal digits stands behind
+    /// `hex:`.
     pub fn from_word(word: &'a str) -> Option<Salt<'a>>
         ensures { result ≡ salt_of word.entry.now }
     {
@@ -44,6 +46,7 @@ impl<'a> Salt<'a> {
         };
         match hex::decode(alloc, digits) {
             Ok(bytes) => Ok(CowSlice::Owned(bytes)),
+            // `from_word` judged the digits, so that memory alone can fail.
             Err(_) => Err(AllocError),
         }
     }

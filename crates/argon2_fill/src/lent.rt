@@ -26,11 +26,13 @@ pub fn write_first_lent(job: &Job, lane: u32, own: &mut [Block])
     ensures { IsReady job.now.setting 0 0 lane own.new }
 {
     recall_job(job);
+    // Split, since both blocks are written side by side.
     let (first, rest) = own.split_at_mut(1);
     write_first_blocks(job, lane, &mut first[0], &mut rest[0]);
 }
 
-/// The place of a lane's first block in a slice.
+/// The place of a lane's first block in a slice. It is a function of its own, so that it is shown
+/// once that the lane's segment lies within the slice.
 fn place_of_lane(job: &Job, lane: u32) -> usize
     requires { lane < job.now.setting.lanes }
     ensures value { result ≡ lane * job.now.setting.segment_length }
@@ -40,7 +42,8 @@ fn place_of_lane(job: &Job, lane: u32) -> usize
     (lane * job.segment_length()) as usize
 }
 
-/// Writes a lane's first two blocks into slice 0.
+/// Writes a lane's first two blocks into slice 0. It is apart from the loop over lanes, which rests
+/// on the clause that the other lanes stay.
 fn begin_lane(job: &Job, lane: u32, slice: &mut [Block])
     requires lane_fits { lane < job.now.setting.lanes }
     requires slice_fits { length slice.old ≡ job.now.setting.lanes * job.now.setting.segment_length }
@@ -64,7 +67,8 @@ pub fn initialize_lent(job: &Job, slice: &mut [Block])
     }
 }
 
-/// Fills a lane's segment of a slice that is lent whole.
+/// Fills a lane's segment of a slice that is lent whole. It is apart from the loop over lanes,
+/// which rests on the clause that the other lanes stay.
 fn fill_lane(
     job: &Job,
     lane: u32,
@@ -114,7 +118,8 @@ pub fn fill_lent_slice(
     }
 }
 
-/// Fills the job's slice of four.
+/// Fills the job's slice of four. They come as four references, since one is written while the
+/// others are read. Those keep their rising order, by which the blocks in them are found.
 fn fill_one_of_four(
     job: &Job,
     first: &mut [Block],
@@ -160,6 +165,7 @@ pub fn fill_lent(
         → HoldsSlice s (s.passes - 1) 3 fourth.new }
 {
     recall_job(job);
+    // One loop over the slices of all passes, so that one invariant serves for all.
     for n in 0..slice_count(job) {
         fill_one_of_four(&numbered_job(job, n), first, second, third, fourth);
     }
@@ -202,7 +208,9 @@ pub fn hash_lent(context: &Context<'_>, blocks: &mut [Block], out: &mut [u8])
     ensures { let c = context.now in
         out.new ≡ tag_of c.pwd.now c.salt.now c.config c.config.hash_length }
 {
+    // The facts of an accepted context, without which the lengths below are not known to fit.
     recall_context(context);
+    // Read for its range, since the prover knows it only where it is read.
     let _hash_length = context.config.hash_length;
     let job = Job::new(context);
     let length = blocks.len() / SYNC_POINTS as usize;

@@ -16,7 +16,9 @@ use argon2_standard::error::Error;
 use argon2_standard::result::Result;
 use std::fmt;
 
-/// The first refusal of the settings table for a password, a salt and a hash of these lengths.
+/// The first refusal of the settings table for a password, a salt and a hash of these lengths. The
+/// order is the table's, since the first refusal is the only answer. Lengths are passed and no
+/// bytes, since a stored text is judged before it is decoded.
 #[tactic(auto, unfolding(argon2_standard::specs::Standard::SettingsTable::refusal_of))]
 pub fn first_refusal(config: &Config, pwd_len: u64, salt_len: u64, hash_len: u64) -> Option<Error>
     ensures { result ≡ refusal_of config.now pwd_len salt_len hash_len }
@@ -64,6 +66,7 @@ fn prehash<'a>(config: &Config<'a>, pwd: &'a [u8], salt: &'a [u8]) -> [u8; PREHA
     let time_cost = config.time_cost.to_le_bytes();
     let version = config.version.as_u32().to_le_bytes();
     let variant = config.variant.as_u32().to_le_bytes();
+    // These casts cut nothing, since longer inputs were refused.
     let pwd_length = (pwd.len() as u32).to_le_bytes();
     let salt_length = (salt.len() as u32).to_le_bytes();
     let secret_length = (config.secret.len() as u32).to_le_bytes();
@@ -92,7 +95,7 @@ fn prehash<'a>(config: &Config<'a>, pwd: &'a [u8], salt: &'a [u8]) -> [u8; PREHA
 }
 
 /// The accepted inputs of a call, the lengths that follow from them, and H0, the hash of all
-/// inputs.
+/// inputs. It is kept here, so that the password is hashed once per call.
 #[derive(Drop, PartialEq)]
 pub struct Context<'a> {
     pub config: Config<'a>,
@@ -160,8 +163,8 @@ pub fn prehash_of_context(context: &Context<'_>) -> [u8; PREHASH_DIGEST_LENGTH]
     context.prehash
 }
 
-/// Tells the prover how many workers may fill a slice: at least one, and fewer than 2^24. It does
-/// nothing else.
+/// Tells the prover how many workers may fill a slice: at least one, and fewer than 2^24. It is told
+/// of a context, since only accepted settings have these bounds. It does nothing else.
 pub fn recall_workers(context: &Context<'_>)
     ensures some { 0 < workers_of context.now.config }
     ensures few { workers_of context.now.config < 2 ^ 24 }

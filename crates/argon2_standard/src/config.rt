@@ -102,16 +102,16 @@ impl<'a> Config<'a> {
         preset(Variant::Argon2id, 7168, 5)
     }
 
-    /// The memory and passes that RFC 9106 recommends first (section 4), over one lane: Argon2id,
-    /// 2 GiB, 1 pass.
+    /// The memory and passes that RFC 9106 recommends first (section 4): Argon2id, 2 GiB, 1 pass.
+    /// It is over one lane, where the RFC has four, since the preset of rust-argon2 is.
     pub fn rfc9106() -> Config<'a>
         ensures { IsPreset Argon2id 2097152 1 result }
     {
         preset(Variant::Argon2id, 2097152, 1)
     }
 
-    /// The memory and passes that RFC 9106 recommends where memory is short (section 4), over one
-    /// lane: Argon2id, 64 MiB, 3 passes.
+    /// The memory and passes that RFC 9106 recommends where memory is short (section 4): Argon2id,
+    /// 64 MiB, 3 passes. It is over one lane, where the RFC has four, since that of rust-argon2 is.
     pub fn rfc9106_low_mem() -> Config<'a>
         ensures { IsPreset Argon2id 65536 3 result }
     {
@@ -139,6 +139,7 @@ impl<'a> Config<'a> {
             return 1;
         }
         match self.thread_mode {
+            // Never reached, since this mode is sequential.
             ThreadMode::Sequential => 1,
             ThreadMode::Parallel => self.lanes,
             ThreadMode::AtMost(most) => self.lanes.min(most),

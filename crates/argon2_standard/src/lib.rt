@@ -1,5 +1,5 @@
-//! What Argon2 is: the types that users write, and the definitions that the clauses of the root calls
-//! rest on.
+//! What Argon2 is: the types that users write, and the definitions that the clauses of the root
+//! calls rest on.
 #![tactic(auto)]
 
 pub mod config;

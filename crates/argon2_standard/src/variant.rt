@@ -58,7 +58,7 @@ impl Variant {
         *self as u32
     }
 
-    /// The same number, in 64 bits, as a word of an address block has it (RFC 9106, 3.4.1.2).
+    /// The same number, in 64 bits, since a word of an address block has it (RFC 9106, 3.4.1.2).
     pub fn as_u64(&self) -> u64
         ensures { result ≡ variant_number self.now }
     {
@@ -101,6 +101,8 @@ impl Default for Variant {
 
     ghost is_default = { λ variant. variant ≡ Argon2i };
 
+    /// Argon2i, as in rust-argon2, so that programs keep their tags. `Config::default` has
+    /// Argon2id.
     fn default() -> Variant {
         Variant::Argon2i
     }
@@ -132,7 +134,7 @@ impl Ord for Variant {
     }
 }
 
-/// The name in lower case.
+/// The name in lower case, since `encode_string` writes it so.
 impl fmt::Display for Variant {
     ghost output = { λ variant. Some (lowercase_name variant) };
 

@@ -102,7 +102,7 @@ impl Ord for Version {
     }
 }
 
-/// The decimal number.
+/// The decimal number, since `encode_string` writes it so.
 impl fmt::Display for Version {
     ghost output = { λ version. Some (decimal (version_number version)) };
 

@@ -1,8 +1,9 @@
 //! The encoded text of a hash, written and read:
 //! `$argon2id$v=19$m=256,t=2,p=1$salt$hash`, with salt and hash in unpadded base64 (RFC 4648, 4).
 //!
-//! Base64 is written and read by sums: no table is looked into, and no branch looks at a letter or a
-//! byte of salt or hash. Whether all letters are right is gathered to the end and answered once.
+//! Base64 is written and read by sums, since caches show which place of a table was looked into,
+//! and times which way a branch went. No branch looks at a letter or a byte of salt or hash.
+//! Whether all letters are right is gathered to the end and answered once.
 
 ghost use Rattle.std.specs.Prelude.{◌≡◌, IfErr, IfOk, ◌<◌, ◌↔◌, ◌*◌, ◌/◌, ◌++◌, ℕ, IsTrue, List, OnOk, length, ◌≤◌};
 ghost use Rattle.std.specs.String.{string_bytes};
@@ -59,12 +60,15 @@ pub fn decode_string(alloc: Global, encoded: &str) -> Result<Decoded>
     ensures spelled { IfOk result (λ decoded. Spells encoded.now (spelled_by decoded)) }
     ensures refused { IfErr result (Refuses encoded.now) }
 {
+    // The base64 is read here without memory and by `decode` once more, so that no refusal of
+    // memory comes before `DecodingFail`.
     let head = spelling_of(encoded).ok_or(Error::DecodingFail)?;
     decode(alloc, &head)
 }
 
 /// What the text of a head spells, where its salt and its hash are items. Where memory is refused:
-/// `OutOfMemory`.
+/// `OutOfMemory`. It is apart, so that a stored text can be judged after it was read and before
+/// this takes memory.
 pub fn decode(alloc: Global, head: &Head<'_>) -> Result<Decoded>
     requires salt { IsSomeItem head.now.salt.now }
     requires hash { IsSomeItem head.now.hash.now }
@@ -87,11 +91,12 @@ pub fn decode(alloc: Global, head: &Head<'_>) -> Result<Decoded>
     })
 }
 
-/// Whether a text is the unpadded base64 of some bytes. It goes on to the last letter and takes no
-/// memory.
+/// Whether a text is the unpadded base64 of some bytes. It goes on to the last letter, and takes no
+/// memory, so that what is no item is found even where memory is refused.
 fn is_item(text: &str) -> bool
     ensures { IsTrue result ↔ IsSomeItem text.now }
 {
+    // As wide as a length, since each letter may have a fault.
     let mut faults: usize = 0;
     let mut rest = text.as_bytes();
     while rest.len() >= 4 {
@@ -99,10 +104,12 @@ fn is_item(text: &str) -> bool
         faults += group_faults(group) as usize;
         rest = behind;
     }
+    // `&` and not `&&`, so that one branch answers for all letters.
     (faults == 0) & (tail_faults(rest) == 0)
 }
 
-/// The faults of the letters behind the last group of four.
+/// The faults of the letters behind the last group of four. Bits that are left over have to be 0,
+/// so that bytes have one text alone (RFC 4648, 3.5).
 fn tail_faults(tail: &[u8]) -> u32
     requires { length tail.now < 4 }
     ensures { result ≡ faults_of tail.now }
@@ -115,12 +122,14 @@ fn tail_faults(tail: &[u8]) -> u32
     }
 }
 
-/// How many bytes an unpadded base64 text encodes.
+/// How many bytes an unpadded base64 text encodes. It decodes none, so that lengths can be judged
+/// before memory is taken.
 pub fn item_len(text: &str) -> u64
     ensures value { result ≡ 3 * length text.now / 4 }
     ensures exact { (bytes : List ℕ) → IsItem text.now bytes → result ≡ length bytes }
 {
     let len = text.len() as u64;
+    // By parts, since three times a length may not fit 64 bits.
     3 * (len / 4) + 3 * (len % 4) / 4
 }
 
@@ -131,6 +140,7 @@ fn bytes_of(alloc: Global, text: &str) -> Result<Vec<u8>>
     ensures refused { IfErr result (λ e. e ≡ Error.OutOfMemory) }
 {
     let mut rest = text.as_bytes();
+    // All room at once, a byte too much at most, so that no growth asks again and copies.
     let mut bytes = Vec::with_capacity(alloc, rest.len() / 4 * 3 + rest.len() % 4)?;
     while rest.len() >= 4 {
         let (group, behind) = rest.split_at(4);
@@ -163,6 +173,7 @@ fn push_tail(bytes: &mut Vec<u8>, tail: &[u8]) -> std::result::Result<(), AllocE
 fn push_item(text: &mut String, bytes: &[u8]) -> std::result::Result<(), AllocError>
     ensures { OnOk result (string_bytes text.new ≡ string_bytes text.old ++ base64 bytes.now) }
 {
+    // All room at once. Where the sum does not fit, it stays at a size that no system grants.
     text.reserve(bytes.len().saturating_add(bytes.len() / 3 + 1))?;
     let mut rest = bytes;
     while rest.len() >= 3 {
@@ -198,7 +209,8 @@ fn push_last_letters(text: &mut String, tail: &[u8]) -> std::result::Result<(), 
     }
 }
 
-/// Appends letters to a text, and looks at none of them.
+/// Appends letters to a text, and looks at none of them, as `push` and a check of UTF-8 would. That
+/// they are ASCII, and so UTF-8, is proved of each caller.
 fn push_letters(text: &mut String, letters: &[u8]) -> std::result::Result<(), AllocError>
     requires { IsAscii letters.now }
     ensures { OnOk result (string_bytes text.new ≡ string_bytes text.old ++ letters.now) }
@@ -206,7 +218,8 @@ fn push_letters(text: &mut String, letters: &[u8]) -> std::result::Result<(), Al
     text.push_str(unsafe { str::from_utf8_unchecked(letters) })
 }
 
-/// 1 where a byte is not below a bound, else 0.
+/// 1 where a byte is not below a bound, else 0. It is a sum, since compilers make jumps of
+/// comparisons.
 fn reaches(byte: u32, bound: u32) -> u32
     requires { (byte < 256) × (bound ≤ 256) }
     ensures { result ≡ reaches byte bound }
@@ -214,20 +227,24 @@ fn reaches(byte: u32, bound: u32) -> u32
     (byte + 256 - bound) / 256
 }
 
-/// The letter of six bits.
+/// The letter of six bits, without a table, whose places the cache would show.
 fn letter(bits: u32) -> u8
     requires { bits < 64 }
     ensures { result ≡ letter_of bits }
 {
+    // `A` from 0 on, `a` from 26, `0` from 52, `+` at 62 and `/` at 63. What is added comes first,
+    // so that no difference is below 0.
     let ahead = 65 + bits + 6 * reaches(bits, 26) + 3 * reaches(bits, 63);
     (ahead - 75 * reaches(bits, 52) - 15 * reaches(bits, 62)) as u8
 }
 
-/// The six bits of a letter, and some number for what is no letter.
+/// The six bits of a letter, and some number for what is no letter. `fault` tells them apart, since
+/// a branch here would look at a letter.
 fn bits(letter: u8) -> u32
     ensures { result ≡ bits_of letter }
 {
     let letter = u32::from(letter);
+    // The same stretches in the order of bytes: `+`, `/`, digits, capitals, small letters.
     let ahead = letter + 19 - 3 * reaches(letter, 47) - 12 * reaches(letter, 48);
     ahead - 69 * reaches(letter, 65) - 6 * reaches(letter, 97)
 }
@@ -237,6 +254,7 @@ fn fault(letter: u8) -> u32
     ensures { result ≡ fault_of letter }
 {
     let letter = u32::from(letter);
+    // In a stretch of letters, one more has begun than lies behind.
     let behind = reaches(letter, 44)
         + reaches(letter, 58)
         + reaches(letter, 91)

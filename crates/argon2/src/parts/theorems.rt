@@ -40,10 +40,10 @@ pub fn laws()
     ensures spelled { SpellsExample }
 {}
 
-/// The definitions give what is known from outside: which blocks may be referred to in each case of RFC
-/// 9106, 3.4.2 (the first slice, the first pass and a later one, the own lane and another one, the
-/// first index of a segment), which of them the least and the greatest word pick, and a word that is
-/// drawn from no block (3.4.1.2).
+/// The definitions give what is known from outside: which blocks may be referred to in each case of
+/// RFC 9106, 3.4.2 (the first slice, the first pass and a later one, the own lane and another one,
+/// the first index of a segment), which of them the least and the greatest word pick, and a word
+/// that is drawn from no block (3.4.1.2).
 ///
 /// It does nothing when it runs. Its contract states the values, and the checker computes them.
 pub fn known_answers()

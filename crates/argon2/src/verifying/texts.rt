@@ -25,7 +25,8 @@ use std::marker::Sync;
 use std::sync::Wait;
 use std::thread::Threads;
 
-/// How many workers a stored text may ask for, however many lanes it names.
+/// How many workers a stored text may ask for, however many lanes it names, since a stranger's text
+/// could name millions.
 const MAX_WORKERS: u32 = 16;
 
 /// Whether a stored text is the hash of a password, with no secret and no associated data. It
@@ -137,7 +138,8 @@ pub fn verify_encoded_in_sequential(
     is_tag_sequential(alloc, memory, &context, &stored.hash)
 }
 
-/// What a stored text spells, where its settings are accepted for a password of this length.
+/// What a stored text spells, where its settings are accepted for a password of this length. They
+/// are judged before salt and hash are decoded, so that a refused text costs no memory.
 pub fn accepted_text(
     alloc: Global,
     encoded: &str,
@@ -167,6 +169,7 @@ fn refusal(head: &Head<'_>, pwd_len: u64, secret: &[u8], ad: &[u8]) -> Option<Er
         → IsStoredConfig (spelled_with head.now salt hash) secret.now ad.now config
         → result ≡ refusal_of config pwd_len (length salt) (length hash) }
 {
+    // The settings table looks at none of the fields that are left to the default.
     let config = Config {
         ad,
         lanes: head.parallelism,
@@ -182,6 +185,7 @@ fn refusal(head: &Head<'_>, pwd_len: u64, secret: &[u8], ad: &[u8]) -> Option<Er
 pub fn config_of<'a>(stored: &Decoded, secret: &'a [u8], ad: &'a [u8]) -> Config<'a>
     ensures { IsConfigOf (spelled_by stored.now) secret.entry.now ad.entry.now result }
 {
+    // No accepted hash is longer. Any other may be here, and its length would be cut by the cast.
     let hash_length = stored.hash.len().min(MAX_HASH_LENGTH as usize) as u32;
     let thread_mode = if stored.parallelism > 1 {
         ThreadMode::AtMost(MAX_WORKERS)

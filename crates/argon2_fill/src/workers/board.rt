@@ -1,5 +1,9 @@
-//! The lanes of one slice, which workers claim, fill and give back under one lock. Each lane is in
-//! exactly one state: it waits, is out, or is done.
+//! The lanes of one slice, which workers claim and give back under one lock, and fill outside it.
+//! Each lane is in exactly one state: it waits, is out, or is done.
+//!
+//! Of what comes through a lock only the type's own facts are known. So claims, filled lanes and
+//! boards say by their types what the fill rests on, and what no type says is looked at when it
+//! runs.
 
 ghost use Rattle.std.specs.Prelude.{◌≡◌, ◌<◌, ◌↔◌, IfErr, IfOk, IsOk, ◌+◌, ◌*◌, ◌^◌, ◌≤◌, ◌++◌, ◌∷◌, [], IfNone, IfSome, IsTrue, None, OnErr, OnOk, Some, length, map, replicate, slice_get, slice_set, true};
 ghost use Rattle.argon2_fill.specs.Views.Boards.{IsReady-prop, AllDone, AreReady, HoldSlice, NoneOut};
@@ -89,9 +93,11 @@ impl Claim {
             × (filled.lane ≡ self.lane)) }
         ensures unchanged { IfErr result (λ claim. claim ≡ self) }
     {
+        // A claim that came through a lock may be of any job.
         if self.job != *snapshot.job() {
             return Err(self);
         }
+        // The segment moves out and on, so that no block is copied.
         let Claim {
             job,
             lane,
@@ -128,7 +134,8 @@ pub trait Gate: Sync {
             × (filled.lane ≡ claim.lane)) }
         ensures unchanged { IfErr result (λ back. back ≡ claim) };
 
-    /// Is called for each lane that the board took back, after the lock was released.
+    /// Is called for each lane that the board took back, after the lock was released, so that a
+    /// gate that waits here holds up no other worker.
     fn put(&self, lane: u32);
 }
 
@@ -149,9 +156,12 @@ impl Gate for NoGate {
 #[derive(Drop)]
 pub struct Board {
     job: Job,
+    // The least lane that waits, kept so that a take looks at one slot alone, under the lock.
     next: u32,
     slots: Vec<Slot>,
+    // Kept so that contracts can say in which order lanes went out and came back.
     log: Vec<Event>,
+    // Room for `finish`, asked for by `new`, so that no filled slice is lost for want of memory.
     finished: Vec<Segment>,
 }
 
@@ -167,7 +177,8 @@ impl Model for Board {
     ghost invariant = { IsBoard };
 }
 
-/// A slot for each segment, which waits.
+/// A slot for each segment, which waits. The slots are reserved and then filled, since `collect`
+/// would try again with less where memory is refused.
 fn waiting_slots(
     alloc: Global,
     segments: Vec<Segment>,
@@ -191,6 +202,7 @@ impl Board {
         ensures refused { IfErr result (λ e. e ≡ Error.OutOfMemory) }
     {
         let lanes = segments.len();
+        // Each lane goes out once and comes back once.
         let log = Vec::with_capacity(alloc, 2 * lanes)?;
         let finished = Vec::with_capacity(alloc, lanes)?;
         let slots = waiting_slots(alloc, segments)?;
@@ -247,6 +259,7 @@ impl Board {
             return None;
         }
         let lane = self.next;
+        // The segment is exchanged for a mark, and not copied.
         match mem::replace(&mut self.slots[lane as usize], Slot::Out) {
             Slot::Waiting(segment) => {
                 self.next = lane + 1;
@@ -257,6 +270,7 @@ impl Board {
                     segment,
                 })
             }
+            // The board's invariant: the lanes from `next` on wait.
             Slot::Out | Slot::Done(_) => unreachable!(),
         }
     }
@@ -274,6 +288,7 @@ impl Board {
         ensures handed_back { IfErr result (λ back. back ≡ filled) }
         ensures unchanged { OnErr result (self.new ≡ self.old) }
     {
+        // The job comes first: only a lane of the board's own job is known to have a slot.
         if filled.job != self.job {
             return Err(filled);
         }
@@ -316,12 +331,13 @@ impl Board {
     }
 }
 
-/// Takes a lane, under the lock.
+/// Takes a lane. It is a function of its own, so that the lock is let go before the lane is filled.
 pub(super) fn take_lane<R: Wait>(rt: &R, board: &Mutex<Option<Board>>) -> Option<Claim> {
     board.lock(rt).as_mut()?.take()
 }
 
-/// Puts a lane, under the lock, and says whether it was accepted.
+/// Puts a lane, and says whether it was accepted. It is a function of its own, so that the lock is
+/// let go before a gate is called.
 pub(super) fn put_lane<R: Wait>(rt: &R, board: &Mutex<Option<Board>>, filled: Filled) -> bool {
     let mut guard = board.lock(rt);
     guard
@@ -329,7 +345,8 @@ pub(super) fn put_lane<R: Wait>(rt: &R, board: &Mutex<Option<Board>>, filled: Fi
         .is_some_and(|board| board.put(filled).is_ok())
 }
 
-/// Whether a board is of the snapshot's job, and all its lanes are done.
+/// Whether a board is of the snapshot's job, and all its lanes are done: a board that came out of a
+/// lock may be any.
 pub(super) fn is_filled(board: &Board, snapshot: &Snapshot<'_>) -> bool
     ensures { IsTrue result ↔ ((board.now.job ≡ snapshot.now.job) × AllDone board.now.places) }
 {

@@ -15,7 +15,8 @@ use std::thread::{Builder, JoinHandle, Parker, Scope, Threads};
 use std::time::Duration;
 use std::{array, thread};
 
-/// A set of numbers: the workers that may be started.
+/// A set of numbers: the workers that may be started. It is asked where one is started, so that
+/// threads need not share it.
 pub trait Permit {
     ghost use Rattle.std.specs.Prelude.{ℕ, Bool};
 
@@ -48,7 +49,7 @@ fn all_permitted<P: Permit>(permit: &P, first: u64, count: u32) -> bool
     (0..count).all(|k| permit.may_start(first + u64::from(k)))
 }
 
-/// How many handles there is room for.
+/// How many handles one call of `run_workers` keeps on its stack. For more workers it calls itself.
 const ROOM: usize = 32;
 
 /// Up to 32 handles. They take no memory from the heap, so none can be refused.
@@ -60,7 +61,6 @@ struct Handles {
 }
 
 impl Handles {
-    /// No handles.
     fn new() -> Handles
         ensures { result.used ≡ 0 }
     {
@@ -70,14 +70,12 @@ impl Handles {
         }
     }
 
-    /// Whether there is no room for another.
     fn are_full(&self) -> bool
         ensures { IsTrue result ↔ (self.now.used ≡ 32) }
     {
         self.used == ROOM
     }
 
-    /// Keeps a handle.
     fn keep(&mut self, handle: JoinHandle<()>)
         requires room { self.old.used < 32 }
         ensures { self.new.used ≡ self.old.used + 1 }
@@ -86,7 +84,8 @@ impl Handles {
         self.used += 1;
     }
 
-    /// Waits for the end of each thread.
+    /// Waits for the end of each thread, for which a scope alone does not wait. Threads that linger
+    /// would count against a limit of threads when those of the next slice start.
     fn join<R: Threads>(self, rt: &R) {
         for slot in self.slots {
             if let Some(handle) = slot {
@@ -103,11 +102,14 @@ const STACK: usize = 256 * 1024;
 /// One worker: it takes, fills and puts one lane after another, until none waits or a filling or a
 /// put is refused.
 fn work<R: Wait, G: Gate>(rt: &R, board: &Mutex<Option<Board>>, snapshot: &Snapshot<'_>, gate: &G) {
+    // Each lane goes out once, so these are takes enough. The prover needs a bound to see an end,
+    // and does not see the board behind the lock.
     for _claim in 0..snapshot.job().lanes() {
         let Some(claim) = take_lane(rt, board) else {
             return;
         };
         let lane = claim.lane();
+        // A lane that is given up here stays out, so `is_filled` is false in the end.
         let Ok(filled) = gate.fill(claim, snapshot) else {
             return;
         };
@@ -118,7 +120,8 @@ fn work<R: Wait, G: Gate>(rt: &R, board: &Mutex<Option<Board>>, snapshot: &Snaps
     }
 }
 
-/// Tries once to start the worker of a number, which is permitted.
+/// Tries once to start the worker of a number, which is permitted. The permit and the number are
+/// there for the clause alone: the thread gets neither, so threads need not share a permit.
 fn try_to_start<'s, E, R: Wait + Sync, G: Gate, P: Permit>(
     scope: &Scope<'s, E>,
     rt: &'s R,
@@ -162,6 +165,7 @@ fn start<'s, E, R: Wait + Sync, G: Gate, P: Permit>(
         if handle.is_some() {
             return handle;
         }
+        // A parker that nobody unparks makes the pause, since a sleep would take a clock.
         Parker::new().park_timeout(rt, Duration::from_millis(PAUSE));
     }
     try_to_start(scope, rt, board, snapshot, gate, permit, number)
@@ -169,8 +173,8 @@ fn start<'s, E, R: Wait + Sync, G: Gate, P: Permit>(
 
 /// Starts the workers of `count` numbers from `first` on, waits for the end of each that was
 /// started, and says whether all were. If one is refused or not permitted, the others are still
-/// started, but each is tried once: the answer is a refusal anyway. Where there is no room for more
-/// handles, the remaining numbers get a call of their own.
+/// started, but those of this call are tried once each, since the answer is a refusal anyway. Where
+/// there is no room for more handles, the remaining numbers get a call of their own.
 fn run_workers<'s, E, R: Threads + Wait + Sync, G: Gate, P: Permit>(
     scope: &Scope<'s, E>,
     rt: &'s R,
@@ -187,6 +191,8 @@ fn run_workers<'s, E, R: Threads + Wait + Sync, G: Gate, P: Permit>(
     let mut all = true;
     for k in 0..count {
         let number = first + u64::from(k);
+        // The others start before any of these is joined, so that all work at the same time. `&=`
+        // and not `&&`, since they start after a refusal too.
         if handles.are_full() {
             all &= run_workers(scope, rt, board, snapshot, gate, permit, number, count - k);
             break;
@@ -205,10 +211,11 @@ fn run_workers<'s, E, R: Threads + Wait + Sync, G: Gate, P: Permit>(
 }
 
 /// Fills the lanes of a board by `workers` workers, at least one, and joins them. The board and the
-/// snapshot are of one job, and no lane is out. The workers take and put lanes under one lock, and
-/// fill them outside it. The board comes back with all lanes done. A start that is refused is tried
-/// again, 100 times in all, a millisecond apart. Where all tries were refused, the answer is
-/// `WorkerRefused`, even if the others finished the slice. It takes no memory of its own.
+/// snapshot are of one job, and no lane is out, since nobody could put it back. The workers take
+/// and put lanes under one lock, and fill them outside it. The board comes back with all lanes
+/// done. A start that is refused is tried again, 100 times in all, a millisecond apart. Where all
+/// tries were refused, the answer is `WorkerRefused`, even if the others finished the slice. It
+/// takes no memory of its own.
 pub fn fill_slice<R: Threads + Wait + Sync, G: Gate>(
     rt: &R,
     board: Board,
@@ -247,9 +254,12 @@ pub fn fill_slice_with<R: Threads + Wait + Sync, G: Gate, P: Permit>(
     ensures permitted { IfOk result (λ _. PermitsAll (P.permits permit.now) first workers) }
     ensures refused { IfErr result (λ e. e ≡ Error.WorkerRefused) }
 {
+    // All numbers are asked for here, since `run_workers` promises nothing of its answer.
     let permitted = all_permitted(permit, first, workers);
+    // An `Option`, so that the board can be moved out of the lock when the workers have ended.
     let board = Mutex::new(Some(board));
     let shared = &board;
+    // A closure has to state what the functions that it calls require.
     let started = thread::scope(
         thread::scope_env(),
         rt,

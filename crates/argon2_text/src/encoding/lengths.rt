@@ -8,10 +8,12 @@ ghost use Rattle.argon2_standard.specs.declared.version.Version.{Version};
 
 use argon2_standard::variant::Variant;
 
-/// The length of what each written text has: its marks and the two digits of its version.
+/// The length of what each written text has: its marks and the digits of its version, which are two
+/// in both versions, so that no length depends on it.
 const FIXED_LEN: u64 = "$$v=19$m=,t=,p=$$".len() as u64;
 
-/// The length of the unpadded base64 (RFC 4648) of `len` bytes.
+/// The length of the unpadded base64 (RFC 4648) of `len` bytes. It is in 64 bits, since four times
+/// a length may not fit 32.
 pub fn base64_len(len: u32) -> u64
     ensures value { result ≡ unpadded_len len }
     ensures exact { (bytes : List ℕ) → length bytes ≡ len → result ≡ length (base64 bytes) }

@@ -41,6 +41,7 @@ pub fn spelling_of(text: &str) -> Option<Head<'_>>
     ensures { MatchOption result (SpellsNothing text.now) (IsSpellingOf text.now) }
 {
     let head = head_of(text)?;
+    // `&&` passes over the hash where the salt is no item, since no salt is a secret.
     if is_item(head.salt) && is_item(head.hash) {
         Some(head)
     } else {
@@ -109,14 +110,16 @@ fn version_piece(text: &str) -> Option<(Option<&str>, &str)>
     Some((Some(version), rest))
 }
 
-/// What is after `front`.
+/// What is after `front`: `strip_prefix`, apart so that other proofs go by the definition's words.
 fn strip<'a>(text: &'a str, front: &str) -> Option<&'a str>
     ensures { option_map (λ x. x.now) result ≡ strip front.now text.now }
 {
     text.strip_prefix(front)
 }
 
-/// What is before the first `mark`, and what is after it.
+/// What is before the first `mark`, and what is after it. The mark is ASCII, so that the text may
+/// be cut on both its sides. `split_once` of the standard library would look at bytes behind the
+/// mark.
 fn cut(text: &str, mark: u8) -> Option<(&str, &str)>
     requires { mark < 128 }
     ensures { option_map two_texts result ≡ cut mark text.now }
@@ -126,7 +129,8 @@ fn cut(text: &str, mark: u8) -> Option<(&str, &str)>
     Some((before, &rest[1..]))
 }
 
-/// Where the first `mark` is. It looks at no byte behind it, as a search of many bytes at a time would.
+/// Where the first `mark` is. It looks at no byte behind it, as a search of many bytes at a time
+/// would.
 fn first(bytes: &[u8], mark: u8) -> Option<usize>
     ensures { MatchOption result
         ((i : ℕ) → i < length bytes.now → slice_index bytes.now i ≢ mark)
@@ -152,7 +156,8 @@ fn version_of(piece: Option<&str>) -> Option<Version>
     }
 }
 
-/// The number that a piece spells: a plus or nothing, and decimal digits.
+/// The number that a piece spells: a plus or nothing, and decimal digits. It is apart, so that
+/// other proofs go by the grammar's words and not by those of `parse`.
 fn number(text: &str) -> Option<u32>
     ensures { MatchOption result (IsNoNumber text.now) (IsNumber text.now) }
 {
