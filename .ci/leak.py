@@ -1,6 +1,6 @@
 #!/usr/bin/env python3
-"""Plants a leak into functions of an object that a library is made of, so that `.ci/constant_time` can be seen to
-refuse it. A function goes on to give what it gives.
+"""Plants a leak into functions of an object that a library is made of, so that a check can be seen to refuse it:
+`.ci/constant_time` or, where nothing is overwritten, `crates/argon2_c/c/run`. A function goes on to give what it gives.
 
     leak.py OBJECT LEAK TO
 
@@ -16,6 +16,9 @@ import tempfile
 
 # The functions, and the code around what they were. The numbers of bytes say where C passes an argument.
 LEAKS = {
+    # what overwrites bytes or words returns at once
+    'nothing_is_overwritten': {f'argon2_blocks::blake2b::wipe::<{of}>': 'ret' for of in (
+        "i8,20'core::clone::U8Clone{}", "i64,21'core::clone::U64Clone{}")},
     # the block that was written is the third argument
     'branch_on_a_word': {'argon2_blocks::block::kernel::fill_words': """
         push %rdx

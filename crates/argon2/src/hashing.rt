@@ -7,6 +7,7 @@ ghost use Rattle.argon2_standard.specs.Standard.Text.{spelled_of, text_of};
 ghost use Rattle.argon2_standard.specs.Standard.Outcome.{IsHash};
 ghost use Rattle.argon2.specs.Standard.Leaves.{LeavesMemory};
 
+use crate::ending::release;
 use crate::parts::context::Context;
 use crate::parts::encoding::encode_string;
 use crate::parts::fill::{tag, tag_sequential};
@@ -32,7 +33,10 @@ pub fn hash_raw<R: Threads + Wait + Sync>(
     ensures { IsHash pwd.now salt.now config.now (may_lack_workers config.now)
         (λ tag expected. tag.items ≡ expected) result }
 {
-    hash_raw_in(rt, alloc, &mut Memory::empty(alloc), pwd, salt, config)
+    let mut memory = Memory::empty(alloc);
+    let answer = hash_raw_in(rt, alloc, &mut memory, pwd, salt, config);
+    release(memory);
+    answer
 }
 
 /// The tag of a password, as `hash_raw` gives it, computed over a memory that the caller keeps. A
@@ -42,6 +46,9 @@ pub fn hash_raw<R: Threads + Wait + Sync>(
 /// Where the settings table refuses something, the memory stays as it is. Else it holds the blocks
 /// of this computation after the call until `Memory::wipe`. After a shortage it may have no lanes,
 /// but one that had those of the call loses them only to workers.
+// Its frame has H0. It is never inlined, so that a call without a memory of the caller's may
+// overwrite that.
+#[inline(never)]
 pub fn hash_raw_in<'a, R: Threads + Wait + Sync>(
     rt: &R,
     alloc: Global,
@@ -72,11 +79,17 @@ pub fn hash_raw_sequential(
     ensures { IsHash pwd.now salt.now config.now false
         (λ tag expected. tag.items ≡ expected) result }
 {
-    hash_raw_in_sequential(alloc, &mut Memory::empty(alloc), pwd, salt, config)
+    let mut memory = Memory::empty(alloc);
+    let answer = hash_raw_in_sequential(alloc, &mut memory, pwd, salt, config);
+    release(memory);
+    answer
 }
 
 /// The tag of a password, computed in the caller's thread over a memory that the caller keeps: see
 /// `hash_raw_in`.
+// Its frame has H0. It is never inlined, so that a call without a memory of the caller's may
+// overwrite that.
+#[inline(never)]
 pub fn hash_raw_in_sequential<'a>(
     alloc: Global,
     memory: &mut Memory,
@@ -107,11 +120,17 @@ pub fn hash_encoded<R: Threads + Wait + Sync>(
     ensures { IsHash pwd.now salt.now config.now (may_lack_workers config.now)
         (λ text tag. string_bytes text ≡ text_of (spelled_of config.now salt.now tag)) result }
 {
-    hash_encoded_in(rt, alloc, &mut Memory::empty(alloc), pwd, salt, config)
+    let mut memory = Memory::empty(alloc);
+    let answer = hash_encoded_in(rt, alloc, &mut memory, pwd, salt, config);
+    release(memory);
+    answer
 }
 
 /// The encoded text of a password's hash, computed over a memory that the caller keeps: see
 /// `hash_raw_in`.
+// Its frame has H0. It is never inlined, so that a call without a memory of the caller's may
+// overwrite that.
+#[inline(never)]
 pub fn hash_encoded_in<'a, R: Threads + Wait + Sync>(
     rt: &R,
     alloc: Global,
@@ -146,11 +165,17 @@ pub fn hash_encoded_sequential(
     ensures { IsHash pwd.now salt.now config.now false
         (λ text tag. string_bytes text ≡ text_of (spelled_of config.now salt.now tag)) result }
 {
-    hash_encoded_in_sequential(alloc, &mut Memory::empty(alloc), pwd, salt, config)
+    let mut memory = Memory::empty(alloc);
+    let answer = hash_encoded_in_sequential(alloc, &mut memory, pwd, salt, config);
+    release(memory);
+    answer
 }
 
 /// The encoded text of a password's hash, computed in the caller's thread over a memory that the
 /// caller keeps: see `hash_raw_in`.
+// Its frame has H0. It is never inlined, so that a call without a memory of the caller's may
+// overwrite that.
+#[inline(never)]
 pub fn hash_encoded_in_sequential<'a>(
     alloc: Global,
     memory: &mut Memory,

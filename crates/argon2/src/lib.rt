@@ -2,6 +2,7 @@
 //! recurrence defines, and settings are refused as a table says.
 #![tactic(auto)]
 
+mod ending;
 mod hashing;
 mod limits;
 pub mod parts;

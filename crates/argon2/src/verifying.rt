@@ -11,6 +11,7 @@ ghost use Rattle.argon2.specs.Views.Comparison.{difference_of};
 
 mod texts;
 
+use crate::ending::release;
 use crate::parts::context::{Context, first_refusal};
 use crate::parts::fill::{tag, tag_sequential};
 use crate::parts::memory::Memory;
@@ -145,19 +146,17 @@ pub fn verify_raw<R: Threads + Wait + Sync>(
 ) -> Result<bool>
     ensures { IsVerdict pwd.now salt.now hash.now config.now (may_lack_workers config.now) result }
 {
-    verify_raw_in(
-        rt,
-        alloc,
-        &mut Memory::empty(alloc),
-        pwd,
-        salt,
-        hash,
-        config,
-    )
+    let mut memory = Memory::empty(alloc);
+    let verdict = verify_raw_in(rt, alloc, &mut memory, pwd, salt, hash, config);
+    release(memory);
+    verdict
 }
 
 /// Whether a hash is the tag of its own length, as `verify_raw` says, computed over a memory that
 /// the caller keeps: see `hash_raw_in`.
+// Its frame has H0. It is never inlined, so that a call without a memory of the caller's may
+// overwrite that.
+#[inline(never)]
 pub fn verify_raw_in<'a, R: Threads + Wait + Sync>(
     rt: &R,
     alloc: Global,
@@ -188,11 +187,17 @@ pub fn verify_raw_sequential(
 ) -> Result<bool>
     ensures { IsVerdict pwd.now salt.now hash.now config.now false result }
 {
-    verify_raw_in_sequential(alloc, &mut Memory::empty(alloc), pwd, salt, hash, config)
+    let mut memory = Memory::empty(alloc);
+    let verdict = verify_raw_in_sequential(alloc, &mut memory, pwd, salt, hash, config);
+    release(memory);
+    verdict
 }
 
 /// Whether a hash is the tag of its own length, computed in the caller's thread over a memory that
 /// the caller keeps: see `hash_raw_in`.
+// Its frame has H0. It is never inlined, so that a call without a memory of the caller's may
+// overwrite that.
+#[inline(never)]
 pub fn verify_raw_in_sequential<'a>(
     alloc: Global,
     memory: &mut Memory,

@@ -156,6 +156,8 @@ impl IndexMut<usize> for Block {
 
 /// The exclusive or, word by word.
 impl BitXorAssign<&Block> for Block {
+    // A loop that it is inlined into would keep the words in a place that nobody overwrites.
+    #[inline(never)]
     fn bitxor_assign(&mut self, rhs: &Block)
         ensures words { self.new ≡ xor self.old rhs.now }
         ensures twice { xor self.new rhs.now ≡ self.old }

@@ -12,9 +12,11 @@
 /* ---- what is looked for */
 
 enum { PART = 16, PARTS = 48, MASK = 0x5A, TAG = 32, TEXT = 160 };
-enum kind { OF_H0, OF_BLOCKS, OF_TAG, OF_INPUTS, KINDS };
+enum kind { OF_H0, OF_SEED, OF_FIRST, OF_BLOCKS, OF_LAST, OF_TAG, OF_INPUTS, KINDS };
 
-static const char *const of_kinds[KINDS] = {"H0", "blocks", "the tag", "the inputs"};
+static const char *const of_kinds[KINDS] = {
+    "H0", "what a first block is hashed from", "first blocks of the first pass", "blocks", "the combined last blocks",
+    "the tag", "the inputs"};
 
 /* The calls: over a mapping, over less than that takes, and what password_hash computes. Their inputs are where nobody
  * can write, and so are not found there. */
@@ -68,12 +70,35 @@ static inline bool take_step(const proved_argon2_job *job, proved_argon2_block *
                                      blocks + (number <= 2 ? 3 * slice : 2 * slice), slice, own + lane * length,
                                      length)) == PROVED_ARGON2_OK;
     }
-    keep(to, OF_BLOCKS, own[step == 0 ? 0 : length - 1].words);
-    keep(to, OF_BLOCKS, own[slice - length + 1].words + 100);
+    const enum kind kind = step == 0 ? OF_FIRST : OF_BLOCKS;
+    keep(to, kind, own[step == 0 ? 0 : length - 1].words);
+    keep(to, kind, own[slice - length + 1].words + 100);
     if (step != 0) {
         keep(to, OF_BLOCKS, own[slice - 1].words + 126);
     }
     return good;
+}
+
+/* What the second block of the last lane is hashed from: H0, and behind it the column and the lane. */
+static inline void keep_seed(const proved_argon2_job *job, known *to)
+{
+    uint8_t seed[PART] = {[8] = 1, [12] = (uint8_t)(job->lanes - 1)};
+    memcpy(seed, job->prehash + sizeof job->prehash - 8, 8);
+    keep(to, OF_SEED, seed);
+}
+
+/* The exclusive or of the last blocks; that of one lane is in the matrix. */
+static inline void keep_last(const proved_argon2_job *job, const proved_argon2_block *slice, known *to)
+{
+    uint64_t words[PART / 8] = {0};
+    for (size_t lane = 1; lane <= job->lanes; lane++) {
+        for (size_t i = 0; i < PART / 8; i++) {
+            words[i] ^= slice[lane * job->segment_length - 1].words[i];
+        }
+    }
+    if (job->lanes > 1) {
+        keep(to, OF_LAST, words);
+    }
 }
 
 static inline bool spell(const call *it, const uint8_t *tag, uint8_t *text)
@@ -97,6 +122,8 @@ static inline bool know(const call *it, known *to)
     for (size_t i = 0; i < 4; i++) {
         keep(to, OF_H0, job.prehash + PART * i);
     }
+    keep_seed(&job, to);
+    keep_last(&job, blocks + 3 * slice, to);
     keep(to, OF_TAG, to->tag);
     keep(to, OF_TAG, to->tag + PART);
     keep(to, OF_INPUTS, it->pwd + 1);

@@ -10,6 +10,7 @@ use crate::kept::KeptMemory;
 use crate::refusal::{code_of, code_of_verdict};
 use crate::settings::Settings;
 use crate::{hashing, verifying};
+use argon2::parts::memory::wipe_stack;
 use std::alloc::Global;
 
 /// Gives back what a memory keeps. It keeps nothing then, and may be used again.
@@ -39,6 +40,7 @@ pub extern "C" fn proved_argon2_hash_raw_in(
     let mut held = memory.take(alloc);
     let answer = hashing::hash_raw(alloc, &mut held, pwd, salt, secret, ad, settings, out);
     memory.keep(alloc, held);
+    wipe_stack();
     code_of(&answer)
 }
 
@@ -60,6 +62,7 @@ pub extern "C" fn proved_argon2_hash_encoded_in(
     let mut held = memory.take(alloc);
     let answer = hashing::hash_encoded(alloc, &mut held, pwd, salt, secret, ad, settings, text);
     memory.keep(alloc, held);
+    wipe_stack();
     code_of(&answer)
 }
 
@@ -81,6 +84,7 @@ pub extern "C" fn proved_argon2_verify_raw_in(
     let mut held = memory.take(alloc);
     let verdict = verifying::verify_raw(alloc, &mut held, pwd, salt, secret, ad, settings, hash);
     memory.keep(alloc, held);
+    wipe_stack();
     code_of_verdict(&verdict)
 }
 
@@ -99,5 +103,6 @@ pub extern "C" fn proved_argon2_verify_encoded_in(
     let mut held = memory.take(alloc);
     let verdict = verifying::verify_encoded(alloc, &mut held, text, pwd, secret, ad);
     memory.keep(alloc, held);
+    wipe_stack();
     code_of_verdict(&verdict)
 }

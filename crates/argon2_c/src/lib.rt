@@ -28,7 +28,7 @@ mod steps;
 mod stored_text;
 mod verifying;
 
-use argon2::parts::memory::Memory;
+use argon2::parts::memory::{Memory, release};
 pub use jobs::LentJob;
 pub use keeping::{
     proved_argon2_hash_encoded_in, proved_argon2_hash_raw_in, proved_argon2_memory_free,
@@ -65,8 +65,10 @@ pub extern "C" fn proved_argon2_hash_raw(
     ensures { IsCodeOf (WritesTag (config_of settings.now secret.entry ad.entry) pwd.now salt.now
         out.old out.new) result }
 {
-    let memory = &mut Memory::empty(alloc);
-    code_of(&hashing::hash_raw(alloc, memory, pwd, salt, secret, ad, settings, out))
+    let mut memory = Memory::empty(alloc);
+    let answer = hashing::hash_raw(alloc, &mut memory, pwd, salt, secret, ad, settings, out);
+    release(memory);
+    code_of(&answer)
 }
 
 /// Writes the text of a password's hash and then zeros to `text`, which has more bytes than the
@@ -84,8 +86,10 @@ pub extern "C" fn proved_argon2_hash_encoded(
     ensures { IsCodeOf (WritesHashText (config_of settings.now secret.entry ad.entry) pwd.now
         salt.now text.old text.new) result }
 {
-    let memory = &mut Memory::empty(alloc);
-    code_of(&hashing::hash_encoded(alloc, memory, pwd, salt, secret, ad, settings, text))
+    let mut memory = Memory::empty(alloc);
+    let answer = hashing::hash_encoded(alloc, &mut memory, pwd, salt, secret, ad, settings, text);
+    release(memory);
+    code_of(&answer)
 }
 
 /// Returns 0 only where `hash` is the tag of a password, and 64 only where it is not;
@@ -103,8 +107,10 @@ pub extern "C" fn proved_argon2_verify_raw(
     ensures { IsCodeOf (JudgesRaw (config_of settings.now secret.entry ad.entry) pwd.now salt.now
         hash.now) result }
 {
-    let memory = &mut Memory::empty(alloc);
-    code_of_verdict(&verifying::verify_raw(alloc, memory, pwd, salt, secret, ad, settings, hash))
+    let mut memory = Memory::empty(alloc);
+    let verdict = verifying::verify_raw(alloc, &mut memory, pwd, salt, secret, ad, settings, hash);
+    release(memory);
+    code_of_verdict(&verdict)
 }
 
 /// Returns 0 only where a stored text is the hash of a password with this secret and this
@@ -119,8 +125,10 @@ pub extern "C" fn proved_argon2_verify_encoded(
 ) -> u32
     ensures { IsCodeOf (JudgesText text.now pwd.now secret.now ad.now) result }
 {
-    let memory = &mut Memory::empty(alloc);
-    code_of_verdict(&verifying::verify_encoded(alloc, memory, text, pwd, secret, ad))
+    let mut memory = Memory::empty(alloc);
+    let verdict = verifying::verify_encoded(alloc, &mut memory, text, pwd, secret, ad);
+    release(memory);
+    code_of_verdict(&verdict)
 }
 
 /// Writes what a stored text spells to `stored`, and verifies nothing. On a refusal `stored` is as

@@ -14,7 +14,7 @@ use crate::fault::Fault;
 use argon2::parts::context::Context;
 use argon2::parts::encoding::encode_string;
 use argon2::parts::fill::tag;
-use argon2::parts::memory::Memory;
+use argon2::parts::memory::{Memory, release};
 use argon2::{
     Config, Error, Limits, Unverified, needs_rehash, verify_encoded, verify_encoded_within,
 };
@@ -137,7 +137,10 @@ fn tag_lines<R: Threads + Wait + Sync>(
         IfOk result (λ lines. string_bytes lines ≡ hash_lines c.config c.salt.now c.pwd.now) }
     ensures refused { IfErr result (IsShortage (may_lack_workers context.now.config)) }
 {
-    let tag = tag(rt, alloc, context, &mut Memory::empty(alloc))?;
+    let mut memory = Memory::empty(alloc);
+    let tag = tag(rt, alloc, context, &mut memory);
+    release(memory);
+    let tag = tag?;
     let text = encode_string(alloc, context, tag.as_slice())?;
     let hexadecimal = hex::encode(alloc, tag.as_slice())?;
     Ok(format!(in alloc; "{hexadecimal}\n{text}\n")?)

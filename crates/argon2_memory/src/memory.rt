@@ -99,8 +99,7 @@ fn tally(slices: &Slices) -> u64
 /// The matrix of blocks of 1 KiB: a row for each lane. Column c of a lane of 4 L columns is the
 /// block at index c mod L of the lane's segment in slice c / L (RFC 9106, 3.4).
 ///
-/// It is let go as it is: `wipe` it first where its blocks must not stay in the process.
-#[derive(Drop)]
+/// Where it is dropped, its blocks are overwritten with zeros first.
 pub struct Memory {
     lanes: u32,
     segment_length: u32,
@@ -122,6 +121,17 @@ impl Model for Memory {
       segment_length = m.segment_length;
       slices = map (λ v. v.items) m.slices;
     }) };
+}
+
+impl Drop for Memory {
+    fn drop(self) {
+        let Memory {
+            lanes: _,
+            segment_length: _,
+            mut slices,
+        } = self;
+        wipe_slices(&mut slices);
+    }
 }
 
 /// Tells the prover the bounds that each memory keeps, as `recall_job` does for a job.

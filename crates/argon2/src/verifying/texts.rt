@@ -12,6 +12,7 @@ ghost use Rattle.argon2.specs.Standard.Leaves.{LeavesMemory};
 ghost use Rattle.argon2_standard.specs.Standard.Stored.{IsStoredConfig};
 ghost use Rattle.argon2_standard.specs.Standard.Outcome.{IsVerdict};
 
+use crate::ending::release;
 use crate::parts::common::MAX_HASH_LENGTH;
 use crate::parts::context::{Context, first_refusal};
 use crate::parts::decoded::Decoded;
@@ -65,11 +66,17 @@ pub fn verify_encoded_ext<R: Threads + Wait + Sync>(
         → IsStoredConfig d secret.now ad.now config
         → IsVerdict pwd.now d.salt d.hash config (nat_lt 1 d.parallelism) result }
 {
-    verify_encoded_in(rt, alloc, &mut Memory::empty(alloc), encoded, pwd, secret, ad)
+    let mut memory = Memory::empty(alloc);
+    let verdict = verify_encoded_in(rt, alloc, &mut memory, encoded, pwd, secret, ad);
+    release(memory);
+    verdict
 }
 
 /// Whether a stored text is the hash of a password, as `verify_encoded_ext` says, computed over a
 /// memory that the caller keeps: see `hash_raw_in`.
+// Its frame has H0. It is never inlined, so that a call without a memory of the caller's may
+// overwrite that.
+#[inline(never)]
 pub fn verify_encoded_in<R: Threads + Wait + Sync>(
     rt: &R,
     alloc: Global,
@@ -109,11 +116,17 @@ pub fn verify_encoded_sequential(
         → IsStoredConfig d secret.now ad.now config
         → IsVerdict pwd.now d.salt d.hash config false result }
 {
-    verify_encoded_in_sequential(alloc, &mut Memory::empty(alloc), encoded, pwd, secret, ad)
+    let mut memory = Memory::empty(alloc);
+    let verdict = verify_encoded_in_sequential(alloc, &mut memory, encoded, pwd, secret, ad);
+    release(memory);
+    verdict
 }
 
 /// Whether a stored text is the hash of a password, computed in the caller's thread over a memory
 /// that the caller keeps: see `hash_raw_in`.
+// Its frame has H0. It is never inlined, so that a call without a memory of the caller's may
+// overwrite that.
+#[inline(never)]
 pub fn verify_encoded_in_sequential(
     alloc: Global,
     memory: &mut Memory,
