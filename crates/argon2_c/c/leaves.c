@@ -1,8 +1,8 @@
 /*
- * What the calls without options leave of secrets, since they clear neither H0 nor blocks, and what they overwrite:
- * SECURITY.md says so. Each call is made in a child, which has none of it before. left.c has the calls with options;
- * c/run compares the calls that are named in both with those of the headers, and runs this over a library that
- * overwrites nothing, where each check of that has to fail. It is linked with --wrap for what it looks at.
+ * What the calls without options leave of secrets, their blocks, and what they overwrite: SECURITY.md says so. Each call
+ * is made in a child, which has none of it before. left.c has the calls with options; c/run compares the calls that are
+ * named in both with those of the headers, and runs this over a library that overwrites nothing, where each check of
+ * that has to fail. It is linked with --wrap for what it looks at.
  */
 #include "left.h"
 
@@ -93,7 +93,12 @@ static uint32_t does_job_verify(void)
 }
 
 /* What is overwritten after its last use; what a call answers it leaves, but a tag that it compares it does not. */
-enum { BUFFERS = 1 << OF_SEED | 1 << OF_FIRST | 1 << OF_LAST, COMPARED = BUFFERS | 1 << OF_TAG };
+enum {
+    BUFFERS = 1 << OF_SEED | 1 << OF_FIRST | 1 << OF_LAST,
+    CALLED = BUFFERS | 1 << OF_H0,
+    COMPARED = CALLED | 1 << OF_TAG,
+    FREED = CALLED | 1 << OF_BLOCKS
+};
 
 #define ROW(name, call, expected, leaves, overwrites) {#name, does_##name, call, expected, leaves, overwrites}
 
@@ -106,12 +111,12 @@ static const struct row {
     enum kind leaves;
     int overwrites;
 } rows[] = {
-    ROW(hash_raw, MAPPED, 0, OF_BLOCKS, BUFFERS), ROW(hash_encoded, MAPPED, 0, OF_BLOCKS, BUFFERS),
+    ROW(hash_raw, MAPPED, 0, OF_BLOCKS, CALLED), ROW(hash_encoded, MAPPED, 0, OF_BLOCKS, CALLED),
     ROW(verify_raw, MAPPED, 64, OF_BLOCKS, COMPARED), ROW(verify_encoded, MAPPED, 64, OF_BLOCKS, COMPARED),
-    ROW(verify_encoded_within, MAPPED, 64, OF_BLOCKS, COMPARED), ROW(hash_raw_in, MAPPED, 0, OF_BLOCKS, BUFFERS),
-    ROW(hash_encoded_in, MAPPED, 0, OF_BLOCKS, BUFFERS), ROW(verify_raw_in, MAPPED, 64, OF_BLOCKS, COMPARED),
-    ROW(verify_encoded_in, MAPPED, 64, OF_BLOCKS, COMPARED), ROW(memory_free, MAPPED, 0, OF_BLOCKS, 0),
-    ROW(password_hash, ALONE, 0, OF_BLOCKS, BUFFERS), ROW(password_verify, ALONE, 64, OF_BLOCKS, COMPARED),
+    ROW(verify_encoded_within, MAPPED, 64, OF_BLOCKS, COMPARED), ROW(hash_raw_in, MAPPED, 0, OF_BLOCKS, CALLED),
+    ROW(hash_encoded_in, MAPPED, 0, OF_BLOCKS, CALLED), ROW(verify_raw_in, MAPPED, 64, OF_BLOCKS, COMPARED),
+    ROW(verify_encoded_in, MAPPED, 64, OF_BLOCKS, COMPARED), ROW(memory_free, MAPPED, 0, OF_TAG, FREED),
+    ROW(password_hash, ALONE, 0, OF_BLOCKS, CALLED), ROW(password_verify, ALONE, 64, OF_BLOCKS, COMPARED),
     ROW(job_make, MAPPED, 0, OF_H0, 0), ROW(job_read, MAPPED, 0, OF_H0, 0), ROW(job_begin, MAPPED, 0, OF_FIRST, 0),
     ROW(job_fill, MAPPED, 0, OF_BLOCKS, 0), ROW(job_finish, MAPPED, 0, OF_TAG, BUFFERS),
     ROW(job_verify, MAPPED, 64, OF_TAG, BUFFERS), ROW(read, MAPPED, 0, OF_TAG, 0),
@@ -149,7 +154,7 @@ int main(void)
         snprintf(name, sizeof name, "%s leaves %s", row->name, is_none ? "none of it" : of_kinds[row->leaves]);
         check(is_none ? bits == 0 : bits >= 0 && bits < 1 << KINDS && (bits >> row->leaves & 1) != 0, name);
         if (row->overwrites != 0) {
-            snprintf(name, sizeof name, "%s overwrites its buffers", row->name);
+            snprintf(name, sizeof name, "%s overwrites what it should", row->name);
             check(bits >= 0 && (bits & row->overwrites) == 0, name);
         }
     }
