@@ -185,11 +185,15 @@ fn refusal(head: &Head<'_>, pwd_len: u64, secret: &[u8], ad: &[u8]) -> Option<Er
     // The settings table looks at none of the fields that are left to the default.
     let config = Config {
         ad,
+        // The length of the hash is judged apart, in 64 bits.
+        hash_length: MAX_HASH_LENGTH,
         lanes: head.parallelism,
         mem_cost: head.mem_cost,
         secret,
+        thread_mode: ThreadMode::Sequential,
         time_cost: head.time_cost,
-        ..Config::default()
+        variant: head.variant,
+        version: head.version,
     };
     first_refusal(&config, pwd_len, item_len(head.salt), item_len(head.hash))
 }
