@@ -230,6 +230,7 @@ class Hashing(unittest.TestCase):
         hasher = PasswordHasher(**SMALL, encoding="latin-1")
         self.assertIs(PasswordHasher().verify(hasher.hash("\xe9"), b"\xe9"), True)
         self.assertIs(hasher.verify(PasswordHasher(**SMALL).hash(b"\xe9"), "\xe9"), True)
+        self.assertIs(hasher.verify(hasher.hash(" pass\n"), b" pass\n"), True)
         with self.assertRaises(UnicodeEncodeError):
             hasher.hash("\u20ac")
 
