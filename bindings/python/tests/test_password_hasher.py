@@ -153,6 +153,9 @@ class Salts(unittest.TestCase):
         for salt in (b"", b"salt"):
             with self.assertRaisesRegex(HashingError, "Salt is too short"):
                 PasswordHasher(**SMALL).hash("password", salt=salt)
+            for call in (hash_password, hash_password_raw):
+                with self.assertWarns(DeprecationWarning), self.assertRaisesRegex(HashingError, "Salt is too short"):
+                    call(b"password", salt, 1, 32, 2)
 
 
 class Deprecated(unittest.TestCase):
@@ -217,7 +220,7 @@ class Hashing(unittest.TestCase):
 
     def test_any_bytes_are_a_password(self):
         hasher = PasswordHasher(**SMALL)
-        for password in (b"", b"\0", b"pass\0word", b"\xff\xfe", bytes(range(256)), b"\xff" * (1 << 20)):
+        for password in (b"", b"\0", b"pass\0word", b" pass\n", b"\xff\xfe", bytes(range(256)), b"\xff" * (1 << 20)):
             text = hasher.hash(password)
             self.assertIs(hasher.verify(text, password), True)
             with self.assertRaises(VerifyMismatchError):
@@ -227,6 +230,7 @@ class Hashing(unittest.TestCase):
         hasher = PasswordHasher(**SMALL, encoding="latin-1")
         self.assertIs(PasswordHasher().verify(hasher.hash("\xe9"), b"\xe9"), True)
         self.assertIs(hasher.verify(PasswordHasher(**SMALL).hash(b"\xe9"), "\xe9"), True)
+        self.assertIs(hasher.verify(hasher.hash(" pass\n"), b" pass\n"), True)
         with self.assertRaises(UnicodeEncodeError):
             hasher.hash("\u20ac")
 
@@ -297,6 +301,12 @@ class Texts(unittest.TestCase):
             with self.assertRaises(VerificationError) as raised:
                 PasswordHasher().verify(text, "password")
             self.assertNotIsInstance(raised.exception, VerifyMismatchError)
+
+    def test_a_text_with_blanks_around_it_spells_no_hash(self):
+        for text in (" " + self.text, "\n" + self.text, self.text + " ", self.text + "\n"):
+            with self.assertRaisesRegex(VerificationError, "Decoding failed") as raised:
+                low_level.verify_secret(text.encode(), b"password", Type.I)
+            self.assertIs(type(raised.exception), VerificationError)
 
     def test_a_megabyte_of_text(self):
         with self.assertRaises(VerificationError):

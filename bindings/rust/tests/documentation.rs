@@ -127,6 +127,10 @@ fn texts_that_spell_nothing_are_refused() {
         ("MzQ$", "MzQ=$"),
         ("v=19", "v=18"),
         ("MTI", "MTI\0"),
+        ("$argon2i", " $argon2i"),
+        ("$argon2i", "\n$argon2i"),
+        ("ODkwMTI", "ODkwMTI "),
+        ("ODkwMTI", "ODkwMTI\n"),
         (SPELLED, ""),
         (SPELLED, "$"),
     ] {
@@ -134,6 +138,7 @@ fn texts_that_spell_nothing_are_refused() {
         assert_ne!(text, SPELLED);
         assert_eq!(verify_encoded(&text, b"password"), Err(Error::DecodingFail), "{text}");
         assert_eq!(needs_rehash(&text, &Config::default()), Err(Error::DecodingFail), "{text}");
+        assert_eq!(read(&text), Err(Error::DecodingFail), "{text}");
     }
     assert_eq!(verify_encoded(SPELLED, b"password"), Ok(false));
     let long = "$argon2i".repeat(131_072);
@@ -294,7 +299,9 @@ fn any_bytes_are_a_password() {
     let config = small(Argon2id, Version13, 1);
     let all: Vec<u8> = (0..=255).collect();
     let long = vec![0xff; 1 << 20];
-    for password in [b"".as_slice(), b"\0", b"pass\0word", b"\xff\xfe", all.as_slice(), long.as_slice()] {
+    for password in
+        [b"".as_slice(), b"\0", b"pass\0word", b" pass\n", b"\xff\xfe", all.as_slice(), long.as_slice()]
+    {
         let text = hash_encoded(password, &all, &config).unwrap();
         assert_eq!(verify_encoded(&text, password), Ok(true));
         assert_eq!(verify_encoded(&text, b"pass"), Ok(false));
