@@ -44,8 +44,8 @@ pub fn hash_raw<R: Threads + Wait + Sync>(
 /// no blocks are asked for. Any other gives its blocks back first and is made anew.
 ///
 /// Where the settings table refuses something, the memory stays as it is. Else it holds the blocks
-/// of this computation after the call until `Memory::wipe`. After a shortage it may have no lanes,
-/// but one that had those of the call loses them only to workers.
+/// of this computation after the call, until it is wiped or dropped. After a shortage it may have no
+/// lanes, but one that had those of the call loses them only to workers.
 // Its frame has H0. It is never inlined, so that a call without a memory of the caller's may
 // overwrite that.
 #[inline(never)]

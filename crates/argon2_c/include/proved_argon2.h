@@ -17,8 +17,8 @@
  *
  * Memory. A call that hashes asks for at most the settings' mem_cost KiB for its blocks, and for a few
  * words a lane, the tag and the text; one that reads a text asks for less than its length. All of it is
- * given back before the call returns, and not cleared first; only a call over a memory that the caller
- * keeps (.._in) leaves the blocks there.
+ * given back before the call returns, the blocks without being cleared first; only a call over a memory
+ * that the caller keeps (.._in) leaves the blocks there. The stack below a call is overwritten.
  *
  * Threads. The library starts no thread and keeps no state; the calls of proved_argon2_threads.h start some. Calls may
  * run in several threads at once, as long as none writes to what another one is passed. No call may come from a signal
@@ -295,7 +295,7 @@ uint32_t proved_argon2_message(uint32_t number, uint8_t *text, size_t text_len);
  * an earlier call left there are used again where the settings have as many blocks in as many lanes, and
  * the call asks for no blocks; others are given back first. It depends on nothing that stands there.
  *
- * After the call memory keeps the blocks, which are not cleared, until proved_argon2_memory_free gives them
+ * After the call memory keeps the blocks, until proved_argon2_memory_free overwrites them and gives them
  * back. Where the library is refused the few bytes that lead to them, it keeps nothing.
  *
  * A memory is used by one call at a time, and by the thread that made its first call. After a fork the parent

@@ -13,7 +13,7 @@ use crate::{hashing, verifying};
 use argon2::parts::memory::wipe_stack;
 use std::alloc::Global;
 
-/// Gives back what a memory keeps. It keeps nothing then, and may be used again.
+/// Overwrites what a memory keeps, and gives it back. It keeps nothing then, and may be used again.
 #[unsafe(no_mangle)]
 pub extern "C" fn proved_argon2_memory_free(alloc: Global, memory: &mut KeptMemory)
     ensures { KeepsNothing memory.new }
