@@ -5,11 +5,10 @@
  * as the one without _with does. Where memory is short it is PROVED_ARGON2_OUT_OF_MEMORY, and where a thread is,
  * PROVED_ARGON2_WORKER_REFUSED; what would have been written is as it was then.
  *
- * Nothing that a secret went into is left when a call returns, whatever it answers: the blocks go back to the system,
- * which clears them, or are cleared, and so are H0, a tag that was computed to compare, and the stack that the calls
- * used. The letters of a text that is written, and the hash of one that is read, pass through the heap and are not
- * cleared there. A core dump leaves the blocks out while they are there, where they are the call's own and of 2 MiB or
- * more.
+ * What a secret went into is not left when a call returns, whatever it answers, but for the letters of a text that is
+ * written and the hash of one that is read, which pass through the heap: the blocks go back to the system, which clears
+ * them, or are cleared, and so are H0, a tag that was computed to compare, and the stack that the calls used. A core
+ * dump leaves the blocks out while they are there, where they are the call's own and of 2 MiB or more.
  */
 #ifndef PROVED_ARGON2_THREADS_H
 #define PROVED_ARGON2_THREADS_H

@@ -55,7 +55,7 @@ extern "C" {
 #define PROVED_ARGON2_LIBRARY_VERSION "1.0.0"
 #define PROVED_ARGON2_LIBRARY_VERSION_NUMBER UINT32_C(1000000)
 
-/* The stack that a call needs, in bytes: six times what was measured. */
+/* The stack that a call needs, in bytes: more than three times what was measured. */
 #define PROVED_ARGON2_STACK_SIZE 65536
 
 /* Limits (RFC 9106, 3.1). Lengths are in bytes, memory is in KiB. */
