@@ -11,6 +11,7 @@ const WORDS_BELOW: usize = 2048;
 /// It is never inlined, so that it stands where they stood.
 #[inline(never)]
 pub fn wipe_stack() {
+    // A compiler may drop these zeros, which nobody reads, but not those that `wipe` writes.
     let mut below = [0u64; WORDS_BELOW];
     wipe(&mut below, 0);
 }
@@ -18,6 +19,7 @@ pub fn wipe_stack() {
 /// Ends a call that made a memory for itself: gives the blocks back as they are, since to overwrite
 /// them takes a tenth of the call's time, and overwrites the stack below.
 pub fn release(mut memory: Memory) {
+    // Not `drop(memory)`, which overwrites the blocks.
     drop(take_slices(&mut memory));
     wipe_stack();
 }

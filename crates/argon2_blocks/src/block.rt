@@ -22,8 +22,8 @@ use std::fmt;
 use std::marker::Model;
 use std::ops::{BitXorAssign, Index, IndexMut};
 
-/// A block of memory: 128 words of 64 bits, which are 1024 bytes (RFC 9106, 3.2). It lies as C lays it
-/// out, so that slices of blocks may be lent from there.
+/// A block of memory: 128 words of 64 bits, which are 1024 bytes (RFC 9106, 3.2). It lies as C lays
+/// it out, so that slices of blocks may be lent from there.
 #[derive(Drop)]
 #[repr(C)]
 pub struct Block {
@@ -63,7 +63,7 @@ impl Block {
         Block { words }
     }
 
-    /// Makes `dst` equal to this block.
+    /// Makes `dst` equal to this block, in place: no third block is made on the way.
     pub fn copy_to(&self, dst: &mut Block)
         ensures { dst.new ≡ self.now }
     {
@@ -107,7 +107,7 @@ impl Eq for Block {
     ghost laws = { nat_list_eq_equiv };
 }
 
-/// A copy, which cannot fail.
+/// A copy, which cannot fail, since a block has its words in itself.
 impl Clone for Block {
     ghost is_clone = { λ x y. y ≡ x };
 
@@ -168,8 +168,8 @@ impl BitXorAssign<&Block> for Block {
     }
 }
 
-/// As `fill_block`, with a row or a column of the block in each lane of the vectors, which takes more
-/// time: a second way to the same blocks, to hold the first against.
+/// As `fill_block`, with a row or a column of the block in each lane of the vectors, which takes
+/// more time: a second way to the same blocks, to hold the first against.
 pub fn fill_block_by_lanes(prev: &Block, reference: &Block, next: &mut Block, with_xor: bool)
     ensures { let g = compress_g prev.now reference.now in
         next.new ≡ (if with_xor then xor g next.old else g) }

@@ -1,4 +1,4 @@
-//! The stages of a hash: a memory, the first blocks of each lane, the fill of all slices, and the tag.
+//! The stages of a hash: a memory, the first blocks of each lane, the fill of all slices, the tag.
 
 ghost use Rattle.std.specs.Prelude.{◌≡◌, ℕ, ◌+◌, ◌-◌, ◌*◌, ◌%◌, ◌^◌, ◌<◌, ◌≤◌, ◌++◌, [], IfErr, IfOk, IsOk, OnErr, OnOk, false, length, slice_index_or, true, vec_len};
 ghost use Rattle.argon2_standard.specs.Standard.Outcome.{IsShortage};
@@ -49,8 +49,10 @@ pub fn prepare_memory(alloc: Global, context: &Context<'_>, memory: &mut Memory)
     recall_context(context);
     let lanes = context.config.lanes;
     if memory.lanes() == lanes && memory.lane_length() == context.lane_length {
+        // Not wiped, since a hash reads no block that it has not written.
         return Ok(());
     }
+    // The old blocks go before the new ones are asked for, so that both are never held at once.
     *memory = Memory::empty(alloc);
     *memory = Memory::new(alloc, lanes, context.lane_length)?;
     Ok(())
@@ -96,6 +98,7 @@ pub fn write_first_blocks(job: &Job, lane: u32, first: &mut Block, second: &mut 
 {
     let mut first_seed = [0; PREHASH_SEED_LENGTH];
     let mut second_seed = [0; PREHASH_SEED_LENGTH];
+    // With H0 a password is tried at the cost of one hash, so each copy of it is overwritten.
     let mut prehash = prehash_of_job(job);
     first_input(&prehash, lane, 0, &mut first_seed);
     first_input(&prehash, lane, 1, &mut second_seed);
@@ -116,7 +119,7 @@ pub fn write_first_blocks(job: &Job, lane: u32, first: &mut Block, second: &mut 
     wipe(&mut second_bytes, 0);
 }
 
-/// Writes a lane's first two blocks.
+/// Writes a lane's first two blocks. The memory lends none to be written, so they are copied.
 fn write_first(job: &Job, lane: u32, memory: &mut Memory)
     requires shape { HasShape job.now.setting memory.old }
     requires lane_fits { lane < job.now.setting.lanes }
@@ -152,6 +155,7 @@ pub fn fill_sequential(context: &Context<'_>, memory: &mut Memory)
 {
     recall_context(context);
     let job = Job::new(context);
+    // Moved out, since a `Memory` has no place for a slice that is out, as each is while filled.
     let mut slices = take_slices(memory);
     fill_slices(&job, &mut slices);
     *memory = memory_of_slices(job.lanes(), job.segment_length(), slices);
@@ -176,7 +180,8 @@ fn fill_slices(job: &Job, slices: &mut Slices)
     }
 }
 
-/// Fills the job's slice: it moves out beside the others, and back.
+/// Fills the job's slice: it moves out beside the others, which are read while it is written, and
+/// back. No block is copied.
 pub fn fill_slice_in_turn(job: &Job, slices: &mut Slices)
     requires slices { AreSlices job.now.setting.lanes job.now.setting.segment_length
         (segments_of slices.old) }
@@ -258,7 +263,8 @@ fn combine_last_blocks(memory: &Memory, lanes: u32, column: u32, out: &mut Block
     }
 }
 
-/// Writes the hash of the combined last blocks (RFC 9106, 3.2, step 8), and overwrites these.
+/// Writes the hash of the combined last blocks (RFC 9106, 3.2, step 8), and overwrites these, since
+/// they tell the tag.
 pub(crate) fn write_tag(block: &mut Block, out: &mut [u8])
     requires some { 0 < length out.old }
     requires few { length out.old < 2 ^ 32 }
@@ -323,8 +329,8 @@ pub fn tag<R: Threads + Wait + Sync>(
     finalize(alloc, context, memory)
 }
 
-/// The tag of an accepted call, computed over a memory in the caller's thread: as `tag` does it, but
-/// no worker is asked for, and blocks that fit are never lost.
+/// The tag of an accepted call, computed over a memory in the caller's thread: as `tag` does it,
+/// but no worker is asked for, and blocks that fit are never lost.
 pub fn tag_sequential(alloc: Global, context: &Context<'_>, memory: &mut Memory) -> Result<Vec<u8>>
     ensures tag { let c = context.now in
         IfOk result (λ tag. tag.items ≡ tag_of c.pwd.now c.salt.now c.config c.config.hash_length) }

@@ -81,6 +81,7 @@ fn fill_slice_by_workers<R: Threads + Wait + Sync, G: Gate, P: Permit>(
     ensures refused { IfErr result (IsShortage true) }
 {
     let slice = job.slice();
+    // All memory is asked for here, so that no refusal comes while workers run.
     let board = board_of(alloc, job, slices)?;
     let snapshot = Snapshot::new(*job, others(slices, slice));
     let board = fill_slice_with(rt, board, &snapshot, gate, permit, first, workers)?;
@@ -137,6 +138,7 @@ pub fn fill_parallel_with<R: Threads + Wait + Sync, G: Gate, P: Permit>(
     recall_workers(context);
     let workers = context.config.workers();
     let job = Job::new(context);
+    // Moved out, as in `fill_sequential`. Where memory or a worker is refused, they are lost.
     let mut slices = take_slices(memory);
     for n in 0..slice_count(&job) {
         let slice = numbered_job(&job, n);

@@ -129,6 +129,7 @@ pub fn job_of_setting(
       slice = 0;
     } }
 {
+    // Named apart, since a wrong body quotes the line of `Job::new`, which has to stand here once.
     let slice = 0;
     Job {
         prehash: *prehash,
@@ -209,7 +210,6 @@ impl Job {
         SYNC_POINTS * self.lanes * self.segment_length
     }
 
-    /// The variant.
     pub(crate) fn variant(&self) -> Variant
         ensures { result ≡ self.now.setting.variant }
     {
@@ -248,7 +248,8 @@ impl Job {
         self.slice * self.segment_length
     }
 
-    /// The index of the first block that a fill of the slice writes.
+    /// The index of the first block that a fill of the slice writes: the first two of each lane
+    /// come from H0.
     pub fn first_index(&self) -> u32
         ensures { result ≡ first_index self.now }
     {
@@ -266,7 +267,8 @@ impl Job {
         self.variant == Argon2i || self.variant == Argon2id && self.pass == 0 && self.slice < 2
     }
 
-    /// Whether a new block is combined with the one of the last pass.
+    /// Whether a new block is combined with the one of the last pass, which version 0x10
+    /// overwrites.
     pub fn combines(&self) -> bool
         ensures { result ≡ (combines self.now.setting.version && nat_lt 0 self.now.pass) }
     {
@@ -274,7 +276,7 @@ impl Job {
     }
 }
 
-/// How many slices a fill goes through: those of all passes.
+/// How many slices a fill goes through: those of all passes, which may be more than 32 bits count.
 pub fn slice_count(job: &Job) -> u64
     ensures { result ≡ 4 * job.now.setting.passes }
 {

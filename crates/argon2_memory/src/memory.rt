@@ -14,7 +14,8 @@ use std::marker::Model;
 use std::ops::Index;
 use std::{fmt, mem};
 
-/// Four slices, each with a segment for each lane.
+/// Four slices, each with a segment for each lane. They are apart, so that one can be moved out and
+/// written while the others are read, in one thread or in many.
 pub type Slices = [Vec<Segment>; 4];
 
 /// Asks for the room of a whole matrix at once, and gives it back. A system that grants more memory
@@ -56,7 +57,6 @@ fn empty_slices(alloc: Global) -> Slices
     ]
 }
 
-/// Overwrites all blocks of a slice with zeros.
 fn wipe_slice(segments: &mut [Segment])
     ensures { segments.new ≡ map wiped_segment segments.old }
 {
@@ -65,7 +65,6 @@ fn wipe_slice(segments: &mut [Segment])
     }
 }
 
-/// Overwrites all blocks of all slices with zeros.
 fn wipe_slices(slices: &mut Slices)
     ensures { segments_of slices.new ≡ map (map wiped_segment) (segments_of slices.old) }
 {
@@ -99,7 +98,8 @@ fn tally(slices: &Slices) -> u64
 /// The matrix of blocks of 1 KiB: a row for each lane. Column c of a lane of 4 L columns is the
 /// block at index c mod L of the lane's segment in slice c / L (RFC 9106, 3.4).
 ///
-/// Where it is dropped, its blocks are overwritten with zeros first.
+/// Where it is dropped, its blocks are overwritten with zeros first: whoever reads them can try
+/// passwords at a lower cost.
 pub struct Memory {
     lanes: u32,
     segment_length: u32,
@@ -165,6 +165,7 @@ impl Memory {
         ensures zeros { IfOk result (λ m. m ≡ zero_memory lanes (lane_length / 4)) }
         ensures refused { IfErr result (λ e. e ≡ Error.OutOfMemory) }
     {
+        // First, so that nothing is written where the whole can never be had.
         ask_for_room(alloc, lanes, lane_length)?;
         let segment_length = lane_length / SYNC_POINTS;
         let slices = [
@@ -253,12 +254,14 @@ impl Memory {
     }
 }
 
-/// Moves all slices out, and leaves a memory without lanes.
+/// Moves all slices out, and leaves a memory without lanes. Nothing overwrites slices that
+/// are dropped by themselves.
 pub fn take_slices(memory: &mut Memory) -> Slices
     ensures slices { map (λ v. v.items) result ≡ memory.old.slices }
     ensures memory { IsMemory memory.old }
     ensures left { memory.new ≡ no_memory }
 {
+    // Vectors without elements take no memory, so nothing can be refused.
     let alloc = *memory.slices[0].allocator();
     memory.lanes = 0;
     memory.segment_length = 0;

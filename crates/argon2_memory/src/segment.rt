@@ -25,9 +25,9 @@ use std::marker::Model;
 
 /// The blocks of one lane in one slice, and how many were written, modulo 2^64.
 ///
-/// Blocks of zeros are made late, one ahead of the block that is written, so that the thread that
-/// fills a segment is the first to touch most of its memory. That one is read in place of all later
-/// zeros.
+/// Blocks of zeros are made late, one ahead of those that are to be written, so that the thread
+/// that fills a segment is the first to touch most of its memory. That one is read in place of all
+/// later zeros.
 #[derive(Drop)]
 pub struct Segment {
     blocks: Vec<Block>,
@@ -71,6 +71,7 @@ fn make_up_to(blocks: &mut Vec<Block>, zeros: &mut usize, index: usize)
     ensures next { 0 < zeros.new → index + 1 < vec_len blocks.new }
 {
     while *zeros > 0 && blocks.len() < index + 2 {
+        // Into room that `Segment::new` asked for: a fill asks for no memory.
         blocks.push_reserved(Block::zero());
         *zeros -= 1;
     }
@@ -112,6 +113,7 @@ fn write_among(
         (slice_index_or blocks.old index []) with_xor) }
     ensures counted { tally.new ≡ (tally.old + 1) % 2 ^ 64 }
 {
+    // The sources come before the index, so they can be read while it is written, without a copy.
     let (before, rest) = blocks.split_at_mut(index);
     fill_block(
         named_among(before, prev),
@@ -122,7 +124,6 @@ fn write_among(
     *tally = tally.wrapping_add(1);
 }
 
-/// Overwrites blocks with zeros.
 fn wipe_blocks(blocks: &mut [Block])
     ensures { blocks.new ≡ replicate (length blocks.old) zero_block }
 {
@@ -138,6 +139,7 @@ impl Segment {
     {
         let mut blocks = Vec::with_capacity(alloc, length as usize)?;
         let mut zeros = length as usize;
+        // One block is made, since `block` reads the last one for all that are not.
         if zeros > 0 {
             blocks.push_reserved(Block::zero());
             zeros -= 1;
@@ -153,6 +155,7 @@ impl Segment {
     pub(crate) fn wipe(&mut self)
         ensures { self.new ≡ wiped_segment self.old }
     {
+        // Blocks that are not made were never written.
         wipe_blocks(&mut self.blocks);
         self.tally = 0;
     }
@@ -179,6 +182,7 @@ impl Segment {
         requires { index < length self.now.blocks }
         ensures { result.now ≡ slice_index_or self.now.blocks index [] }
     {
+        // A `min` and no branch, since the index may be drawn from blocks.
         &self.blocks[usize::min(index, self.blocks.len() - 1)]
     }
 
@@ -219,6 +223,7 @@ impl Segment {
             → IsFilledTo beside.now.job lane (first + count) self.new.blocks }
         ensures tally { self.new.tally ≡ (self.old.tally + count) % 2 ^ 64 }
     {
+        // Made first, since `fill_blocks` sees a slice, as of a caller's memory, and can make none.
         let last = first as usize + count as usize - 1;
         make_up_to(&mut self.blocks, &mut self.zeros, last);
         fill_blocks(
@@ -293,6 +298,7 @@ fn fill_dependent(
 {
     // A copy, whose numbers need not be read anew for each block.
     let job = *beside.job();
+    // The prover knows a number's range only where it is read.
     let _tally = *tally;
     for k in 0..count {
         let index = first + k;
@@ -322,6 +328,7 @@ fn write_blocks(
     ensures tally { tally.new ≡ (tally.old + length references.now) % 2 ^ 64 }
 {
     recall_job(beside.job());
+    // Read for its range, as in `fill_dependent`.
     let _tally = *tally;
     for (k, reference) in references.iter().enumerate() {
         write_block(beside, lane, first + k as u32, *reference, own, tally);
@@ -348,6 +355,8 @@ fn fill_independent(
     ensures behind { IsSameFrom (first + count) own.old own.new }
     ensures tally { tally.new ≡ (tally.old + count) % 2 ^ 64 }
 {
+    // On the stack, since a fill asks for no memory. All are drawn before the first write, so that
+    // one block of addresses serves them.
     let mut references = [(0, 0); QWORDS_IN_BLOCK];
     let some = &mut references[..count as usize];
     reference_positions(beside.job(), lane, first, some);

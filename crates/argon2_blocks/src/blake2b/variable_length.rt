@@ -1,6 +1,6 @@
 //! H', the hash function of variable length (RFC 9106, 3.3): a chain of BLAKE2b hashes, or two side
-//! by side. A lane of Argon2 begins with two chains that do not wait for each other, so both go on in
-//! one vector, of which each has a lane.
+//! by side. A lane of Argon2 begins with two chains that do not wait for each other, so both go on
+//! in one vector, of which each has a lane.
 
 ghost use Rattle.std.specs.Prelude.{◌≡◌, ◌<◌, ◌≤◌, ◌^◌, ◌+◌, ◌-◌, ◌*◌, ◌++◌, ℕ, List, IsTrue, map, length, nat_lt, replicate, slice_index, take};
 ghost use Rattle.std.specs.List.{fold, list_all, range_with_len};
@@ -32,7 +32,6 @@ fn rotate_both(x: u64x2, bits: u32) -> u64x2
     (x >> u64x2::splat(bits as u64)) | (x << u64x2::splat(64 - bits as u64))
 }
 
-/// One of the two halves of G in both lanes.
 #[inline(always)]
 fn half_g(w: [u64x2; 4], far: u32, near: u32, x: u64x2) -> [u64x2; 4]
     requires far_some { 0 < far }
@@ -69,7 +68,6 @@ fn mix_g(v: &mut [u64x2; 16], a: usize, b: usize, c: usize, d: usize, x: u64x2, 
     v[d] = w[3];
 }
 
-/// G on the four columns of both lanes.
 #[inline(always)]
 fn mix_columns(v: &mut [u64x2; 16], m: &[u64x2; 16], s: &[usize; 16])
     requires { IsTrue (list_all (λ i. nat_lt i 16) s.now) }
@@ -83,7 +81,6 @@ fn mix_columns(v: &mut [u64x2; 16], m: &[u64x2; 16], s: &[usize; 16])
     mix_g(v, 3, 7, 11, 15, m[s6], m[s7]);
 }
 
-/// G on the four diagonals of both lanes.
 #[inline(always)]
 fn mix_diagonals(v: &mut [u64x2; 16], m: &[u64x2; 16], s: &[usize; 16])
     requires { IsTrue (list_all (λ i. nat_lt i 16) s.now) }
@@ -97,7 +94,6 @@ fn mix_diagonals(v: &mut [u64x2; 16], m: &[u64x2; 16], s: &[usize; 16])
     mix_g(v, 3, 4, 9, 14, m[s14], m[s15]);
 }
 
-/// A round in both lanes.
 #[inline(always)]
 fn round(v: &mut [u64x2; 16], m: &[u64x2; 16], s: &[usize; 16])
     requires { IsTrue (list_all (λ i. nat_lt i 16) s.now) }
@@ -107,7 +103,7 @@ fn round(v: &mut [u64x2; 16], m: &[u64x2; 16], s: &[usize; 16])
     mix_diagonals(v, m, s);
 }
 
-/// The twelve rounds in both lanes, written out as those of one state are.
+/// The twelve rounds in both lanes, written out as those of one state are, for the same reason.
 #[inline(always)]
 fn rounds(v: &mut [u64x2; 16], m: &[u64x2; 16])
     ensures { (i : ℕ) → i < 2 → lane i v.new
@@ -154,7 +150,6 @@ fn in_lanes(x: &[u64; 16], y: &[u64; 16]) -> [u64x2; 16]
     ]
 }
 
-/// The words of a lane.
 #[inline(always)]
 fn words_of_lane(v: &[u64x2; 16], i: usize) -> [u64; 16]
     requires { i < 2 }
@@ -208,7 +203,7 @@ fn chain_length(len: usize) -> usize
     len.div_ceil(HALF_LENGTH) - 2
 }
 
-/// Replaces a V by the next.
+/// Replaces a V by the next. The hash is written where its input stands, so that is copied first.
 fn next_link(v: &mut [u8; BLAKE2B_OUT_LENGTH])
     ensures { v.new ≡ blake2b 64 v.old }
 {
@@ -228,7 +223,7 @@ fn half_block(bytes: &[u8; BLAKE2B_OUT_LENGTH]) -> [u64; 16]
     [w0, w1, w2, w3, w4, w5, w6, w7, 0, 0, 0, 0, 0, 0, 0, 0]
 }
 
-/// Replaces two V by the next of each.
+/// Replaces two V by the next of each. Both hashes have 64 bytes and so begin with one state.
 fn next_links(first: &mut [u8; BLAKE2B_OUT_LENGTH], second: &mut [u8; BLAKE2B_OUT_LENGTH])
     ensures first { first.new ≡ blake2b 64 first.old }
     ensures second { second.new ≡ blake2b 64 second.old }
@@ -312,6 +307,7 @@ fn write_chains(
         write_half(first, HALF_LENGTH * i, v);
         write_half(second, HALF_LENGTH * i, w);
     }
+    // One by one, since `next_links` has the state and the length of a hash of 64 bytes.
     blake2b(&mut first[HALF_LENGTH * r..], &[&*v]);
     blake2b(&mut second[HALF_LENGTH * r..], &[&*w]);
     wipe(v, 0);
@@ -330,6 +326,7 @@ pub fn hprime_both(first: &mut [u8], second: &mut [u8], first_input: &[u8], seco
     let len = (first.len() as u32).to_le_bytes();
     let mut v = [0; BLAKE2B_OUT_LENGTH];
     let mut w = [0; BLAKE2B_OUT_LENGTH];
+    // One by one, since the inputs may have any lengths, and only a V is known to be half a block.
     blake2b(&mut v, &[&len, first_input]);
     blake2b(&mut w, &[&len, second_input]);
     write_chains(first, second, &mut v, &mut w);

@@ -28,7 +28,8 @@ fn permute_block_by_lanes(words: &[u64x8; VECTORS]) -> [u64x8; VECTORS]
     out_of_columns(&v)
 }
 
-/// As `fill_words`, under the same contract, by `permute_lanes`: a second way from rows to columns.
+/// As `fill_words`, under the same contract, by `permute_lanes`: a second way from rows to columns,
+/// which tests compare with the first. It is not inlined, for the same reason.
 #[inline(never)]
 pub(super) fn fill_words_by_lanes(
     prev: &[u64; QWORDS_IN_BLOCK],

@@ -42,7 +42,8 @@ fn rotate_by_63(x: u64x8) -> u64x8
     (x >> u64x8::splat(63)) | (x + x)
 }
 
-// Each lane rotated right by 32 bits, which is 4 bytes.
+// Each lane rotated right by 32 bits, which is 4 bytes. The bytes are shuffled, since shifts
+// or shuffles of 32 bits take up to 5 % more time.
 #[inline(always)]
 fn rotate_by_32(x: u64x8) -> u64x8
     ensures { result ≡ map (λ a. rotate_right w64 a 32) x }
@@ -72,7 +73,7 @@ fn rotate_by_24(x: u64x8) -> u64x8
     )
 }
 
-// Each lane rotated right by 16 bits, which is 2 bytes.
+// Each lane rotated right by 16 bits, which is 2 bytes: a shuffle, as by 32.
 #[inline(always)]
 fn rotate_by_16(x: u64x8) -> u64x8
     ensures { result ≡ map (λ a. rotate_right w64 a 16) x }
@@ -90,7 +91,7 @@ fn rotate_by_16(x: u64x8) -> u64x8
 // Two mixes in each lane: of the vectors 0, 2, 4 and 6, and of the others.
 //
 // They go side by side, since each step of one waits for the step before. More than two at a time
-// do not fit into the registers.
+// do not fit into the registers (docs/DECISIONS.md has the times of one, two and four).
 #[inline(always)]
 pub(super) fn mix_two(v: [u64x8; 8]) -> [u64x8; 8]
     ensures { (i : ℕ) → i < 8 → lane i result ≡ two_mixes (lane i v) }

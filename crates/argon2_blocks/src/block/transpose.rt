@@ -1,4 +1,5 @@
-//! From rows of words to columns, over vectors.
+//! From rows of words to columns, over vectors, for `fill_block_by_lanes` alone: the kernel
+//! transposes nothing, since that takes more time.
 
 ghost use Rattle.std.specs.Prelude.{◌≡◌, ◌<◌, ◌+◌, ◌*◌, ◌++◌, [], ◌∷◌, ℕ, length, map, slice_index, slice_index_or};
 ghost use Rattle.std.specs.List.{range_with_len};
@@ -82,7 +83,8 @@ fn interleave_high(a: u64x8, b: u64x8) -> u64x8
     a.shuffle(b, [4, 12, 5, 13, 6, 14, 7, 15])
 }
 
-// Lane j of vector k becomes lane k of vector j.
+// Lane j of vector k becomes lane k of vector j: in squares of two lanes, of four and of eight, so
+// that three shuffles a vector are enough.
 #[inline(always)]
 fn transpose(v: [u64x8; 8]) -> [u64x8; 8]
     ensures value { result ≡ map (λ j. lane j v) (range_with_len 0 8) }

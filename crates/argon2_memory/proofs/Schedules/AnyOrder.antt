@@ -26,7 +26,7 @@ pick-lane_fits s word at good here = drawn_lane_fits s word at good here
 
 -- ---- one write
 
--- where the matrix holds at the places read what f says, the matrix_with block is the recurrence's
+-- where the matrix holds at the places read what f says, the block made from it is the recurrence's
 pub from_reads : (s : Setting) (at : Position) (m : Matrix) (f : Blocks) →
     m (previous s at).lane (previous s at).column ≡ f (previous s at) →
     ((word : ℕ) → m (pick s word at).lane (pick s word at).column ≡ f (pick s word at)) →

@@ -12,7 +12,8 @@ use crate::job::{Job, recall_job};
 use argon2_blocks::block::{Block, fill_block};
 use argon2_blocks::common::{ADDRESSES_IN_BLOCK, QWORDS_IN_BLOCK, SYNC_POINTS};
 
-/// A word has two halves of 32 bits.
+/// A word has two halves of 32 bits. A division by this power of 2 is a shift, whose time tells
+/// nothing of what is drawn.
 const HALF: u64 = 1 << 32;
 
 /// 1 where a number is not below a bound, and else 0. It is a sum, since the compiler may make a
@@ -24,7 +25,7 @@ fn reaches(number: u32, bound: u32) -> u32
     ((u64::from(number) + HALF - u64::from(bound)) / HALF) as u32
 }
 
-/// The place that a word draws among some blocks.
+/// The place that a word draws among some blocks (RFC 9106, 3.4.2).
 fn drawn_place(count: u32, word: u64) -> u32
     requires { 0 < count }
     ensures value { result ≡ window_index count word }
@@ -52,6 +53,7 @@ fn left_columns(job: &Job) -> u32
 }
 
 /// How many blocks the block at an index may refer to: of its own lane for 1, of another for 0.
+/// That is a factor and no `bool`, so that a lane that is drawn makes no branch.
 pub fn allowed_count(job: &Job, is_own: u32, index: u32) -> u32
     requires is_bit { is_own < 2 }
     requires index_fits { index < job.now.setting.segment_length }
@@ -75,6 +77,8 @@ pub fn allowed_column(job: &Job, place: u32) -> u32
 {
     let left = left_columns(job);
     let turn = SYNC_POINTS * job.segment_length();
+    // Neither a branch nor a remainder, since the place is drawn. The sum may exceed 32 bits before
+    // the turn is taken off.
     place
         .wrapping_add(turn - left)
         .wrapping_sub(reaches(place, left) * turn)
@@ -93,7 +97,9 @@ fn drawn_lane(job: &Job, lane: u32, word: u64) -> (u32, u32)
     if lanes == 1 || job.pass() == 0 && job.slice() == 0 {
         (lane, 1)
     } else {
+        // A division, which may take longer for some words: docs/CLAIMS.md names it.
         let drawn = (word / HALF) as u32 % lanes;
+        // Each reaches the other exactly where they are equal.
         (drawn, reaches(drawn, lane) + reaches(lane, drawn) - 1)
     }
 }
@@ -135,6 +141,7 @@ fn turn_to(job: &Job, lane: u32, index: u32, is_first: bool, words: &mut Block)
         job.now.slice ((index - 1) / 128) }
     ensures { words.new ≡ addresses job.now.setting job.now.pass lane job.now.slice (index / 128) }
 {
+    // The first index may be no multiple of 128: the first slice begins at 2.
     if is_first || index % ADDRESSES_IN_BLOCK == 0 {
         address_block(job, lane, index / ADDRESSES_IN_BLOCK, words);
     }

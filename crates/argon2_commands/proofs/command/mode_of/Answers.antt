@@ -4,7 +4,6 @@ use Rattle.argon2_commands.specs.Words.{IsNumber}
 use Rattle.argon2_commands.proofs.Places.{no_mode, same_rest}
 use Rattle.argon2_commands.proofs.command.mode_of.Goals as goal
 
--- src/command.rt:79:1
 pub returns-in-seq : goal.returns-in-seq
 returns-in-seq c = c.in-seq.is
 

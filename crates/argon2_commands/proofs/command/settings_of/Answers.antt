@@ -4,35 +4,30 @@ use Rattle.argon2_commands.specs.Words.{IsNumber}
 use Rattle.argon2_commands.proofs.Places.{no_number, refusal_of, value_of, word-texts_of}
 use Rattle.argon2_commands.proofs.command.settings_of.Goals as goal
 
--- src/command.rt:57:22
 pub returns-in_err-number_of-clause-none : goal.returns-in_err-number_of-clause-none
 returns-in_err-number_of-clause-none c =
     rw c.from_residual.ensures (λ config h. no_number _ _ _ c.in_err-number_of.was c.number_of.ensures
     (word-texts_of c.args.words.now 6 c.index-words-6.result _ (omega (arith, c.requires)) c.index-words-6.is c.as_str.ensures.value)
     config.hash_length h.hash_length)
 
--- src/command.rt:58:16
 pub returns-in_err-number_of-2-clause-none : goal.returns-in_err-number_of-2-clause-none
 returns-in_err-number_of-2-clause-none c =
     rw c.from_residual-in_err-number_of-2.ensures (λ config h. no_number _ _ _ c.in_err-number_of-2.was c.number_of-2.ensures
     (word-texts_of c.args.words.now 5 c.index-words-5.result _ (omega (arith, c.requires)) c.index-words-5.is c.as_str-2.ensures.value)
     config.lanes h.lanes)
 
--- src/command.rt:59:19
 pub returns-in_err-number_of-3-clause-none : goal.returns-in_err-number_of-3-clause-none
 returns-in_err-number_of-3-clause-none c =
     rw c.from_residual-in_err-number_of-3.ensures (λ config h. no_number _ _ _ c.in_err-number_of-3.was c.number_of-3.ensures
     (word-texts_of c.args.words.now 4 c.index-words-4.result _ (omega (arith, c.requires)) c.index-words-4.is c.as_str-3.ensures.value)
     config.mem_cost h.mem_cost)
 
--- src/command.rt:62:20
 pub returns-in_err-number_of-4-clause-none : goal.returns-in_err-number_of-4-clause-none
 returns-in_err-number_of-4-clause-none c =
     rw c.from_residual-in_err-number_of-4.ensures (λ config h. no_number _ _ _ c.in_err-number_of-4.was c.number_of-4.ensures
     (word-texts_of c.args.words.now 3 c.index-words-3.result _ (omega (arith, c.requires)) c.index-words-3.is c.as_str-4.ensures.value)
     config.time_cost h.time_cost)
 
--- src/command.rt:63:18
 pub returns-in_err-ok-clause-none : goal.returns-in_err-ok-clause-none
 returns-in_err-ok-clause-none c =
     rw c.from_residual-in_err-ok.ensures (λ config h.
@@ -42,7 +37,6 @@ returns-in_err-ok-clause-none c =
     (word-texts_of c.args.words.now 1 c.index-words-1.result _ (omega (arith, c.requires)) c.index-words-1.is c.as_str-5.ensures.value)
     h.variant))
 
--- src/command.rt:64:18
 pub returns-in_err-ok-2-clause-none : goal.returns-in_err-ok-2-clause-none
 returns-in_err-ok-2-clause-none c =
     rw c.from_residual-in_err-ok-2.ensures (λ config h.
@@ -51,7 +45,6 @@ returns-in_err-ok-2-clause-none c =
     (sym (word-texts_of c.args.words.now 2 c.index-words-2.result _ (omega (arith, c.requires)) c.index-words-2.is c.as_str-6.ensures.value)
     ∙ h.version))
 
--- src/command.rt:59:1
 pub returns-clause-settings : goal.returns-clause-settings
 returns-clause-settings c = record {
   variant =

@@ -4,7 +4,6 @@ use Rattle.argon2_commands.proofs.Refusals.{untouched}
 use Rattle.argon2_commands.proofs.Statuses.{answered_bounded, answered_not, answered_usage, at_five, at_three, at_two, fault_above, fault_bounded, no_fault, usage_status}
 use Rattle.argon2_commands.proofs.program.run.Goals as goal
 
--- src/program.rt:68:1
 pub returns-in-Ok-clause-answered : goal.returns-in-Ok-clause-answered
 returns-in-Ok-clause-answered g c low = c.in-Ok.ensures.answered
 

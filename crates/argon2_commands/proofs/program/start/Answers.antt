@@ -5,7 +5,6 @@ use Rattle.argon2_commands.proofs.Refusals.{untouched}
 use Rattle.argon2_commands.proofs.Statuses.{answered_as, fault_bounded, no_fault, of_words, refused_words, unread_not_costly, unread_words}
 use Rattle.argon2_commands.proofs.program.start.Goals as goal
 
--- src/program.rt:49:23
 pub returns-in-Err-clause-bounded : goal.returns-in-Err-clause-bounded
 returns-in-Err-clause-bounded g c = fault_bounded c.in-Err.fault _ (c.from.ensures ∙ c.report.ensures)
 
@@ -28,7 +27,6 @@ returns-in-Err-clause-unwritten g c three = untouched (g.O.Write.contents c.args
 pub returns-in-Err-clause-silent : goal.returns-in-Err-clause-silent
 returns-in-Err-clause-silent g c = no_fault c.in-Err.fault _ (c.from.ensures ∙ c.report.ensures)
 
--- src/program.rt:26:1
 pub returns-clause-answered : goal.returns-clause-answered
 returns-clause-answered g c low =
     of_words (g.L.CommandLine.arguments c.args.line.now) c.as_slice.result.now c.in-Ok.words.items

@@ -4,7 +4,6 @@ use Rattle.std.proofs.lemmas.Result.{IfOk-from_err}
 use Rattle.argon2_commands.proofs.Writing.{appended}
 use Rattle.argon2_commands.proofs.program.write_lines.Goals as goal
 
--- src/program.rt:120:1
 pub returns-in_err-write_all : goal.returns-in_err-write_all
 returns-in_err-write_all g c = IfOk-from_err _ _ c.from_residual.ensures.0
 

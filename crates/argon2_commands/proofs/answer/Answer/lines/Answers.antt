@@ -3,7 +3,6 @@ use Rattle.argon2_commands.specs.Answer.{lines_of}
 use Rattle.argon2_commands.specs.declared.answer.Answer.TheVariants.{Verdict}
 use Rattle.argon2_commands.proofs.answer.Answer.lines.Goals as goal
 
--- src/answer.rt:69:5
 pub returns-in-Hashed : goal.returns-in-Hashed
 returns-in-Hashed c = c.as_str.ensures.value ∙ sym (ap lines_of c.in-Hashed.is)
 

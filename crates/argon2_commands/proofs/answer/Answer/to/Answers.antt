@@ -34,7 +34,6 @@ returns-in_err-needs_rehash-in-Rehash-clause-fault g c = rw c.in-Rehash.is
       spelled = c.in_err-needs_rehash-in-Rehash.ensures.spelled;
     }))
 
--- src/answer.rt:33:5
 pub returns-in_ok-needs_rehash-in-Rehash-clause-answer :
     goal.returns-in_ok-needs_rehash-in-Rehash-clause-answer
 returns-in_ok-needs_rehash-in-Rehash-clause-answer g c = rw c.in-Rehash.is (record {

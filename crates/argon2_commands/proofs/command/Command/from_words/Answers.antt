@@ -6,7 +6,6 @@ use Rattle.argon2_commands.specs.Words.{IsMode}
 use Rattle.argon2_commands.proofs.Places.{word-texts_of}
 use Rattle.argon2_commands.proofs.command.Command.from_words.Goals as goal
 
--- src/command.rt:28:5
 pub returns-in-len2 : goal.returns-in-len2
 returns-in-len2 c = record {
   count = rw (length-map c.args.words.now) (omega (arith, c.in-len2.len_at_least, c.in-len2.len_below));
@@ -16,7 +15,6 @@ returns-in-len2 c = record {
       (arith, c.in-len2.len_at_least)) c.encoded-item.is c.as_str-in-len2.ensures.value);
 }
 
--- src/command.rt:28:5
 pub returns-in_ok-settings_of-in-len8 : goal.returns-in_ok-settings_of-in-len8
 returns-in_ok-settings_of-in-len8 c = record {
   count = rw (length-map c.args.words.now) (omega (arith, c.in-len8.len_at_least, c.in-len8.len_below));
@@ -28,7 +26,6 @@ returns-in_ok-settings_of-in-len8 c = record {
       (arith, c.in-len8.len_at_least)) c.encoded-item-then-words-lt9.is c.as_str-in-len8.ensures.value);
 }
 
--- src/command.rt:28:5
 pub returns-in_ok-from_word-in-len9 : goal.returns-in_ok-from_word-in-len9
 returns-in_ok-from_word-in-len9 c = record {
   count = rw (length-map c.args.words.now) (omega (arith, c.in-len9.len_at_least, c.in-len9.len_below));
@@ -46,7 +43,6 @@ returns-in_ok-from_word-in-len9 c = record {
       ∙ sym c.in_ok-from_word-in-len9.ensures;
 }
 
--- src/command.rt:28:5
 pub returns-in-len2-2 : goal.returns-in-len2-2
 returns-in-len2-2 c = record {
   count = rw (length-map c.args.words.now) (omega (arith, c.in-len2.len_at_least, c.in-len2.len_below));

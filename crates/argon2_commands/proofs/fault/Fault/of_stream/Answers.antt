@@ -1,7 +1,6 @@
 use Rattle.std.proofs.Common.{refl, sym, ◌∙◌}
 use Rattle.argon2_commands.proofs.fault.Fault.of_stream.Goals as goal
 
--- src/fault.rt:33:5
 pub returns-in-OutOfMemory-clause-short : goal.returns-in-OutOfMemory-clause-short
 returns-in-OutOfMemory-clause-short c short = refl
 

@@ -2,7 +2,6 @@ use Rattle.std.proofs.Common.{ap, inl, inr, sym}
 use Rattle.argon2_commands.specs.Fault.{fault_status}
 use Rattle.argon2_commands.proofs.fault.Fault.status.Goals as goal
 
--- src/fault.rt:44:5
 pub returns-in-Refused : goal.returns-in-Refused
 returns-in-Refused c = elim c.in-Refused.is [ inl (refusal, refused) ↦ sym (ap fault_status refused) | inr short ↦ sym (ap fault_status short) ]
 

@@ -5,7 +5,6 @@ use Rattle.argon2_commands.proofs.fault.Fault.write_line.Goals as goal
 use Rattle.argon2_commands.proofs.fault.Fault.write_line.Goals.{in-Usage+in_ok-write_all-in-Usage, in-Input+in_ok-write_all-in-Input}
 use Rattle.argon2_commands.proofs.fault.Fault.write_line.Goals.{in-Refused+in_ok-writeln-in-Refused, in-TooCostly+in_ok-writeln-in-TooCostly, in-OutputShort+in_ok-writeln-in-OutputShort, in-Output}
 
--- src/fault.rt:64:5
 pub returns : goal.returns
 returns g c = elim c.match-self.branch [
   | in-Usage+in_ok-write_all-in-Usage w ↦
