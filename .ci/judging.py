@@ -7,27 +7,39 @@ import shutil
 import signal
 import subprocess
 import tempfile
+import threading
 from pathlib import Path
 
 from copies import BY_A_CALL, Copy, Report, can_be_copied, clause_of, texts_with
 from toolchain import load_rt
 
+MEMORY_OF_A_CHECK = 3_000_000_000  # bytes, of which the largest crate was seen to take four fifths
+
 rt = load_rt()
 room = tempfile.mkdtemp(prefix='edits-')
 libraries = {}  # the folder of a copy of a crate's library, by the library's own
+copying, saying = threading.Lock(), threading.Lock()
+checks_at_once = threading.Semaphore(max(1, min(rt.processors(), int(rt.free() / MEMORY_OF_A_CHECK))))
+
+
+def say(line):
+    """Prints a line whole, also where crates are judged side by side."""
+    with saying:
+        print(line, flush=True)
 
 
 def copy_libraries(crates):
     """Copies the libraries that checks read, so that others may build meanwhile."""
-    for crate in crates:
-        made = os.path.dirname(crate.rlib)
-        if os.path.isdir(made):
-            libraries[made] = shutil.copytree(made, f'{room}/libraries/{crate.name}')
+    with copying:
+        for crate in crates:
+            made = os.path.dirname(crate.rlib)
+            if os.path.isdir(made) and made not in libraries:
+                libraries[made] = shutil.copytree(made, f'{room}/libraries/{crate.name}')
 
 
 def in_copies(word):
     """A word of a command, with the copies for the libraries."""
-    for made, copied in libraries.items():
+    for made, copied in [*libraries.items()]:
         word = word.replace(made, copied)
     return word
 
@@ -45,17 +57,20 @@ def checked(crate, texts, kept, jobs):
                  '--incremental', kept]
         words = [in_copies(word) for word in words]
         how = {'cwd': at, 'stdin': subprocess.DEVNULL, 'stdout': subprocess.PIPE, 'stderr': subprocess.STDOUT}
-        ran = subprocess.run(words, errors='replace', **how)
-        if ran.returncode == -signal.SIGKILL:  # most likely for memory
+        with checks_at_once:
             ran = subprocess.run(words, errors='replace', **how)
+            if ran.returncode == -signal.SIGKILL:  # most likely for memory
+                ran = subprocess.run(words, errors='replace', **how)
     return Report(ran.stdout)
 
 
 class Crate:
     """The edits of a crate, and the kept work over which they are judged."""
 
-    def __init__(self, crate, found, words, jobs):
-        self.crate, self.jobs, self.folder = crate, jobs, Path(crate.folder)
+    def __init__(self, crate, found, words, jobs, proofs=None):
+        self.crate, self.jobs, self.folder, self.proofs = crate, jobs, Path(crate.folder), proofs
+        # `rt ci` keeps what it proves of a crate where it tries more than one edit of it.
+        self.has_seed = sum(edit.is_tried_alone for edit in found) > 1
         self.copies = [Copy(edit) for edit in found if can_be_copied(edit, self.folder)]
         copied = {copy.edit for copy in self.copies}
         self.in_place = [edit for edit in found if edit not in copied]
@@ -98,6 +113,8 @@ class Crate:
             found = Path(self.words.kept, self.crate.name, contents_of(self.crate))
             if not found.is_dir():
                 return self.keep(found)
+        elif self.proofs:
+            return self.start_beside()
         elif self.words.words:
             found = self.folder / 'out/incremental'
             if not found.is_dir():
@@ -105,6 +122,20 @@ class Crate:
         else:
             return None
         shutil.copytree(found, self.kept, dirs_exist_ok=True)
+        return None
+
+    def start_beside(self):
+        """Waits for `rt ci` to prove the crates below, and to keep what it proves of this one, where it does."""
+        below = self.crate.below()
+        lacking = self.proofs.wait_for([it.name for it in below], self.crate.name if self.has_seed else None)
+        if lacking:
+            return f'{lacking}, on which it is built, is not proved'
+        copy_libraries(below)
+        seed = self.proofs.seeds.get(self.crate.name)
+        if seed:
+            shutil.rmtree(self.kept)
+            self.kept = seed
+        say(f'{self.crate.name}: {"begins with what rt ci proved" if seed else "is proved from nothing"}')
         return None
 
     def keep(self, found):
@@ -151,9 +182,9 @@ class Crate:
             for file, old, new in edit.pairs:
                 path = file.relative_to(self.folder).as_posix()
                 texts[path] = (texts.get(path) or file.read_text(encoding='utf-8')).replace(old, new)
-        with tempfile.TemporaryDirectory(dir=room) as copy:
-            shutil.copytree(self.kept, copy, dirs_exist_ok=True)
-            return checked(self.crate, texts, copy, self.jobs)
+        with tempfile.TemporaryDirectory(dir=room) as at:
+            rt.linked(self.kept, f'{at}/kept')
+            return checked(self.crate, texts, f'{at}/kept', self.jobs)
 
 
 def contents_of(crate):

@@ -19,7 +19,7 @@ LEAKS = {
     # what overwrites bytes, words or the stack returns at once
     'nothing_is_overwritten': dict.fromkeys((
         "argon2_blocks::blake2b::wipe::<i8,20'core::clone::U8Clone{}>",
-        "argon2_blocks::blake2b::wipe::<i64,21'core::clone::U64Clone{}>", 'argon2::ending::wipe_stack'), 'ret'),
+        "argon2_blocks::blake2b::wipe::<i64,21'core::clone::U64Clone{}>", 'argon2_fill::stack::wipe_stack'), 'ret'),
     # the block that was written is the third argument
     'branch_on_a_word': {'argon2_blocks::block::kernel::fill_words': """
         push %rdx

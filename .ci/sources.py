@@ -189,12 +189,12 @@ class Sources:
 
 
 class Edit:
-    """An edit: its crate, its pairs of texts, the goals that it names where it is a wrong body, and the functions in
-    whose spans the texts stand. `function` is that of the last pair."""
+    """An edit: its crate, its pairs of texts, the goals that it names where it is a wrong body, whether `rt ci` tries it
+    too, and the functions in whose spans the texts stand. `function` is that of the last pair."""
 
     def __init__(self, path, sources):
         self.path, self.name, self.crate = path, path.stem, path.parent.parent.name
-        self.is_equal = path.parent.name == EQUAL
+        self.is_equal, self.is_tried_alone = path.parent.name == EQUAL, path.parent.name == WRONG[0]
         self.pairs, self.goals = list(self.read_pairs()), self.read_goals()
         self.fault, self.functions, texts = None if self.pairs else 'it has no text', [], {}
         for file, old, new in self.pairs:

@@ -41,3 +41,12 @@ def are_left_by_ci(libraries):
     """Whether `.ci/proofs` left all these libraries, and no source has changed since. They fit only each other: where
     another command has built one anew, the mark in its folder is gone."""
     return all(is_current(it.name, os.path.dirname(it.rlib)) for it in libraries)
+
+
+def build_preloaded(name, folder):
+    """Builds a library to be preloaded, by the toolchain's clang, and gives its path."""
+    tools = os.path.join(os.path.dirname(os.path.dirname(os.path.realpath(shutil.which('rt')))), 'toolchain/bin')
+    made = os.path.join(folder, f'{name}.so')
+    subprocess.run([f'{tools}/clang', '-O1', '-Wall', '-Wextra', '-Werror', '-shared', '-fPIC', '-nostdlib',
+                    '-fuse-ld=lld', '-o', made, f'{HERE}/{name}.c'], check=True)
+    return made

@@ -96,7 +96,7 @@ class Setting:
         zero = [0] * 128
         return compress(zero, compress(zero, words + [0] * 121))[index % 128]
 
-    def window(self, r, s, index, is_own):
+    def reference_set(self, r, s, index, is_own):
         """W (3.4.2): the passes and columns of a lane that a block may refer to."""
         start = s * self.segment
         w = [(r - 1, column) for column in range(start + self.segment, self.columns)] if r else []
@@ -106,7 +106,7 @@ class Setting:
     def reference(self, r, lane, s, index, word):
         """The lane, pass and column that a drawn word picks (3.4.2)."""
         other = lane if r == 0 and s == 0 else (word >> 32) % self.lanes
-        w = self.window(r, s, index, other == lane)
+        w = self.reference_set(r, s, index, other == lane)
         x = (word & 0xFFFFFFFF) ** 2 >> 32
         y = len(w) * x >> 32
         return other, *w[len(w) - 1 - y]

@@ -5,6 +5,5 @@
 pub mod Lends
 pub mod HasherView
 pub mod Lane
-pub mod Shuffles
 pub mod Spread
 pub mod Rounds

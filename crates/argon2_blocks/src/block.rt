@@ -1,21 +1,17 @@
 //! Blocks of Argon2's memory and their compression (RFC 9106, 3.2, 3.5 and 3.6).
 
 mod kernel;
-mod lane_wise;
 mod lanes;
-mod transpose;
 
-ghost use Rattle.std.specs.Prelude.{◌≡◌, ◌<◌, ◌↔◌, ⊤, IsTrue, ℕ, List, Some, nat_eq, slice_index, if◌then◌else◌};
+ghost use Rattle.std.specs.Prelude.{◌≡◌, ◌<◌, ◌↔◌, ⊤, IsTrue, ℕ, List, Some, nat_eq, slice_index};
 ghost use Rattle.std.specs.Cmp.Lexicographic.{nat_list_eq_equiv, pointwise};
 ghost use Rattle.std.specs.Cmp.{partial_equiv_from_equiv};
 ghost use Rattle.std.specs.Fmt.{debug_list, decimal};
 ghost use Rattle.argon2_blocks.specs.Standard.Block.{block_bytes, block_of_bytes, xor, zero_block};
-ghost use Rattle.argon2_blocks.specs.Standard.Compression.{compress_g};
 
 use crate::blake2b::{read_words, wipe, write_words};
 use crate::common::{BLOCK_SIZE, QWORDS_IN_BLOCK};
 pub use kernel::fill_block;
-use lane_wise::fill_words_by_lanes;
 pub use lanes::permute_lanes;
 use std::alloc::AllocError;
 use std::fmt;
@@ -166,13 +162,4 @@ impl BitXorAssign<&Block> for Block {
             self.words[i] ^= rhs.words[i];
         }
     }
-}
-
-/// As `fill_block`, with a row or a column of the block in each lane of the vectors, which takes
-/// more time: a second way to the same blocks, to hold the first against.
-pub fn fill_block_by_lanes(prev: &Block, reference: &Block, next: &mut Block, with_xor: bool)
-    ensures { let g = compress_g prev.now reference.now in
-        next.new ≡ (if with_xor then xor g next.old else g) }
-{
-    fill_words_by_lanes(&prev.words, &reference.words, &mut next.words, with_xor);
 }

@@ -1,8 +1,8 @@
 /*
  * What the calls without options leave of secrets, their blocks, and what they overwrite: SECURITY.md says so. Each call
  * is made in a child, which has none of it before. left.c has the calls with options; c/run compares the calls that are
- * named in both with those of the headers, and runs this over a library that overwrites nothing, where each check of
- * that has to fail. It is linked with --wrap for what it looks at.
+ * named in both with those of the headers, and runs this over a library and a heap that overwrite nothing, where each
+ * check of that has to fail. It is linked with --wrap for what it looks at.
  */
 #include "left.h"
 
@@ -97,7 +97,8 @@ enum {
     BUFFERS = 1 << OF_SEED | 1 << OF_FIRST | 1 << OF_LAST,
     CALLED = BUFFERS | 1 << OF_H0,
     COMPARED = CALLED | 1 << OF_TAG,
-    FREED = CALLED | 1 << OF_BLOCKS
+    FREED = CALLED | 1 << OF_BLOCKS,
+    ALL = FREED | 1 << OF_TAG
 };
 
 #define ROW(name, call, expected, leaves, overwrites) {#name, does_##name, call, expected, leaves, overwrites}
@@ -111,18 +112,24 @@ static const struct row {
     enum kind leaves;
     int overwrites;
 } rows[] = {
-    ROW(hash_raw, MAPPED, 0, OF_BLOCKS, CALLED), ROW(hash_encoded, MAPPED, 0, OF_BLOCKS, CALLED),
-    ROW(verify_raw, MAPPED, 64, OF_BLOCKS, COMPARED), ROW(verify_encoded, MAPPED, 64, OF_BLOCKS, COMPARED),
-    ROW(verify_encoded_within, MAPPED, 64, OF_BLOCKS, COMPARED), ROW(hash_raw_in, MAPPED, 0, OF_BLOCKS, CALLED),
+    ROW(hash_raw, MAPPED, 0, OF_TAG, FREED), ROW(hash_encoded, MAPPED, 0, KINDS, FREED),
+    ROW(verify_raw, MAPPED, 64, KINDS, ALL), ROW(verify_encoded, MAPPED, 64, KINDS, ALL),
+    ROW(verify_encoded_within, MAPPED, 64, KINDS, ALL), ROW(hash_raw_in, MAPPED, 0, OF_BLOCKS, CALLED),
     ROW(hash_encoded_in, MAPPED, 0, OF_BLOCKS, CALLED), ROW(verify_raw_in, MAPPED, 64, OF_BLOCKS, COMPARED),
     ROW(verify_encoded_in, MAPPED, 64, OF_BLOCKS, COMPARED), ROW(memory_free, MAPPED, 0, OF_TAG, FREED),
-    ROW(password_hash, ALONE, 0, OF_BLOCKS, CALLED), ROW(password_verify, ALONE, 64, OF_BLOCKS, COMPARED),
+    ROW(password_hash, ALONE, 0, KINDS, FREED), ROW(password_verify, ALONE, 64, KINDS, ALL),
     ROW(job_make, MAPPED, 0, OF_H0, 0), ROW(job_read, MAPPED, 0, OF_H0, 0), ROW(job_begin, MAPPED, 0, OF_FIRST, 0),
     ROW(job_fill, MAPPED, 0, OF_BLOCKS, 0), ROW(job_finish, MAPPED, 0, OF_TAG, BUFFERS),
-    ROW(job_verify, MAPPED, 64, OF_TAG, BUFFERS), ROW(read, MAPPED, 0, OF_TAG, 0),
-    ROW(needs_rehash, MAPPED, 0, OF_TAG, 0), ROW(encode, MAPPED, 0, KINDS, 0), ROW(encoded_len, MAPPED, 0, KINDS, 0),
+    ROW(job_verify, MAPPED, 64, OF_TAG, BUFFERS), ROW(read, MAPPED, 0, KINDS, 1 << OF_TAG),
+    ROW(needs_rehash, MAPPED, 0, KINDS, 1 << OF_TAG), ROW(encode, MAPPED, 0, KINDS, 0), ROW(encoded_len, MAPPED, 0, KINDS, 0),
     ROW(message, MAPPED, 0, KINDS, 0),
 };
+
+static uint32_t does_row(const void *arg)
+{
+    const struct row *const row = arg;
+    return row->does();
+}
 
 /* The kinds of which something is found after a call, as bits. */
 static int kinds_left(const void *arg)
@@ -132,7 +139,7 @@ static int kinds_left(const void *arg)
     seek(row->call);
     memset(found, 0, sizeof found);
     look_at = look_at_request;
-    if (row->does() != row->expected) {
+    if (far_below(does_row, row) != row->expected) {
         return -1;
     }
     look_at = NULL;

@@ -38,9 +38,16 @@ static uint32_t answer(size_t name, const trial *it)
     }
 }
 
-/* Whether the hash that a text spells is left of each text with the right one. It is not looked for then: it is read in
- * the heap, where nobody clears it, and the tag that is computed has the same bytes. */
-static bool is_its_hash_left = true;
+struct asked {
+    size_t name;
+    const trial *it;
+};
+
+static uint32_t answer_asked(const void *arg)
+{
+    const struct asked *const asked = arg;
+    return answer(asked->name, asked->it);
+}
 
 /* Whether a call answers what it is to, and leaves nothing but what it writes. */
 static bool is_cleared(size_t name, const trial *it)
@@ -48,14 +55,10 @@ static bool is_cleared(size_t name, const trial *it)
     seek(it->call);
     memset(found, 0, sizeof found);
     look_at = look_at_request;
-    const uint32_t code = answer(name, it);
+    const uint32_t code = far_below(answer_asked, &(struct asked){name, it});
     look_at = NULL;
     __real_explicit_bzero(out, sizeof out);
     look_everywhere();
-    if (name == 3 && it->is_right) {
-        is_its_hash_left &= found[OF_TAG] != 0;
-        found[OF_TAG] = 0;
-    }
     const bool is_expected = code == it->expected || code == it->or_else;
     if (!is_expected) {
         printf("%s answers %u\n", names[name], (unsigned)code);
@@ -266,6 +269,5 @@ int main(int argc, char **argv)
         check_pools(name);
         check_arguments(name);
     }
-    check(is_its_hash_left, "verify_encoded_with leaves the hash that a text spells");
     return checks_failed != 0;
 }

@@ -207,6 +207,15 @@ static inline void look_everywhere(void)
     }
 }
 
+/* Makes a call with so much room above it that what looks afterwards has its frames there, and not where the call's
+ * frames were. */
+__attribute__((noinline, unused)) static uint32_t far_below(uint32_t (*does)(const void *), const void *arg)
+{
+    volatile uint8_t room[1 << 16];
+    room[0] = 0;
+    return does(arg) + room[0];
+}
+
 /* Whether none is found; the first few that are, are told. */
 static inline bool is_nothing_found(const char *after)
 {

@@ -17,8 +17,9 @@
  *
  * Memory. A call that hashes asks for at most the settings' mem_cost KiB for its blocks, and for a few
  * words a lane, the tag and the text; one that reads a text asks for less than its length. All of it is
- * given back before the call returns, the blocks without being cleared first; only a call over a memory
- * that the caller keeps (.._in) leaves the blocks there. The stack below a call is overwritten.
+ * given back before the call returns, after it was overwritten, or to the system, which clears it; only a call
+ * over a memory that the caller keeps (.._in) leaves the blocks there. A call that hashes or verifies overwrites
+ * the stack below.
  *
  * Threads. The library starts no thread and keeps no state; the calls of proved_argon2_threads.h start some. Calls may
  * run in several threads at once, as long as none writes to what another one is passed. No call may come from a signal
@@ -26,8 +27,8 @@
  * C library.
  *
  * Symbols. Each of the library's begins with proved_argon2_, so that a program may link libargon2 too.
- * rattle_alloc, rattle_realloc and rattle_dealloc are those of the toolchain's archive liblibc_c.a, which
- * is linked with it: they call the program's malloc, realloc and free.
+ * rattle_alloc, rattle_realloc and rattle_dealloc, by which the proved code takes memory, are the library's own: they
+ * call the program's malloc and free, and mmap and munmap for 1 MiB and more.
  */
 #ifndef PROVED_ARGON2_H
 #define PROVED_ARGON2_H

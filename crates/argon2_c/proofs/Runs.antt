@@ -1,5 +1,5 @@
 -- From the answers of the steps to the tag.
-use Rattle.std.proofs.Common.{◌≡◌, ℕ, zero, suc, ◌+◌, ◌-◌, ◌*◌, ◌/◌, ◌%◌, ◌<◌, ◌≤◌, List, [], ◌∷◌, length, get_or, Some, Result, Ok, Err, refl, arith, ap, subst, sym, inl, inr, ◌∙◌}
+use Rattle.std.proofs.Common.{◌≡◌, ℕ, ◌-◌, ◌*◌, ◌/◌, ◌%◌, ◌<◌, List, [], ◌∷◌, length, get_or, Some, Result, Ok, Err, refl, arith, sym, inl, inr, ◌∙◌}
 use Rattle.std.specs.List.{remove}
 use Rattle.std.proofs.lemmas.Bool.Decides.{eqb_tells}
 use Rattle.std.proofs.lemmas.List.Edits.{length-remove}
@@ -12,9 +12,8 @@ use Rattle.argon2_memory.specs.Views.Lent.{FillsLent, HoldsSlice}
 use Rattle.argon2_memory.specs.Views.Segments.{IsReady}
 use Rattle.argon2_fill.specs.Laws.Lent.{IsLentRun}
 use Rattle.argon2_fill.proofs.Filling.Lent.{run_agrees}
-use Rattle.argon2_c.specs.Jobs.{Begins, BeginsAt, Fills, FillsAt, Finishes, FinishesAt, IsPlace, IsTagOf, Tells, Verifies, VerifiesAt, job_of, setting_of_job}
+use Rattle.argon2_c.specs.Jobs.{BeginsAt, FillsAt, Finishes, FinishesAt, IsPlace, IsTagOf, Tells, Verifies, VerifiesAt, job_of, setting_of_job}
 use Rattle.argon2_c.specs.Runs.{IsRun, slice_at}
-use Rattle.argon2_c.specs.declared.jobs.LentJob.{LentJob}
 use Rattle.argon2_c.specs.declared.refusal.Refusal.{Refusal}
 use Rattle.argon2_c.specs.declared.refusal.Refusal.TheVariants.{Mismatch, WrongLength, WrongBlocks}
 use Rattle.argon2_c.proofs.JobNumbers.{accepted_hash, recovered, setting_that_fits}

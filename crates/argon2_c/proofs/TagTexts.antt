@@ -1,7 +1,7 @@
 -- What is left in a buffer for the text of a given tag.
-use Rattle.std.proofs.Common.{◌≡◌, ℕ, ◌<◌, ◌≤◌, false, true, List, [], length, Option, None, Some, Result, Ok, Err, nat_lt, refl, ap, sym, arith, Bor, ◌∙◌}
+use Rattle.std.proofs.Common.{◌≡◌, ℕ, ◌<◌, ◌≤◌, false, true, List, length, Option, None, Some, Result, Ok, Err, nat_lt, refl, ap, arith, Bor}
 use Rattle.std.proofs.lemmas.Bool.{eq-eqb, le-ltb, lt-ltb, ne_eqb}
-use Rattle.std.specs.Prelude.{◌==◌, ◌&&◌}
+use Rattle.std.specs.Prelude.{◌==◌}
 use Rattle.argon2.specs.ConfigType.{Config}
 use Rattle.argon2.specs.ErrorType.{Error}
 use Rattle.argon2.specs.ErrorType.TheVariants.{OutOfMemory}

@@ -1,5 +1,5 @@
 -- From the library's verdict to a judgement.
-use Rattle.std.proofs.Common.{◌≡◌, Bool, true, false, Option, None, Some, Result, Ok, Err, refl, ap}
+use Rattle.std.proofs.Common.{◌≡◌, Bool, true, false, Option, None, Some, Ok, Err, refl, ap}
 use Rattle.std.specs.Prelude.{◌↔◌, IsTrue}
 use Rattle.argon2.specs.ErrorType.{Error}
 use Rattle.argon2.specs.Outcome.{IsOutcome}

@@ -1,5 +1,5 @@
 -- From the library's verdict within limits to a judgement.
-use Rattle.std.proofs.Common.{◌≡◌, Bool, true, false, Option, Ok, Err, Result, refl, ap}
+use Rattle.std.proofs.Common.{◌≡◌, Bool, true, false, Option, Ok, Err, Result, refl}
 use Rattle.std.specs.Prelude.{◌↔◌, IsTrue}
 use Rattle.argon2.specs.ErrorType.{Error}
 use Rattle.argon2.specs.Outcome.{IsOutcome}

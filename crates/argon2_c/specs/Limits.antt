@@ -1,5 +1,5 @@
 -- What the call within limits answers.
-use Rattle.std.specs.Prelude.{◌≡◌, ℕ, Bool, true, false, List, Result, Ok, Err, IsUtf8}
+use Rattle.std.specs.Prelude.{◌≡◌, ℕ, Bool, true, false, List, Result, Err, IsUtf8}
 use Rattle.argon2.specs.ConfigType.{Config}
 use Rattle.argon2.specs.ErrorType.TheVariants.{DecodingFail}
 use Rattle.argon2.specs.Grammar.{Spells, SpellsNothing}

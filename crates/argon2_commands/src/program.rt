@@ -14,6 +14,7 @@ use crate::answer::Answer;
 use crate::command::Command;
 use crate::command_line::{CommandLine, arguments};
 use crate::fault::Fault;
+use argon2::parts::memory::wipe_stack;
 use std::alloc::Global;
 use std::io;
 use std::io::{Read, Write};
@@ -52,6 +53,7 @@ pub fn start<R: Threads + Wait + Sync, L: CommandLine, I: Read, O: Write, E: Wri
         Err(fault) => return ExitCode::from(fault.report(errors)),
     };
     let status = run(rt, alloc, words.as_slice(), input, output, errors);
+    wipe_stack();
     ExitCode::from(status)
 }
 
@@ -72,6 +74,8 @@ pub fn start<R: Threads + Wait + Sync, L: CommandLine, I: Read, O: Write, E: Wri
 /// it lacked memory for that, the status is 2, and the line that of a refusal for want of memory. A
 /// fault of an earlier kind in the order words, input, call, output is told first, and nothing is
 /// written to `output` before the answer is whole.
+// Its frames have H0. It is never inlined, so that `start` may overwrite them.
+#[inline(never)]
 pub fn run<R: Threads + Wait + Sync, I: Read, O: Write, E: Write>(
     rt: &R,
     alloc: Global,

@@ -3,4 +3,5 @@
 
 pub mod fill;
 pub mod lent;
+pub mod stack;
 pub mod workers;

@@ -137,14 +137,14 @@ pub fn fill_parallel_with<R: Threads + Wait + Sync, G: Gate, P: Permit>(
     recall_context(context);
     recall_workers(context);
     let workers = context.config.workers();
-    let job = Job::new(context);
+    let first_job = Job::new(context);
     // Moved out, as in `fill_sequential`. Where memory or a worker is refused, they are lost.
     let mut slices = take_slices(memory);
-    for n in 0..slice_count(&job) {
-        let slice = numbered_job(&job, n);
+    for n in 0..slice_count(&first_job) {
+        let job = numbered_job(&first_job, n);
         let first = n * u64::from(workers);
-        fill_slice_by_workers(rt, alloc, &slice, &mut slices, gate, permit, first, workers)?;
+        fill_slice_by_workers(rt, alloc, &job, &mut slices, gate, permit, first, workers)?;
     }
-    *memory = memory_of_slices(job.lanes(), job.segment_length(), slices);
+    *memory = memory_of_slices(first_job.lanes(), first_job.segment_length(), slices);
     Ok(())
 }

@@ -2,4 +2,4 @@
 pub mod Jobs
 pub mod References
 pub mod Recurrences
-pub mod Allowed
+pub mod ReferenceSets

@@ -98,8 +98,8 @@ pub fn prehash_of_job(job: &Job) -> [u8; PREHASH_DIGEST_LENGTH]
     job.prehash
 }
 
-/// The first slice of the first pass of a setting, which is told in its numbers. A function and no
-/// method, since `Job` is seen by users.
+/// The job of the first slice of the first pass, for a setting that is told in its numbers. A
+/// function and no method, since `Job` is seen by users.
 pub fn job_of_setting(
     prehash: &[u8; PREHASH_DIGEST_LENGTH],
     variant: Variant,
@@ -144,7 +144,7 @@ pub fn job_of_setting(
 }
 
 impl Job {
-    /// The first slice of the first pass. All inputs were hashed when the context was made.
+    /// The job of the first slice of the first pass. All inputs were hashed when the context was made.
     #[tactic(auto, unfolding(argon2_standard::specs::Standard::Prehash::setting_of))]
     pub fn new(context: &Context<'_>) -> Job
         ensures job { IsJob result }

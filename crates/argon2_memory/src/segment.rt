@@ -19,7 +19,7 @@ use argon2_blocks::block::{Block, fill_block};
 use argon2_blocks::common::QWORDS_IN_BLOCK;
 use beside::{Beside, source_before};
 pub use beside::{Snapshot, fill_lent_segment, fill_segment, others, take_slice};
-pub use positions::{allowed_column, allowed_count, pick, reference_positions};
+pub use positions::{pick, reference_positions, reference_set_column, reference_set_size};
 use std::alloc::{AllocError, Global};
 use std::marker::Model;
 

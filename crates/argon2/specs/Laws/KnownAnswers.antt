@@ -1,12 +1,12 @@
 -- What the definitions give where the answer is known from outside. The contract of `known_answers`
--- states these equations, and the checker computes both sides. The windows are those of RFC 9106, 3.4.2,
--- written out by hand; the word is that of a Python program that follows RFC 9106 line by line, and that
--- gives the three tags of its section 5.
+-- states these equations, and the checker computes both sides. The reference sets are those of RFC 9106,
+-- 3.4.2, written out by hand; the word is that of a Python program that follows RFC 9106 line by line, and
+-- that gives the three tags of its section 5.
 use Rattle.std.specs.Prelude.{◌≡◌, ◌+◌, ◌^◌, ℕ, List, [], ◌∷◌}
 use Rattle.argon2_standard.specs.declared.variant.Variant.TheVariants.{Argon2i}
 use Rattle.argon2_standard.specs.declared.version.Version.TheVariants.{Version13}
 use Rattle.argon2_standard.specs.Standard.Setting.{Position, Setting}
-use Rattle.argon2_standard.specs.Standard.Reference.{pick, reference_window}
+use Rattle.argon2_standard.specs.Standard.Reference.{pick, reference_set}
 use Rattle.argon2_standard.specs.Standard.Recurrence.{address_word}
 
 -- two passes of Argon2i over two lanes with segments of this many blocks
@@ -24,43 +24,43 @@ two_lanes_of length = record {
 abbrev pub in_lane_0 : ℕ → ℕ → Position
 in_lane_0 pass column = record { pass = pass; lane = 0; column = column }
 
--- the columns 0 to 7 of the passes 0 and 1 that the block at this pass and column of lane 0 may refer to in
--- a lane, where a segment has two blocks
-abbrev pub window_in : ℕ → ℕ → ℕ → List (ℕ × ℕ)
-window_in pass column lane = reference_window (two_lanes_of 2) (in_lane_0 pass column) lane
+-- the reference set in a lane, of the columns 0 to 7 of the passes 0 and 1, for the block at this pass and
+-- column of lane 0, where a segment has two blocks
+abbrev pub reference_set_in : ℕ → ℕ → ℕ → List (ℕ × ℕ)
+reference_set_in pass column lane = reference_set (two_lanes_of 2) (in_lane_0 pass column) lane
 
 -- in the first slice: the segment so far, but for the block before
 abbrev pub FirstSlice : Type 0
-FirstSlice = reference_window (two_lanes_of 4) (in_lane_0 0 3) 0 ≡ (0, 0) ∷ (0, 1) ∷ []
+FirstSlice = reference_set (two_lanes_of 4) (in_lane_0 0 3) 0 ≡ (0, 0) ∷ (0, 1) ∷ []
 
 -- in the first pass, the own lane: the slices before and the segment so far, but for the block before
 abbrev pub FirstPass : Type 0
-FirstPass = window_in 0 5 0 ≡ (0, 0) ∷ (0, 1) ∷ (0, 2) ∷ (0, 3) ∷ []
+FirstPass = reference_set_in 0 5 0 ≡ (0, 0) ∷ (0, 1) ∷ (0, 2) ∷ (0, 3) ∷ []
 
 -- another lane: the slices before
 abbrev pub FirstPassOtherLane : Type 0
-FirstPassOtherLane = window_in 0 5 1 ≡ (0, 0) ∷ (0, 1) ∷ (0, 2) ∷ (0, 3) ∷ []
+FirstPassOtherLane = reference_set_in 0 5 1 ≡ (0, 0) ∷ (0, 1) ∷ (0, 2) ∷ (0, 3) ∷ []
 
 -- at the first index of a segment: the slices before, but for their last block, in both lanes
 abbrev pub FirstPassFirstIndex : Type 0
-FirstPassFirstIndex = (window_in 0 4 0 ≡ (0, 0) ∷ (0, 1) ∷ (0, 2) ∷ []) × (window_in 0 4 1 ≡ (0, 0) ∷ (0, 1) ∷ (0, 2) ∷ [])
+FirstPassFirstIndex = (reference_set_in 0 4 0 ≡ (0, 0) ∷ (0, 1) ∷ (0, 2) ∷ []) × (reference_set_in 0 4 1 ≡ (0, 0) ∷ (0, 1) ∷ (0, 2) ∷ [])
 
 -- in a later pass, the own lane: the last three segments, of this pass and of the last, and the segment
 -- so far, but for the block before
 abbrev pub LaterPass : Type 0
-LaterPass = window_in 1 5 0 ≡ (0, 6) ∷ (0, 7) ∷ (1, 0) ∷ (1, 1) ∷ (1, 2) ∷ (1, 3) ∷ []
+LaterPass = reference_set_in 1 5 0 ≡ (0, 6) ∷ (0, 7) ∷ (1, 0) ∷ (1, 1) ∷ (1, 2) ∷ (1, 3) ∷ []
 
 -- in its last slice the last three segments are all of this pass
 abbrev pub LaterPassLastSlice : Type 0
-LaterPassLastSlice = window_in 1 7 0 ≡ (1, 0) ∷ (1, 1) ∷ (1, 2) ∷ (1, 3) ∷ (1, 4) ∷ (1, 5) ∷ []
+LaterPassLastSlice = reference_set_in 1 7 0 ≡ (1, 0) ∷ (1, 1) ∷ (1, 2) ∷ (1, 3) ∷ (1, 4) ∷ (1, 5) ∷ []
 
 -- another lane: the last three segments
 abbrev pub LaterPassOtherLane : Type 0
-LaterPassOtherLane = window_in 1 5 1 ≡ (0, 6) ∷ (0, 7) ∷ (1, 0) ∷ (1, 1) ∷ (1, 2) ∷ (1, 3) ∷ []
+LaterPassOtherLane = reference_set_in 1 5 1 ≡ (0, 6) ∷ (0, 7) ∷ (1, 0) ∷ (1, 1) ∷ (1, 2) ∷ (1, 3) ∷ []
 
 -- at the first index: the last three segments, but for their last block
 abbrev pub LaterPassFirstIndex : Type 0
-LaterPassFirstIndex = window_in 1 4 1 ≡ (0, 6) ∷ (0, 7) ∷ (1, 0) ∷ (1, 1) ∷ (1, 2) ∷ []
+LaterPassFirstIndex = reference_set_in 1 4 1 ≡ (0, 6) ∷ (0, 7) ∷ (1, 0) ∷ (1, 1) ∷ (1, 2) ∷ []
 
 -- of these five the least lower half picks the last, and the greatest the first; the upper half is the lane
 abbrev pub PicksEnds : Type 0

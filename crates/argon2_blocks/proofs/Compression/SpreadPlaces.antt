@@ -4,58 +4,9 @@ use Rattle.std.specs.List.{range_with_len}
 use Rattle.std.specs.Simd.Lanes.{Each1, pick_l}
 use Rattle.std.proofs.lemmas.Simd.{Each1-get_or}
 use Rattle.argon2_blocks.specs.Views.Lane.{column, vector_pair}
-use Rattle.argon2_blocks.specs.Views.Shuffles.{high_halves, low_halves}
-use Rattle.argon2_blocks.specs.Views.Spread.{diagonals, four_and_four, nth_vector, odd_and_even, spread_row, turned_halves, undo_diagonals}
+use Rattle.argon2_blocks.specs.Views.Spread.{four_and_four, high_halves, low_halves, nth_vector, spread_row}
 use Rattle.argon2_blocks.proofs.Compression.Chunks.{Long}
-use Rattle.argon2_blocks.proofs.Compression.Places.{by_elements, each_of_4, each_of_8, two_eights}
-
--- the vectors, one by one
-abbrev pub all_of_8 : List (List ℕ) → List (List ℕ)
-all_of_8 v = pick_l [] v (range_with_len 0 8)
-
--- what holds of eight vectors, one by one, for each of four rows or columns
-by_vectors : (P : List (List ℕ) → ℕ → Type 0) → (v : List (List ℕ)) → length v ≡ 8 →
-    P (all_of_8 v) 0 → P (all_of_8 v) 1 → P (all_of_8 v) 2 → P (all_of_8 v) 3 → (k : ℕ) → k < 4 → P v k
-by_vectors P v l p0 p1 p2 p3 k h = by_elements [] 8 (λ v. P v k) v l (each_of_4 (P (all_of_8 v)) p0 p1 p2 p3 k h)
-
--- ---- diagonals
-
--- the first, third and last two of eight vectors with their halves turned
-abbrev pub turned_rows : ℕ → ℕ → ℕ → List (List ℕ) → List (List ℕ)
-turned_rows a c d v =
-    turned_halves a (nth_vector v 0) ∷ turned_halves a (nth_vector v 1) ∷ nth_vector v 2 ∷ nth_vector v 3
-    ∷ turned_halves c (nth_vector v 4) ∷ turned_halves c (nth_vector v 5) ∷ turned_halves d (nth_vector v 6) ∷ turned_halves d (nth_vector v 7) ∷ []
-
--- with the halves turned by 3, 1 and 2 lanes, each of four rows has its diagonals as columns
-pub rows_aligned : (v : List (List ℕ)) → length v ≡ 8 → (j : ℕ) → j < 4 → spread_row (turned_rows 3 1 2 v) j ≡ diagonals (spread_row v j)
-rows_aligned v l j h = by_vectors (λ v j. spread_row (turned_rows 3 1 2 v) j ≡ diagonals (spread_row v j)) v l refl refl refl refl j h
-
--- with the halves turned by 1, 3 and 2 lanes, each of four rows has its diagonals back
-pub rows_restored : (v : List (List ℕ)) → length v ≡ 8 → (j : ℕ) → j < 4 → spread_row (turned_rows 1 3 2 v) j ≡ undo_diagonals (spread_row v j)
-rows_restored v l j h = by_vectors (λ v j. spread_row (turned_rows 1 3 2 v) j ≡ undo_diagonals (spread_row v j)) v l refl refl refl refl j h
-
--- the odd lanes of vector i and the even lanes of vector k
-abbrev pub mingled : List (List ℕ) → ℕ → ℕ → List ℕ
-mingled v i k = odd_and_even (nth_vector v i) (nth_vector v k)
-
-abbrev pub aligned_columns : List (List ℕ) → List (List ℕ)
-aligned_columns v =
-    mingled v 1 0 ∷ mingled v 0 1 ∷ nth_vector v 2 ∷ nth_vector v 3 ∷ mingled v 4 5 ∷ mingled v 5 4 ∷ nth_vector v 7 ∷ nth_vector v 6 ∷ []
-
-abbrev pub restored_columns : List (List ℕ) → List (List ℕ)
-restored_columns v =
-    mingled v 0 1 ∷ mingled v 1 0 ∷ nth_vector v 2 ∷ nth_vector v 3 ∷ mingled v 5 4 ∷ mingled v 4 5 ∷ nth_vector v 7 ∷ nth_vector v 6 ∷ []
-
--- in the aligned vectors each of four columns of the block has its diagonals as columns
-pub columns_aligned : (v : List (List ℕ)) → length v ≡ 8 → (k : ℕ) → k < 4 → column (nth_vector (aligned_columns v)) k ≡ diagonals (column (nth_vector v) k)
-columns_aligned v l k h =
-    by_vectors (λ v k. column (nth_vector (aligned_columns v)) k ≡ diagonals (column (nth_vector v) k)) v l refl refl refl refl k h
-
--- in the restored vectors each of four columns of the block has its diagonals back
-pub columns_restored : (v : List (List ℕ)) → length v ≡ 8 → (k : ℕ) → k < 4
-    → column (nth_vector (restored_columns v)) k ≡ undo_diagonals (column (nth_vector v) k)
-columns_restored v l k h =
-    by_vectors (λ v k. column (nth_vector (restored_columns v)) k ≡ undo_diagonals (column (nth_vector v) k)) v l refl refl refl refl k h
+use Rattle.argon2_blocks.proofs.Compression.Places.{each_of_4, each_of_8, two_eights}
 
 -- ---- from vectors to rows, from rows to columns, and back to vectors
 

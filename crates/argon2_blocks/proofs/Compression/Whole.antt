@@ -85,22 +85,20 @@ joined_pairs v l = by_elements [] 16 (λ v. vector_words v ≡ flat_map (vector_
 
 -- ---- the whole
 
--- From rows in any places (a, then permuted p) to columns in any places (c, then permuted d) and back:
--- each is told by what stands in row, or column, number j.
-pub whole : (r o : List (List ℕ)) (a p c d : ℕ → List ℕ) → length r ≡ 16 → Each1 Long r → length o ≡ 16 →
-    ((j : ℕ) → j < 8 → a j ≡ vector_pair r j) →
-    ((j : ℕ) → j < 8 → p j ≡ permute_p (a j)) →
-    ((k : ℕ) → k < 8 → c k ≡ column p k) →
-    ((k : ℕ) → k < 8 → d k ≡ permute_p (c k)) →
+-- From the vectors r over the permuted rows p and the permuted columns d to the vectors o, wherever
+-- rows and columns stand: each is told by its number.
+pub whole : (r o : List (List ℕ)) (p d : ℕ → List ℕ) → length r ≡ 16 → Each1 Long r → length o ≡ 16 →
+    ((j : ℕ) → j < 8 → p j ≡ permute_p (vector_pair r j)) →
+    ((k : ℕ) → k < 8 → d k ≡ permute_p (column p k)) →
     ((j : ℕ) → j < 8 → vector_pair o j ≡ column d j) →
     vector_words o ≡ block_of_registers (transpose (permute_rows (transpose (permute_rows (registers_of (vector_words r))))))
-whole r o a p c d lr long lo ha hp hc hd ho =
+whole r o p d lr long lo hp hd ho =
     let row_of = λ (j : ℕ). permute_p (row (vector_words r) j) in
     let column_of = λ (k : ℕ). permute_p (column row_of k) in
     let rows_p : (j : ℕ) → j < 8 → p j ≡ row_of j =
-    λ j h. hp j h ∙ ap permute_p (ha j h ∙ row_of_vectors r lr long j h) in
+    λ j h. hp j h ∙ ap permute_p (row_of_vectors r lr long j h) in
     let columns_d : (k : ℕ) → k < 8 → d k ≡ column_of k =
-    λ k h. hd k h ∙ ap permute_p (hc k h ∙ column_same p row_of rows_p k) in
+    λ k h. hd k h ∙ ap permute_p (column_same p row_of rows_p k) in
     let row_o : (j : ℕ) → j < 8 → vector_pair o j ≡ column column_of j =
     λ j h. ho j h ∙ column_same d column_of columns_d j in
     joined_pairs o lo
@@ -108,8 +106,8 @@ whole r o a p c d lr long lo ha hp hc hd ho =
     ∙ sym (both_steps (vector_words r)))
 
 -- the exclusive or of two blocks, combined with what the steps make of it
-pub compressed : (x y lx ly r made : List ℕ) → lx ≡ x → ly ≡ y → r ≡ xor lx ly
+pub compressed : (x y r made : List ℕ) → r ≡ xor x y
     → made ≡ block_of_registers (transpose (permute_rows (transpose (permute_rows (registers_of r))))) →
     xor r made ≡ compress_g x y
 unfolding compress_g
-compressed x y lx ly r made ex ey er em = rw (em, er, ex, ey) refl
+compressed x y r made er em = rw (em, er) refl

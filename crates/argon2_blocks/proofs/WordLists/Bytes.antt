@@ -15,31 +15,9 @@ use borrow.Rule.Slice.PartMut.{put_mid}
 
 -- ---- one word
 
--- the word that begins a list, from its eight bytes one by one
-from_le_bytes-take : (l : List ℕ) → from_le_bytes w64 (take 8 l) ≡
-    from_le_bytes w64 (get_or l 0 0 ∷ get_or l 1 0 ∷ get_or l 2 0 ∷ get_or l 3 0
-    ∷ get_or l 4 0 ∷ get_or l 5 0 ∷ get_or l 6 0 ∷ get_or l 7 0 ∷ [])
-from_le_bytes-take [] = refl
-from_le_bytes-take (a ∷ []) = refl
-from_le_bytes-take (a ∷ b ∷ []) = refl
-from_le_bytes-take (a ∷ b ∷ c ∷ []) = refl
-from_le_bytes-take (a ∷ b ∷ c ∷ d ∷ []) = refl
-from_le_bytes-take (a ∷ b ∷ c ∷ d ∷ e ∷ []) = refl
-from_le_bytes-take (a ∷ b ∷ c ∷ d ∷ e ∷ f ∷ []) = refl
-from_le_bytes-take (a ∷ b ∷ c ∷ d ∷ e ∷ f ∷ g ∷ []) = refl
-from_le_bytes-take (a ∷ b ∷ c ∷ d ∷ e ∷ f ∷ g ∷ h ∷ r) = refl
-
 -- a part of eight bytes
 slice_range_8 : (bytes : List ℕ) (at : ℕ) → slice_range bytes at (at + 8) ≡ take 8 (drop at bytes)
 slice_range_8 bytes at = let e : at + 8 - at ≡ 8 = omega arith in rw e refl
-
--- the word whose bytes begin at an index, from its eight bytes one by one
-pub word_at : (bytes : List ℕ) (at : ℕ) → from_le_bytes w64 (slice_range bytes at (at + 8)) ≡
-    from_le_bytes w64 (get_or bytes at 0 ∷ get_or bytes (at + 1) 0 ∷ get_or bytes (at + 2) 0 ∷ get_or bytes (at + 3) 0
-    ∷ get_or bytes (at + 4) 0 ∷ get_or bytes (at + 5) 0 ∷ get_or bytes (at + 6) 0 ∷ get_or bytes (at + 7) 0 ∷ [])
-word_at bytes at =
-    let e : at + 0 ≡ at = omega arith in
-    ap (from_le_bytes w64) (slice_range_8 bytes at) ∙ from_le_bytes-take (drop at bytes) ∙ (simp (get_or-drop, e))
 
 -- ---- a loop's step
 

@@ -40,6 +40,17 @@ undo_diagonals words =
 abbrev pub turned_halves : ℕ → List ℕ → List ℕ
 turned_halves by a = map (λ i. slice_index a (4 * (i / 4) + (i + by) % 4)) (range_with_len 0 8)
 
+-- the first, and the last, four lanes of each of two vectors
+abbrev pub low_halves : List ℕ → List ℕ → List ℕ
+low_halves a b =
+    slice_index a 0 ∷ slice_index a 1 ∷ slice_index a 2 ∷ slice_index a 3
+    ∷ slice_index b 0 ∷ slice_index b 1 ∷ slice_index b 2 ∷ slice_index b 3 ∷ []
+
+abbrev pub high_halves : List ℕ → List ℕ → List ℕ
+high_halves a b =
+    slice_index a 4 ∷ slice_index a 5 ∷ slice_index a 6 ∷ slice_index a 7
+    ∷ slice_index b 4 ∷ slice_index b 5 ∷ slice_index b 6 ∷ slice_index b 7 ∷ []
+
 -- the odd lanes of one vector and the even lanes of another, by turns
 abbrev pub odd_and_even : List ℕ → List ℕ → List ℕ
 odd_and_even a b =

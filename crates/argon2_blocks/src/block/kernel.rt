@@ -10,8 +10,7 @@ ghost use Rattle.std.specs.Simd.Lanes.{zip2, Each1};
 ghost use Rattle.argon2_blocks.specs.Standard.Block.{xor};
 ghost use Rattle.argon2_blocks.specs.Standard.Compression.{block_of_registers, compress_g, permute_p, permute_rows, registers_of, transpose};
 ghost use Rattle.argon2_blocks.specs.Views.Lane.{column, vector_pair, vector_words};
-ghost use Rattle.argon2_blocks.specs.Views.Shuffles.{high_halves, low_halves};
-ghost use Rattle.argon2_blocks.specs.Views.Spread.{diagonals, four_and_four, nth_vector, odd_and_even, spread_row, turned_halves, undo_diagonals};
+ghost use Rattle.argon2_blocks.specs.Views.Spread.{diagonals, four_and_four, high_halves, low_halves, nth_vector, odd_and_even, spread_row, turned_halves, undo_diagonals};
 
 use super::Block;
 use super::lanes::{mix_two, recall_vector};
@@ -22,11 +21,11 @@ use std::simd::prelude::*;
 const LANES: usize = 8;
 
 /// How many vectors a block has.
-pub(super) const VECTORS: usize = QWORDS_IN_BLOCK / LANES;
+const VECTORS: usize = QWORDS_IN_BLOCK / LANES;
 
 // The first four lanes of each vector.
 #[inline(always)]
-pub(super) fn low_halves(a: u64x8, b: u64x8) -> u64x8
+fn low_halves(a: u64x8, b: u64x8) -> u64x8
     ensures value { result ≡ low_halves a b }
     ensures left { length a ≡ 8 }
     ensures right { length b ≡ 8 }
@@ -38,7 +37,7 @@ pub(super) fn low_halves(a: u64x8, b: u64x8) -> u64x8
 
 // The last four lanes of each vector.
 #[inline(always)]
-pub(super) fn high_halves(a: u64x8, b: u64x8) -> u64x8
+fn high_halves(a: u64x8, b: u64x8) -> u64x8
     ensures value { result ≡ high_halves a b }
     ensures left { length a ≡ 8 }
     ensures right { length b ≡ 8 }
@@ -278,7 +277,7 @@ fn first_sum(x: &[u64; QWORDS_IN_BLOCK], y: &[u64; QWORDS_IN_BLOCK]) -> u64x8
 
 // The exclusive or of two blocks, eight words to a vector.
 #[inline(always)]
-pub(super) fn sum(x: &[u64; QWORDS_IN_BLOCK], y: &[u64; QWORDS_IN_BLOCK]) -> [u64x8; VECTORS]
+fn sum(x: &[u64; QWORDS_IN_BLOCK], y: &[u64; QWORDS_IN_BLOCK]) -> [u64x8; VECTORS]
     ensures value { vector_words result ≡ xor x.now y.now }
     ensures long { Each1 (λ a. length a ≡ 8) result }
 {
@@ -294,7 +293,7 @@ pub(super) fn sum(x: &[u64; QWORDS_IN_BLOCK], y: &[u64; QWORDS_IN_BLOCK]) -> [u6
 
 // Writes the exclusive or of two lists of vectors.
 #[inline(always)]
-pub(super) fn store(x: &[u64x8; VECTORS], y: &[u64x8; VECTORS], w: &mut [u64; QWORDS_IN_BLOCK])
+fn store(x: &[u64x8; VECTORS], y: &[u64x8; VECTORS], w: &mut [u64; QWORDS_IN_BLOCK])
     requires left { Each1 (λ a. length a ≡ 8) x.now }
     requires right { Each1 (λ a. length a ≡ 8) y.now }
     ensures { w.new ≡ xor (vector_words x.now) (vector_words y.now) }
@@ -307,7 +306,7 @@ pub(super) fn store(x: &[u64x8; VECTORS], y: &[u64x8; VECTORS], w: &mut [u64; QW
 // Writes the exclusive or of two lists of vectors and of the old words. It is apart from `store`,
 // so that `with_xor` is looked at once a block, and old words are read only where they count.
 #[inline(always)]
-pub(super) fn store_onto(x: &[u64x8; VECTORS], y: &[u64x8; VECTORS], w: &mut [u64; QWORDS_IN_BLOCK])
+fn store_onto(x: &[u64x8; VECTORS], y: &[u64x8; VECTORS], w: &mut [u64; QWORDS_IN_BLOCK])
     requires left { Each1 (λ a. length a ≡ 8) x.now }
     requires right { Each1 (λ a. length a ≡ 8) y.now }
     ensures { w.new ≡ xor (xor (vector_words x.now) (vector_words y.now)) w.old }

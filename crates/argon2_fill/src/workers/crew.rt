@@ -4,6 +4,7 @@ ghost use Rattle.std.specs.Prelude.{◌≡◌, ◌↔◌, ◌+◌, ◌^◌, ◌<
 ghost use Rattle.argon2_fill.specs.Views.Permits.{PermitsAll};
 ghost use Rattle.argon2_fill.specs.Views.Boards.{AllDone, NoneOut};
 
+use crate::stack::wipe_stack;
 use crate::workers::board::{is_filled, put_lane, take_lane};
 use crate::workers::{Board, Gate};
 use argon2_memory::segment::Snapshot;
@@ -95,12 +96,14 @@ impl Handles {
     }
 }
 
-/// The stack of a worker, in bytes. At most 16 KiB of it were used when measured. The rest is for
-/// a program's thread-locals and the calls of a gate.
+/// The stack of a worker, in bytes. At most 16 KiB of it were used when measured, and `wipe_stack`
+/// takes little more. The rest is for a program's thread-locals and the calls of a gate.
 const STACK: usize = 256 * 1024;
 
 /// One worker: it takes, fills and puts one lane after another, until none waits or a filling or a
 /// put is refused.
+// Its frames have H0. It is never inlined, so that `work_and_wipe` may overwrite them.
+#[inline(never)]
 fn work<R: Wait, G: Gate>(rt: &R, board: &Mutex<Option<Board>>, snapshot: &Snapshot<'_>, gate: &G) {
     // Each lane goes out once, so these are takes enough. The prover needs a bound to see an end,
     // and does not see the board behind the lock.
@@ -120,6 +123,17 @@ fn work<R: Wait, G: Gate>(rt: &R, board: &Mutex<Option<Board>>, snapshot: &Snaps
     }
 }
 
+/// A worker's whole thread, whose stack the system may keep for others.
+fn work_and_wipe<R: Wait, G: Gate>(
+    rt: &R,
+    board: &Mutex<Option<Board>>,
+    snapshot: &Snapshot<'_>,
+    gate: &G,
+) {
+    work(rt, board, snapshot, gate);
+    wipe_stack();
+}
+
 /// Tries once to start the worker of a number, which is permitted. The permit and the number are
 /// there for the clause alone: the thread gets neither, so threads need not share a permit.
 fn try_to_start<'s, E, R: Wait + Sync, G: Gate, P: Permit>(
@@ -135,7 +149,7 @@ fn try_to_start<'s, E, R: Wait + Sync, G: Gate, P: Permit>(
 {
     Builder::new()
         .stack_size(STACK)
-        .spawn_scoped(scope, move || work(rt, board, snapshot, gate))
+        .spawn_scoped(scope, move || work_and_wipe(rt, board, snapshot, gate))
         .ok()
 }
 

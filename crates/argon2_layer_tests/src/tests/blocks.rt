@@ -1,11 +1,11 @@
-//! The compression beside two other forms of it, and what blocks look like from outside.
+//! The compression beside a plain form of it, and what blocks look like from outside.
 
 mod plain;
 
 ghost use Rattle.std.specs.Prelude.{◌<◌};
 
 use argon2_blocks::blake2b::blake2b;
-use argon2_blocks::block::{Block, fill_block, fill_block_by_lanes, permute_lanes};
+use argon2_blocks::block::{Block, fill_block, permute_lanes};
 use plain::{fill_plainly, permute};
 use std::process::Abort;
 use std::simd::prelude::*;
@@ -38,16 +38,12 @@ fn short_hash_of(block: &Block) -> u128 {
     u128::from_be_bytes(hash)
 }
 
-// Compares the compression with the one over lanes and with the plain one.
+// Compares the compression with the plain one.
 fn check_fill(rt: &impl Abort, prev: &Block, reference: &Block, old: &Block) {
     for with_xor in [false, true] {
         let mut expected = Block::zero();
         old.copy_to(&mut expected);
         fill_plainly(prev, reference, &mut expected, with_xor);
-        let mut by_lanes = Block::zero();
-        old.copy_to(&mut by_lanes);
-        fill_block_by_lanes(prev, reference, &mut by_lanes, with_xor);
-        assert!(rt; by_lanes == expected, "by lanes, with_xor {with_xor}");
         let mut next = Block::zero();
         old.copy_to(&mut next);
         fill_block(prev, reference, &mut next, with_xor);

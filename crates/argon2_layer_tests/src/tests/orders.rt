@@ -145,8 +145,8 @@ fn run<'a>(
         blocks[at] = second;
     }
     for n in 0..4 * u64::from(job.passes()) {
-        let slice = job.at((n / 4) as u32, (n % 4) as u32);
-        run_slice(rt, alloc, &slice, &mut blocks, order)?;
+        let slice_job = job.at((n / 4) as u32, (n % 4) as u32);
+        run_slice(rt, alloc, &slice_job, &mut blocks, order)?;
     }
     assert!(rt; 0 < context.lane_length);
     let mut last = Block::zero();

@@ -2,13 +2,13 @@
 
 ghost use Rattle.std.specs.Prelude.{◌≡◌, ◌+◌, ◌*◌, ◌/◌, ◌^◌, [], ◌∷◌};
 ghost use Rattle.argon2_blocks.specs.Standard.Word.{low_half};
-ghost use Rattle.argon2_standard.specs.Standard.Reference.{pick, reference_window, window_index};
+ghost use Rattle.argon2_standard.specs.Standard.Reference.{pick, reference_set, relative_position};
 ghost use Rattle.argon2_standard.specs.Standard.Setting.{Position, Setting};
 ghost use Rattle.argon2_standard.specs.declared.variant.Variant.TheVariants.{Argon2d};
 ghost use Rattle.argon2_standard.specs.declared.version.Version.TheVariants.{Version13};
 
 use argon2_memory::job::Job;
-use argon2_memory::segment::{allowed_column, allowed_count, pick};
+use argon2_memory::segment::{pick, reference_set_column, reference_set_size};
 use argon2_settings::context::Context;
 use argon2_standard::config::Config;
 use argon2_standard::thread_mode::ThreadMode;
@@ -22,9 +22,9 @@ use std::test::Fail;
 /// the last.
 ///
 /// It does nothing when it runs. Its contract states the values, and the checker computes them.
-#[tactic(auto, unfolding(argon2_standard::specs::Standard::Reference::reference_window, argon2_standard::specs::Standard::Reference::pick))]
+#[tactic(auto, unfolding(argon2_standard::specs::Standard::Reference::reference_set, argon2_standard::specs::Standard::Reference::pick))]
 fn stated_references()
-    ensures window { let s : Setting = record {
+    ensures references { let s : Setting = record {
       prehash = [];
       variant = Argon2d;
       version = Version13;
@@ -33,10 +33,10 @@ fn stated_references()
       passes = 2;
     } in
         let at : Position = record { pass = 1; lane = 0; column = 4 } in
-        reference_window s at 1 ≡ (0, 6) ∷ (0, 7) ∷ (1, 0) ∷ (1, 1) ∷ (1, 2) ∷ [] }
+        reference_set s at 1 ≡ (0, 6) ∷ (0, 7) ∷ (1, 0) ∷ (1, 1) ∷ (1, 2) ∷ [] }
     ensures x { low_half 4294967295 * low_half 4294967295 / 2 ^ 32 ≡ 4294967294 }
     ensures y { 5 * 4294967294 / 2 ^ 32 ≡ 4 }
-    ensures place { window_index 5 4294967295 ≡ 0 }
+    ensures position { relative_position 5 4294967295 ≡ 0 }
     ensures first { let s : Setting = record {
       prehash = [];
       variant = Argon2d;
@@ -47,7 +47,7 @@ fn stated_references()
     } in
         let at : Position = record { pass = 1; lane = 0; column = 4 } in
         pick s (2 ^ 32 + 4294967295) at ≡ record { pass = 0; lane = 1; column = 6 } }
-    ensures last_place { window_index 5 0 ≡ 4 }
+    ensures last_position { relative_position 5 0 ≡ 4 }
     ensures last { let s : Setting = record {
       prehash = [];
       variant = Argon2d;
@@ -84,10 +84,10 @@ fn picks_among_the_blocks_of_another_lane(rt: HostRuntime) -> Result<(), Fail> {
     let job = first.at(1, 2);
     assert!(rt; job.lanes() == 2 && job.segment_length() == 2);
     assert!(rt; job.pass() == 1 && job.slice() == 2);
-    assert_eq!(rt; allowed_count(&job, 0, 0), 5);
-    for (place, column) in [(0, 6), (1, 7), (2, 0), (3, 1), (4, 2)] {
-        assert!(rt; place < 8);
-        assert_eq!(rt; allowed_column(&job, place), column);
+    assert_eq!(rt; reference_set_size(&job, 0, 0), 5);
+    for (position, column) in [(0, 6), (1, 7), (2, 0), (3, 1), (4, 2)] {
+        assert!(rt; position < 8);
+        assert_eq!(rt; reference_set_column(&job, position), column);
     }
     let other_lane = 1 << 32;
     assert_eq!(rt; pick(&job, 0, 0, other_lane), (1, 2));

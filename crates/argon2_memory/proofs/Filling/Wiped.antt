@@ -1,5 +1,5 @@
 -- Slices that are wiped keep their lanes and lengths.
-use Rattle.std.proofs.Common.{◌≡◌, ℕ, ◌<◌, List, [], map, length, get_or, arith, ap, sym, ◌∙◌}
+use Rattle.std.proofs.Common.{◌≡◌, ℕ, ◌<◌, List, [], map, length, get_or, arith, ap, ◌∙◌}
 use Rattle.std.proofs.lemmas.List.{get_or-map, length-map, length-replicate}
 use Rattle.argon2_blocks.specs.Standard.Block.{zero_block}
 use Rattle.argon2_memory.specs.Views.Filling.{no_segment}

@@ -10,7 +10,7 @@ use Rattle.argon2_blocks.specs.Standard.Word.{high_half}
 use Rattle.std.specs.List.{AllByRecursion, range_with_len}
 use Rattle.argon2_standard.specs.Standard.Setting.{Setting, Position, lane_length, slice_of, index_of}
 use Rattle.argon2_memory.specs.Views.Jobs.{IsSetting, IsPosition}
-use Rattle.argon2_standard.specs.Standard.Reference.{columns_between, columns_of_last_pass, without_last, reference_window, window_index, drawn_lane, pick}
+use Rattle.argon2_standard.specs.Standard.Reference.{columns_between, columns_of_last_pass, without_last, reference_set, relative_position, drawn_lane, pick}
 
 module _ (P : ℕ × ℕ → Type 0) where
   pub all-append : (xs ys : List (ℕ × ℕ)) → AllByRecursion P xs → AllByRecursion P ys → AllByRecursion P (xs ++ ys)
@@ -62,15 +62,15 @@ module _ (s : Setting) (at : Position) (lane : ℕ) where
   cut-readable true xs h = all-take (IsReadable s at lane) (length xs - 1) xs h
   cut-readable false xs h = h
 
-  pub allowed-readable : AllByRecursion (IsReadable s at lane) (reference_window s at lane)
-  unfolding reference_window
-  allowed-readable =
+  pub reference_set-readable : AllByRecursion (IsReadable s at lane) (reference_set s at lane)
+  unfolding reference_set
+  reference_set-readable =
       cut-readable (lane == at.lane || index_of s at.column == 0) _
       (all-append (IsReadable s at lane) _ _
       (all-append (IsReadable s at lane) _ _ (left-readable at.pass refl) before-readable)
       (own-readable (lane == at.lane) (λ h. eqb-true lane at.lane h)))
 
--- an element of W comes before the block: it is of the last pass, or of this one in an earlier column
+-- an element of the reference set comes before the block: it is of the last pass, or of this one in an earlier column
 abbrev pub IsBefore : Setting → Position → ℕ × ℕ → Type 0
 IsBefore s at e = ((suc e.0 ≡ at.pass) × (e.1 < lane_length s)) ⊎ ((e.0 ≡ at.pass) × (e.1 < at.column))
 
@@ -145,11 +145,11 @@ module _ (s : Setting) (at : Position) (good : IsSetting s) (here : IsPosition s
       let nothing : slice_of s at.column * s.segment_length ≡ 0 = rw no_slice (omega arith) in
       omega (arith, own, both, nothing)
 
-  two_allowed : (own : Bool) → (0 < at.pass ⊎ 1 < at.column) → (at.pass ≡ 0 → slice_of s at.column ≡ 0 → own ≡ true) →
+  two_references : (own : Bool) → (0 < at.pass ⊎ 1 < at.column) → (at.pass ≡ 0 → slice_of s at.column ≡ 0 → own ≡ true) →
       2 ≤ length (columns_of_last_pass s at.pass (slice_of s at.column)
       ++ columns_between at.pass 0 (slice_of s at.column * s.segment_length)
       ++ cond own (columns_between at.pass (slice_of s at.column * s.segment_length) at.column) [])
-  two_allowed own later own_first =
+  two_references own later own_first =
       elim (zero_or_more at.pass) [
         | inr h ↦ elsewhere-append _ (inl h)
         | inl no_pass ↦ elim (zero_or_more (slice_of s at.column)) [
@@ -159,15 +159,15 @@ module _ (s : Setting) (at : Position) (good : IsSetting s) (here : IsPosition s
         ]
       ]
 
-  pub some_allowed : (lane : ℕ) → (0 < at.pass ⊎ 1 < at.column) → (at.pass ≡ 0 → slice_of s at.column ≡ 0 → (lane == at.lane) ≡ true) →
-      0 < length (reference_window s at lane)
-  unfolding reference_window
-  some_allowed lane later own_first =
-      cut_leaves_some (lane == at.lane || index_of s at.column == 0) _ (two_allowed (lane == at.lane) later own_first)
+  pub some_reference : (lane : ℕ) → (0 < at.pass ⊎ 1 < at.column) → (at.pass ≡ 0 → slice_of s at.column ≡ 0 → (lane == at.lane) ≡ true) →
+      0 < length (reference_set s at lane)
+  unfolding reference_set
+  some_reference lane later own_first =
+      cut_leaves_some (lane == at.lane || index_of s at.column == 0) _ (two_references (lane == at.lane) later own_first)
 
--- the place drawn in a list that is not empty is a place of the list
-pub drawn_place_fits : (n word : ℕ) → 0 < n → window_index n word < n
-drawn_place_fits n word h = omega arith
+-- the relative position drawn in a set that is not empty is below its size
+pub relative_position_fits : (n word : ℕ) → 0 < n → relative_position n word < n
+relative_position_fits n word h = omega arith
 
 -- ---- the pick
 
@@ -189,15 +189,15 @@ module _ (s : Setting) (word : ℕ) (at : Position) where
   drawn_lane_fits good here =
       cond_below ((at.pass == 0) && (slice_of s at.column == 0)) here.lane_fits (mod-lt (high_half word) good.some_lane)
 
--- the pick is an element of W, so an earlier place
+-- the pick is an element of the reference set, so an earlier place
 pub pick-readable : (s : Setting) (word : ℕ) (at : Position) → IsSetting s → IsPosition s at → (0 < at.pass ⊎ 1 < at.column) →
     IsReadable s at (pick s word at).lane ((pick s word at).pass, (pick s word at).column)
 unfolding pick
 pick-readable s word at good here later =
-    let some = some_allowed s at good here (drawn_lane s word at) later (own_lane_first s word at) in
-    all-get_or (IsReadable s at (drawn_lane s word at)) (reference_window s at (drawn_lane s word at)) (window_index (length (reference_window s at
+    let some = some_reference s at good here (drawn_lane s word at) later (own_lane_first s word at) in
+    all-get_or (IsReadable s at (drawn_lane s word at)) (reference_set s at (drawn_lane s word at)) (relative_position (length (reference_set s at
     (drawn_lane s word at))) word) (0, 0)
-    (allowed-readable s at (drawn_lane s word at)) (drawn_place_fits _ word some)
+    (reference_set-readable s at (drawn_lane s word at)) (relative_position_fits _ word some)
 
 -- the place that a word picks for a block comes before the block's own
 pub pick-before : (s : Setting) (word : ℕ) (at : Position) → IsSetting s → IsPosition s at → (0 < at.pass ⊎ 1 < at.column) →

@@ -2,7 +2,7 @@
 use Rattle.std.proofs.Common.{◌≡◌, ℕ, ◌+◌, ◌*◌, ◌<◌, ◌≤◌, ◌⊎◌, refl, inl, inr}
 use Rattle.argon2_standard.specs.Standard.Setting.{Setting, Position, slice_of}
 use Rattle.argon2_memory.specs.Views.Jobs.{IsSetting, IsPosition}
-use Rattle.argon2_standard.specs.Standard.Reference.{reference_window, pick}
+use Rattle.argon2_standard.specs.Standard.Reference.{reference_set, pick}
 use Rattle.argon2_standard.specs.Standard.Recurrence.{address_word}
 use Rattle.argon2_memory.specs.Views.Positions.{positions_in, reference_positions_of}
 use Rattle.argon2_memory.proofs.Recurrence.References.{pick-readable}
@@ -10,7 +10,7 @@ use Rattle.argon2_memory.proofs.Recurrence.References.{pick-readable}
 -- a setting's references are those of its variant, lanes, segment length and passes alone
 pub reference_positions_of-setting : (s : Setting) (pass slice lane : ℕ) →
     reference_positions_of s.variant s.lanes s.segment_length s.passes pass slice lane ≡ positions_in s pass slice lane
-unfolding pick reference_window address_word
+unfolding pick reference_set address_word
 reference_positions_of-setting s pass slice lane = refl
 
 -- a place of another lane that is read lies outside the slice that is written

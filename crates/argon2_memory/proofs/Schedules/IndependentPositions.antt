@@ -9,7 +9,7 @@ use Rattle.argon2_standard.specs.Standard.Recurrence.{address_word, addresses}
 use Rattle.argon2_memory.specs.Views.Positions.{positions_in, reference_positions_of}
 use Rattle.argon2_memory.proofs.Schedules.IndependentEntries.{reference_positions_of-setting}
 use Rattle.argon2_memory.specs.Views.Filling.{position_of, pick_of, independent_reference, reference_of}
-use Rattle.argon2_memory.proofs.Recurrence.Allowed.{same_slice, same_index}
+use Rattle.argon2_memory.proofs.Recurrence.ReferenceSets.{same_slice, same_index}
 
 -- the address word of an index is word index % 128 of the address block index / 128
 pub address_word-is : (j : Job) → IsJob j → (lane index : ℕ) → index < j.setting.segment_length →

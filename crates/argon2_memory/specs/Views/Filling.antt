@@ -61,21 +61,21 @@ pick_of j lane index word =
 abbrev pub reference_of : Job → ℕ → ℕ → ℕ × ℕ
 reference_of j lane index = pick_of j lane index (drawn_word j.setting (block_at j.setting) (position_of j lane index))
 
--- how many columns of a lane the last pass left, and how many blocks one may refer to
+-- how many columns of a lane the last pass left, and how many elements the reference set has
 abbrev pub left_columns : Job → ℕ
 left_columns j =
     if j.pass == 0 then 0 else lane_length j.setting - (j.slice * j.setting.segment_length + j.setting.segment_length)
 
-abbrev pub window_length : Job → Bool → ℕ → ℕ
-window_length j is_own index =
+abbrev pub reference_set_size : Job → Bool → ℕ → ℕ
+reference_set_size j is_own index =
     let elsewhere = left_columns j + j.slice * j.setting.segment_length in
     if is_own then elsewhere + index - 1 else if index == 0 then elsewhere - 1 else elsewhere
 
--- the column at a place among the blocks that one may refer to
-abbrev pub window_column : Job → ℕ → ℕ
-window_column j place =
-    if nat_lt place (left_columns j) then j.slice * j.setting.segment_length + j.setting.segment_length + place
-    else place - left_columns j
+-- the column at a relative position in the reference set
+abbrev pub reference_set_column : Job → ℕ → ℕ
+reference_set_column j position =
+    if nat_lt position (left_columns j) then j.slice * j.setting.segment_length + j.setting.segment_length + position
+    else position - left_columns j
 
 -- the lane and column that the block at an index of an independent segment refers to
 abbrev pub independent_reference : Job → ℕ → ℕ → ℕ × ℕ

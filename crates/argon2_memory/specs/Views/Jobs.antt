@@ -1,4 +1,4 @@
--- The bounds of a setting, and a job, which is one slice of it.
+-- The bounds of a setting, and a job: its numbers with those of one pass and one slice.
 use Rattle.std.specs.Prelude.{◌≡◌, ℕ, ◌^◌, ◌<◌, ◌≤◌, ◌==◌, ◌&&◌, if◌then◌else◌, List, length}
 use Rattle.argon2_standard.specs.Standard.SettingsTable.{max_lanes}
 use Rattle.argon2_standard.specs.Standard.Setting.{Setting, lane_length, memory_blocks, Position}
@@ -25,7 +25,7 @@ pub record IsPosition (s : Setting) (at : Position) : Type 0 where
 abbrev pub first_written : ℕ → ℕ → ℕ
 first_written pass slice = if (pass == 0) && (slice == 0) then 2 else 0
 
--- a pass and a slice of a setting
+-- a setting with the numbers of a pass and of a slice
 pub record Job : Type 0 where
   pub setting : Setting
   pub pass : ℕ
@@ -40,7 +40,7 @@ pub record IsJob (j : Job) : Type 0 where
   pub pass_fits : j.pass < j.setting.passes
   pub slice_fits : j.slice < 4
 
--- the slice that the computation of a call begins with
+-- the job that the computation of a call begins with
 abbrev pub first_job_of : List ℕ → List ℕ → Config → Job
 first_job_of pwd salt config = record {
   setting = setting_of pwd salt config config.hash_length;

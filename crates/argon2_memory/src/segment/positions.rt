@@ -1,11 +1,11 @@
 //! The references of a block: the lane and column that a drawn word picks.
 
 ghost use Rattle.std.specs.Prelude.{◌≡◌, ℕ, ◌+◌, ◌-◌, ◌*◌, ◌/◌, ◌%◌, ◌^◌, ◌<◌, ◌≤◌, ◌==◌, length, take, drop, true, false};
-ghost use Rattle.argon2_memory.specs.Views.Filling.{window_column, window_length, left_columns, pick_of, position_of};
+ghost use Rattle.argon2_memory.specs.Views.Filling.{reference_set_column, reference_set_size, left_columns, pick_of, position_of};
 ghost use Rattle.argon2_memory.specs.Views.Jobs.{first_index, IsJob};
 ghost use Rattle.argon2_memory.specs.Views.Positions.{reference_positions_of};
 ghost use Rattle.argon2_standard.specs.Standard.Recurrence.{addresses};
-ghost use Rattle.argon2_standard.specs.Standard.Reference.{drawn_lane, window_index, is_data_independent};
+ghost use Rattle.argon2_standard.specs.Standard.Reference.{drawn_lane, relative_position, is_data_independent};
 ghost use Rattle.argon2_standard.specs.Standard.Setting.{lane_length};
 
 use crate::job::{Job, recall_job};
@@ -25,16 +25,16 @@ fn reaches(number: u32, bound: u32) -> u32
     ((u64::from(number) + HALF - u64::from(bound)) / HALF) as u32
 }
 
-/// The place that a word draws among some blocks (RFC 9106, 3.4.2).
-fn drawn_place(count: u32, word: u64) -> u32
-    requires { 0 < count }
-    ensures value { result ≡ window_index count word }
-    ensures fits { result < count }
+/// The relative position that a word draws in a reference set of `size` blocks (RFC 9106, 3.4.2).
+fn relative_position(size: u32, word: u64) -> u32
+    requires { 0 < size }
+    ensures value { result ≡ relative_position size word }
+    ensures fits { result < size }
 {
     let low = word % HALF;
     let square = low * low / HALF;
-    let back = u64::from(count) * square / HALF;
-    count - 1 - back as u32
+    let back = u64::from(size) * square / HALF;
+    size - 1 - back as u32
 }
 
 /// How many columns of a lane are still as the last pass left them.
@@ -52,13 +52,13 @@ fn left_columns(job: &Job) -> u32
     }
 }
 
-/// How many blocks the block at an index may refer to: of its own lane for 1, of another for 0.
-/// That is a factor and no `bool`, so that a lane that is drawn makes no branch.
-pub fn allowed_count(job: &Job, is_own: u32, index: u32) -> u32
+/// How many blocks the reference set of the block at an index has: in its own lane for 1, in
+/// another for 0. That is a factor and no `bool`, so that a lane that is drawn makes no branch.
+pub fn reference_set_size(job: &Job, is_own: u32, index: u32) -> u32
     requires is_bit { is_own < 2 }
     requires index_fits { index < job.now.setting.segment_length }
-    requires some { 0 < window_length job.now (is_own == 1) index }
-    ensures value { result ≡ window_length job.now (is_own == 1) index }
+    requires some { 0 < reference_set_size job.now (is_own == 1) index }
+    ensures value { result ≡ reference_set_size job.now (is_own == 1) index }
     ensures fits { result ≤ lane_length job.now.setting }
 {
     let elsewhere = left_columns(job) + job.start();
@@ -69,19 +69,19 @@ pub fn allowed_count(job: &Job, is_own: u32, index: u32) -> u32
     }
 }
 
-/// The column at a place among the blocks that one may refer to: those behind the slice come
-/// first, then those from the lane's begin on.
-pub fn allowed_column(job: &Job, place: u32) -> u32
-    requires { place < lane_length job.now.setting }
-    ensures { result ≡ window_column job.now place }
+/// The column at a relative position in the reference set: those behind the slice come first, then
+/// those from the lane's begin on.
+pub fn reference_set_column(job: &Job, position: u32) -> u32
+    requires { position < lane_length job.now.setting }
+    ensures { result ≡ reference_set_column job.now position }
 {
     let left = left_columns(job);
     let turn = SYNC_POINTS * job.segment_length();
-    // Neither a branch nor a remainder, since the place is drawn. The sum may exceed 32 bits before
-    // the turn is taken off.
-    place
+    // Neither a branch nor a remainder, since the position is drawn. The sum may exceed 32 bits
+    // before the turn is taken off.
+    position
         .wrapping_add(turn - left)
-        .wrapping_sub(reaches(place, left) * turn)
+        .wrapping_sub(reaches(position, left) * turn)
 }
 
 /// The lane that a word draws for a block of a lane, and 1 if it is that lane, else 0.
@@ -112,8 +112,9 @@ pub fn pick(job: &Job, lane: u32, index: u32, word: u64) -> (u32, u32)
     ensures { result ≡ pick_of job.now lane index word }
 {
     let (chosen, is_own) = drawn_lane(job, lane, word);
-    let count = allowed_count(job, is_own, index);
-    (chosen, allowed_column(job, drawn_place(count, word)))
+    let size = reference_set_size(job, is_own, index);
+    let position = relative_position(size, word);
+    (chosen, reference_set_column(job, position))
 }
 
 /// Writes the words that the blocks at 128 indexes draw.

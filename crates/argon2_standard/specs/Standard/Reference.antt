@@ -33,11 +33,12 @@ columns_of_last_pass s (suc last) slice = columns_between last ((slice + 1) * s.
 abbrev pub without_last : List (ℕ × ℕ) → List (ℕ × ℕ)
 without_last xs = take (length xs - 1) xs
 
--- W: the passes and columns of a lane that the block at a place may refer to, in order: what the
--- last pass left, the slices of this pass before the present one and, in the own lane, the segment
--- so far. The last of them is left out in the own lane, and for a segment's first block (3.4.2).
-unfoldable pub reference_window : Setting → Position → ℕ → List (ℕ × ℕ)
-reference_window s at lane =
+-- W: the reference set, which is the passes and columns of a lane that the block at a place may
+-- refer to, in order: what the last pass left, the slices of this pass before the present one and, in
+-- the own lane, the segment so far. The last of them is left out in the own lane, and for a segment's
+-- first block (3.4.2).
+unfoldable pub reference_set : Setting → Position → ℕ → List (ℕ × ℕ)
+reference_set s at lane =
     let slice = slice_of s at.column in
     let start = slice * s.segment_length in
     let is_own = lane == at.lane in
@@ -46,9 +47,9 @@ reference_window s at lane =
     ++ (if is_own then columns_between at.pass start at.column else []) in
     if is_own || index_of s at.column == 0 then without_last all else all
 
--- the place in a list of n elements that the lower half of a word draws (3.4.2)
-abbrev pub window_index : ℕ → ℕ → ℕ
-window_index n word =
+-- zz: the relative position that the lower half of a word draws in a reference set of n elements (3.4.2)
+abbrev pub relative_position : ℕ → ℕ → ℕ
+relative_position n word =
     let x = low_half word * low_half word / 2 ^ 32 in
     let y = n * x / 2 ^ 32 in
     n - 1 - y
@@ -62,6 +63,6 @@ drawn_lane s word at =
 unfoldable pub pick : Setting → ℕ → Position → Position
 pick s word at =
     let lane = drawn_lane s word at in
-    let w = reference_window s at lane in
-    let chosen = slice_index_or w (window_index (length w) word) (0, 0) in
+    let references = reference_set s at lane in
+    let chosen = slice_index_or references (relative_position (length references) word) (0, 0) in
     record { pass = chosen.0; lane = lane; column = chosen.1 }

@@ -1,10 +1,8 @@
 -- The text that is read is the one that was passed.
-use Rattle.std.proofs.Common.{◌≡◌, ◌∙◌, Err, length, refl, sym, ap, arith}
+use Rattle.std.proofs.Common.{length, refl, arith}
 use Rattle.std.proofs.lemmas.Result.{err_from_is_err_and}
-use Rattle.argon2.specs.ConfigType.{Config}
 use Rattle.argon2.specs.Texts.{spelled_by}
 use Rattle.argon2.proofs.Verification.StoredTexts.{own_length, stored_accepted}
-use Rattle.argon2_c.specs.Jobs.{job_of}
 use Rattle.argon2_c.proofs.StoredJobs.{made_both, refused_both, wrong_both}
 use Rattle.argon2_c.proofs.jobs.make_stored.Goals as goal
 

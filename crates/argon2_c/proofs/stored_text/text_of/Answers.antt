@@ -1,5 +1,5 @@
 -- Where the bits of all bytes are fewer than eight, each byte is ASCII.
-use Rattle.std.proofs.Common.{◌≡◌, ℕ, zero, suc, ◌<◌, ◌≤◌, List, [], ◌∷◌, get_or, arith, sym}
+use Rattle.std.proofs.Common.{ℕ, zero, suc, ◌≤◌, List, [], ◌∷◌, get_or, arith}
 use Rattle.std.specs.Prelude.{bit_or}
 use Rattle.std.specs.List.{fold}
 use Rattle.std.specs.Str.{IsAscii}

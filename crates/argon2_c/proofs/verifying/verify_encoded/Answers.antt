@@ -1,7 +1,6 @@
 -- The text that is verified is the one that was passed.
-use Rattle.std.proofs.Common.{Err, refl, ap, ◌∙◌}
+use Rattle.std.proofs.Common.{refl}
 use Rattle.std.proofs.lemmas.Result.{err_from_is_err_and}
-use Rattle.argon2_c.specs.Answers.{judgement_of}
 use Rattle.argon2_c.proofs.Verdicts.{judged, refused}
 use Rattle.argon2_c.proofs.verifying.verify_encoded.Goals as goal
 

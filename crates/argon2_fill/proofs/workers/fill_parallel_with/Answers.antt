@@ -23,21 +23,21 @@ loop-n-init g c =
     let shape = c.requires.shape in
     let old = rw (shape.lanes, shape.segment_length) at c.take_slices-slices.ensures.memory.slices in
     record {
-      slices = rw (c.new-job.ensures.value, c.take_slices-slices.ensures.slices) old;
-      filled = rw (c.new-job.ensures.value, c.take_slices-slices.ensures.slices)
+      slices = rw (c.new-first_job.ensures.value, c.take_slices-slices.ensures.slices) old;
+      filled = rw (c.new-first_job.ensures.value, c.take_slices-slices.ensures.slices)
           (filled_begun s c.recall_context.ensures.setting c.args.memory.now shape old c.requires.begun);
       permitted = λ k h. absurd (omega arith);
     }
 
 pub loop-n-preserved : goal.loop-n-preserved
 loop-n-preserved g c =
-    let s = c.new-job.result.setting in
+    let s = c.new-first_job.result.setting in
     let n = c.loop-n.n in
     let w = c.workers-workers.result in
     let done = c.in_ok-fill_slice_by_workers.ensures in
     record {
-      slices = rw c.numbered_job-slice.ensures at done.slices;
-      filled = next_slice s n (segments_of c.fill_slice_by_workers.new.slices) (rw c.numbered_job-slice.ensures at done.filled);
+      slices = rw c.numbered_job-job.ensures at done.slices;
+      filled = next_slice s n (segments_of c.fill_slice_by_workers.new.slices) (rw c.numbered_job-job.ensures at done.filled);
       permitted = rw (let m : (n + 1) * w ≡ n * w + w = omega arith in m)
           (permitted_more (g.P.Permit.permits c.args.permit.now) (n * w) w c.loop-n.invariant.permitted (rw c.from.ensures at done.permitted));
     }
@@ -45,12 +45,12 @@ loop-n-preserved g c =
 pub returns-clause-filled : goal.returns-clause-filled
 returns-clause-filled g c =
     let s = setting_of_context c.args.context.now in
-    let same : c.new-job.result.setting ≡ s = ap (λ (j : Job). j.setting) c.new-job.ensures.value in
+    let same : c.new-first_job.result.setting ≡ s = ap (λ (j : Job). j.setting) c.new-first_job.ensures.value in
     let shape : HasShape s c.memory_of_slices.result = rw (c.memory_of_slices.ensures, c.lanes.ensures.value, c.segment_length.ensures.value, same)
     (record { lanes = refl; segment_length = refl }) in
-    let whole : c.loop-n.n ≡ 4 * c.new-job.result.setting.passes = omega arith in
+    let whole : c.loop-n.n ≡ 4 * c.new-first_job.result.setting.passes = omega arith in
     let filled = rw (
-      let q : c.loop-n.n / 4 ≡ c.new-job.result.setting.passes = omega (arith, whole) in
+      let q : c.loop-n.n / 4 ≡ c.new-first_job.result.setting.passes = omega (arith, whole) in
           q,
       let r : c.loop-n.n % 4 ≡ 0 = omega (arith, whole) in r,
     ) at c.loop-n.invariant.filled in
@@ -59,27 +59,27 @@ returns-clause-filled g c =
 pub returns-clause-permitted : goal.returns-clause-permitted
 returns-clause-permitted g c =
     let x = c.args.context.now in
-    let whole : c.loop-n.n ≡ 4 * c.new-job.result.setting.passes = omega arith in
-    let passes = ap (λ (j : Job). j.setting.passes) c.new-job.ensures.value ∙ c.recall_context.ensures.passes in
+    let whole : c.loop-n.n ≡ 4 * c.new-first_job.result.setting.passes = omega arith in
+    let passes = ap (λ (j : Job). j.setting.passes) c.new-first_job.ensures.value ∙ c.recall_context.ensures.passes in
     let starts = ap (λ n. n * c.workers-workers.result) (whole ∙ ap (λ p. 4 * p) passes)
     ∙ ap (λ w. 4 * x.config.time_cost * w) c.workers-workers.ensures in
     rw starts at c.loop-n.invariant.permitted
 
 pub returns-clause-shape : goal.returns-clause-shape
 returns-clause-shape g c =
-    let same : c.new-job.result.setting ≡ setting_of_context c.args.context.now = ap (λ (j : Job). j.setting) c.new-job.ensures.value in
+    let same : c.new-first_job.result.setting ≡ setting_of_context c.args.context.now = ap (λ (j : Job). j.setting) c.new-first_job.ensures.value in
     rw (c.memory_of_slices.ensures, c.lanes.ensures.value, c.segment_length.ensures.value, same) (record { lanes = refl; segment_length = refl })
 
 -- the numbers of all workers that are started fit 64 bits
 pub overflow_mul-first : goal.overflow_mul-first
 overflow_mul-first g c =
-    let low : c.loop-n.n ≤ 17179869184 = omega (arith, c.new-job.ensures.job.setting.few_passes) in
+    let low : c.loop-n.n ≤ 17179869184 = omega (arith, c.new-first_job.ensures.job.setting.few_passes) in
     let most = mul-le-mul_right c.from.result low in
     omega (arith, most, c.from.ensures, c.workers-workers.ensures, c.recall_workers.ensures.few)
 
 pub fill_slice_by_workers-requires : goal.fill_slice_by_workers-requires
 fill_slice_by_workers-requires g c =
-    let low : c.loop-n.n ≤ 17179869184 = omega (arith, c.new-job.ensures.job.setting.few_passes) in
+    let low : c.loop-n.n ≤ 17179869184 = omega (arith, c.new-first_job.ensures.job.setting.few_passes) in
     let most = mul-le-mul_right c.from.result low in
     let fits : c.loop-n.n * c.from.result + c.workers-workers.result < 2 ^ 64 =
     omega (arith, most, c.from.ensures, c.workers-workers.ensures, c.recall_workers.ensures.few) in (
@@ -87,8 +87,8 @@ fill_slice_by_workers-requires g c =
       (
         c.type_bounds.sync-G,
         (
-          rw c.numbered_job-slice.ensures c.loop-n.invariant.slices,
-          (rw c.numbered_job-slice.ensures c.loop-n.invariant.filled, (rw c.workers-workers.ensures c.recall_workers.ensures.some, fits)),
+          rw c.numbered_job-job.ensures c.loop-n.invariant.slices,
+          (rw c.numbered_job-job.ensures c.loop-n.invariant.filled, (rw c.workers-workers.ensures c.recall_workers.ensures.some, fits)),
         ),
       ),
     )

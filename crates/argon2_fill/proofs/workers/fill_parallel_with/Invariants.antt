@@ -6,7 +6,7 @@ use Rattle.argon2_fill.proofs.workers.fill_parallel_with.Given as goal
 
 abbrev pub invariant-loop-n : goal.invariant-loop-n
 invariant-loop-n g l = record {
-  slices : AreSlices l.job.setting.lanes l.job.setting.segment_length (segments_of l.slices);
-  filled : IsFilledBelow l.job.setting (l.n / 4) (l.n % 4) (segments_of l.slices);
+  slices : AreSlices l.first_job.setting.lanes l.first_job.setting.segment_length (segments_of l.slices);
+  filled : IsFilledBelow l.first_job.setting (l.n / 4) (l.n % 4) (segments_of l.slices);
   permitted : PermitsAll (g.P.Permit.permits l.permit) 0 (l.n * l.workers);
 }

@@ -1,4 +1,4 @@
-use Rattle.std.proofs.Common.{◌≡◌, ◌++◌, drop, map, take, length, arith, ◌∙◌, sym}
+use Rattle.std.proofs.Common.{arith}
 use Rattle.std.proofs.lemmas.List.Edits.{map_over_more}
 use Rattle.argon2_memory.specs.Views.Memories.{wiped_segment}
 use Rattle.argon2_memory.proofs.memory.wipe_slice.Goals as goal

@@ -1,4 +1,4 @@
-use Rattle.std.proofs.Common.{arith, ap, refl, ◌∙◌}
+use Rattle.std.proofs.Common.{arith, ap, ◌∙◌}
 use Rattle.argon2_blocks.specs.Standard.Compression.{permute_p}
 use Rattle.argon2_blocks.specs.Views.Lane.{column, vector_pair}
 use Rattle.argon2_blocks.specs.Views.Spread.{nth_vector, spread_row}
@@ -14,13 +14,11 @@ returns-clause-value c =
     let left = c.permute_four_columns-left.result in
     let right = c.permute_four_columns-right.result in
     whole block c.join_halves.result
-    (vector_pair block) (eight_rows upper lower) (column (eight_rows upper lower)) (eight_columns left right)
+    (eight_rows upper lower) (eight_columns left right)
     (omega arith) c.requires (omega arith)
-    (λ j h. refl)
     (told_by_fours (spread_row upper) (spread_row lower) (λ j. permute_p (vector_pair block j))
     (λ j h. c.permute_four_rows-upper.ensures j h ∙ ap permute_p (upper_pairs block j h))
     (λ j h. c.permute_four_rows-lower.ensures j h ∙ ap permute_p (lower_pairs block j h)))
-    (λ k h. refl)
     (told_by_fours (column (nth_vector left)) (column (nth_vector right)) (λ k. permute_p (column (eight_rows upper lower) k))
     (λ k h. c.permute_four_columns-left.ensures.value k h ∙ ap permute_p (c.left_halves.ensures k h))
     (λ k h. c.permute_four_columns-right.ensures.value k h ∙ ap permute_p (c.right_halves.ensures k h)))

@@ -10,6 +10,8 @@ use types.Part.{agg}
 use contract.Monad.{fact, fact_i}
 use contract.Running.{tables}
 use denote.RawPtr.{null_ptr}
+use Rattle.std.specs.Prelude.{Option, None}
+use Rattle.argon2_memory.specs.Standard.Kept.{MemoryValue}
 use denote.Steps.{nothing}
 use denote.Triple.Entry.{alive}
 use denote.Triple.Walked.{walk_of}
@@ -28,5 +30,5 @@ empty_spec 𝓤 𝓛 𝓜 𝓡 wired =
     qed 𝓛 ((raw (alive 𝓛 En.signature κs qs) ⊛ ‵ ftrue) ∷ raw ((c κs a).requires gh) ∷ []) ∵ split ! $ keep ! (0 ∷ []) $
     enter ! 𝓣.C 𝓣.Λ fn [] Post $ alloc_all ! (λ l. pass_all ! refl tt $
     sets ! (agg ! (and_then ! (lit ! tt) (no_more !))) refl (tt, (record { fits = lit< tt }, tt)) $
-    nothing ! $ nothing ! $ kept_in ! null_ptr $ use0 𝓛 (raw (fact 𝓤 (null_ptr ≡ null_ptr))) (fact_i 𝓤 (null_ptr ≡ null_ptr) (emp 𝓤) refl) $
-    returns ! (look_at ! 0 refl) $ free_all ! refl $ keep ! (3 ∷ 2 ∷ 1 ∷ 0 ∷ []) $ by ! (leaves 𝓛 En tt c y (word null_ptr) (record { at = null_ptr }) tt tt)))
+    nothing ! $ nothing ! $ kept_in ! null_ptr None $ use0 𝓛 (raw (fact 𝓤 (◌≡◌ {A = Option MemoryValue} None None))) (fact_i 𝓤 (◌≡◌ {A = Option MemoryValue} None None) (emp 𝓤) refl) $
+    returns ! (look_at ! 0 refl) $ free_all ! refl $ keep ! (3 ∷ 2 ∷ 1 ∷ 0 ∷ []) $ by ! (leaves 𝓛 En tt c y (word null_ptr) (record { at = null_ptr; kept = None }) tt tt)))

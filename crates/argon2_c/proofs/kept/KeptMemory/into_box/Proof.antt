@@ -21,7 +21,7 @@ use denote.Exit.{yes, no}
 use denote.RattleType.{RattleType, owns}
 use denote.Signature.{types_at, plain}
 use denote.RawPtr.{Ptr, block_ptr, null_ptr, tests_null}
-use denote.Steps.{nothing, only}
+use denote.Steps.{nothing, only, heard}
 use denote.Param.{arg, layout}
 use denote.Param.Laws.{arg_laws}
 use denote.Param.NoDrop.{glues}
@@ -40,7 +40,8 @@ use Rattle.std.proofs.impls.GlobalAllocator.TheImpl.Met.{passed}
 use Rattle.std.proofs.option.Made.{Some-of, none_of}
 use Rattle.std.proofs.raw_atomic.Calls.{fm}
 use Rattle.std.proofs.raw_atomic.Walks.{proved_at, leaves}
-use Rattle.std.specs.Prelude.{Some, None}
+use Rattle.std.specs.Prelude.{Option, Some, None}
+use Rattle.argon2_memory.specs.Standard.Kept.{MemoryValue}
 use Rattle.std.specs.contracts.alloc.Global as heap
 use Rattle.std.specs.contracts.boxed.Box as boxed
 use Rattle.std.specs.contracts.boxed.Box.from_raw as callee
@@ -75,15 +76,15 @@ into_box_spec {M} 𝓤 𝓛 𝓜 𝓡 wired =
         tt,
       ),
     ) #self fn (code.unfolded 𝓤 H 𝓜 𝓡 wired) (λ z are.
-    let κs = z.0.0 in let qs = z.0.1 in let p = z.0.3.0.at in let a = z.0.3.1.0 in
+    let κs = z.0.0 in let qs = z.0.1 in let p = z.0.3.0.at in let kv = z.0.3.0.kept in let a = z.0.3.1.0 in
     let Post : Val → SProp 𝓤 = (walk_of 𝓛 En hs c).post z in let Run : List Val → SProp 𝓤 = λ ws. WpFn 𝓤 H 𝓣.C 𝓣.Λ fn ws Post in
     let B : RattleType = boxed.the_row R Z ghosts in
     qed 𝓛 ((raw (alive 𝓛 En.signature κs qs) ⊛ ‵ (owns (types_at En.signature.params κs) z.0.3 z.0.4)) ∷ raw ((c κs z.0.3).requires z.1)
     ∷ []) ∵ split ! $ move ! (1 ∷ []) $ fsplit ! $ move ! (1 ∷ []) $ fsplit ! $
     handle_tells (record { row = Z; laws = LZ; g = ghosts; d = dict; drops = dd }) ! a z.0.4.1.0 (λ h eh fits. keep ! (2 ∷ 0 ∷ 3 ∷ []) $
     -- [the struct; the handle; no token]
-    kept_out ! p z.0.4.0 (λ ws. either R ! p
-    (λ is. let v = word null_ptr in
+    kept_out ! p kv z.0.4.0 (λ ws. either R ! p kv
+    (λ is nothing_held. let v = word null_ptr in
     suffices ! (Run (v ∷ h ∷ [])) (subst (λ (us : List Val). ent 𝓤 (Run (v ∷ h ∷ [])) (Run us))
     (sym (λ i. (ws ∙ ap (λ (r : Ptr). word r ∷ []) is) i ++ (eh i ++ []))) (id⊢ 𝓤 (Run (v ∷ h ∷ [])))) $
     enter ! 𝓣.C 𝓣.Λ fn (v ∷ h ∷ []) Post $ alloc_all ! (λ l. pass_all ! refl (word_good null_ptr, (fits, tt)) $
@@ -91,11 +92,11 @@ into_box_spec {M} 𝓤 𝓛 𝓜 𝓡 wired =
     sets ! (of_opd ! (get ! refl)) refl (ptr_good null_ptr) $
     sets ! (bin ! (get ! refl) (lit ! tt) tt) refl (tt, tt) $ first ! $ branches ! (get ! refl)
     (λ _. sets ! (agg ! (and_then ! (lit ! tt) (no_more !))) refl (tt, (record { fits = lit< tt }, tt)) $
-    use0 𝓛 (‵ ((option.the_row B).own_val None (live 0 vnil ∷ []))) (none_of 𝓛 B) $ nothing ! $ nothing ! $ fjoin ! $ nothing ! $ fjoin ! $ nothing ! $
+    use0 𝓛 (‵ ((option.the_row B).own_val None (live 0 vnil ∷ []))) (none_of 𝓛 B) $ nothing ! $ nothing ! $ fjoin ! $ nothing ! $ fjoin ! $ use0 𝓛 (raw (fact 𝓤 (◌≡◌ {A = Option MemoryValue} kv None))) (fact_i 𝓤 (◌≡◌ {A = Option MemoryValue} kv None) (emp 𝓤) nothing_held) $
     returns_within ! Post refl (look_at ! 0 refl) $ free_all ! refl $ keep ! (4 ∷ 1 ∷ 2 ∷ 0 ∷ []) $
     by ! (leaves 𝓛 En hs c z (live 0 vnil) None (tt, (tt, tt)) (tt, (tt, tt))))
     (λ wrong. absurd wrong)))
-    (λ b o a' x is t. let v = word (block_ptr b o) in let k = triple_of 𝓛 (callee.signature S G ghosts dict dd)
+    (λ b o a' x is held t. let v = word (block_ptr b o) in let k = triple_of 𝓛 (callee.signature S G ghosts dict dd)
     (callee.spec S G ghosts dict dd 𝓛 𝓜.mem 𝓡.returns) in
     let y : k.Ghost = ((([], ([], tt)), (full_share, (full_share, tt)), tt, (a, (block_ptr b o, tt)), (h ∷ [], (vptr b o ∷ [], tt))), x) in
     let inS = [] ⊑ S.lives in let inG = [] ⊑ G.lives in
@@ -121,13 +122,13 @@ into_box_spec {M} 𝓤 𝓛 𝓜 𝓡 wired =
     use1 𝓛 (later (some (λ (r : B.Denot). ((‵ (flft [] full_share) ⊛ ‵ (flft [] full_share) ⊛ ‵ ftrue) ⊛ ‵ (B.own_val r (u ∷ []))) ⊛ some
     (λ (ls : Lasts (callee.ended S G ghosts dict dd) y.0.0 y.0.3). ‵ (lasts (callee.ended S G ghosts dict dd) y.0.0 y.0.3 ls) ⊛ (raw
     (fact 𝓤 (r.value ≡ x)) ⊛ raw (fact 𝓤 (r.alloc ≡ a))))))) (id⊢ 𝓤 (k.post y u)) $
-    await ! tt $ pick ! (λ r. split ! $ move ! (1 ∷ []) $ drop ! $ split ! $ drop ! $
+    await ! tt $ pick ! (λ r. split ! $ move ! (1 ∷ []) $ pick ! (λ ls. split ! $ drop ! $ split ! $ heard ! (r.value ≡ x) (λ ev. drop ! $ split ! $ drop ! $
     box_out E ! r (u ∷ []) (λ b' o' h' e' us fits'. box_in E ! r b' o' r.value e' refl $ rewrite ! 0 (λ (ns : List Val). ‵ (B.own_val r ns)) (sym us) refl $
     let good : T (has_ty (box.box_ty E) u) × WT u = subst (λ (n : Val). T (has_ty (box.box_ty E) n) × WT n) (sym (ap only us))
     (box.box_typed E h' b' o' fits') in
     lands_last ! refl good $ exec ! 𝓣.C 𝓣.Λ Ev code.Mir.t-6 (at_ret Ev Post) $ sets ! (of_opd ! (get ! refl)) refl good $
     sets ! (agg ! (and_then ! (lit ! tt) (and_then ! (get ! refl) (no_more !)))) refl (and_tt _ good.0, (record { fits = lit< tt }, (good.1, tt))) $
     use1 𝓛 (‵ ((option.the_row B).own_val (Some r) (live 1 (vcons u vnil) ∷ []))) (Some-of 𝓛 B r u) $ nothing ! $ nothing ! $ fjoin ! $
-    nothing ! $ fjoin ! $ nothing ! $
+    nothing ! $ fjoin ! $ use0 𝓛 (raw (fact 𝓤 (◌≡◌ {A = Option MemoryValue} kv (Some r.value)))) (fact_i 𝓤 (◌≡◌ {A = Option MemoryValue} kv (Some r.value)) (emp 𝓤) (held ∙ ap Some (sym ev))) $
     returns ! (look_at ! 0 refl) $ free_all ! refl $ keep ! (3 ∷ 1 ∷ 2 ∷ 0 ∷ []) $
-    by ! (leaves 𝓛 En hs c z (live 1 (vcons u vnil)) (Some r) (tt, (tt, tt)) (tt, (tt, tt))))))))))))
+    by ! (leaves 𝓛 En hs c z (live 1 (vcons u vnil)) (Some r) (tt, (tt, tt)) (tt, (tt, tt))))))))))))))

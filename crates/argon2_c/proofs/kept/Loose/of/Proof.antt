@@ -1,5 +1,5 @@
 -- `of` passes on what `Box::into_raw` gives.
-use Rattle.std.proofs.Common.{List, [], ◌∷◌, ◌++◌, refl, sym, ap, ◌∙◌, subst}
+use Rattle.std.proofs.Common.{◌≡◌, List, [], ◌∷◌, ◌++◌, refl, sym, ap, ◌∙◌, subst}
 use mir.Syntax.{Args, Dict, a_type, impl, tcons, tnil, dcons, dnil}
 use mir.Raw.{raw as bare}
 use mir.Val.{Val}
@@ -89,9 +89,9 @@ of_spec {M} 𝓤 𝓛 𝓜 𝓡 wired T L dx glue =
     await ! tt $ pick ! (λ r. split ! $ move ! (1 ∷ []) $ pick ! (λ _. split ! $ drop ! $
     in_a_block ! r (λ p. box_owns (ghosts.dealloc_token a) R p v.value) (fst∗ 𝓤 (never 𝓤)
     (sem 𝓛 (ghosts.dealloc_token a (bare (layout T)) null_ptr))) (λ b' o' e'.
-    fpack ! (Global × T.Denot) (λ x. box_owns (ghosts.dealloc_token x.0) R (block_ptr b' o') x.1) (a, v.value) $ move ! (1 ∷ []) $
+    fpack ! Global (λ x. box_owns (ghosts.dealloc_token x) R (block_ptr b' o') v.value) a $ move ! (1 ∷ []) $
     split ! $ move ! (1 ∷ []) $ feq_l ! (λ eu.
     lands_as ! (ap only eu ∙ ap ptr_val e') refl (tt, tt) $ sets ! (agg ! (and_then ! (get ! refl) (no_more !))) refl (tt, (tt, tt)) $
-    split3 ! $ move ! (0 ∷ 2 ∷ []) $ join ! $ move ! (2 ∷ []) $ loose_in R ! (block_ptr b' o') $ nothing ! $ nothing ! $ fjoin ! $ nothing ! $
+    split3 ! $ move ! (0 ∷ 2 ∷ []) $ join ! $ move ! (2 ∷ []) $ loose_in R ! (block_ptr b' o') v.value $ nothing ! $ nothing ! $ fjoin ! $ use0 𝓛 (raw (fact 𝓤 (v.value ≡ v.value))) (fact_i 𝓤 (v.value ≡ v.value) (emp 𝓤) refl) $
     returns ! (look_at ! 0 refl) $ free_all ! refl $ keep ! (3 ∷ 1 ∷ 2 ∷ 0 ∷ []) $
-    by ! (leaves 𝓛 En hs c z (word (block_ptr b' o')) (record { at = block_ptr b' o' }) (tt, tt) (tt, tt)))))))))))
+    by ! (leaves 𝓛 En hs c z (word (block_ptr b' o')) (record { at = block_ptr b' o'; value = v.value }) (tt, tt) (tt, tt)))))))))))

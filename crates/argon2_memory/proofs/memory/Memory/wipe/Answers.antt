@@ -1,4 +1,4 @@
-use Rattle.std.proofs.Common.{◌≡◌, map, List}
+use Rattle.std.proofs.Common.{map}
 use Rattle.argon2_memory.proofs.Filling.Wiped.{wiped_slices-are}
 use Rattle.argon2_memory.proofs.memory.Memory.wipe.Goals as goal
 

@@ -1,4 +1,4 @@
--- How many blocks one may refer to, and the column of each, by arithmetic.
+-- The size of a reference set, and the column of each of its elements, by arithmetic.
 use Rattle.std.proofs.Common.{◌≡◌, ℕ, zero, suc, ◌+◌, ◌-◌, ◌*◌, ◌/◌, ◌<◌, ◌≤◌, Bool, true, false, List, [], ◌++◌, length, get_or, refl, arith, cond}
 use Rattle.std.proofs.Common.{inl, inr, ◌∙◌, ap, append_assoc}
 use Rattle.std.specs.Prelude.{◌==◌, ◌||◌}
@@ -9,10 +9,10 @@ use Rattle.std.proofs.lemmas.List.FromFn.{get_or-map-range_with_len}
 use Rattle.std.proofs.Math.Nat.{div-add-mod}
 use Rattle.argon2_standard.specs.Standard.Setting.{Setting, Position, lane_length, slice_of, index_of}
 use Rattle.argon2_memory.specs.Views.Jobs.{IsPosition, Job, IsJob, first_index}
-use Rattle.argon2_standard.specs.Standard.Reference.{columns_between, columns_of_last_pass, without_last, reference_window, window_index, drawn_lane, pick}
-use Rattle.argon2_memory.specs.Views.Filling.{position_of, left_columns, window_length, window_column, pick_of}
+use Rattle.argon2_standard.specs.Standard.Reference.{columns_between, columns_of_last_pass, without_last, reference_set, relative_position, drawn_lane, pick}
+use Rattle.argon2_memory.specs.Views.Filling.{position_of, left_columns, reference_set_size, reference_set_column, pick_of}
 use Rattle.argon2_memory.proofs.Recurrence.Jobs.{start_fits, later_index}
-use Rattle.argon2_memory.proofs.Recurrence.References.{length-columns, some_allowed, own_lane_first, drawn_place_fits}
+use Rattle.argon2_memory.proofs.Recurrence.References.{length-columns, some_reference, own_lane_first, relative_position_fits}
 use Rattle.argon2_memory.proofs.Schedules.AnyOrder.{slice_of_sum}
 
 -- place k of the columns from `first` up to `end` holds the column `first + k` of the pass
@@ -50,9 +50,9 @@ module _ (j : Job) (good : IsJob j) (lane index chosen : ℕ) (fits : index < j.
   abbrev all : List (ℕ × ℕ)
   all = left ++ now ++ own
 
-  allowed-is : reference_window s at chosen ≡ cond ((chosen == lane) || (index == 0)) (without_last all) all
-  unfolding reference_window
-  allowed-is = rw (same_slice, same_index) refl
+  reference_set-is : reference_set s at chosen ≡ cond ((chosen == lane) || (index == 0)) (without_last all) all
+  unfolding reference_set
+  reference_set-is = rw (same_slice, same_index) refl
 
   length-left_columns : (pass : ℕ) → length (columns_of_last_pass s pass j.slice) ≡ cond (pass == 0) 0 (lane_length s - (start + s.segment_length))
   length-left_columns zero = refl
@@ -74,11 +74,11 @@ module _ (j : Job) (good : IsJob j) (lane index chosen : ℕ) (fits : index < j.
   length-all = rw append_assoc (let b = length-append left (now ++ own) in let l = length-left_columns j.pass in let r = length-now_own in
       omega (arith, b, l, r))
 
-  pub length-allowed : length (reference_window s at chosen) ≡ window_length j (chosen == lane) index
-  length-allowed =
+  pub length-reference_set : length (reference_set s at chosen) ≡ reference_set_size j (chosen == lane) index
+  length-reference_set =
       let n = length-all in
       let t = length-take (length all - 1) all in
-      rw allowed-is (elim (eqb_tells chosen lane) [
+      rw reference_set-is (elim (eqb_tells chosen lane) [
         | inl w ↦ rw w.0 (let n' = rw w.0 at n in let t' = rw w.0 at t in omega (arith, n', t'))
         | inr w ↦ elim (eqb_tells index 0) [
           | inl v ↦ rw (w.0, v.0) (let n' = rw w.0 at n in let t' = rw w.0 at t in omega (arith, n', t'))
@@ -109,7 +109,7 @@ module _ (j : Job) (good : IsJob j) (lane index chosen : ℕ) (fits : index < j.
       let n = length-columns last ((j.slice + 1) * s.segment_length) (lane_length s) in
       ap (λ (p : ℕ × ℕ). p.1) (get-columns last ((j.slice + 1) * s.segment_length) (lane_length s) k (0, 0) (omega (arith, n, h))) ∙ omega arith
 
-  get-all : (k : ℕ) → k < length all → (get_or all k (0, 0)).1 ≡ window_column j k
+  get-all : (k : ℕ) → k < length all → (get_or all k (0, 0)).1 ≡ reference_set_column j k
   get-all k h =
       let l = length-left_columns j.pass in
       let same : length left ≡ left_columns j = l in
@@ -120,14 +120,14 @@ module _ (j : Job) (good : IsJob j) (lane index chosen : ℕ) (fits : index < j.
             ∙ get-now_own (k - left_columns j) (let n = length-all in let r = length-now_own in omega (arith, n, r, h, w)))
       ])
 
-  get-cut : (cut : Bool) (k : ℕ) → k < length (cond cut (without_last all) all) → (get_or (cond cut (without_last all) all) k (0, 0)).1 ≡ window_column j k
+  get-cut : (cut : Bool) (k : ℕ) → k < length (cond cut (without_last all) all) → (get_or (cond cut (without_last all) all) k (0, 0)).1 ≡ reference_set_column j k
   get-cut true k h =
       let t = length-take (length all - 1) all in
       ap (λ (p : ℕ × ℕ). p.1) (get_or-take (length all - 1) all k (0, 0) (omega (arith, t, h))) ∙ get-all k (omega (arith, t, h))
   get-cut false k h = get-all k h
 
-  pub get-allowed : (k : ℕ) → k < length (reference_window s at chosen) → (get_or (reference_window s at chosen) k (0, 0)).1 ≡ window_column j k
-  get-allowed k h = rw allowed-is (get-cut ((chosen == lane) || (index == 0)) k (rw allowed-is at h))
+  pub get-reference_set : (k : ℕ) → k < length (reference_set s at chosen) → (get_or (reference_set s at chosen) k (0, 0)).1 ≡ reference_set_column j k
+  get-reference_set k h = rw reference_set-is (get-cut ((chosen == lane) || (index == 0)) k (rw reference_set-is at h))
 
   -- ---- the pick
 
@@ -136,18 +136,18 @@ module _ (j : Job) (good : IsJob j) (lane index chosen : ℕ) (fits : index < j.
 
 module _ (j : Job) (good : IsJob j) (lane index word : ℕ) (lane_fits : lane < j.setting.lanes) (fits : index < j.setting.segment_length)
     (later : first_index j ≤ index) (chosen : ℕ) (drawn : chosen ≡ drawn_lane j.setting word (position_of j lane index)) where
-  some-allowed : 0 < length (reference_window j.setting (position_of j lane index) (drawn_lane j.setting word (position_of j lane index)))
-  some-allowed = some_allowed j.setting (position_of j lane index) good.setting (here j good lane index chosen fits lane_fits)
+  some-reference : 0 < length (reference_set j.setting (position_of j lane index) (drawn_lane j.setting word (position_of j lane index)))
+  some-reference = some_reference j.setting (position_of j lane index) good.setting (here j good lane index chosen fits lane_fits)
       (drawn_lane j.setting word (position_of j lane index)) (later_index j.pass j.slice j.setting.segment_length index later good.setting.long_segments)
       (own_lane_first j.setting word (position_of j lane index))
 
-  pub some-picked : 0 < window_length j (chosen == lane) index
-  some-picked = let e = length-allowed j good lane index chosen fits in let h = rw (← drawn) at some-allowed in omega (arith, e, h)
+  pub some-picked : 0 < reference_set_size j (chosen == lane) index
+  some-picked = let e = length-reference_set j good lane index chosen fits in let h = rw (← drawn) at some-reference in omega (arith, e, h)
 
-  pub pick-is : pick_of j lane index word ≡ (chosen, window_column j (window_index (window_length j (chosen == lane) index) word))
+  pub pick-is : pick_of j lane index word ≡ (chosen, reference_set_column j (relative_position (reference_set_size j (chosen == lane) index) word))
   unfolding pick
   pick-is =
-      let e = length-allowed j good lane index chosen fits in
-      let h = rw (← drawn) at some-allowed in
-      rw (← drawn, e) (ap (λ (column : ℕ). (chosen, column)) (get-allowed j good lane index chosen fits _ (rw e (drawn_place_fits (window_length j
+      let e = length-reference_set j good lane index chosen fits in
+      let h = rw (← drawn) at some-reference in
+      rw (← drawn, e) (ap (λ (column : ℕ). (chosen, column)) (get-reference_set j good lane index chosen fits _ (rw e (relative_position_fits (reference_set_size j
       (chosen == lane) index) word some-picked))))

@@ -1,0 +1,77 @@
+/* Looks, when the program that it is preloaded into ends, through all memory that it can write, the stacks of ended
+   threads too, which the C library keeps. It looks for the pieces in SOUGHT: 16 bytes each, in hexadecimal, each byte
+   with MASK, so that they are not found where they stand here. It says of each piece how often it is there: `left` and
+   a number, on standard error. A Rattle program ends by _exit, which runs no destructor. The toolchain's clang has no
+   headers, so what is used of the C library is declared here. */
+
+typedef __SIZE_TYPE__ size;
+typedef unsigned char byte;
+
+extern void *dlsym(void *, const char *);
+extern char *getenv(const char *);
+extern char *strchr(const char *, int);
+extern unsigned long strtoul(const char *, char **, int);
+extern int dprintf(int, const char *, ...);
+extern int open(const char *, int, ...);
+extern long read(int, void *, size);
+
+enum { STANDARD_ERROR = 2, READ_ONLY = 0, MASK = 0x5A, PIECE = 16, MOST_PIECES = 16, MOST_OF_MAPS = 1 << 20, ROOM = 1 << 16 };
+
+static void *const NEXT = (void *)-1l;
+static byte pieces[MOST_PIECES][PIECE];
+static size count;
+static unsigned found[MOST_PIECES];
+static char maps[MOST_OF_MAPS];
+static char room[ROOM] __attribute__((used, aligned(16)));
+
+/* The masked pieces, as the variable has them. */
+static void learn(const char *digits) {
+  for (; digits && count < MOST_PIECES && digits[0]; count++)
+    for (size at = 0; at < PIECE; at++, digits += 2) {
+      const char both[] = {digits[0], digits[1], 0};
+      pieces[count][at] = (byte)strtoul(both, 0, 16);
+    }
+}
+
+/* Whether a piece begins here, byte by byte, so that it is copied nowhere. */
+static int is_piece(const byte *at, const byte *piece) {
+  size i = 0;
+  while (i < PIECE && (at[i] ^ MASK) == piece[i])
+    i += 1;
+  return i == PIECE;
+}
+
+static void look(const byte *from, const byte *to) {
+  for (; from + PIECE <= to; from++)
+    for (size i = 0; i < count; i++)
+      found[i] += is_piece(from, pieces[i]);
+}
+
+static void look_everywhere(void) {
+  int file = open("/proc/self/maps", READ_ONLY);
+  size length = 0;
+  long more;
+  while ((more = read(file, maps + length, MOST_OF_MAPS - 1 - length)) > 0)
+    length += (size)more;
+  for (char *line = maps; line[0]; line = strchr(line, '\n') + 1) {
+    char *rest;
+    const byte *from = (const byte *)strtoul(line, &rest, 16);
+    const byte *to = (const byte *)strtoul(rest + 1, &rest, 16);
+    if (rest[1] == 'r' && rest[2] == 'w') look(from, to);
+  }
+}
+
+__attribute__((noreturn, used)) static void tell_and_exit(int status) {
+  learn(getenv("SOUGHT"));
+  look_everywhere();
+  for (size i = 0; i < count; i++)
+    dprintf(STANDARD_ERROR, "left %u\n", found[i]);
+  ((__attribute__((noreturn)) void (*)(int))dlsym(NEXT, "_exit"))(status);
+}
+
+/* Goes on over a stack of its own, since its frames would stand where those of the program stood. */
+__attribute__((noreturn, naked)) void _exit(int status) {
+  __asm__("lea room(%rip), %rsp\n"
+          "add $1 << 16, %rsp\n"
+          "call tell_and_exit");
+}
