@@ -30,7 +30,7 @@ typedef struct worker {
 typedef struct work {
     const proved_argon2_job *job;
     block *blocks;
-    size_t length, slice, bytes; /* the blocks of a segment and of a slice, and the bytes of all */
+    size_t segment_length, slice_length, bytes; /* the blocks of a segment and of a slice, and the bytes of all */
     void *mapped, *heap;         /* what munmap or free gives back */
     worker *workers;
     uint32_t tasks;              /* worker i has the lanes i, i + tasks, i + 2 tasks .. */
@@ -58,15 +58,15 @@ static void take_step(void *arg, uint32_t number)
 {
     const work *const w = arg;
     const uint32_t slice = w->step == 0 ? 0 : (uint32_t)((w->step - 1) % 4);
-    const block *const first = w->blocks + (slice == 0 ? 1 : 0) * w->slice;
-    const block *const second = w->blocks + (slice <= 1 ? 2 : 1) * w->slice;
-    const block *const third = w->blocks + (slice <= 2 ? 3 : 2) * w->slice;
+    const block *const first = w->blocks + (slice == 0 ? 1 : 0) * w->slice_length;
+    const block *const second = w->blocks + (slice <= 1 ? 2 : 1) * w->slice_length;
+    const block *const third = w->blocks + (slice <= 2 ? 3 : 2) * w->slice_length;
     uint32_t code = w->step == 0 ? populate(w, number) : PROVED_ARGON2_OK;
     for (uint64_t lane = number; lane < w->job->lanes && code == PROVED_ARGON2_OK; lane += w->tasks) {
-        block *const own = w->blocks + slice * w->slice + lane * w->length;
-        code = w->step == 0 ? proved_argon2_job_begin(w->job, (uint32_t)lane, own, w->length)
+        block *const own = w->blocks + slice * w->slice_length + lane * w->segment_length;
+        code = w->step == 0 ? proved_argon2_job_begin(w->job, (uint32_t)lane, own, w->segment_length)
             : proved_argon2_job_fill(w->job, (uint32_t)((w->step - 1) / 4), slice, (uint32_t)lane,
-                first, w->slice, second, w->slice, third, w->slice, own, w->length);
+                first, w->slice_length, second, w->slice_length, third, w->slice_length, own, w->segment_length);
     }
     clear_stack();
     w->workers[number].code = code;
@@ -141,8 +141,9 @@ static uint32_t take_memory(work *w, const options *with)
 static uint32_t compute(
     const options *with, uint32_t most, const proved_argon2_job *job, const uint8_t *hash, uint8_t *tag)
 {
-    const size_t slice = (size_t)job->lanes * job->segment_length, len = job->hash_length;
-    work w = {.job = job, .length = job->segment_length, .slice = slice, .bytes = 4 * slice * sizeof(block)};
+    const size_t slice_length = (size_t)job->lanes * job->segment_length, len = job->hash_length;
+    work w = {.job = job, .segment_length = job->segment_length, .slice_length = slice_length,
+        .bytes = 4 * slice_length * sizeof(block)};
     w.tasks = most > job->lanes ? job->lanes : most == 0 ? 1 : most;
     w.workers = calloc(w.tasks, sizeof(worker));
     uint32_t code = w.workers == NULL ? PROVED_ARGON2_OUT_OF_MEMORY : take_memory(&w, with);
@@ -152,8 +153,8 @@ static uint32_t compute(
         }
         code = fill(&w, with->run == NULL ? run_threads : with->run, with->run == NULL ? w.workers : with->pool);
         if (code == PROVED_ARGON2_OK) {
-            code = hash == NULL ? proved_argon2_job_finish(job, w.blocks + 3 * slice, slice, tag, len)
-                : proved_argon2_job_verify(job, w.blocks + 3 * slice, slice, hash, len, tag, len);
+            code = hash == NULL ? proved_argon2_job_finish(job, w.blocks + 3 * slice_length, slice_length, tag, len)
+                : proved_argon2_job_verify(job, w.blocks + 3 * slice_length, slice_length, hash, len, tag, len);
         }
         if (w.mapped != NULL) {
             munmap(w.mapped, w.bytes + HUGE_PAGE); /* the system clears it */

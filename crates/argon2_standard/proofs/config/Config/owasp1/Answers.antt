@@ -1,4 +1,0 @@
-use Rattle.argon2_standard.proofs.config.Config.owasp1.Goals as goal
-
-pub returns : goal.returns
-returns c = c.preset.ensures
