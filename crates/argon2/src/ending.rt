@@ -5,7 +5,7 @@ use argon2_fill::stack::wipe_stack;
 use argon2_memory::memory::take_slices;
 
 /// Ends a call that made a memory for itself: gives the blocks back as they are, since to overwrite
-/// them takes a tenth of the call's time, and overwrites the stack below.
+/// them would slow each call down, and overwrites the stack below.
 pub fn release(mut memory: Memory) {
     // Not `drop(memory)`, which overwrites the blocks.
     drop(take_slices(&mut memory));

@@ -101,7 +101,3 @@ bounded job v w prehash few h =
 -- and leave that setting
 pub kept : (job : LentJob) (v : Variant) (w : Version) → is_out_of_bounds job ≡ false → setting_at job (Some v) (Some w) ≡ Some (setting_with job v w)
 kept job v w h = rw h refl
-
--- others leave none
-pub lost : (job : LentJob) (v : Variant) (w : Version) → is_out_of_bounds job ≡ true → setting_at job (Some v) (Some w) ≡ None
-lost job v w h = rw h refl

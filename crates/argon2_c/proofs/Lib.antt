@@ -4,7 +4,6 @@ pub mod Verdicts
 pub mod WithinLimits
 pub mod HashTexts
 pub mod Comparisons
-pub mod Presets
 pub mod JobNumbers
 pub mod TagTexts
 pub mod StoredJobs

@@ -1,9 +1,7 @@
 pub mod Attempts
 pub mod Checks
 pub mod Digits
-pub mod Lines
 pub mod Places
 pub mod Reading
 pub mod Refusals
 pub mod Statuses
-pub mod Writing

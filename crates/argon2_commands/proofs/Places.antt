@@ -1,27 +1,17 @@
--- Words by their places, and places that hold no number, name or version.
-use Rattle.std.proofs.Common.{◌≡◌, ◌<◌, ◌^◌, ℕ, List, [], ◌++◌, length, slice_index_or, Option, None, Some, Result, Ok, Err}
+-- Words by their places, and places that hold no number.
+use Rattle.std.proofs.Common.{◌≡◌, ◌<◌, ℕ, List, [], length, slice_index_or, Option, None, Some, Result, Ok, Err}
 use Rattle.std.proofs.Common.{MatchOption, MatchResult, is_some, is_ok}
 use Rattle.std.proofs.Common.{arith, string_bytes, sym, ◌∙◌, ap, subst, rules}
-use Rattle.std.specs.Prelude.{codes}
 use Rattle.std.specs.Result.{result_ok}
-use Rattle.std.specs.Str.Parse.{ParsesUnsigned}
 use Rattle.std.specs.declared.alloc.Global.{Global}
 use Rattle.std.specs.declared.string.String.{String}
 use Rattle.std.proofs.lemmas.List.{get_or-map}
-use Rattle.argon2.specs.ThreadModeType.{ThreadMode}
-use Rattle.argon2.specs.ThreadModeType.TheVariants.{Sequential, Parallel, AtMost}
-use Rattle.argon2_commands.specs.Words.{IsMode, IsNumber, texts_of, word}
+use Rattle.argon2_commands.specs.Words.{IsNumber, texts_of, word}
 
 -- the text of a word is the word at its place
 pub word-texts_of : (words : List (String Global)) (place : ℕ) (s : String Global) (text : List ℕ) → place < length words
     → s ≡ slice_index_or words place s → text ≡ string_bytes s → word (texts_of words) place ≡ text
 word-texts_of words place s text h is e = get_or-map string_bytes words place s [] h ∙ ap string_bytes (sym is) ∙ sym e
-
--- a word that is parsed is that number, and one that is not is none
-pub number_read : {E : Type 0} (text : List ℕ) (parsed : Result ℕ E) (read : Option ℕ) → read ≡ result_ok parsed → ParsesUnsigned 32 10 text parsed
-    → MatchOption read ((n : ℕ) → IsNumber text n → ⊥) (IsNumber text)
-number_read text (Ok n) read e h = rw e (h.0.0, sym h.1, subst (λ value. value < 2 ^ 32) (sym h.1) h.0.1)
-number_read text (Err x) read e h = rw e (λ n is. h (is.0, subst (λ value. value < 2 ^ 32) (sym is.1) is.2))
 
 -- where no number was read from a text, none stands at its place
 pub no_number : (text other : List ℕ) (read : Option ℕ) → read ≡ None → MatchOption read ((n : ℕ) → IsNumber text n → ⊥) (IsNumber text)
@@ -41,14 +31,3 @@ refusal_of P Q (Ok v) o none same m = grind (arith, rules, ap is_some none, same
 pub value_of : {A E : Type 0} (P : A → Type 0) (Q : E → Type 0) (r : Result A E) (value : A) → Some value ≡ result_ok r → MatchResult r P Q → P value
 value_of P Q (Ok other) value e m = let same : other ≡ value = cc in subst P same m
 value_of P Q (Err e') value e m = absurd (cc)
-
--- a word is no mode that is neither `seq` nor `par`, nor `max` before a number
-pub no_mode : (text : List ℕ) → (text ≡ codes "seq" → ⊥) → (text ≡ codes "par" → ⊥)
-    → ((digits : List ℕ) (number : ℕ) → text ≡ codes "max" ++ digits → IsNumber digits number → ⊥) → (mode : ThreadMode) → IsMode text mode → ⊥
-no_mode text seq par most Sequential is = seq is
-no_mode text seq par most Parallel is = par is
-no_mode text seq par most (AtMost number) is = most is.0 number is.1 is.2
-
--- what follows `max` is one text
-pub same_rest : (rest other : List ℕ) → codes "max" ++ rest ≡ codes "max" ++ other → rest ≡ other
-same_rest rest other e = cc

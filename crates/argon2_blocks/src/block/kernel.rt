@@ -38,9 +38,7 @@ fn low_halves(a: u64x8, b: u64x8) -> u64x8
 // The last four lanes of each vector.
 #[inline(always)]
 fn high_halves(a: u64x8, b: u64x8) -> u64x8
-    ensures value { result ≡ high_halves a b }
-    ensures left { length a ≡ 8 }
-    ensures right { length b ≡ 8 }
+    ensures { result ≡ high_halves a b }
 {
     recall_vector(a);
     recall_vector(b);

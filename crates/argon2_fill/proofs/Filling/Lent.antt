@@ -24,11 +24,6 @@ use Rattle.argon2_fill.proofs.Filling.Passes.{last_in}
 
 -- ---- one lane of a slice
 
--- what is cut out of a slice for a lane
-pub own-is : (s : Setting) (old rest own : List (List ℕ)) (lane at len : ℕ) → rest ≡ drop at old → own ≡ take len rest →
-    at ≡ lane * s.segment_length → len ≡ s.segment_length → own ≡ lent_blocks s old lane
-own-is s old rest own lane at len r o e n = rw (o, r, e, n) refl
-
 module _ (s : Setting) (old : List (List ℕ)) (lane : ℕ) (long : length old ≡ s.lanes * s.segment_length) (fits : lane < s.lanes)
     (new : List (List ℕ)) (same : length new ≡ s.segment_length) where
   abbrev start : ℕ

@@ -5,12 +5,12 @@ pub returns : goal.returns
 returns c =
     rw (
       c.low_halves.ensures.value,
-      c.high_halves.ensures.value,
+      c.high_halves.ensures,
       c.low_halves-2.ensures.value,
-      c.high_halves-2.ensures.value,
+      c.high_halves-2.ensures,
       c.low_halves-3.ensures.value,
-      c.high_halves-3.ensures.value,
+      c.high_halves-3.ensures,
       c.low_halves-4.ensures.value,
-      c.high_halves-4.ensures.value,
+      c.high_halves-4.ensures,
     )
     (left_columns c.args.upper.now c.args.lower.now)
