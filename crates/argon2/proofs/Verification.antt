@@ -4,4 +4,3 @@ pub mod StoredTexts
 pub mod Memories
 pub mod HashBytes
 pub mod KnownAnswers
-pub mod Limits

@@ -1,14 +1,11 @@
 -- What an exit status says of a run.
-use Rattle.std.proofs.Common.{◌≡◌, ◌↔◌, ◌⊎◌, ◌<◌, ◌≤◌, ℕ, List, Option, Result, Err, true, false, ap, arith, inl, inr, refl, subst, sym, ◌∙◌, String}
-use Rattle.std.specs.declared.alloc.Global.{Global}
+use Rattle.std.proofs.Common.{◌≡◌, ◌↔◌, ◌<◌, ◌≤◌, ℕ, List, Option, Result, Err, true, false, ap, arith, inl, inr, refl, subst, sym, ◌∙◌}
 use Rattle.std.specs.Io.KnownBytes.{Keeps}
 use Rattle.argon2.specs.ErrorType.{Error}
-use Rattle.argon2.specs.ErrorType.TheVariants.{OutOfMemory}
 use Rattle.argon2_commands.specs.Answer.{answer_status}
-use Rattle.argon2_commands.specs.CommandLine.{AreWords, HasNoText}
 use Rattle.argon2_commands.specs.Fault.{IsBeforeOutput, fault_status}
-use Rattle.argon2_commands.specs.Run.{Answered, HasAnswer, IsRefused, IsShortOrRefused, OfWords}
-use Rattle.argon2_commands.specs.Words.{IsNoCommand, texts_of}
+use Rattle.argon2_commands.specs.Run.{Answered, HasAnswer, IsRefused, IsShortOrRefused}
+use Rattle.argon2_commands.specs.Words.{IsNoCommand}
 use Rattle.argon2_commands.specs.declared.answer.Answer.{Answer}
 use Rattle.argon2_commands.specs.declared.answer.Answer.TheVariants.{Hashed, Verdict}
 use Rattle.argon2_commands.specs.declared.fault.Fault.{Fault}
@@ -101,33 +98,3 @@ module _ {words : List (List ℕ)} {input before after : Option (List ℕ)} {sta
   -- the words of a run that answers are those of a command
   pub answered_usage : Answered words input before after status → (status ≡ 3) ↔ IsNoCommand words
   answered_usage h = (answered_not 3 (omega arith) h, λ none. absurd (none h.command h.is_command))
-
-  -- an equal status is that of the same answer
-  pub answered_as : (other : ℕ) → other ≡ status → Answered words input before after status → Answered words input before after other
-  answered_as other same h = subst (λ n. Answered words input before after n) (sym same) h
-
--- ---- command lines
-
-module _ (known : Option (List (List ℕ))) where
-  -- what holds of the texts that were read holds of the command line's words
-  pub of_words : (items words : List (String Global)) (P : List (List ℕ) → Type 0) → items ≡ words → AreWords known (texts_of words) → P (texts_of items)
-      → OfWords known P
-  of_words items words P same are p = (texts_of items, subst (λ read. AreWords known (texts_of read)) (sym same) are, p)
-
-  -- a refusal with nothing written, or an answer to the words that were read
-  pub refused_words : (items words : List (String Global)) (input before after : Option (List ℕ)) → items ≡ words → AreWords known (texts_of words)
-      → IsShortOrRefused (texts_of items) input before after → Keeps before after ⊎ OfWords known (λ read. HasAnswer read input)
-  refused_words items words input before after same are (inl refused) = inl refused.1
-  refused_words items words input before after same are (inr answer) = inr (of_words items words (λ read. HasAnswer read input) same are answer)
-
-  -- where reading the arguments ends with status 3, one of them is no text
-  pub unread_words : (fault : Fault) (status : ℕ) → (fault ≡ Usage × HasNoText known) ⊎ (fault ≡ Refused OutOfMemory) → status ≡ fault_status fault
-      → status ≡ 3 → HasNoText known
-  unread_words fault status (inl usage) e three = usage.1
-  unread_words fault status (inr short) e three = let usage = at_three fault status e three in absurd (cc (short, usage))
-
-  -- and none ends with status 5
-  pub unread_not_costly : {A : Type 0} (fault : Fault) (status : ℕ) → (fault ≡ Usage × HasNoText known) ⊎ (fault ≡ Refused OutOfMemory)
-      → status ≡ fault_status fault → status ≡ 5 → A
-  unread_not_costly fault status (inl usage) e five = let costly = at_five fault status e five in let other = usage.0 in absurd (cc)
-  unread_not_costly fault status (inr short) e five = let costly = at_five fault status e five in absurd (cc (short, costly))

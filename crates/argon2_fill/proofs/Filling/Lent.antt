@@ -57,12 +57,6 @@ module _ (s : Setting) (old : List (List ℕ)) (lane : ℕ) (long : length old �
       get_or_append_left (take start old) (new ++ drop s.segment_length (drop start old)) [] i (omega (arith, h, length-front))
       ∙ get_or-take start old i [] h
 
-  get-in : (k : ℕ) → k < s.segment_length → get_or placed (start + k) [] ≡ get_or new k []
-  get-in k h =
-      get_or-append_right (take start old) (new ++ drop s.segment_length (drop start old)) start (start + k) [] length-front (omega arith)
-      ∙ ap (λ n. get_or (new ++ drop s.segment_length (drop start old)) n []) (omega arith)
-      ∙ get_or_append_left new (drop s.segment_length (drop start old)) [] k (omega (arith, h, same))
-
   get-behind : (i : ℕ) → start + s.segment_length ≤ i → get_or placed i [] ≡ get_or old i []
   get-behind i h =
       get_or-append_right (take start old) (new ++ drop s.segment_length (drop start old)) start i [] length-front (omega (arith, h))
@@ -73,13 +67,6 @@ module _ (s : Setting) (old : List (List ℕ)) (lane : ℕ) (long : length old �
 
   get-lent : (xs : List (List ℕ)) (l k : ℕ) → k < s.segment_length → get_or (lent_blocks s xs l) k [] ≡ get_or xs (l * s.segment_length + k) []
   get-lent xs l k h = get_or-take s.segment_length (drop (l * s.segment_length) xs) k [] h ∙ get_or-drop (l * s.segment_length) xs k []
-
-  -- the lane's part is what was put there
-  pub lane-placed : lent_blocks s placed lane ≡ new
-  lane-placed =
-      let l = length-lent s placed lane length-placed fits in
-      ext_get_or [] (lent_blocks s placed lane) new (l ∙ sym same) (λ k h. let h' : k < s.segment_length = omega (arith, h, l) in
-      get-lent placed lane k h' ∙ get-in k h')
 
   -- and those of the other lanes are as they were
   pub other-placed : (l : ℕ) → l < s.lanes → l ≢ lane → lent_blocks s placed l ≡ lent_blocks s old l

@@ -1,24 +1,20 @@
 -- The pieces of a spelled head are clean, so a text has one head.
-use Rattle.std.proofs.Common.{◌≡◌, ℕ, List, Option, Some, None, Result, Ok, Err, refl, sym, ap, subst, ◌∙◌, arith, inl, inr}
-use Rattle.std.specs.Prelude.{codes, IfErr, IfOk, IfSome, MatchOption}
-use Rattle.std.specs.Option.{ok_or}
+use Rattle.std.proofs.Common.{◌≡◌, ℕ, List, Option, Some, None, refl, sym, ap, subst, ◌∙◌, arith, inl, inr}
+use Rattle.std.specs.Prelude.{codes, IfSome}
 use Rattle.argon2_standard.specs.declared.variant.Variant.{Variant}
 use Rattle.argon2_standard.specs.declared.variant.Variant.TheVariants.{Argon2d, Argon2i, Argon2id}
 use Rattle.argon2_standard.specs.declared.version.Version.{Version}
 use Rattle.argon2_standard.specs.declared.version.Version.TheVariants.{Version10, Version13}
-use Rattle.argon2_text.specs.declared.decoded.Decoded.{Decoded}
 use Rattle.argon2_text.specs.declared.encoding.reading.Head.{Head}
-use Rattle.argon2_standard.specs.declared.error.Error.{Error}
-use Rattle.argon2_standard.specs.declared.error.Error.TheVariants.{DecodingFail, OutOfMemory}
 use Rattle.argon2_standard.specs.Standard.Variant.{lowercase_name, uppercase_name, IsName}
 use Rattle.argon2_standard.specs.Standard.Version.{version_text}
 use Rattle.argon2_standard.specs.Standard.Grammar.{Pieces, Lacks, IsVersion, IsCut, IsHead, IsItem, Spells, SpellsNothing}
 use Rattle.argon2_standard.specs.Standard.Text.{Spelled}
-use Rattle.argon2_text.specs.Views.Faults.{HasSplit, IsSomeItem, IsSplit, Refuses}
+use Rattle.argon2_text.specs.Views.Faults.{HasSplit, IsSomeItem, IsSplit}
 use Rattle.argon2_text.specs.Views.Cutting.{pieces_of}
-use Rattle.argon2_text.specs.Views.Texts.{IsHeadOf, IsSpellingOf, settings_of, spelled_by, spelled_with}
+use Rattle.argon2_text.specs.Views.Texts.{IsHeadOf, IsSpellingOf, settings_of}
 use Rattle.argon2_text.proofs.Reading.TextCuts.{any_lacks}
-use Rattle.argon2_text.proofs.Reading.TextItems.{base64_lacks, item_unique}
+use Rattle.argon2_text.proofs.Reading.TextItems.{base64_lacks}
 use Rattle.argon2_text.proofs.Reading.TextNumbers.{number_lacks}
 use Rattle.argon2_text.proofs.Reading.TextPieces.{IsClean, pieces-again}
 
@@ -126,25 +122,3 @@ spelling_at text h head (salt, salt_item) (hash, hash_item) = (
     hash_item = hash_item;
   },
 )
-
--- a text without such a head is refused as one that spells nothing
-pub unspelled_refused : (text : List ℕ) (o : Option Head) (e : Error) → MatchOption o (SpellsNothing text) (IsSpellingOf text)
-    → Err e ≡ ok_or o DecodingFail → Refuses text e
-unspelled_refused text None e nothing err = inl (cc, nothing)
-unspelled_refused text (Some h) e spelled err = absurd cc
-
--- the bytes that are read of the head's items are those that the text spells
-pub decoded_spells : (text : List ℕ) (h : Head) (r : Result Decoded Error) → IsSpellingOf text h
-    → IfOk r (λ d. spelled_by d ≡ spelled_with h d.salt.items d.hash.items) → IfOk r (λ d. IsItem h.salt.now d.salt.items × IsItem h.hash.now d.hash.items)
-    → IfOk r (λ d. Spells text (spelled_by d))
-decoded_spells text h (Ok d) (salt, hash, s) same items =
-    let salt_is = item_unique h.salt.now salt d.salt.items s.salt_item items.0 in
-    let hash_is = item_unique h.hash.now hash d.hash.items s.hash_item items.1 in
-    rw (same, ← salt_is, ← hash_is) s.spells
-decoded_spells text h (Err e) spelled same items = tt
-
--- where memory was refused for a text that spells a value, the refusal says so
-pub memory_refused : (text : List ℕ) (h : Head) (r : Result Decoded Error) → IsSpellingOf text h → IfErr r (λ e. e ≡ OutOfMemory)
-    → IfErr r (Refuses text)
-memory_refused text h (Ok d) spelled refused = tt
-memory_refused text h (Err e) (salt, hash, s) refused = inr (refused, (spelled_with h salt hash, s.spells))
