@@ -12,6 +12,17 @@ SAID = re.compile(r'^rt: (\w+) (proved|NOT PROVED|is kept: )', re.M)
 CRATE = re.compile(r'^Rattle-(\w+)-(?:proofs|specs)\.')
 
 
+def rooms_of_checks(kept):
+    """The folders in which checks over a kept folder run, by the words that they were started with."""
+    for process in glob.glob('/proc/[0-9]*'):
+        try:
+            with open(f'{process}/cmdline', 'rb') as words:
+                if kept.encode() in words.read().split(b'\0'):
+                    yield os.readlink(f'{process}/cwd')
+        except OSError:
+            pass  # it has ended
+
+
 class Proofs:
     """Follows the folder that `.ci/proofs` fills: `said`, what `rt ci` has said so far; `room`, the folder of its
     temporary files; and `process`, the number of the process. `link(FOLDER, TO)` has to copy a seed."""
@@ -19,6 +30,7 @@ class Proofs:
     def __init__(self, folder, kept, link):
         self.folder, self.kept, self.link = folder, kept, link
         self.proved, self.refused, self.seeds, self.has_ended = set(), set(), {}, False
+        self.rooms, self.taken = {}, set()  # the folder in which the first check over each seed runs; the seeds copied
         self.changed = threading.Condition()
         threading.Thread(target=self.follow, daemon=True).start()
 
@@ -44,19 +56,29 @@ class Proofs:
             return ''
 
     def seeds_of_now(self):
-        """Copies of the seeds over which `rt ci` tries must-fail edits: it proved each crate from nothing into one. A seed
-        is whole once an edit has a copy of its own beside it, which is named by a number."""
-        for at in glob.glob(f'{self.text_of("room").strip() or "/nowhere"}/rt-edits-*'):
+        """Copies of the seeds over which `rt ci` tries must-fail edits: it proved each crate from nothing into one."""
+        for at in {*glob.glob(f'{self.text_of("room").strip() or "/nowhere"}/rt-edits-*')} - self.taken:
             try:
-                if any(name.isdigit() for name in os.listdir(at)):
-                    names = Counter(CRATE.match(file)[1] for _, _, files in os.walk(f'{at}/seed') for file in files
+                seed = self.whole_seed(at)
+                if seed:
+                    names = Counter(CRATE.match(file)[1] for _, _, files in os.walk(seed) for file in files
                                     if CRATE.match(file))
                     crate = names.most_common(1)[0][0]
-                    if crate not in self.seeds:
-                        self.link(f'{at}/seed', f'{self.kept}/{crate}')
-                        yield crate, f'{self.kept}/{crate}'
+                    self.taken.add(at)
+                    self.link(seed, f'{self.kept}/{crate}')
+                    yield crate, f'{self.kept}/{crate}'
             except (OSError, IndexError):
                 pass  # it is being removed
+
+    def whole_seed(self, at):
+        """The seed in a folder of `rt ci`, once it is whole. Of the releases of the kit some try each edit over a copy of
+        the seed, which a number names. The others try all over the seed itself, the first of them from nothing, so that
+        it is whole once the folder is gone in which that first check runs."""
+        if os.path.isdir(f'{at}/seed'):
+            return f'{at}/seed' if any(name.isdigit() for name in os.listdir(at)) else None
+        if at not in self.rooms:
+            self.rooms.update({at: room for room in rooms_of_checks(at)})
+        return at if at in self.rooms and not os.path.exists(self.rooms[at]) else None
 
     def wait_for(self, crates, seed=None):
         """Waits until these crates are proved, and there is a seed of the other one, or none will come. Gives what of them

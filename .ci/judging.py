@@ -37,6 +37,11 @@ def copy_libraries(crates):
                 libraries[made] = shutil.copytree(made, f'{room}/libraries/{crate.name}')
 
 
+def linked(folder, to):
+    """A copy of kept work by links, since no check changes a file of it: what is new replaces it."""
+    shutil.copytree(folder, to, copy_function=os.link)
+
+
 def in_copies(word):
     """A word of a command, with the copies for the libraries."""
     for made, copied in [*libraries.items()]:
@@ -183,7 +188,7 @@ class Crate:
                 path = file.relative_to(self.folder).as_posix()
                 texts[path] = (texts.get(path) or file.read_text(encoding='utf-8')).replace(old, new)
         with tempfile.TemporaryDirectory(dir=room) as at:
-            rt.linked(self.kept, f'{at}/kept')
+            linked(self.kept, f'{at}/kept')
             return checked(self.crate, texts, f'{at}/kept', self.jobs)
 
 
