@@ -15,7 +15,6 @@ use Rattle.argon2.specs.VariantType.{Variant}
 use Rattle.argon2.specs.VersionType.{Version}
 use Rattle.argon2_c.specs.Jobs.{is_out_of_bounds, job_of, setting_at, setting_of_job, setting_with}
 use Rattle.argon2_c.specs.declared.jobs.LentJob.{LentJob}
-use Rattle.argon2_c.proofs.Lengths.{later_row}
 use Rattle.argon2_c.proofs.Numbers.{variant_of-number, version_of-number}
 
 -- the numbers of a setting are those of no other
@@ -34,19 +33,7 @@ recovered s len good long =
 
 -- the table's row on a short hash
 pub accepted_hash : (config : Config) (p s h : ℕ) → refusal_of config p s h ≡ None → 4 ≤ h
-unfolding refusal_of
-accepted_hash config p s h none =
-    let a = later_row (config.lanes == 0) _ _ none in
-    let b = later_row (nat_lt max_lanes config.lanes) _ _ a.1 in
-    let c = later_row (nat_lt config.mem_cost 8 || nat_lt config.mem_cost (8 * config.lanes)) _ _ b.1 in
-    let d = later_row (config.time_cost == 0) _ _ c.1 in
-    let e = later_row (nat_lt max_length p) _ _ d.1 in
-    let f = later_row (nat_lt s 8) _ _ e.1 in
-    let g = later_row (nat_lt max_length s) _ _ f.1 in
-    let i = later_row (nat_lt max_length (length config.secret.now)) _ _ g.1 in
-    let j = later_row (nat_lt max_length (length config.ad.now)) _ _ i.1 in
-    let k = later_row (nat_lt h 4) _ _ j.1 in
-    ltb-false h 4 k.0
+accepted_hash config p s h none = (accepted config p s h (rw none refl)).hash_suffices
 
 -- an option that equals None holds nothing
 none_holds : {A : Type 0} {o : Option A} → o ≡ None → IsNone o

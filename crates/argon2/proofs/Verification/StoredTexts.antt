@@ -24,7 +24,7 @@ use Rattle.argon2_standard.specs.Standard.Tag.{tag_of}
 use Rattle.argon2_standard.specs.Standard.Text.{Spelled}
 use Rattle.argon2_text.specs.Views.Texts.{IsSpellingOf, spelled_by, spelled_with}
 use Rattle.argon2_standard.specs.Standard.Outcome.{IsVerdict}
-use Rattle.argon2_settings.proofs.Settings.Accepted.{hash_fits}
+use Rattle.argon2_settings.proofs.Settings.Accepted as settings
 use Rattle.argon2_text.proofs.Reading.TextItems.{item_unique}
 use Rattle.argon2.proofs.TextLaws.TextSpellings.{spells_one}
 
@@ -164,8 +164,8 @@ head_accepted h pwd_len secret ad refusal (Err e) told none settings items = tt
 pub own_length : (d : Spelled) (pwd_len : ℕ) (secret ad : List ℕ) (used : Config) → IsAccepted d pwd_len secret ad → IsConfigOf d secret ad used
     → used.hash_length ≡ length d.hash
 own_length d pwd_len secret ad used accepted is =
-    let fits = hash_fits used pwd_len (length d.salt) (length d.hash) (none_holds (accepted used is.stored)) in
-    is.hash_length ∙ min-eq_left fits
+    let within = settings.accepted used pwd_len (length d.salt) (length d.hash) (none_holds (accepted used is.stored)) in
+    is.hash_length ∙ min-eq_left within.hash_fits
 
 -- the configuration that an accepted value is verified with is refused nothing
 pub stored_accepted : (d : Spelled) (pwd_len : ℕ) (secret ad : List ℕ) (used : Config) → IsAccepted d pwd_len secret ad → IsConfigOf d secret ad used

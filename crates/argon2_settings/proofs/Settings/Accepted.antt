@@ -1,7 +1,7 @@
 -- What settings keep to that are not refused, and what H0 is the hash of.
-use Rattle.std.proofs.Common.{◌≡◌, ℕ, ◌*◌, ◌/◌, ◌^◌, ◌<◌, ◌≤◌, Bool, true, false, List, [], length, Option, Some, refl, arith, cond, inl, inr, ◌∙◌}
+use Rattle.std.proofs.Common.{◌≡◌, ℕ, ◌*◌, ◌/◌, ◌^◌, ◌<◌, ◌≤◌, Bool, true, false, List, [], ◌∷◌, length, refl, arith, cond, inl, inr, ◌∙◌}
 use Rattle.std.proofs.Common.{ap, ◌++◌, append_assoc, append-nil}
-use Rattle.std.specs.Prelude.{◌==◌, ◌||◌, nat_lt, IsNone, min}
+use Rattle.std.specs.Prelude.{◌==◌, ◌||◌, IsNone, min, ⊤}
 use Rattle.std.proofs.lemmas.Bool.{ltb-false, cases_lt, le-leb, lt-leb}
 use Rattle.std.proofs.Math.Nat.{div-lt_iff_lt-mul, le-min, min-le_left}
 use Rattle.std.proofs.lemmas.Bool.Decides.{eqb_tells}
@@ -14,12 +14,18 @@ use Rattle.argon2_standard.specs.declared.error.Error.{Error}
 use Rattle.argon2_standard.specs.Standard.Prehash.{le32, hashed_inputs}
 use Rattle.argon2_standard.specs.Standard.Variant.{variant_number}
 use Rattle.argon2_standard.specs.Standard.Version.{version_number}
-use Rattle.argon2_standard.specs.Standard.SettingsTable.{refusal_of, max_lanes, max_length}
+use Rattle.argon2_standard.specs.Standard.SettingsTable.{first_that_applies, max_lanes, max_length, refusal_of, settings_table}
 
--- where a table refuses nothing, its first row does not apply and the rest refuses nothing
-none_next : (b : Bool) (r : Error) (rest : Option Error) → IsNone (cond b (Some r) rest) → (b ≡ false) × IsNone rest
-none_next true r rest h = absurd (let e : true ≡ false = h in cc)
-none_next false r rest h = (refl, h)
+-- no row of a table has a condition that holds
+abbrev NoneApplies : List (Bool × Error) → Type 0
+NoneApplies [] = ⊤
+NoneApplies ((applies, refusal) ∷ rows) = (applies ≡ false) × NoneApplies rows
+
+-- where a table refuses nothing, none of its rows applies
+none_applies : (rows : List (Bool × Error)) → IsNone (first_that_applies rows) → NoneApplies rows
+none_applies [] h = tt
+none_applies ((true, refusal) ∷ rows) h = absurd (let e : true ≡ false = h in cc)
+none_applies ((false, refusal) ∷ rows) h = (refl, none_applies rows h)
 
 -- where the `or` of two truth values is false, each of them is false
 neither : (a b : Bool) → (a || b) ≡ false → (a ≡ false) × (b ≡ false)
@@ -30,43 +36,29 @@ neither false b h = (refl, h)
 some : (n : ℕ) → (n == 0) ≡ false → 0 < n
 some n h = elim (eqb_tells n 0) [ inl w ↦ absurd (cc (w.0)) | inr w ↦ omega (arith, w.1) ]
 
-pub record AreAccepted (config : Config) : Type 0 where
+pub record AreAccepted (config : Config) (salt_len hash_len : ℕ) : Type 0 where
   pub some_lane : 0 < config.lanes
-  pub few_lanes : config.lanes ≤ 16777215
+  pub few_lanes : config.lanes ≤ max_lanes
   pub much : 8 * config.lanes ≤ config.mem_cost
   pub some_pass : 0 < config.time_cost
+  pub salt_fits : salt_len ≤ max_length
+  pub hash_suffices : 4 ≤ hash_len
+  pub hash_fits : hash_len ≤ max_length
 
--- a configuration that is not refused has its lanes, its memory and its passes within bounds
-pub accepted : (config : Config) (p s h : ℕ) → IsNone (refusal_of config p s h) → AreAccepted config
+-- what is not refused has its lanes, memory, passes and lengths within bounds
+pub accepted : (config : Config) (p s h : ℕ) → IsNone (refusal_of config p s h) → AreAccepted config s h
 unfolding refusal_of
 accepted config p s h none =
-    let a = none_next (config.lanes == 0) _ _ none in
-    let b = none_next (nat_lt max_lanes config.lanes) _ _ a.1 in
-    let c = none_next (nat_lt config.mem_cost 8 || nat_lt config.mem_cost (8 * config.lanes)) _ _ b.1 in
-    let d = none_next (config.time_cost == 0) _ _ c.1 in
+    let (lanes, (many, (memory, (passes, (_, (_, (salt, (_, (_, (short, (long, _))))))))))) = none_applies (settings_table config p s h) none in
     record {
-      some_lane = some config.lanes a.0;
-      few_lanes = ltb-false max_lanes config.lanes b.0;
-      much = ltb-false config.mem_cost (8 * config.lanes) (neither _ _ c.0).1;
-      some_pass = some config.time_cost d.0;
+      some_lane = some config.lanes lanes;
+      few_lanes = ltb-false max_lanes config.lanes many;
+      much = ltb-false config.mem_cost (8 * config.lanes) (neither _ _ memory).1;
+      some_pass = some config.time_cost passes;
+      salt_fits = ltb-false max_length s salt;
+      hash_suffices = ltb-false h 4 short;
+      hash_fits = ltb-false max_length h long;
     }
-
--- the hash of an accepted call is short enough for the field that holds its length
-pub hash_fits : (config : Config) (p s h : ℕ) → IsNone (refusal_of config p s h) → h ≤ max_length
-unfolding refusal_of
-hash_fits config p s h none =
-    let a = none_next (config.lanes == 0) _ _ none in
-    let b = none_next (nat_lt max_lanes config.lanes) _ _ a.1 in
-    let c = none_next (nat_lt config.mem_cost 8 || nat_lt config.mem_cost (8 * config.lanes)) _ _ b.1 in
-    let d = none_next (config.time_cost == 0) _ _ c.1 in
-    let e = none_next (nat_lt max_length p) _ _ d.1 in
-    let f = none_next (nat_lt s 8) _ _ e.1 in
-    let g = none_next (nat_lt max_length s) _ _ f.1 in
-    let i = none_next (nat_lt max_length (length config.secret.now)) _ _ g.1 in
-    let j = none_next (nat_lt max_length (length config.ad.now)) _ _ i.1 in
-    let k = none_next (nat_lt h 4) _ _ j.1 in
-    let l = none_next (nat_lt max_length h) _ _ k.1 in
-    ltb-false max_length h l.0
 
 -- where each lane has 8 blocks of memory, a segment has two blocks at least
 pub long_segment : (mem lanes : ℕ) → 0 < lanes → 8 * lanes ≤ mem → 2 ≤ mem / (4 * lanes)
