@@ -71,9 +71,9 @@ class Proofs:
                 pass  # it is being removed
 
     def whole_seed(self, at):
-        """The seed in a folder of `rt ci`, once it is whole. Of the releases of the kit some try each edit over a copy of
-        the seed, which a number names. The others try all over the seed itself, the first of them from nothing, so that
-        it is whole once the folder is gone in which that first check runs."""
+        """The seed in a folder of `rt ci`, once it is whole. A release of the kit tries each edit over a copy of the seed,
+        which a number names, or all of them over the seed itself, the first from nothing: then it is whole once the
+        folder is gone in which that first check runs."""
         if os.path.isdir(f'{at}/seed'):
             return f'{at}/seed' if any(name.isdigit() for name in os.listdir(at)) else None
         if at not in self.rooms:
