@@ -103,8 +103,6 @@ class Crate:
         if fault:
             yield from self.failed(fault)
             return
-        if self.proofs and self.crate.is_static:
-            self.leave_kept()
         for copy in self.copies:
             yield copy.edit, *judge(copy.edit, [*filter(copy.is_called, report.verdicts)], report)
         yield from self.judged_in_place()
@@ -160,14 +158,6 @@ class Crate:
         for it in older:
             shutil.rmtree(it)
         return None
-
-    def leave_kept(self):
-        """Leaves what the first check proved to those who build the crate's archive, which `rt ci` does not build."""
-        to = self.folder / 'out/incremental'
-        part = f'{to}.{os.getpid()}'
-        if not to.exists():
-            shutil.copytree(self.kept, part)
-            os.rename(part, to)
 
     def judged_in_place(self):
         """Those that no copy shows: of different functions together, and what a check cannot tell alone."""
