@@ -9,6 +9,10 @@ UNPROVED = re.compile(r'^note: \S+: it is not proved that .*?\(`([^`]+)`\)')
 SEARCHED = re.compile(r'`search` did not prove (`[^`]+`(?:, `[^`]+`)*)')
 # How a message begins where a proof file names what an edit took away.
 NAMES = re.compile(r'has no field|is not in scope|has no `|was not admitted|^(?:`[^`]*`: )?record `[^`]*`')
+# For a function with an open goal and no fault in its answers the checker searches once more, for proofs to offer to an
+# author. So the answers of a wrong body get a fault, and the body is judged by the goals that are left.
+NO_OFFERS = 'no_offers'
+FAULT = f'\n{NO_OFFERS} : NoOffers\n{NO_OFFERS} = {NO_OFFERS}\n'
 
 
 class Copy:
@@ -36,11 +40,15 @@ class Copy:
         above = [*self.module.path[1:], *filter(None, [self.function.owner])]
         found = folder.joinpath('proofs', *above, self.function.name)
         name, own = '.'.join([*above, self.function.name]), '.'.join([*above, self.name])
+        texts = {}
         for path in sorted(found.rglob('*.antt')):
             text = re.sub(rf'\b(Rattle\.{self.edit.crate}\.proofs)\.{re.escape(name)}\.', rf'\1.{own}.',
                           path.read_text(encoding='utf-8'))
             text = re.sub(rf'\b{self.function.name}_spec\b', f'{self.name}_spec', text)
-            yield '/'.join(['proofs', *above, self.name, path.relative_to(found).as_posix()]), text
+            texts[path.relative_to(found).as_posix()] = text
+        if not self.edit.is_equal and 'Proof.antt' not in texts:
+            texts['Answers.antt'] = texts.get('Answers.antt', '') + FAULT
+        return {'/'.join(['proofs', *above, self.name, path]): text for path, text in texts.items()}
 
 
 def can_be_copied(edit, folder):
@@ -96,10 +104,15 @@ class Report:
     def is_refused(self, place):
         """Whether a function is refused on its own account."""
         said = self.verdicts.get(place, '')
-        return said.startswith(('not proved', 'no proof')) and not BY_A_CALL.match(said)
+        is_refused = said.startswith(('not proved', 'no proof')) and not BY_A_CALL.match(said)
+        return is_refused and not (self.has_fault(place) and not any(self.goals_left(place)))
+
+    def has_fault(self, place):
+        """Whether its answers have the fault that is put there."""
+        return any(is_put_there(it) for it in self.errors if it[0].startswith(folders_of(place)))
 
     def errors_of(self, place):
-        return [it for it in self.errors if it[0].startswith(folders_of(place))]
+        return [it for it in self.errors if it[0].startswith(folders_of(place)) and not is_put_there(it)]
 
     def goals_left(self, place):
         """The goals of a function that are left unproved and why, and those of which a proof only names what is gone."""
@@ -110,6 +123,11 @@ class Report:
             for goal, why in re.findall(r'^`([^`]+)`: (.*)', said):
                 (named if NAMES.search(why[:400]) else left).setdefault(goal, why)
         return left, {goal: why for goal, why in named.items() if goal not in left}
+
+
+def is_put_there(error):
+    """Whether an error is the fault of a wrong body's answers."""
+    return error[3].startswith(f'`{NO_OFFERS}`: ')
 
 
 def clause_of(goal):

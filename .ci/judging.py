@@ -10,7 +10,7 @@ import tempfile
 import threading
 from pathlib import Path
 
-from copies import BY_A_CALL, Copy, Report, can_be_copied, clause_of, texts_with
+from copies import BY_A_CALL, Copy, Report, can_be_copied, clause_of, folders_of, texts_with
 from toolchain import load_rt
 
 MEMORY_OF_A_CHECK = 3_000_000_000  # bytes, of which the largest crate was seen to take four fifths
@@ -214,7 +214,7 @@ def fault_of_the_rest(report, copies, spans):
     for place, said in report.verdicts.items():
         if place not in of_copies and not said.startswith(('proved', 'assumed')):
             return f'the crate is not proved without its edits: {place}: {said}'
-    theirs = {id(it) for place in of_copies for it in report.errors_of(place)}
+    theirs = {id(it) for it in report.errors for place in of_copies if it[0].startswith(folders_of(place))}
     for it in report.errors:
         if id(it) not in theirs and not any(it[0] == file and first <= it[1] <= last
                                                for file, first, last in spans.values()):
@@ -260,7 +260,7 @@ def judge(edit, places, report):
     if edit.is_equal:
         return bool(places) and all(report.verdicts[it].startswith('proved') for it in places), said
     if not refused:
-        return False, f'not refused: {said}'
+        return False, f'not refused: {"all its goals are proved" if any(map(report.has_fault, places)) else said}'
     left, gone = {}, {}
     for place in refused:
         ours, named = report.goals_left(place)
