@@ -1,5 +1,6 @@
 """Judges the edits of one crate: what has to be refused is, at the goal that it names, and what has to be proved is."""
 
+import contextlib
 import hashlib
 import os
 import re
@@ -49,8 +50,9 @@ def in_copies(word):
     return word
 
 
-def checked(crate, texts, kept, jobs):
-    """What the checker says of a copy of a crate with these texts in it, over the work in `kept`, which it adds to."""
+def checked(crate, texts, kept, jobs, before=(), waits=checks_at_once):
+    """What the checker says of a copy of a crate with these texts in it, over the work in `kept`, which it adds to.
+    `before` are words before its command."""
     with tempfile.TemporaryDirectory(dir=room) as at:
         for part in rt.rtlib.PARTS:
             if os.path.isdir(f'{crate.folder}/{part}'):
@@ -58,11 +60,11 @@ def checked(crate, texts, kept, jobs):
         for path, text in texts.items():
             Path(at, path).parent.mkdir(parents=True, exist_ok=True)
             Path(at, path).write_text(text, encoding='utf-8')
-        words = [*rt.rtlib.guarded(), rt.rtlib.RATTLE, 'check', *crate.words(['--jobs', str(jobs)], keeps=False),
+        words = [*before, *rt.rtlib.guarded(), rt.rtlib.RATTLE, 'check', *crate.words(['--jobs', str(jobs)], keeps=False),
                  '--incremental', kept]
         words = [in_copies(word) for word in words]
         how = {'cwd': at, 'stdin': subprocess.DEVNULL, 'stdout': subprocess.PIPE, 'stderr': subprocess.STDOUT}
-        with checks_at_once:
+        with waits:
             ran = subprocess.run(words, errors='replace', **how)
             if ran.returncode == -signal.SIGKILL:  # most likely for memory
                 ran = subprocess.run(words, errors='replace', **how)
@@ -80,16 +82,18 @@ class Crate:
         copied = {copy.edit for copy in self.copies}
         self.in_place = [edit for edit in found if edit not in copied]
         self.kept, self.words = tempfile.mkdtemp(dir=room), words
+        # Beside the proofs it leaves the processors to them.
+        self.before = ['nice', '-n', '10'] if proofs else []
 
     def judged(self):
         """Each edit with whether it passed, and why."""
-        fault = self.start()
+        fault = self.start() or self.leave_kept()
         if fault:
             yield from self.failed(fault)
             return
         while True:
             texts, spans = texts_with(self.copies, self.folder)
-            report = checked(self.crate, texts, self.kept, self.jobs)
+            report = checked(self.crate, texts, self.kept, self.jobs, self.before)
             if report.is_told:
                 break
             blamed = blamed_by(report, spans)
@@ -159,6 +163,21 @@ class Crate:
             shutil.rmtree(it)
         return None
 
+    def leave_kept(self):
+        """Proves the crate for C without edits, and leaves what is kept to those who build its archive, which wait for it:
+        `rt ci` builds none. Gives the crate's fault, or None."""
+        if not (self.proofs and self.crate.is_static):
+            return None
+        report = checked(self.crate, {}, self.kept, self.jobs, waits=contextlib.nullcontext())
+        if not report.last.startswith('logic=proved'):
+            return f'the crate is not proved without its edits: {report.first_error()}'
+        to = self.folder / 'out/incremental'
+        part = f'{to}.{os.getpid()}'
+        if not to.exists():
+            shutil.copytree(self.kept, part)
+            os.rename(part, to)
+        return None
+
     def judged_in_place(self):
         """Those that no copy shows: of different functions together, and what a check cannot tell alone."""
         waiting = together(self.in_place)
@@ -189,7 +208,7 @@ class Crate:
                 texts[path] = (texts.get(path) or file.read_text(encoding='utf-8')).replace(old, new)
         with tempfile.TemporaryDirectory(dir=room) as at:
             linked(self.kept, f'{at}/kept')
-            return checked(self.crate, texts, f'{at}/kept', self.jobs)
+            return checked(self.crate, texts, f'{at}/kept', self.jobs, self.before)
 
 
 def contents_of(crate):

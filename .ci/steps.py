@@ -18,10 +18,10 @@ class Step(threading.Thread):
     What it says is shown whole when it ends, or at once, as each fault is. It has to count what passed, or else its
     status counts."""
 
-    def __init__(self, name, command=None, needed=(), folder=TOP, niceness=0, is_shown_at_once=False, is_counted=True):
+    def __init__(self, name, command=None, needed=(), folder=TOP, is_shown_at_once=False, is_counted=True):
         super().__init__(name=name)
         self.command, self.needed, self.folder = command or [TOP / name], needed, folder
-        self.niceness, self.is_shown_at_once, self.is_counted = niceness, is_shown_at_once, is_counted
+        self.is_shown_at_once, self.is_counted = is_shown_at_once, is_counted
         self.lines, self.counts, self.seconds, self.of_processors = [], [0, 0, 0], 0.0, 0.0
         self.skipped, self.names = [], []
         self.start()
@@ -45,9 +45,8 @@ class Step(threading.Thread):
 
     def run_command(self):
         begun = time.monotonic()
-        process = subprocess.Popen(['nice', '-n', str(self.niceness), *self.command], cwd=self.folder,
-                                   stdin=subprocess.DEVNULL, stdout=subprocess.PIPE, stderr=subprocess.STDOUT,
-                                   text=True, errors='replace')
+        process = subprocess.Popen(self.command, cwd=self.folder, stdin=subprocess.DEVNULL, stdout=subprocess.PIPE,
+                                   stderr=subprocess.STDOUT, text=True, errors='replace')
         for line in process.stdout:
             self.take(line.rstrip('\n'))
         _, status, used = os.wait4(process.pid, 0)
