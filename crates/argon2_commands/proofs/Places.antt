@@ -1,4 +1,4 @@
--- Words by their places, and places that hold no number.
+-- Words by their places, places that hold no number, and words of no command.
 use Rattle.std.proofs.Common.{◌≡◌, ◌<◌, ℕ, List, [], length, slice_index_or, Option, None, Some, Result, Ok, Err}
 use Rattle.std.proofs.Common.{MatchOption, MatchResult, is_some, is_ok}
 use Rattle.std.proofs.Common.{arith, string_bytes, sym, ◌∙◌, ap, subst, rules}
@@ -6,7 +6,9 @@ use Rattle.std.specs.Result.{result_ok}
 use Rattle.std.specs.declared.alloc.Global.{Global}
 use Rattle.std.specs.declared.string.String.{String}
 use Rattle.std.proofs.lemmas.List.{get_or-map}
-use Rattle.argon2_commands.specs.Words.{IsNumber, texts_of, word}
+use Rattle.argon2.specs.ConfigType.{Config}
+use Rattle.argon2_commands.specs.Words.{IsHash, IsNoCommand, IsNumber, IsRehash, texts_of, word}
+use Rattle.argon2_commands.specs.declared.command.Command.TheVariants.{Hash, Verify, Check, Rehash}
 
 -- the text of a word is the word at its place
 pub word-texts_of : (words : List (String Global)) (place : ℕ) (s : String Global) (text : List ℕ) → place < length words
@@ -31,3 +33,18 @@ refusal_of P Q (Ok v) o none same m = grind (arith, rules, ap is_some none, same
 pub value_of : {A E : Type 0} (P : A → Type 0) (Q : E → Type 0) (r : Result A E) (value : A) → Some value ≡ result_ok r → MatchResult r P Q → P value
 value_of P Q (Ok other) value e m = let same : other ≡ value = cc in subst P same m
 value_of P Q (Err e') value e m = absurd (cc)
+
+-- nine words that are no hash are no command
+pub no_hash : (words : List (List ℕ)) → length words ≡ 9 → ((config : Config) (salt : List ℕ) → IsHash words config salt → ⊥) → IsNoCommand words
+no_hash words nine none (Hash config salt) is = none config salt is
+no_hash words nine none (Verify encoded) is = omega (arith, nine, is.count)
+no_hash words nine none (Check encoded) is = omega (arith, nine, is.count)
+no_hash words nine none (Rehash config encoded) is = omega (arith, nine, is.count)
+
+-- and eight that are no rehash
+pub no_rehash : (words : List (List ℕ)) → length words ≡ 8 → ((config : Config) (encoded : List ℕ) → IsRehash words config encoded → ⊥)
+    → IsNoCommand words
+no_rehash words eight none (Hash config salt) is = omega (arith, eight, is.count)
+no_rehash words eight none (Verify encoded) is = omega (arith, eight, is.count)
+no_rehash words eight none (Check encoded) is = omega (arith, eight, is.count)
+no_rehash words eight none (Rehash config encoded) is = none config encoded.now is

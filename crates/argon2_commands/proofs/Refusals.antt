@@ -1,5 +1,5 @@
--- Refusals that are passed on.
-use Rattle.std.proofs.Common.{inl, inr, refl, ◌⊎◌, ◌≡◌, ℕ, List, Option, None, Some, Result, Ok, Err, IfErr, Bool, true, false, sym, subst}
+-- Refusals that are passed on, and what is known of accepted values.
+use Rattle.std.proofs.Common.{inl, inr, refl, ◌⊎◌, ◌≡◌, ℕ, List, Option, None, Some, MatchOption, Result, Ok, Err, IfErr, Bool, true, false, sym, subst}
 use Rattle.std.specs.Result.{IsErr, IsErrAnd}
 use Rattle.argon2.specs.ErrorType.{Error}
 use Rattle.argon2.specs.ErrorType.TheVariants.{OutOfMemory}
@@ -43,6 +43,12 @@ is_refused words input command fault is may refusal refused =
 -- and none of them is the output's
 pub is_no_output : {A : Type 0} (fault : Fault) (command : Command) (input : Option (List ℕ)) → MayFail command input fault → fault ≡ OutputShort → A
 is_no_output fault command input may short = absurd (subst (MayFail command input) short may)
+
+-- what is known of an accepted value, where a refusal would have been an error
+pub at_accepted : {A : Type 0} (refusal : Option Error) (P : Type 0) (value : A) →
+    MatchOption refusal P (λ (e : Error). let r : Result A Error = Ok value in r ≡ Err e) → P
+at_accepted None P value h = h
+at_accepted (Some e) P value h = absurd (cc)
 
 -- a want of memory is a shortage, whether workers may be wanting or not
 pub shortage : (workers : Bool) (e : Error) → e ≡ OutOfMemory → IsShortage workers e

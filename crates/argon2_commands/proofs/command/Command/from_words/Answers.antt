@@ -2,8 +2,8 @@ use Rattle.std.proofs.Common.{ap, arith, sym, ◌∙◌, subst}
 use Rattle.std.specs.Cmp.Lexicographic.{same_text}
 use Rattle.std.proofs.lemmas.List.{length-map}
 use Rattle.argon2_commands.specs.Salts.{salt_of}
-use Rattle.argon2_commands.specs.Words.{IsMode}
-use Rattle.argon2_commands.proofs.Places.{word-texts_of}
+use Rattle.argon2_commands.specs.Words.{IsMode, texts_of}
+use Rattle.argon2_commands.proofs.Places.{no_hash, no_rehash, word-texts_of}
 use Rattle.argon2_commands.proofs.command.Command.from_words.Goals as goal
 
 pub returns-in-len2 : goal.returns-in-len2
@@ -51,3 +51,31 @@ returns-in-len2-2 c = record {
   text = sym (word-texts_of c.args.words.now 1 c.encoded-item-then-words-lt3.result _ (omega
       (arith, c.in-len2.len_at_least)) c.encoded-item-then-words-lt3.is c.as_str-in-len2-2.ensures.value);
 }
+
+pub returns-in_err-mode_of-in-len9 : goal.returns-in_err-mode_of-in-len9
+returns-in_err-mode_of-in-len9 c =
+    rw c.from_residual-in_err-mode_of-in-len9.ensures
+    (no_hash (texts_of c.args.words.now) (rw (length-map c.args.words.now) (omega (arith, c.in-len9.len_at_least, c.in-len9.len_below))) (λ config salt is.
+    c.in_err-mode_of-in-len9.ensures config.thread_mode (subst (λ text. IsMode text config.thread_mode)
+    (word-texts_of c.args.words.now 7 c.mode-item.result _ (omega (arith, c.in-len9.len_at_least)) c.mode-item.is c.as_str-in-len9.ensures.value)
+    is.mode)))
+
+pub returns-in_err-settings_of-in-len9 : goal.returns-in_err-settings_of-in-len9
+returns-in_err-settings_of-in-len9 c =
+    rw c.from_residual-in_err-settings_of-in-len9.ensures
+    (no_hash (texts_of c.args.words.now) (rw (length-map c.args.words.now) (omega (arith, c.in-len9.len_at_least, c.in-len9.len_below)))
+    (λ config salt is. c.in_err-settings_of-in-len9.ensures.none config is.settings))
+
+pub returns-in_err-from_word-in-len9 : goal.returns-in_err-from_word-in-len9
+returns-in_err-from_word-in-len9 c =
+    rw c.from_residual-in_err-from_word-in-len9.ensures
+    (no_hash (texts_of c.args.words.now) (rw (length-map c.args.words.now) (omega (arith, c.in-len9.len_at_least, c.in-len9.len_below))) (λ config salt is.
+    let at = word-texts_of c.args.words.now 8 c.salt-item.result _ (omega (arith, c.in-len9.len_at_least)) c.salt-item.is c.as_str-in-len9-2.ensures.value in
+    let e = c.in_err-from_word-in-len9.ensures ∙ ap salt_of (sym at) ∙ is.salted in
+    absurd (cc (e))))
+
+pub returns-in_err-settings_of-in-len8 : goal.returns-in_err-settings_of-in-len8
+returns-in_err-settings_of-in-len8 c =
+    rw c.from_residual.ensures
+    (no_rehash (texts_of c.args.words.now) (rw (length-map c.args.words.now) (omega (arith, c.in-len8.len_at_least, c.in-len8.len_below)))
+    (λ config encoded is. c.in_err-settings_of-in-len8.ensures.none config is.settings))
