@@ -1,5 +1,5 @@
 -- From the library's verdict to a judgement.
-use Rattle.std.proofs.Common.{◌≡◌, Bool, true, false, Option, None, Some, Ok, Err, refl, ap}
+use Rattle.std.proofs.Common.{◌≡◌, Bool, true, false, Option, None, Some, Result, Ok, Err, refl, ap}
 use Rattle.std.specs.Prelude.{◌↔◌, IsTrue}
 use Rattle.argon2.specs.ErrorType.{Error}
 use Rattle.argon2.specs.Outcome.{IsOutcome}
@@ -20,3 +20,11 @@ refused (Some e) Same error h =
     let same : error ≡ e = cc in
     rw same refl
 refused None Same error h = ap Library h
+
+-- one error is one refusal
+pub same_refusal : {A : Type 0} (error other : Error) → (let r : Result A Error = Err error in r ≡ Err other) → error ≡ other
+same_refusal error other e = cc
+
+-- and what went well is none
+pub no_refusal : {A B : Type 0} (value : A) (error : Error) → (let r : Result A Error = Ok value in r ≡ Err error) → B
+no_refusal value error e = absurd (cc)

@@ -1,8 +1,11 @@
 -- The text that is read is the one that was passed.
-use Rattle.std.proofs.Common.{length, refl, arith}
+use Rattle.std.proofs.Common.{Err, ap, length, refl, sym, ◌∙◌}
 use Rattle.std.proofs.lemmas.Result.{err_from_is_err_and}
 use Rattle.argon2.specs.Texts.{spelled_by}
 use Rattle.argon2.proofs.Verification.StoredTexts.{own_length, stored_accepted}
+use Rattle.argon2.specs.ErrorType.{Error}
+use Rattle.argon2_c.specs.declared.refusal.Refusal.TheVariants.{Library}
+use Rattle.argon2_c.proofs.Verdicts.{no_refusal, same_refusal}
 use Rattle.argon2_c.proofs.StoredJobs.{made_both, refused_both, wrong_both}
 use Rattle.argon2_c.proofs.jobs.make_stored.Goals as goal
 
@@ -14,7 +17,7 @@ returns-in_err-stored c =
     let spelled = rw text.0 at c.in_err-stored.ensures.spelled in
     record {
       not_utf8 = λ no. absurd (no text.1);
-      unspelled = λ _ none. (let e = unspelled none in rw (p.1, p.2) (cc), refl);
+      unspelled = λ _ none. (rw (p.1, p.2) (ap (λ (x : Error). Err (Library x)) (same_refusal _ _ (unspelled none))), refl);
       spelled = λ _ d config spells stored. rw (p.1, p.2) (refused_both _ _ _ _ c.in_err-stored.field-0.0 (spelled d config spells stored));
     }
 
@@ -25,9 +28,9 @@ returns-then-hash-len c =
     let spelled = rw text.0 at c.in_ok-stored.ensures.spelled in
     record {
       not_utf8 = λ no. absurd (no text.1);
-      unspelled = λ _ none. let e = unspelled none in absurd (cc);
+      unspelled = λ _ none. no_refusal _ _ (unspelled none);
       spelled = λ _ d config spells stored. wrong_both _ c.in_ok-stored.stored d c.args.pwd.now config _ (spelled d config spells stored)
-          (λ e. c.if-hash-len.true (omega (arith, e, c.len.ensures, c.in_ok-stored.stored.hash.ok.0)));
+          (λ e. c.if-hash-len.true (e ∙ sym c.in_ok-stored.stored.hash.ok.0 ∙ sym c.len.ensures));
     }
 
 pub stored_context-requires : goal.stored_context-requires
@@ -47,8 +50,8 @@ returns c =
     let made = rw (is.config, is.pwd, is.salt) at c.of.ensures in
     record {
       not_utf8 = λ no. absurd (no text.1);
-      unspelled = λ _ none. let e = unspelled none in absurd (cc);
+      unspelled = λ _ none. no_refusal _ _ (unspelled none);
       spelled = λ _ d config spells stored. made_both _ c.in_ok-stored.stored d c.args.pwd.now c.args.secret.now c.args.ad.now config used _
           c.of.result c.copy_from_slice.new.self (spelled d config spells stored) c.config_of-config.ensures stored own made
-          (let a = c.copy_from_slice.ensures.after in let b = c.deref.ensures.value in cc);
+          (c.copy_from_slice.ensures.after ∙ c.deref.ensures.value);
     }

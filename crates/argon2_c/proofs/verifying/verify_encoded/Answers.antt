@@ -1,7 +1,9 @@
 -- The text that is verified is the one that was passed.
-use Rattle.std.proofs.Common.{refl}
+use Rattle.std.proofs.Common.{Err, ap, refl}
 use Rattle.std.proofs.lemmas.Result.{err_from_is_err_and}
-use Rattle.argon2_c.proofs.Verdicts.{judged, refused}
+use Rattle.argon2.specs.ErrorType.{Error}
+use Rattle.argon2_c.specs.declared.refusal.Refusal.TheVariants.{Library}
+use Rattle.argon2_c.proofs.Verdicts.{judged, no_refusal, refused, same_refusal}
 use Rattle.argon2_c.proofs.verifying.verify_encoded.Goals as goal
 
 pub returns-in_err-text : goal.returns-in_err-text
@@ -22,7 +24,7 @@ returns-in_err-matches c =
     let spelled = rw text.0 at c.in_err-matches.ensures.spelled in
     record {
       not_utf8 = λ no. absurd (no text.1);
-      unspelled = λ _ none. let e = unspelled none in rw (p.1, p.2) (cc);
+      unspelled = λ _ none. rw (p.1, p.2) (ap (λ (x : Error). Err (Library x)) (same_refusal _ _ (unspelled none)));
       spelled = λ _ d config spells stored. rw (p.1, p.2) (refused _ _ c.in_err-matches.field-0.0 (spelled d config spells stored));
     }
 
@@ -33,6 +35,6 @@ returns c =
     let spelled = rw text.0 at c.in_ok-matches.ensures.spelled in
     record {
       not_utf8 = λ no. absurd (no text.1);
-      unspelled = λ _ none. let e = unspelled none in absurd (cc);
+      unspelled = λ _ none. no_refusal _ _ (unspelled none);
       spelled = λ _ d config spells stored. judged _ _ c.in_ok-matches.matches (spelled d config spells stored);
     }
