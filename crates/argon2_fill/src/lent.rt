@@ -161,8 +161,9 @@ pub fn fill_lent(
     requires third_fits { length third.old ≡ job.now.setting.lanes * job.now.setting.segment_length }
     requires fourth_fits { length fourth.old
         ≡ job.now.setting.lanes * job.now.setting.segment_length }
-    ensures { let s = job.now.setting in IsLentBegun s first.old
-        → HoldsSlice s (s.passes - 1) 3 fourth.new }
+    ensures { let s = job.now.setting in IsLentBegun s first.old → (slice : ℕ) → slice < 4
+        → HoldsSlice s (s.passes - 1) slice
+        (slice_index_or (first.new ∷ second.new ∷ third.new ∷ fourth.new ∷ []) slice []) }
 {
     recall_job(job);
     // One loop over the slices of all passes, so that one invariant serves for all.

@@ -176,10 +176,11 @@ next_lent s n m filled =
 
 -- ---- the end
 
--- after all passes the last slice holds the blocks of the last pass
-pub last_slice : (s : Setting) → IsSetting s → (m : List (List (List ℕ))) → IsLentBelow s s.passes 0 m → HoldsSlice s (s.passes - 1) 3 (get_or m 3 [])
-last_slice s good m filled = λ lane fits.
-    last_in s.passes s 3 lane (lent_blocks s (get_or m 3 []) lane) good.some_pass (filled.above 3 lane (omega arith) (omega arith) fits)
+-- after all passes each slice holds the blocks of the last pass
+pub last_slices : (s : Setting) → IsSetting s → (m : List (List (List ℕ))) → IsLentBelow s s.passes 0 m →
+    (slice : ℕ) → slice < 4 → HoldsSlice s (s.passes - 1) slice (get_or m slice [])
+last_slices s good m filled slice below = λ lane fits.
+    last_in s.passes s slice lane (lent_blocks s (get_or m slice []) lane) good.some_pass (filled.above slice lane (omega arith) below fits)
 
 -- and its last blocks are the setting's
 pub last_blocks-lent : (s : Setting) → IsSetting s → (slice : List (List ℕ)) → HoldsSlice s (s.passes - 1) 3 slice → last_lent s slice ≡ last_blocks s
@@ -217,4 +218,4 @@ module _ (s : Setting) (slices : ℕ → List (List (List ℕ))) (run : IsLentRu
   run_agrees =
       let pass : 4 * s.passes / 4 ≡ s.passes = omega arith in
       let slice : 4 * s.passes % 4 ≡ 0 = omega arith in
-      last_slice s run.setting (slices (4 * s.passes)) (rw (pass, slice) at (run_below (4 * s.passes) (omega arith)))
+      last_slices s run.setting (slices (4 * s.passes)) (rw (pass, slice) at (run_below (4 * s.passes) (omega arith))) 3 (omega arith)

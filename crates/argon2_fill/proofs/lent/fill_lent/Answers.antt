@@ -1,5 +1,5 @@
 use Rattle.std.proofs.Common.{◌≡◌, ◌*◌, ◌/◌, ◌%◌, [], ◌∷◌, arith}
-use Rattle.argon2_fill.proofs.Filling.Lent.{next_lent, last_slice}
+use Rattle.argon2_fill.proofs.Filling.Lent.{next_lent, last_slices}
 use Rattle.argon2_fill.proofs.lent.fill_lent.Goals as goal
 
 pub loop-n-preserved : goal.loop-n-preserved
@@ -8,10 +8,10 @@ loop-n-preserved c = λ begun.
     next_lent c.args.job.now.setting c.loop-n.n _ (step (c.loop-n.invariant begun))
 
 pub returns : goal.returns
-returns c = λ begun.
+returns c = λ begun k below.
     let s = c.args.job.now.setting in
     let whole : c.loop-n.n ≡ 4 * s.passes = omega arith in
     let pass : c.loop-n.n / 4 ≡ s.passes = omega (arith, whole) in
     let slice : c.loop-n.n % 4 ≡ 0 = omega (arith, whole) in
-    last_slice s c.recall_job.ensures.setting (c.loop-n.first ∷ c.loop-n.second ∷ c.loop-n.third ∷ c.loop-n.fourth ∷ [])
-    (rw (pass, slice) at (c.loop-n.invariant begun))
+    last_slices s c.recall_job.ensures.setting (c.loop-n.first ∷ c.loop-n.second ∷ c.loop-n.third ∷ c.loop-n.fourth ∷ [])
+    (rw (pass, slice) at (c.loop-n.invariant begun)) k below
