@@ -7,10 +7,10 @@ use Rattle.argon2_blocks.proofs.block.kernel.store_onto.Goals as goal
 pub loop-k-preserved : goal.loop-k-preserved
 loop-k-preserved c =
     put_part c.loop-k.k _ (xor (xor (vector_words c.args.x.now) (vector_words c.args.y.now)) c.args.w.now) c.args.w.now c.loop-k.w c.xor_lanes-in-loop-k.result
-    (omega arith) (length_256 c.args.x.now c.args.y.now c.args.w.now (omega arith) (omega arith) c.requires.left c.requires.right (omega arith))
-    (omega arith) (omega arith) (omega arith) c.loop-k.invariant
+    (omega arith) (length_256 c.args.x.now c.args.y.now c.args.w.now c.told-x c.told-y c.requires.left c.requires.right c.told-w)
+    c.told-w (omega arith) c.loop-k-test.true c.loop-k.invariant
     (chunk_onto c.args.x.now c.args.y.now c.args.w.now c.loop-k.w c.xor_lanes.result c.xor_lanes-in-loop-k.result c.loop-k.k _
-    (omega arith) (omega arith) c.requires.left c.requires.right (omega arith) (omega arith) (omega arith)
+    c.told-x c.told-y c.requires.left c.requires.right c.loop-k-test.true (omega arith) c.told-w
     c.loop-k.invariant c.xor_lanes.ensures.value c.xor_lanes-in-loop-k.ensures.value)
 
 pub returns : goal.returns
@@ -18,4 +18,4 @@ returns c =
     let e : c.loop-k.k ≡ 16 = omega arith in
     (rw e at c.loop-k.invariant)
     ∙ put_done (xor (xor (vector_words c.args.x.now) (vector_words c.args.y.now)) c.args.w.now) c.args.w.now
-    (length_256 c.args.x.now c.args.y.now c.args.w.now (omega arith) (omega arith) c.requires.left c.requires.right (omega arith)) (omega arith)
+    (length_256 c.args.x.now c.args.y.now c.args.w.now c.told-x c.told-y c.requires.left c.requires.right c.told-w) c.told-w
