@@ -32,6 +32,10 @@ word_at bytes at word e =
     let first : at + 0 ≡ at = omega arith in
     rw (b 0 (lit< tt), b 1 (lit< tt), b 2 (lit< tt), b 3 (lit< tt), b 4 (lit< tt), b 5 (lit< tt), b 6 (lit< tt), b 7 (lit< tt), first) e
 
+-- each byte of it is there
+pub byte_within : (at n i : ℕ) → at + 8 ≤ n → i < 8 → at + i < n
+byte_within at n i within h = omega arith
+
 -- ---- a loop's step
 
 -- no words are read
