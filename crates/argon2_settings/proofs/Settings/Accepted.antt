@@ -1,7 +1,8 @@
 -- What settings keep to that are not refused, and what H0 is the hash of.
-use Rattle.std.proofs.Common.{◌≡◌, ℕ, ◌*◌, ◌/◌, ◌^◌, ◌<◌, ◌≤◌, Bool, true, false, List, [], ◌∷◌, length, refl, arith, cond, inl, inr, ◌∙◌}
+use Rattle.std.proofs.Common.{◌≡◌, ℕ, ◌*◌, ◌/◌, ◌^◌, ◌<◌, ◌≤◌, Bool, true, false, ltb, List, [], ◌∷◌, length, refl, arith, cond, inl, inr, ◌∙◌}
 use Rattle.std.proofs.Common.{ap, ◌++◌, append_assoc, append-nil}
 use Rattle.std.specs.Prelude.{◌==◌, ◌||◌, IsNone, min, ⊤}
+use Rattle.std.specs.Int.{w32}
 use Rattle.std.proofs.lemmas.Bool.{ltb-false, cases_lt, le-leb, lt-leb}
 use Rattle.std.proofs.Math.Nat.{div-lt_iff_lt-mul, le-min, min-le_left}
 use Rattle.std.proofs.lemmas.Bool.Decides.{eqb_tells}
@@ -15,6 +16,7 @@ use Rattle.argon2_standard.specs.Standard.Prehash.{le32, hashed_inputs}
 use Rattle.argon2_standard.specs.Standard.Variant.{variant_number}
 use Rattle.argon2_standard.specs.Standard.Version.{version_number}
 use Rattle.argon2_standard.specs.Standard.SettingsTable.{first_that_applies, max_lanes, max_length, refusal_of, settings_table}
+use mir.Val.{Fits}
 
 -- no row of a table has a condition that holds
 abbrev NoneApplies : List (Bool × Error) → Type 0
@@ -59,6 +61,18 @@ accepted config p s h none =
       hash_suffices = ltb-false h 4 short;
       hash_fits = ltb-false max_length h long;
     }
+
+-- a length that is told not to be too great has 32 bits
+length_fits : (n : ℕ) → ltb max_length n ≡ false → Fits w32 n
+length_fits n e = let few = ltb-false max_length n e in record { fits = omega arith }
+
+-- what is not refused has inputs whose lengths have 32 bits: the password, the salt, the secret and the associated data
+pub inputs_fit : (config : Config) (p s h : ℕ) → IsNone (refusal_of config p s h)
+    → Fits w32 p × (Fits w32 s × (Fits w32 (length config.secret.now) × Fits w32 (length config.ad.now)))
+unfolding refusal_of
+inputs_fit config p s h none =
+    let (_, (_, (_, (_, (pwd, (_, (salt, (secret, (ad, _))))))))) = none_applies (settings_table config p s h) none in
+    (length_fits p pwd, (length_fits s salt, (length_fits _ secret, length_fits _ ad)))
 
 -- where each lane has 8 blocks of memory, a segment has two blocks at least
 pub long_segment : (mem lanes : ℕ) → 0 < lanes → 8 * lanes ≤ mem → 2 ≤ mem / (4 * lanes)
