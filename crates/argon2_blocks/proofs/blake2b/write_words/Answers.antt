@@ -10,10 +10,6 @@ pub loop-i-preserved : goal.loop-i-preserved
 loop-i-preserved c = bytes_of_more c.loop-i.bytes c.args.words.now _ c.loop-i.i _ c.loop-i-test.true (omega arith) c.loop-i.invariant
     (c.copy_from_slice.ensures.after ∙ c.to_le_bytes.ensures)
 
-pub returns-clause-bytes : goal.returns-clause-bytes
-returns-clause-bytes c =
-    bytes_of_all c.loop-i.bytes c.args.words.now c.loop-i.i c.loop-i.invariant c.loop-i-test.false (c.loop-i.auto.bytes ∙ c.requires)
-
 pub returns-clause-back : goal.returns-clause-back
 returns-clause-back c =
     let words = c.args.words.now in
