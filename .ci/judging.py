@@ -39,8 +39,11 @@ def copy_libraries(crates):
 
 
 def linked(folder, to):
-    """A copy of kept work by links, since no check changes a file of it: what is new replaces it."""
-    shutil.copytree(folder, to, copy_function=os.link)
+    """A copy of kept work, of which what was proved is linked: a check replaces such a file, and writes into others."""
+    def copy(one, other):
+        return (os.link if one.endswith('.oantt') else shutil.copy2)(one, other)
+
+    shutil.copytree(folder, to, copy_function=copy)
 
 
 def in_copies(word):
