@@ -55,7 +55,7 @@ def in_copies(word):
 
 def checked(crate, texts, kept, jobs, before=(), waits=checks_at_once):
     """What the checker says of a copy of a crate with these texts in it, over the work in `kept`, which it adds to.
-    `before` are words before its command."""
+    `before` are words before its command, and `waits` is held while it runs."""
     with tempfile.TemporaryDirectory(dir=room) as at:
         for part in rt.rtlib.PARTS:
             if os.path.isdir(f'{crate.folder}/{part}'):
