@@ -9,12 +9,15 @@ import signal
 import subprocess
 import tempfile
 import threading
+from concurrent.futures import ThreadPoolExecutor
 from pathlib import Path
 
 from copies import BY_A_CALL, Copy, Report, can_be_copied, clause_of, folders_of, texts_with
 from toolchain import load_rt
 
 MEMORY_OF_A_CHECK = 3_000_000_000  # bytes, of which the largest crate was seen to take four fifths
+# Copies of a crate above which two checks of a half each end sooner, though each reads the crate and all below it.
+MANY, HALVES = 40, 2
 
 rt = load_rt()
 room = tempfile.mkdtemp(prefix='edits-')
@@ -90,33 +93,52 @@ class Crate:
 
     def judged(self):
         """Each edit with whether it passed, and why."""
-        fault = self.start() or self.leave_kept()
+        fault = self.start() or self.prove_first()
         if fault:
-            yield from self.failed(fault)
+            yield from self.failed([*(copy.edit for copy in self.copies), *self.in_place], fault)
             return
-        while True:
-            texts, spans = texts_with(self.copies, self.folder)
-            report = checked(self.crate, texts, self.kept, self.jobs, self.before)
-            if report.is_told:
-                break
-            blamed = blamed_by(report, spans)
-            if not blamed:
-                fault = f'the crate is not read without its edits: {report.first_error()}'
-                break
-            for copy, why in blamed.items():
-                yield copy.edit, False, f'it does not compile: {why}'
-                self.copies.remove(copy)
-        fault = fault or fault_of_the_rest(report, self.copies, spans)
-        if fault:
-            yield from self.failed(fault)
-            return
-        for copy in self.copies:
-            yield copy.edit, *judge(copy.edit, [*filter(copy.is_called, report.verdicts)], report)
-        yield from self.judged_in_place()
+        parts = self.parts()
+        with ThreadPoolExecutor(HALVES) as pool:
+            for results, said in pool.map(self.judged_in_copies, parts, self.works_for(parts)):
+                yield from results
+                fault = fault or said
+        yield from self.failed(self.in_place, fault) if fault else self.judged_in_place()
 
-    def failed(self, fault):
-        """All that are left, where the crate itself has a fault."""
-        for edit in [*(copy.edit for copy in self.copies), *self.in_place]:
+    def parts(self):
+        """The copies for each check: many are judged by two, where the work that both begin with is there."""
+        count = HALVES if len(self.copies) > MANY and os.listdir(self.kept) else 1
+        return [self.copies[first::count] for first in range(count)]
+
+    def works_for(self, parts):
+        """What is kept for each check to begin with, where none may write into another's."""
+        works = [self.kept]
+        for _ in parts[1:]:
+            works.append(tempfile.mkdtemp(dir=room) + '/kept')
+            linked(self.kept, works[-1])
+        return works
+
+    def judged_in_copies(self, copies, kept):
+        """Judges copies by one check over kept work: each edit with whether it passed and why, and a fault of the crate."""
+        results = []
+        while True:
+            texts, spans = texts_with(copies, self.folder)
+            report = checked(self.crate, texts, kept, self.jobs, self.before)
+            blamed = {} if report.is_told else blamed_by(report, spans)
+            if not blamed:
+                break
+            results += [(copy.edit, False, f'it does not compile: {why}') for copy, why in blamed.items()]
+            copies = [copy for copy in copies if copy not in blamed]
+        fault = f'the crate is not read without its edits: {report.first_error()}'
+        fault = fault_of_the_rest(report, copies, spans) if report.is_told else fault
+        for copy in copies:
+            said = (False, fault) if fault else judge(copy.edit, [*filter(copy.is_called, report.verdicts)], report)
+            results.append((copy.edit, *said))
+        return results, fault
+
+    @staticmethod
+    def failed(found, fault):
+        """These edits, where the crate itself has a fault."""
+        for edit in found:
             yield edit, False, fault
 
     def start(self):
@@ -166,17 +188,20 @@ class Crate:
             shutil.rmtree(it)
         return None
 
-    def leave_kept(self):
-        """Proves the crate for C without edits, and leaves what is kept to those who build its archive, which wait for it:
-        `rt ci` builds none. Gives the crate's fault, or None."""
-        if not (self.proofs and self.crate.is_static):
+    def prove_first(self):
+        """Proves a crate of many edits without them, where `rt ci` keeps nothing of it, so that two checks can begin with
+        that. The crate for C is proved so for those too who build its archive, which wait: `rt ci` builds none. Gives the
+        crate's fault, or None."""
+        is_static = self.crate.is_static
+        if not self.proofs or os.listdir(self.kept) or not (is_static or len(self.copies) > MANY):
             return None
-        report = checked(self.crate, {}, self.kept, self.jobs, waits=contextlib.nullcontext())
+        hurry = {'waits': contextlib.nullcontext()} if is_static else {'before': self.before}
+        report = checked(self.crate, {}, self.kept, self.jobs, **hurry)
         if not report.last.startswith('logic=proved'):
             return f'the crate is not proved without its edits: {report.first_error()}'
         to = self.folder / 'out/incremental'
         part = f'{to}.{os.getpid()}'
-        if not to.exists():
+        if is_static and not to.exists():
             shutil.copytree(self.kept, part)
             os.rename(part, to)
         return None

@@ -15,8 +15,8 @@
 //! so often.
 
 use crate::streams::{Broken, FailsOnce, Full, Started, WithoutMemory};
-use crate::words::{Words, bytes_of};
-use anyhow::{Context, Result};
+use crate::words::{Words, bytes_of, repeated};
+use anyhow::Result;
 use argon2_commands::{Fault, OfProcess, arguments, run, start};
 use std::alloc::Global;
 use std::io::{ErrorKind, Read};
@@ -164,12 +164,17 @@ fn failing_once<R: Threads + Wait + Sync>(
 fn given(alloc: Global, line: &str) -> Result<Vec<Vec<u8>>> {
     let mut arguments = Vec::new(alloc);
     for word in line.split_whitespace() {
-        let (count, argument) = word.split_once('*').unwrap_or(("1", word));
-        for _ in 0..count.parse::<u32>().context("how often it stands there")? {
-            arguments.push(bytes_of(alloc, argument)?)?;
-        }
+        let (count, argument) = repeated(word)?;
+        add(alloc, &mut arguments, count, argument)?;
     }
     Ok(arguments)
+}
+
+fn add(alloc: Global, arguments: &mut Vec<Vec<u8>>, count: u32, argument: &str) -> Result<()> {
+    for _ in 0..count {
+        arguments.push(bytes_of(alloc, argument)?)?;
+    }
+    Ok(())
 }
 
 /// A run that begins with the process's arguments.

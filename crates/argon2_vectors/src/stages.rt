@@ -68,7 +68,18 @@ pub fn positions(alloc: Global, words: &mut Words<'_>) -> Result<String> {
     let (pass, slice, lane) = (words.number()?, words.number()?, words.number()?);
     let (first, count) = (words.number()?, words.number()?);
     ensure!(pass < job.passes() && slice < 4, "the pass or the slice");
-    let job = job.at(pass, slice);
+    let positions = of_segment(alloc, &job.at(pass, slice), lane, first, count)?;
+    listed(alloc, positions.as_slice())
+}
+
+/// The places that `count` blocks of a lane's segment refer to, from an index on.
+fn of_segment(
+    alloc: Global,
+    job: &Job,
+    lane: u32,
+    first: u32,
+    count: u32,
+) -> Result<Vec<(u32, u32)>> {
     ensure!(
         lane < job.lanes() && job.is_independent(),
         "the lane or the variant"
@@ -78,10 +89,14 @@ pub fn positions(alloc: Global, words: &mut Words<'_>) -> Result<String> {
         "the first index"
     );
     ensure!(count <= job.segment_length() - first, "how many");
-    let mut out = vec![in alloc; (0, 0); count as usize]?;
-    reference_positions(&job, lane, first, out.as_mut_slice());
+    let mut positions = vec![in alloc; (0, 0); count as usize]?;
+    reference_positions(job, lane, first, positions.as_mut_slice());
+    Ok(positions)
+}
+
+fn listed(alloc: Global, positions: &[(u32, u32)]) -> Result<String> {
     let mut text = String::new(alloc);
-    for (lane, column) in out.iter() {
+    for (lane, column) in positions {
         if !text.is_empty() {
             text.push(' ')?;
         }

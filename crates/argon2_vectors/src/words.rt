@@ -72,19 +72,32 @@ impl<'a> Words<'a> {
 /// The bytes of a word: none for `-`, text behind a `'`, else hexadecimal digits, in parts that are joined
 /// by `+` and may stand behind a number and `*`, which repeats them.
 pub fn bytes_of(alloc: Global, word: &str) -> Result<Vec<u8>> {
-    let mut bytes = Vec::new(alloc);
     if word == "-" {
-        return Ok(bytes);
+        return Ok(Vec::new(alloc));
     }
     if let Some(text) = word.strip_prefix("'") {
         return Ok(text.as_bytes().to_vec(alloc)?);
     }
+    let mut bytes = Vec::new(alloc);
     for part in word.split('+') {
-        let (count, digits) = part.split_once('*').unwrap_or(("1", part));
+        let (count, digits) = repeated(part)?;
         let piece = hex::decode(alloc, digits).context(format_args!("reading {word:?}"))?;
-        for _ in 0..count.parse::<u32>().context("how often")? {
-            bytes.extend_from_slice(piece.as_slice())?;
-        }
+        add(&mut bytes, count, piece.as_slice())?;
     }
     Ok(bytes)
+}
+
+fn add(bytes: &mut Vec<u8>, count: u32, piece: &[u8]) -> Result<()> {
+    for _ in 0..count {
+        bytes.extend_from_slice(piece)?;
+    }
+    Ok(())
+}
+
+/// How often a part stands there, and the part, which may follow that number and `*`.
+pub fn repeated(part: &str) -> Result<(u32, &str)> {
+    let Some((count, rest)) = part.split_once('*') else {
+        return Ok((1, part));
+    };
+    Ok((count.parse::<u32>().context("how often")?, rest))
 }

@@ -11,8 +11,13 @@ use argon2::parts::memory::Memory;
 use argon2::{
     Config, Error, ThreadMode, Variant, Version, hash_encoded_sequential, verify_encoded,
 };
+use std::alloc::Global;
+use std::marker::Sync;
+use std::process::Abort;
+use std::sync::Wait;
 use std::sync::atomic::{AtomicU64, Ordering};
 use std::test::Fail;
+use std::thread::Threads;
 
 /// All numbers but one.
 #[derive(Clone, Copy)]
@@ -58,6 +63,35 @@ fn config(thread_mode: ThreadMode) -> Config<'static> {
     }
 }
 
+/// The tag of a context over a memory, which is filled by the workers that may start.
+fn tag_with<R: Threads + Wait + Sync, P: Permit>(
+    rt: &R,
+    alloc: Global,
+    context: &Context<'_>,
+    memory: &mut Memory,
+    permit: &P,
+) -> argon2::Result<Vec<u8>> {
+    prepare_memory(alloc, context, memory)?;
+    initialize(context, memory);
+    fill_parallel_with(rt, alloc, context, memory, &NoGate, permit)?;
+    finalize(alloc, context, memory)
+}
+
+/// Checks that a fill is refused, and leaves no memory, where this start is.
+fn check_refused<R: Abort + Threads + Wait + Sync>(
+    rt: &R,
+    alloc: Global,
+    context: &Context<'_>,
+    number: u64,
+) -> std::result::Result<(), Fail> {
+    let mut memory = Memory::empty(alloc);
+    let tag = tag_with(rt, alloc, context, &mut memory, &AllBut(number));
+    assert_eq!(rt; tag.err(), Some(Error::WorkerRefused), "start {number}");
+    let text = format!(in alloc; "{memory:?}")?;
+    assert_eq!(rt; text.as_str(), "Memory { rows: 0, cols: 0 }");
+    Ok(())
+}
+
 // Each start of a fill is refused alone: 12 slices with 4 workers, or with 2.
 #[test]
 fn refuses_a_fill_with_any_start_missing(rt: HostRuntime) -> std::result::Result<(), Fail> {
@@ -67,21 +101,10 @@ fn refuses_a_fill_with_any_start_missing(rt: HostRuntime) -> std::result::Result
             return Err(Fail::from("the settings are accepted"));
         };
         for number in 0..starts {
-            let mut memory = Memory::empty(alloc);
-            prepare_memory(alloc, &context, &mut memory)?;
-            initialize(&context, &mut memory);
-            let permit = AllBut(number);
-            let fill = fill_parallel_with(&rt, alloc, &context, &mut memory, &NoGate, &permit);
-            assert_eq!(rt; fill.err(), Some(Error::WorkerRefused), "start {number}");
-            let text = format!(in alloc; "{memory:?}")?;
-            assert_eq!(rt; text.as_str(), "Memory { rows: 0, cols: 0 }");
+            check_refused(&rt, alloc, &context, number)?;
         }
         let mut memory = Memory::empty(alloc);
-        prepare_memory(alloc, &context, &mut memory)?;
-        initialize(&context, &mut memory);
-        let permit = AllBut(starts);
-        fill_parallel_with(&rt, alloc, &context, &mut memory, &NoGate, &permit)?;
-        let tag = finalize(alloc, &context, &memory)?;
+        let tag = tag_with(&rt, alloc, &context, &mut memory, &AllBut(starts))?;
         assert_eq!(rt;
             hex::encode(alloc, tag)?.as_str(),
             "512b391b6f1162975371d30919734294f868e3be3984f3c1a13a4db9fabe4acb"
@@ -104,19 +127,16 @@ fn starts_sixteen_workers_for_twenty_lanes(rt: HostRuntime) -> std::result::Resu
     let Ok(context) = Context::new(config, b"password", b"somesalt") else {
         return Err(Fail::from("the settings are accepted"));
     };
-    let mut memory = Memory::empty(alloc);
-    prepare_memory(alloc, &context, &mut memory)?;
-    initialize(&context, &mut memory);
     let permit = Asked {
         low: AtomicU64::new(0),
         high: AtomicU64::new(0),
         other: AtomicU64::new(0),
     };
-    fill_parallel_with(&rt, alloc, &context, &mut memory, &NoGate, &permit)?;
+    let tag = tag_with(&rt, alloc, &context, &mut Memory::empty(alloc), &permit)?;
     assert_eq!(rt; permit.low.load(Ordering::SeqCst), u64::MAX);
     assert_eq!(rt; permit.high.load(Ordering::SeqCst), u64::MAX);
     assert_eq!(rt; permit.other.load(Ordering::SeqCst), 0);
-    assert!(rt; finalize(alloc, &context, &memory)? == stored.hash);
+    assert!(rt; tag == stored.hash);
     assert!(rt; verify_encoded(&rt, alloc, text.as_str(), b"password")?);
     Ok(())
 }
