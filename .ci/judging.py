@@ -1,6 +1,7 @@
 """Judges the edits of one crate: what has to be refused is, at the goal that it names, and what has to be proved is."""
 
 import contextlib
+import functools
 import hashlib
 import os
 import re
@@ -98,8 +99,9 @@ class Crate:
             yield from self.failed([*(copy.edit for copy in self.copies), *self.in_place], fault)
             return
         parts = self.parts()
+        judge_part = functools.partial(self.judged_in_copies, max(1, self.jobs // len(parts)))
         with ThreadPoolExecutor(HALVES) as pool:
-            for results, said in pool.map(self.judged_in_copies, parts, self.works_for(parts)):
+            for results, said in pool.map(judge_part, parts, self.works_for(parts)):
                 yield from results
                 fault = fault or said
         yield from self.failed(self.in_place, fault) if fault else self.judged_in_place()
@@ -117,12 +119,12 @@ class Crate:
             linked(self.kept, works[-1])
         return works
 
-    def judged_in_copies(self, copies, kept):
+    def judged_in_copies(self, jobs, copies, kept):
         """Judges copies by one check over kept work: each edit with whether it passed and why, and a fault of the crate."""
         results = []
         while True:
             texts, spans = texts_with(copies, self.folder)
-            report = checked(self.crate, texts, kept, self.jobs, self.before)
+            report = checked(self.crate, texts, kept, jobs, self.before)
             blamed = {} if report.is_told else blamed_by(report, spans)
             if not blamed:
                 break

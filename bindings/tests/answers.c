@@ -5,6 +5,8 @@
 #include "plain.h"
 #include "proved_argon2_threads.h"
 
+#include <stdatomic.h>
+#include <stdbool.h>
 #include <stdio.h>
 #include <string.h>
 #include <unistd.h>
@@ -41,7 +43,9 @@ uint32_t number_of(const char *name)
 
 /* What a call answers that is given no room, any other call, proved_argon2_read and proved_argon2_message. */
 static uint32_t without_room, answer, reading, telling;
-static unsigned delay;
+
+/* Whether the next call waits until it is let go, whether it does now, and whether nobody let it go for too long. */
+static atomic_bool is_held, is_waiting, is_left_alone;
 
 void set_answers(uint32_t first, uint32_t then, uint32_t read, uint32_t message)
 {
@@ -51,10 +55,35 @@ void set_answers(uint32_t first, uint32_t then, uint32_t read, uint32_t message)
     telling = message;
 }
 
-/* Lets each later call take so many microseconds. */
-void set_delay(unsigned microseconds)
+void hold(void)
 {
-    delay = microseconds;
+    is_left_alone = false;
+    is_held = true;
+}
+
+uint32_t waits(void)
+{
+    return is_waiting;
+}
+
+void let_go(void)
+{
+    is_held = false;
+}
+
+uint32_t was_left_alone(void)
+{
+    return is_left_alone;
+}
+
+static void wait_while_held(void)
+{
+    is_waiting = is_held;
+    for (int turns = 0; is_held && !is_left_alone; turns++) {
+        usleep(10000);
+        is_left_alone = turns == 3000;
+    }
+    is_waiting = is_held = false;
 }
 
 /* How many threads the last call with options asked for, which names no pool, and how many bytes it lent, or -1. */
@@ -91,7 +120,7 @@ const char *passed_to(uint32_t kind)
 static uint32_t hash(const char *name, PIECE(pwd), PIECE(salt), PIECE(secret), PIECE(ad),
                      const proved_argon2_settings *settings, uint8_t *out, size_t out_len)
 {
-    usleep(delay);
+    wait_while_held();
     snprintf(passed[out_len == 0 ? JUDGING : COMPUTING], sizeof *passed, "%s %.*s %.*s %.*s %.*s " SETTINGS, name,
              SHOWN(pwd), SHOWN(salt), SHOWN(secret), SHOWN(ad), EACH(settings));
     memset(out, 'x', out_len);
@@ -146,7 +175,7 @@ uint32_t proved_argon2_verify_encoded_with(const proved_argon2_options *with, PI
     static const proved_argon2_limits none = {0, 0, 0};
     const proved_argon2_limits *const limits = with->limits == NULL ? &none : with->limits;
     take(with);
-    usleep(delay);
+    wait_while_held();
     snprintf(passed[COMPUTING], sizeof *passed, "text %.*s %.*s %.*s %.*s %u %u %u", SHOWN(text), SHOWN(pwd),
              SHOWN(secret), SHOWN(ad), limits->mem_cost, limits->time_cost, limits->lanes);
     return answer;

@@ -223,18 +223,16 @@ class Answers(unittest.TestCase):
             self.runs_beside(lambda: verify_secret(TEXT.encode(), b"p", Type.ID, memory=memory))
 
     def runs_beside(self, call):
-        done = []
-        STUB.set_delay(300_000)
-        self.addCleanup(STUB.set_delay, 0)
-        thread = threading.Thread(target=lambda: done.append(call()))
-        begun = time.monotonic()
+        """Holds a call in the library until this thread lets it go, which it cannot if the call keeps it from running."""
+        STUB.hold()
+        thread = threading.Thread(target=call)
         thread.start()
-        ran = 0
-        while not done and time.monotonic() - begun < 60:
+        while thread.is_alive() and not STUB.waits():
             time.sleep(0.01)
-            ran += not done
+        waited = STUB.waits()
+        STUB.let_go()
         thread.join()
-        self.assertGreater(ran, 5)
+        self.assertTrue(waited and not STUB.was_left_alone())
 
 
 def warned(call):

@@ -18,8 +18,8 @@ use argon2_memory::job::{Job, numbered_job, recall_context, recall_job, slice_co
 use argon2_memory::segment::fill_lent_segment;
 use argon2_settings::context::Context;
 
-/// Writes a lane's first two blocks (RFC 9106, 3.2, steps 3 and 4) into its segment of slice 0,
-/// and no others.
+/// Writes a lane's first two blocks (RFC 9106, section 3.2, steps 3 and 4) into its segment of
+/// slice 0.
 pub fn write_first_lent(job: &Job, lane: u32, own: &mut [Block])
     requires lane_fits { lane < job.now.setting.lanes }
     requires own_fits { length own.old ≡ job.now.setting.segment_length }
@@ -57,7 +57,7 @@ fn begin_lane(job: &Job, lane: u32, slice: &mut [Block])
     write_first_lent(job, lane, own);
 }
 
-/// Writes the first two blocks of each lane into slice 0, and no others.
+/// Writes the first two blocks of each lane into slice 0.
 pub fn initialize_lent(job: &Job, slice: &mut [Block])
     requires slice_fits { length slice.old ≡ job.now.setting.lanes * job.now.setting.segment_length }
     ensures { IsLentBegun job.now.setting slice.new }
