@@ -2,6 +2,7 @@
 them, tests, and must-fail edits. It goes by the form that `rt fmt` gives them."""
 
 import re
+from collections import Counter
 from pathlib import Path
 
 TOP = Path(__file__).resolve().parent.parent
@@ -11,6 +12,7 @@ CLAUSE = re.compile(r'^ +(requires|ensures)\*?(?: (\w+))? \{')
 GHOST = re.compile(r'^    ghost (?!use)(\w+) =')
 RE_EXPORT = re.compile(r'^pub use ([\w:]+?)(?:::\{([^}]*)\})?;', re.M)
 GHOST_TRAITS = ('Model',)
+PROMISE = re.compile(r'^ *(?:requires|ensures|ghost)\b.*', re.M)
 # `.ci/edits` judges the edits of these folders, and `rt ci` tries those of the first one too.
 EDITS = *WRONG, EQUAL = 'must-fail', 'wrong-bodies', 'equal-bodies'
 
@@ -188,6 +190,20 @@ class Sources:
         return f'{what} for {"::".join(place)}' if what else '::'.join(place + (function.name,))
 
 
+def promises(text):
+    """The clauses and ghost items of a file, each whole."""
+    for it in PROMISE.finditer(text):
+        depth, at = 0, text.find('{', it.start(), it.end() + 1)
+        end = it.end()
+        while at != -1:
+            depth += {'{': 1, '}': -1}[text[at]]
+            if depth == 0:
+                end = at
+                break
+            at = next((i for i in range(at + 1, len(text)) if text[i] in '{}'), -1)
+        yield text[it.start():end + 1]
+
+
 class Edit:
     """An edit: its crate, its pairs of texts, the goals that it names where it is a wrong body, whether `rt ci` tries it
     too, and the functions in whose spans the texts stand. `function` is that of the last pair."""
@@ -203,6 +219,8 @@ class Edit:
                 self.functions.append(next((f for f in sources.functions if f.module.file == file
                                             and f.first <= line <= f.last), None))
                 texts[file] = texts[file].replace(old, new)
+        for file, text in texts.items():
+            self.fault = self.fault or self.lost_promise(file, text)
         self.file = self.pairs[-1][0] if self.pairs else None
         self.function = self.functions[-1] if self.functions else None
 
@@ -215,6 +233,14 @@ class Edit:
                 old = line[5:]
             elif line.startswith('new:'):
                 yield file, old, line[4:].removeprefix(' ')
+
+    def lost_promise(self, file, text):
+        """A clause or ghost item that stands in a file and not in its edited text: a wrong body promises what the true
+        one does."""
+        if 'src' not in file.relative_to(TOP / 'crates' / self.crate).parts:
+            return f'it changes {file.relative_to(TOP)}, which has no bodies'
+        left = Counter(promises(file.read_text(encoding='utf-8'))) - Counter(promises(text)) if file.exists() else None
+        return f'it changes more than bodies: {next(iter(left)).strip()}' if left else None
 
     def read_goals(self):
         """The goals that have to be left unproved: `returns-clause-items`, or behind their functions' paths."""
