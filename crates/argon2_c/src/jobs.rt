@@ -8,14 +8,14 @@ ghost use Rattle.argon2_c.specs.declared.refusal.Refusal.TheVariants.{NoJob};
 
 use crate::refusal::Refusal;
 use crate::settings::Settings;
-use crate::stored_text::text_of;
+use crate::reading::{Stored, read_items};
+use crate::stored_text::head_of;
 use argon2::parts::common::{MAX_LANES, MIN_HASH_LENGTH, MIN_TIME};
-use argon2::parts::context::{Context, Job};
-use argon2::parts::stored::{accepted_text, config_of, stored_context};
+use argon2::parts::context::{Context, Job, first_refusal};
 use argon2::{Variant, Version};
 use argon2_memory::job::job_of_setting;
-use argon2_settings::context::prehash_of_context;
-use std::alloc::Global;
+use argon2_settings::context::{accepted_context, prehash_of_context};
+use argon2_text::encoding::item_len;
 
 /// The most blocks that one of the four slices has, since a memory cost fits 32 bits.
 const MAX_BLOCKS_IN_SLICE: u64 = 0x3FFF_FFFF;
@@ -146,30 +146,34 @@ pub fn make(
     }
 }
 
-/// Writes the job that a stored text is verified by, and its hash, to a buffer of the hash's
-/// length. A text that is not UTF-8 is `NotUtf8`, one that spells nothing `DecodingFail`; then what
-/// it spells is judged, and last the buffer. On a refusal both are as they were.
+/// Writes the job that a stored text is verified by, and its salt and its hash, to buffers of their
+/// lengths. It refuses as `read` does; then what the text spells is judged, and last the buffers. On
+/// a refusal all are as they were.
 pub fn make_stored(
-    alloc: Global,
     text: &[u8],
     pwd: &[u8],
     secret: &[u8],
     ad: &[u8],
     job: &mut LentJob,
+    salt: &mut [u8],
     hash: &mut [u8],
 ) -> Result<(), Refusal>
     ensures { MakesStoredJob text.now pwd.now secret.now ad.now
-        (record { job = job.old; hash = hash.old }) (record { job = job.new; hash = hash.new })
-        result }
+        (record { job = job.old; items = record { salt = salt.old; hash = hash.old } })
+        (record { job = job.new; items = record { salt = salt.new; hash = hash.new } }) result }
 {
-    let text = text_of(text)?;
-    let stored = accepted_text(alloc, text, pwd.len() as u64, secret, ad)?;
-    if hash.len() != stored.hash.len() {
-        return Err(Refusal::WrongLength);
+    match head_of(text) {
+        Ok(head) => {
+            let config = Stored::of(&head).settings.config(secret, ad)?;
+            let (salt_len, hash_len) = (item_len(head.salt), item_len(head.hash));
+            if let Some(error) = first_refusal(&config, pwd.len() as u64, salt_len, hash_len) {
+                return Err(Refusal::Library(error));
+            }
+            // Nothing is written before all was judged, so that a refusal leaves all as it was.
+            read_items(&head, salt, hash)?;
+            *job = LentJob::of(&accepted_context(config, pwd, salt));
+            Ok(())
+        }
+        Err(refusal) => Err(refusal),
     }
-    // Nothing is written before all was judged, so that a refusal leaves both as they were.
-    let config = config_of(&stored, secret, ad);
-    *job = LentJob::of(&stored_context(&stored, &config, pwd));
-    hash.copy_from_slice(&stored.hash);
-    Ok(())
 }

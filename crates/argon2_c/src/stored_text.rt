@@ -2,15 +2,32 @@
 
 ghost use Rattle.std.specs.Prelude.{◌≡◌, IsUtf8, MatchResult, bit_or};
 ghost use Rattle.std.specs.List.{fold};
+ghost use Rattle.argon2_c.specs.Heads.{HasHead, HasNone};
 ghost use Rattle.argon2_c.specs.declared.refusal.Refusal.TheVariants.{NotUtf8};
 
 use crate::refusal::Refusal;
+use argon2::Error;
+use argon2_text::encoding::{Head, spelling_of};
+
+/// The head of a stored text. Bytes that are not UTF-8 are `NotUtf8`, a text that spells nothing is
+/// `DecodingFail`.
+pub fn head_of(bytes: &[u8]) -> Result<Head<'_>, Refusal>
+    ensures { MatchResult result (HasHead bytes.now) (HasNone bytes.now) }
+{
+    match text_of(bytes) {
+        Ok(text) => match spelling_of(text) {
+            Some(head) => Ok(head),
+            None => Err(Refusal::Library(Error::DecodingFail)),
+        },
+        Err(refusal) => Err(refusal),
+    }
+}
 
 /// The text of some bytes. Bytes that are not UTF-8 are `NotUtf8`.
 ///
 /// Whether all bytes are ASCII is gathered to the last byte and answered once, so that no branch
 /// looks at a letter of the hash. Only other bytes, which spell nothing, are looked at one by one.
-pub fn text_of(bytes: &[u8]) -> Result<&str, Refusal>
+fn text_of(bytes: &[u8]) -> Result<&str, Refusal>
     ensures cases { MatchResult result (λ text. (text.now ≡ bytes.now) × IsUtf8 bytes.now)
         (λ refusal. (refusal ≡ NotUtf8) × (IsUtf8 bytes.now → ⊥)) }
 {
