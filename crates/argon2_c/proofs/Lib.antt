@@ -1,8 +1,7 @@
 pub mod Numbers
 pub mod Lengths
+pub mod Inputs
 pub mod Heads
-pub mod Comparisons
 pub mod JobNumbers
-pub mod TagTexts
 pub mod StoredJobs
 pub mod Runs

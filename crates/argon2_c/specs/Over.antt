@@ -16,13 +16,13 @@ abbrev pub blocks_of : Config → ℕ
 blocks_of config = 4 * config.lanes * (config.mem_cost / (4 * config.lanes))
 
 -- the bytes of these blocks; 0 where no call with these settings is accepted, whatever its inputs
-abbrev pub memory_len_at : Option Error → Config → ℕ
-memory_len_at (Some e) config = 0
-memory_len_at None config = 1024 * blocks_of config
+abbrev pub unless_refused : Option Error → ℕ → ℕ
+unless_refused (Some e) len = 0
+unless_refused None len = len
 
 abbrev pub memory_len_of : Result Config Error → ℕ
 memory_len_of (Err e) = 0
-memory_len_of (Ok config) = memory_len_at (refusal_of config 0 min_salt_length config.hash_length) config
+memory_len_of (Ok config) = unless_refused (refusal_of config 0 min_salt_length config.hash_length) (1024 * blocks_of config)
 
 -- ---- hashing
 

@@ -74,4 +74,4 @@ Compares Same (Err refusal) = ⊥
 -- the refusal of the settings' numbers comes first
 abbrev pub ComparesSettings : Result Config Error → List ℕ → Result (Unit {0}) Refusal → Type 0
 ComparesSettings (Err e) text answer = answer ≡ Err (Library e)
-ComparesSettings (Ok config) text answer = OfText text tt tt answer (λ d. Compares (Agrees d config) answer)
+ComparesSettings (Ok config) text answer = OfText text (tt {0}) (tt {0}) answer (λ d. Compares (Agrees d config) answer)

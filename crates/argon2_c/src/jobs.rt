@@ -8,14 +8,14 @@ ghost use Rattle.argon2_c.specs.declared.refusal.Refusal.TheVariants.{NoJob};
 
 use crate::refusal::Refusal;
 use crate::settings::Settings;
-use crate::reading::{Stored, read_items};
-use crate::stored_text::head_of;
+use crate::reading::read_items;
+use crate::stored_text::text_of;
 use argon2::parts::common::{MAX_LANES, MIN_HASH_LENGTH, MIN_TIME};
-use argon2::parts::context::{Context, Job, first_refusal};
+use argon2::parts::context::{Context, Job};
+use argon2::parts::stored::{accepted_spelling, config_of_numbers};
 use argon2::{Variant, Version};
 use argon2_memory::job::job_of_setting;
 use argon2_settings::context::{accepted_context, prehash_of_context};
-use argon2_text::encoding::item_len;
 
 /// The most blocks that one of the four slices has, since a memory cost fits 32 bits.
 const MAX_BLOCKS_IN_SLICE: u64 = 0x3FFF_FFFF;
@@ -162,18 +162,11 @@ pub fn make_stored(
         (record { job = job.old; items = record { salt = salt.old; hash = hash.old } })
         (record { job = job.new; items = record { salt = salt.new; hash = hash.new } }) result }
 {
-    match head_of(text) {
-        Ok(head) => {
-            let config = Stored::of(&head).settings.config(secret, ad)?;
-            let (salt_len, hash_len) = (item_len(head.salt), item_len(head.hash));
-            if let Some(error) = first_refusal(&config, pwd.len() as u64, salt_len, hash_len) {
-                return Err(Refusal::Library(error));
-            }
-            // Nothing is written before all was judged, so that a refusal leaves all as it was.
-            read_items(&head, salt, hash)?;
-            *job = LentJob::of(&accepted_context(config, pwd, salt));
-            Ok(())
-        }
-        Err(refusal) => Err(refusal),
-    }
+    let text = text_of(text)?;
+    let head = accepted_spelling(text, pwd.len() as u64, secret, ad)?;
+    // Nothing is written before all was judged, so that a refusal leaves all as it was.
+    read_items(&head, salt, hash)?;
+    let config = config_of_numbers(&head.numbers(), secret, ad);
+    *job = LentJob::of(&accepted_context(config, pwd, salt));
+    Ok(())
 }

@@ -5,7 +5,7 @@ ghost use Rattle.argon2.specs.Tag.{last_blocks, tag_from, tag_of};
 ghost use Rattle.argon2.specs.Setting.{memory_blocks};
 ghost use Rattle.argon2_c.specs.Answers.{judgement_of};
 ghost use Rattle.argon2_c.specs.Jobs.{setting_of_job};
-ghost use Rattle.argon2_c.specs.Over.{HashesInto, HashesJob, HashesOver, JudgesInto, JudgesJob, JudgesOver};
+ghost use Rattle.argon2_c.specs.Over.{HashesInto, HashesJob, HashesOver, JudgesInto, JudgesJob, JudgesOver, blocks_of};
 ghost use Rattle.argon2_c.specs.Settings.{config_of};
 
 use crate::jobs::LentJob;
@@ -14,9 +14,7 @@ use crate::settings::Settings;
 use argon2::parts::block::Block;
 use argon2::parts::context::{Context, Job};
 use argon2::parts::stored::{are_equal, context_of_hash};
-use argon2::parts::common::SYNC_POINTS;
-use argon2_fill::lent::{fill_lent, finalize_lent, hash_lent, initialize_lent};
-use argon2_memory::job::recall_job;
+use argon2_fill::lent::{hash_lent, hash_lent_job};
 
 /// Writes the tag of a password to a buffer of `settings.hash_length` bytes. The numbers of the
 /// settings are looked at first, then the settings table, then how many blocks there are, and last
@@ -42,12 +40,8 @@ pub fn hash(
 }
 
 /// Writes the tag of an accepted call.
-fn hash_context(
-    context: &Context<'_>,
-    blocks: &mut [Block],
-    out: &mut [u8],
-) -> Result<(), Refusal>
-    ensures { let c = context.now in HashesInto c.memory_blocks c.config.hash_length
+fn hash_context(context: &Context<'_>, blocks: &mut [Block], out: &mut [u8]) -> Result<(), Refusal>
+    ensures { let c = context.now in HashesInto (blocks_of c.config) c.config.hash_length
         (tag_of c.pwd.now c.salt.now c.config c.config.hash_length)
         (record { blocks = blocks.old; tag = out.old })
         (record { blocks = blocks.new; tag = out.new }) result }
@@ -94,7 +88,7 @@ fn verify_context(
     tag: &mut [u8],
 ) -> Result<bool, Refusal>
     requires { length hash.now ≡ context.now.config.hash_length }
-    ensures { let c = context.now in JudgesInto c.memory_blocks (length hash.now)
+    ensures { let c = context.now in JudgesInto (blocks_of c.config) (length hash.now)
         (tag_of c.pwd.now c.salt.now c.config (length hash.now)) hash.now
         (record { blocks = blocks.old; tag = tag.old })
         (record { blocks = blocks.new; tag = tag.new }) (judgement_of result) }
@@ -106,11 +100,7 @@ fn verify_context(
 }
 
 /// Writes the tag of a job to a buffer of its length.
-pub fn hash_job(
-    numbers: &LentJob,
-    blocks: &mut [Block],
-    out: &mut [u8],
-) -> Result<(), Refusal>
+pub fn hash_job(numbers: &LentJob, blocks: &mut [Block], out: &mut [u8]) -> Result<(), Refusal>
     ensures { HashesJob (setting_of_job numbers.now) numbers.now.hash_length
         (record { blocks = blocks.old; tag = out.old })
         (record { blocks = blocks.new; tag = out.new }) result }
@@ -162,22 +152,4 @@ fn is_memory(job: &Job, blocks: &[Block]) -> bool
     ensures { IsTrue result ↔ (length blocks.now ≡ memory_blocks job.now.setting) }
 {
     blocks.len() == job.memory_blocks() as usize
-}
-
-/// The tag of a job, computed in the caller's thread over a memory that is lent whole, slice after
-/// slice.
-fn hash_lent_job(job: &Job, blocks: &mut [Block], out: &mut [u8])
-    requires blocks_fit { length blocks.old ≡ memory_blocks job.now.setting }
-    requires some { 0 < length out.old }
-    requires few { length out.old < 2 ^ 32 }
-    ensures { out.new ≡ tag_from (last_blocks job.now.setting) (length out.old) }
-{
-    recall_job(job);
-    let length = blocks.len() / SYNC_POINTS as usize;
-    let (first, rest) = blocks.split_at_mut(length);
-    let (second, rest) = rest.split_at_mut(length);
-    let (third, fourth) = rest.split_at_mut(length);
-    initialize_lent(job, first);
-    fill_lent(job, first, second, third, fourth);
-    finalize_lent(job, fourth, out);
 }

@@ -1,10 +1,10 @@
 //! Looking at a stored text without verifying it.
 
-ghost use Rattle.std.specs.Prelude.{◌≡◌, ◌↔◌, IsTrue, ℕ, List, length};
+ghost use Rattle.std.specs.Prelude.{◌≡◌, ℕ, List};
 ghost use Rattle.std.specs.Borrow.{Bor};
 ghost use Rattle.argon2.specs.Grammar.{IsItem};
-ghost use Rattle.argon2.specs.Stored.{Agrees};
-ghost use Rattle.argon2.specs.Texts.{spelled_with};
+ghost use Rattle.argon2.specs.Text.{Spelled};
+ghost use Rattle.argon2.specs.Texts.{numbers_of};
 ghost use Rattle.argon2_text.specs.Views.Faults.{IsSomeItem};
 ghost use Rattle.argon2_c.specs.Answers.{WritesWhere};
 ghost use Rattle.argon2_c.specs.Limits.{limits_of};
@@ -15,8 +15,7 @@ use crate::limits::Limits;
 use crate::refusal::Refusal;
 use crate::settings::Settings;
 use crate::stored_text::head_of;
-use argon2::Config;
-use argon2::parts::stored::is_above;
+use argon2::parts::stored::{Numbers, agrees, is_above};
 use argon2_text::encoding::{Head, item_len, read_hash, read_salt};
 
 /// What a stored text spells, in numbers.
@@ -31,32 +30,30 @@ pub struct Stored {
 }
 
 impl Stored {
-    /// The numbers of a text with this head.
-    pub fn of(head: &Head<'_>) -> Stored
-        ensures { (salt hash : List ℕ) → IsItem head.now.salt.now salt
-            → IsItem head.now.hash.now hash
-            → result ≡ stored_of (spelled_with head.now salt hash) }
+    /// What a text with these numbers spells.
+    fn of(numbers: &Numbers) -> Stored
+        ensures { (d : Spelled) → numbers.now ≡ numbers_of d → result ≡ stored_of d }
     {
         Stored {
             settings: Settings {
-                variant: head.variant.as_u32(),
-                version: head.version.as_u32(),
-                mem_cost: head.mem_cost,
-                time_cost: head.time_cost,
-                lanes: head.parallelism,
-                hash_length: held_len(head.hash),
+                variant: numbers.variant.as_u32(),
+                version: numbers.version.as_u32(),
+                mem_cost: numbers.mem_cost,
+                time_cost: numbers.time_cost,
+                lanes: numbers.parallelism,
+                hash_length: held_len(numbers.hash_len),
             },
-            salt_length: held_len(head.salt),
+            salt_length: held_len(numbers.salt_len),
         }
     }
 }
 
-/// The length of the bytes of an item as far as a field of 32 bits holds it. A longer one is told
-/// as the greatest, since only a text of 5 GiB has one, which verifying refuses.
-fn held_len(item: &str) -> u32
-    ensures { (bytes : List ℕ) → IsItem item.now bytes → result ≡ held (length bytes) }
+/// A length as far as a field of 32 bits holds it. A longer one is told as the greatest, since only
+/// a text of 5 GiB has one, which verifying refuses.
+fn held_len(len: u64) -> u32
+    ensures { result ≡ held len }
 {
-    item_len(item).min(u64::from(u32::MAX)) as u32
+    len.min(u64::from(u32::MAX)) as u32
 }
 
 /// Writes what a stored text spells. A text that is not UTF-8 is `NotUtf8`, one that spells nothing
@@ -66,7 +63,7 @@ pub fn read(text: &[u8], stored: &mut Stored) -> Result<(), Refusal>
 {
     match head_of(text) {
         Ok(head) => {
-            *stored = Stored::of(&head);
+            *stored = Stored::of(&head.numbers());
             Ok(())
         }
         Err(refusal) => Err(refusal),
@@ -80,10 +77,11 @@ pub fn read_within(text: &[u8], limits: &Limits, stored: &mut Stored) -> Result<
 {
     match head_of(text) {
         Ok(head) => {
-            if is_above(&head, &limits.of_library()) {
+            let numbers = head.numbers();
+            if is_above(&numbers, &limits.of_library()) {
                 return Err(Refusal::TooCostly);
             }
-            *stored = Stored::of(&head);
+            *stored = Stored::of(&numbers);
             Ok(())
         }
         Err(refusal) => Err(refusal),
@@ -129,7 +127,7 @@ pub fn needs_rehash(text: &[u8], settings: &Settings) -> Result<(), Refusal>
     let config = settings.config(&[], &[])?;
     match head_of(text) {
         Ok(head) => {
-            if agrees(&head, &config) {
+            if agrees(&head.numbers(), &config) {
                 Ok(())
             } else {
                 Err(Refusal::NeedsRehash)
@@ -137,18 +135,4 @@ pub fn needs_rehash(text: &[u8], settings: &Settings) -> Result<(), Refusal>
         }
         Err(refusal) => Err(refusal),
     }
-}
-
-/// Whether all that a text with this head spells but its salt is as in a configuration.
-fn agrees(head: &Head<'_>, config: &Config<'_>) -> bool
-    ensures { (salt hash : List ℕ) → IsItem head.now.hash.now hash
-        → IsTrue result ↔ Agrees (spelled_with head.now salt hash) config.now }
-{
-    head.variant == config.variant
-        && head.version == config.version
-        && head.mem_cost == config.mem_cost
-        && head.time_cost == config.time_cost
-        && head.parallelism == config.lanes
-        // In 64 bits, since the hash's length need not fit 32.
-        && item_len(head.hash) == u64::from(config.hash_length)
 }
