@@ -157,8 +157,7 @@ fn is_too_costly(encoded: &str, limits: &Limits) -> Result<bool>
     Ok(is_above(&head, limits))
 }
 
-/// Whether the head of a text has a number above its limit.
-pub fn is_above(head: &Head<'_>, limits: &Limits) -> bool
+fn is_above(head: &Head<'_>, limits: &Limits) -> bool
     ensures { result ≡ is_too_costly limits.now (settings_of head.now) }
 {
     head.mem_cost > limits.mem_cost

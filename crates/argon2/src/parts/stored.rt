@@ -1,6 +1,3 @@
 //! What a stored text and a hash are verified by.
 
-pub use crate::limits::is_above;
-pub use crate::verifying::{
-    accepted_text, are_equal, config_of, context_of_hash, stored_context,
-};
+pub use crate::verifying::{accepted_text, are_equal, config_of, stored_context};
