@@ -1,7 +1,7 @@
 use Rattle.std.proofs.Common.{arith}
 use Rattle.base64.specs.GeneralPurpose.{IsBytes}
 use Rattle.argon2_text.proofs.Letters.LetterSums.{few_faults, group_faults}
-use Rattle.argon2_text.proofs.encoding.group_faults.Goals as goal
+use Rattle.argon2_text.proofs.encoding.letters.group_faults.Goals as goal
 
 pub returns-clause-value : goal.returns-clause-value
 returns-clause-value c = omega (arith, group_faults c.args.group.now c.requires)

@@ -1,6 +1,6 @@
 use Rattle.std.proofs.Common.{arith}
 use Rattle.argon2_text.proofs.Letters.LetterSums.{faults_of_one, faults_of_three, faults_of_two, no_faults}
-use Rattle.argon2_text.proofs.encoding.tail_faults.Goals as goal
+use Rattle.argon2_text.proofs.encoding.letters.tail_faults.Goals as goal
 
 pub returns-in-empty : goal.returns-in-empty
 returns-in-empty c = no_faults c.args.tail.now c.in-empty.len_below

@@ -1,6 +1,6 @@
 use Rattle.std.proofs.Common.{◌≡◌, ◌+◌, ◌≤◌, length}
 use Rattle.argon2_text.specs.Views.Letters.{faults_of}
-use Rattle.argon2_text.proofs.encoding.is_item.Given as goal
+use Rattle.argon2_text.proofs.encoding.letters.is_item.Given as goal
 
 -- the faults so far and those of what is left are those of the text, and no letter has more than one so far
 abbrev pub invariant-loop-rest : goal.invariant-loop-rest

@@ -1,7 +1,7 @@
 use Rattle.std.proofs.Common.{arith}
 use Rattle.base64.specs.GeneralPurpose.{IsBytes}
 use Rattle.argon2_text.proofs.Letters.LetterSums.{three_written}
-use Rattle.argon2_text.proofs.encoding.four_letters.Goals as goal
+use Rattle.argon2_text.proofs.encoding.letters.four_letters.Goals as goal
 
 pub returns : goal.returns
 returns c =
