@@ -2,7 +2,7 @@
 use Rattle.std.proofs.lemmas.Option.{MatchOption-at_none, MatchOption-at_some}
 use Rattle.argon2_text.specs.Views.Texts.{IsSpellingOf}
 use Rattle.argon2.proofs.Verification.StoredTexts.{head_accepted, spells_some, text_decoded, text_refused}
-use Rattle.argon2.proofs.verifying.texts.accepted_text.Goals as goal
+use Rattle.argon2.proofs.stored.accepted_text.Goals as goal
 
 pub returns-in_err-head-clause-spelled : goal.returns-in_err-head-clause-spelled
 returns-in_err-head-clause-spelled c d config spells stored =

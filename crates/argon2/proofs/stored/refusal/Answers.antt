@@ -1,6 +1,6 @@
 use Rattle.std.proofs.Common.{sym}
 use Rattle.argon2.proofs.Verification.StoredTexts.{refusal_found}
-use Rattle.argon2.proofs.verifying.texts.refusal.Goals as goal
+use Rattle.argon2.proofs.stored.refusal.Goals as goal
 
 pub returns : goal.returns
 returns c config salt hash salt_item hash_item stored =
