@@ -1,4 +1,3 @@
-use Rattle.std.proofs.Common.{refl}
 use Rattle.argon2_text.proofs.Letters.LetterSums.{group_read}
 use Rattle.argon2_text.proofs.encoding.letters.three_bytes.Goals as goal
 

@@ -1,0 +1,22 @@
+use Rattle.std.proofs.Common.{◌≡◌, ℕ, List, arith, drop, length, subst, sym, take, ◌++◌, ◌∙◌}
+use Rattle.std.specs.Str.{IsUtf8}
+use Rattle.std.proofs.lemmas.List.{take_at}
+use Rattle.std.proofs.lemmas.Str.{IsUtf8-from_ascii}
+use Rattle.argon2_settings.proofs.Settings.Accepted as settings
+use Rattle.argon2_standard.specs.Standard.Text.{spelled_of}
+use Rattle.argon2_text.proofs.Writing.TextBytes.{IsAscii-text_of}
+use Rattle.argon2_text.proofs.encoding.encode_string.Goals as goal
+
+pub text_len-len-requires-clause-salt : goal.text_len-len-requires-clause-salt
+text_len-len-requires-clause-salt c =
+    let x = c.args.context.now in
+    let a = settings.accepted x.config (length x.pwd.now) (length x.salt.now) x.config.hash_length x.accepted in
+    omega (arith, a.salt_fits)
+
+pub from_utf8_unchecked-requires : goal.from_utf8_unchecked-requires
+from_utf8_unchecked-requires c =
+    let x = c.args.context.now in
+    let new = c.write_encoded.new.text in
+    let ascii = IsAscii-text_of (spelled_of x.config x.salt.now c.args.hash.now) (omega arith) (omega arith) (omega arith) in
+    let text = IsUtf8-from_ascii _ ascii in
+    rw (take_at new (drop (length new) c.in_ok-text.text.items) c.in_ok-text.text.len (omega arith), c.write_encoded.ensures) text
