@@ -1,5 +1,5 @@
 -- What is written in steps is the written text.
-use Rattle.std.proofs.Common.{◌≡◌, ℕ, List, ◌++◌, Result, Ok, Err, refl, append_assoc, arith}
+use Rattle.std.proofs.Common.{◌≡◌, ℕ, List, ◌++◌, Result, Ok, Err, append_assoc}
 use Rattle.std.specs.Prelude.{codes, MatchOption, MatchResult}
 use Rattle.std.specs.Result.{result_ok}
 use Rattle.argon2_standard.specs.declared.config.Config.{Config}

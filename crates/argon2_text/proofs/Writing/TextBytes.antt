@@ -1,5 +1,5 @@
 -- A written text is ASCII.
-use Rattle.std.proofs.Common.{◌≡◌, ◌<◌, ◌^◌, ℕ, List, [], ◌∷◌, ◌++◌, true, nat_lt, refl, arith}
+use Rattle.std.proofs.Common.{◌≡◌, ◌<◌, ◌^◌, ℕ, List, [], ◌∷◌, ◌++◌, true, nat_lt, refl}
 use Rattle.std.specs.Prelude.{codes}
 use Rattle.std.specs.List.{list_all}
 use Rattle.std.specs.Str.{IsAscii}
@@ -42,10 +42,16 @@ with_piece before mark piece front ascii back = IsAscii-append (before ++ mark) 
 pub IsAscii-text_of : (d : Spelled) → d.mem_cost < 2 ^ 64 → d.time_cost < 2 ^ 64 → d.parallelism < 2 ^ 64 → IsAscii (text_of d)
 unfolding text_of
 IsAscii-text_of d memory time lanes =
-    let name = IsAscii-append (codes "$") (lowercase_name d.variant) (told (codes "$") refl) (IsAscii-name d.variant) in
-    let version = with_piece _ (codes "$v=") (version_text d.version) name refl (IsAscii-version d.version) in
-    let with_memory = with_piece _ (codes "$m=") (decimal d.mem_cost) version refl (IsAscii-decimal d.mem_cost memory) in
-    let with_time = with_piece _ (codes ",t=") (decimal d.time_cost) with_memory refl (IsAscii-decimal d.time_cost time) in
-    let with_lanes = with_piece _ (codes ",p=") (decimal d.parallelism) with_time refl (IsAscii-decimal d.parallelism lanes) in
-    let with_salt = with_piece _ (codes "$") (base64 d.salt) with_lanes refl (IsAscii-encode_of standard_no_pad d.salt) in
-    with_piece _ (codes "$") (base64 d.hash) with_salt refl (IsAscii-encode_of standard_no_pad d.hash)
+    let n : List ℕ = codes "$" ++ lowercase_name d.variant in
+    let v : List ℕ = n ++ codes "$v=" ++ version_text d.version in
+    let m : List ℕ = v ++ codes "$m=" ++ decimal d.mem_cost in
+    let t : List ℕ = m ++ codes ",t=" ++ decimal d.time_cost in
+    let p : List ℕ = t ++ codes ",p=" ++ decimal d.parallelism in
+    let s : List ℕ = p ++ codes "$" ++ base64 d.salt in
+    let name : IsAscii n = IsAscii-append (codes "$") (lowercase_name d.variant) (told (codes "$") refl) (IsAscii-name d.variant) in
+    let version : IsAscii v = with_piece n (codes "$v=") (version_text d.version) name refl (IsAscii-version d.version) in
+    let with_memory : IsAscii m = with_piece v (codes "$m=") (decimal d.mem_cost) version refl (IsAscii-decimal d.mem_cost memory) in
+    let with_time : IsAscii t = with_piece m (codes ",t=") (decimal d.time_cost) with_memory refl (IsAscii-decimal d.time_cost time) in
+    let with_lanes : IsAscii p = with_piece t (codes ",p=") (decimal d.parallelism) with_time refl (IsAscii-decimal d.parallelism lanes) in
+    let with_salt : IsAscii s = with_piece p (codes "$") (base64 d.salt) with_lanes refl (IsAscii-encode_of standard_no_pad d.salt) in
+    with_piece s (codes "$") (base64 d.hash) with_salt refl (IsAscii-encode_of standard_no_pad d.hash)
