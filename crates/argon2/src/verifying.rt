@@ -23,8 +23,8 @@ use std::marker::Sync;
 use std::sync::Wait;
 use std::thread::Threads;
 pub use texts::{
-    accepted_text, config_of, stored_context, verify_encoded, verify_encoded_ext,
-    verify_encoded_in, verify_encoded_in_sequential, verify_encoded_sequential,
+    verify_encoded, verify_encoded_ext, verify_encoded_in, verify_encoded_in_sequential,
+    verify_encoded_sequential,
 };
 
 /// The bits in which two hashes of one length differ at any place. They are gathered by `|`, so

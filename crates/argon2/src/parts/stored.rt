@@ -1,3 +1,9 @@
 //! What a stored text and a hash are verified by.
 
-pub use crate::verifying::{accepted_text, are_equal, config_of, stored_context};
+pub use crate::limits::is_above;
+pub use crate::rehashing::agrees;
+pub use crate::stored::{
+    accepted_spelling, accepted_text, config_of, config_of_numbers, numbers_of_text, stored_context,
+};
+pub use crate::verifying::are_equal;
+pub use argon2_text::numbers::Numbers;
