@@ -18,12 +18,7 @@ use argon2_text::encoding::write_encoded;
 /// The numbers of the settings are looked at first, then the settings table; then a tag of another
 /// length than the settings' is `WrongLength`, and so is a buffer without room for the text and one
 /// zero. On a refusal the buffer is as it was.
-pub fn encode(
-    salt: &[u8],
-    settings: &Settings,
-    tag: &[u8],
-    text: &mut [u8],
-) -> Result<(), Refusal>
+pub fn encode(salt: &[u8], settings: &Settings, tag: &[u8], text: &mut [u8]) -> Result<(), Refusal>
     ensures { (secret ad : Bor (List ℕ)) → secret.now ≡ [] → ad.now ≡ []
         → WritesTagText (config_of settings.now secret ad) salt.now tag.now text.old text.new
         result }

@@ -6,9 +6,9 @@ ghost use Rattle.argon2_c.specs.Jobs.{MakesJob, MakesStoredJob, is_out_of_bounds
 ghost use Rattle.argon2_c.specs.Settings.{config_of, version_of};
 ghost use Rattle.argon2_c.specs.declared.refusal.Refusal.TheVariants.{NoJob};
 
+use crate::reading::read_items;
 use crate::refusal::Refusal;
 use crate::settings::Settings;
-use crate::reading::read_items;
 use crate::stored_text::text_of;
 use argon2::parts::common::{MAX_LANES, MIN_HASH_LENGTH, MIN_TIME};
 use argon2::parts::context::{Context, Job};
