@@ -81,7 +81,7 @@ pub fn accepted_text(
 }
 
 /// The first refusal of the settings of a text with this head. It takes no memory.
-fn refusal(head: &Head<'_>, pwd_len: u64, secret: &[u8], ad: &[u8]) -> Option<Error>
+pub fn refusal(head: &Head<'_>, pwd_len: u64, secret: &[u8], ad: &[u8]) -> Option<Error>
     ensures { (config : Config) (salt hash : List ℕ) → IsItem head.now.salt.now salt
         → IsItem head.now.hash.now hash
         → IsStoredConfig (spelled_with head.now salt hash) secret.now ad.now config

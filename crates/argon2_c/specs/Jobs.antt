@@ -82,10 +82,16 @@ pub record StoredJob : Type 0 where
 abbrev pub stored_job_of : List ℕ → Spelled → Config → StoredJob
 stored_job_of pwd d config = record { job = job_of (setting_of pwd d.salt config (length d.hash)) (length d.hash); items = items_of d }
 
+-- the refusal of the settings comes first, then that of the buffers
+abbrev pub WritesStoredJob : List ℕ → Spelled → Config → StoredJob → StoredJob → Result (Unit {0}) Refusal → Type 0
+WritesStoredJob pwd d config old new answer =
+    OrRefused (refusal_of config (length pwd) (length d.salt) (length d.hash)) old new answer
+    (WritesWhere (AreLengths (items_of d) old.items) (stored_job_of pwd d config) old new answer)
+
+-- whatever configuration has the settings that the text spells, this secret and this associated data
 abbrev pub MakesStoredJob : List ℕ → List ℕ → List ℕ → List ℕ → StoredJob → StoredJob → Result (Unit {0}) Refusal → Type 0
-MakesStoredJob text pwd secret ad old new answer = OfText text old new answer (λ d. (config : Config) → IsStoredConfig d secret ad config
-    → OrRefused (refusal_of config (length pwd) (length d.salt) (length d.hash)) old new answer
-    (WritesWhere (AreLengths (items_of d) old.items) (stored_job_of pwd d config) old new answer))
+MakesStoredJob text pwd secret ad old new answer =
+    OfText text old new answer (λ d. (config : Config) → IsStoredConfig d secret ad config → WritesStoredJob pwd d config old new answer)
 
 -- ---- filling
 

@@ -1,6 +1,6 @@
 //! Looking at a stored text without verifying it.
 
-ghost use Rattle.std.specs.Prelude.{◌≡◌, ℕ, List};
+ghost use Rattle.std.specs.Prelude.{◌≡◌, ℕ, List, OnOk};
 ghost use Rattle.std.specs.Borrow.{Bor};
 ghost use Rattle.argon2.specs.Grammar.{IsItem};
 ghost use Rattle.argon2.specs.Text.{Spelled};
@@ -104,7 +104,9 @@ pub fn read_bytes(text: &[u8], salt: &mut [u8], hash: &mut [u8]) -> Result<(), R
 pub fn read_items(head: &Head<'_>, salt: &mut [u8], hash: &mut [u8]) -> Result<(), Refusal>
     requires salt_item { IsSomeItem head.now.salt.now }
     requires hash_item { IsSomeItem head.now.hash.now }
-    ensures { (s h : List ℕ) → IsItem head.now.salt.now s → IsItem head.now.hash.now h
+    ensures items { OnOk result (IsItem head.now.salt.now salt.new
+        × IsItem head.now.hash.now hash.new) }
+    ensures answer { (s h : List ℕ) → IsItem head.now.salt.now s → IsItem head.now.hash.now h
         → let items = record { salt = s; hash = h } in
         let old = record { salt = salt.old; hash = hash.old } in
         WritesWhere (AreLengths items old) items old (record { salt = salt.new; hash = hash.new })

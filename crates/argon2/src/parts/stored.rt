@@ -3,7 +3,8 @@
 pub use crate::limits::is_above;
 pub use crate::rehashing::agrees;
 pub use crate::stored::{
-    accepted_spelling, accepted_text, config_of, config_of_numbers, numbers_of_text, stored_context,
+    accepted_spelling, accepted_text, config_of, config_of_numbers, numbers_of_text, refusal,
+    stored_context,
 };
 pub use crate::verifying::{are_equal, context_of_hash};
 pub use argon2_text::numbers::Numbers;

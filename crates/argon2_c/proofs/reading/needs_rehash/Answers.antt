@@ -21,12 +21,14 @@ returns-then-agrees c secret ad =
     let config = c.in_ok-config.config in
     rw (other_inputs c.args.settings.now _ _ secret ad config c.in_ok-config.ensures)
     (by_head c.args.text.now c.in-Ok.head _ _ _ _ c.in-Ok.ensures (λ salt hash s h.
-    agrees_with (spelled_with c.in-Ok.head salt hash) config secret ad ((c.agrees.ensures salt hash h).0 c.if-agrees.true)))
+    let d = spelled_with c.in-Ok.head salt hash in
+    agrees_with d config secret ad ((c.agrees.ensures d (c.numbers.ensures salt hash s h)).0 c.if-agrees.true)))
 
 pub returns-else-agrees : goal.returns-else-agrees
 returns-else-agrees c secret ad =
     let config = c.in_ok-config.config in
     rw (other_inputs c.args.settings.now _ _ secret ad config c.in_ok-config.ensures)
     (by_head c.args.text.now c.in-Ok.head _ _ _ _ c.in-Ok.ensures (λ salt hash s h same.
-    let yes = (c.agrees.ensures salt hash h).1 (agrees_without (spelled_with c.in-Ok.head salt hash) config secret ad same) in
+    let d = spelled_with c.in-Ok.head salt hash in
+    let yes = (c.agrees.ensures d (c.numbers.ensures salt hash s h)).1 (agrees_without d config secret ad same) in
     absurd (let no = c.if-agrees.false in cc)))

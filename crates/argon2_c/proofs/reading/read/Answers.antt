@@ -1,4 +1,5 @@
 use Rattle.std.proofs.Common.{refl}
+use Rattle.argon2.specs.Texts.{spelled_with}
 use Rattle.argon2_c.proofs.Heads.{by_head, no_head}
 use Rattle.argon2_c.proofs.reading.read.Goals as goal
 
@@ -6,4 +7,5 @@ pub returns-in-Err : goal.returns-in-Err
 returns-in-Err c = no_head c.args.text.now c.in-Err.refusal _ _ c.in-Err.ensures
 
 pub returns-in-Ok : goal.returns-in-Ok
-returns-in-Ok c = by_head c.args.text.now c.in-Ok.head _ _ _ _ c.in-Ok.ensures (λ salt hash s h. (refl, c.of.ensures salt hash s h))
+returns-in-Ok c = by_head c.args.text.now c.in-Ok.head _ _ _ _ c.in-Ok.ensures (λ salt hash s h.
+    (refl, c.of.ensures (spelled_with c.in-Ok.head salt hash) (c.numbers.ensures salt hash s h)))
