@@ -1,10 +1,13 @@
 //! The settings of a hash in numbers, as C passes them.
 
-ghost use Rattle.std.specs.Prelude.{◌≡◌, ℕ, List, Ok};
+ghost use Rattle.std.specs.Prelude.{◌≡◌, ℕ, List, [], Ok};
 ghost use Rattle.std.specs.Borrow.{Bor};
 ghost use Rattle.argon2_c.specs.Answers.{IsTextLength};
+ghost use Rattle.argon2_c.specs.Over.{memory_len_of};
 ghost use Rattle.argon2_c.specs.Settings.{config_of};
 
+use argon2::parts::common::{MIN_SALT_LENGTH, SYNC_POINTS};
+use argon2::parts::context::first_refusal;
 use argon2::{Config, ThreadMode, Variant, Version};
 
 /// The settings of a hash: all that a tag depends on except the password, the salt, the secret and
@@ -53,6 +56,18 @@ impl Settings {
         })
     }
 
+    /// How many bytes the blocks of a hash with these settings have, or 0 where no call with them is
+    /// accepted. No length of an input is judged.
+    pub fn memory_len(&self) -> u64
+        ensures { (secret ad : Bor (List ℕ)) → secret.now ≡ [] → ad.now ≡ []
+            → result ≡ memory_len_of (config_of self.now secret ad) }
+    {
+        match self.config(&[], &[]) {
+            Ok(config) => memory_len(&config),
+            Err(_) => 0,
+        }
+    }
+
     /// The length of the text of a hash with a salt of this length, or 0 where the settings have no
     /// configuration.
     pub fn encoded_len(&self, salt_len: u32) -> u64
@@ -62,6 +77,20 @@ impl Settings {
         match self.config(&[], &[]) {
             Ok(config) => text_len(&config, salt_len),
             Err(_) => 0,
+        }
+    }
+}
+
+/// The bytes of the blocks of a configuration, or 0 where the settings table refuses it.
+fn memory_len(config: &Config<'_>) -> u64
+    ensures { result ≡ memory_len_of (Ok config.now) }
+{
+    let hash_len = u64::from(config.hash_length);
+    match first_refusal(config, 0, u64::from(MIN_SALT_LENGTH), hash_len) {
+        Some(_) => 0,
+        None => {
+            let segments = SYNC_POINTS * config.lanes;
+            1024 * u64::from(segments * (config.mem_cost / segments))
         }
     }
 }
