@@ -57,7 +57,7 @@ def faults_of_tar(content, before=''):
             kind = 'link' if it.issym() else 'folder' if it.isdir() else 'file'
             owner = (it.uid, it.gid, it.uname, it.gname)
             named = None if owner == (0, 0, 'root', 'root') else str(owner)
-            yield fault_of(kind, before + it.name, it.mode, named)
+            yield fault_of(kind, before + it.name.removeprefix('./'), it.mode, named)
 
 
 def faults_of_others_folders(content):
