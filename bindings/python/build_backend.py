@@ -12,6 +12,14 @@ ROOT = Path(__file__).resolve().parent
 PACKAGE = "proved_argon2"
 WHEEL = "Wheel-Version: 1.0\nGenerator: proved_argon2\nRoot-Is-Purelib: {}\nTag: py3-none-{}\n"
 LICENCES = ("LICENSE", "NOTICE")
+CLASSIFIERS = (
+    "Intended Audience :: Developers",
+    "License :: OSI Approved :: Apache Software License",
+    "License :: OSI Approved :: MIT License",
+    "Operating System :: POSIX :: Linux",
+    "Programming Language :: Python :: 3",
+    "Topic :: Security :: Cryptography",
+)
 
 
 def _text(name):
@@ -21,6 +29,10 @@ def _text(name):
 def _project(key):
     """A text of the table [project] in pyproject.toml."""
     return re.search(rf'^{key} = "(.*)"$', _text("pyproject.toml"), re.MULTILINE).group(1)
+
+
+def _line(key):
+    return re.search(rf"^{key} = (.*)$", _text("pyproject.toml"), re.MULTILINE).group(1)
 
 
 def _address():
@@ -42,8 +54,9 @@ def _metadata():
         ("Author-email", _address()),
         ("License", _project("license")),
         *(("License-File", name) for name in LICENCES),
-        ("Classifier", "Operating System :: POSIX :: Linux"),
-        ("Classifier", "Topic :: Security :: Cryptography"),
+        ("Keywords", ",".join(re.findall(r'"(.*?)"', _line("keywords")))),
+        ("Project-URL", f"Homepage, {_project('Homepage')}"),
+        *(("Classifier", name) for name in CLASSIFIERS),
         ("Requires-Python", _project("requires-python")),
         ("Description-Content-Type", "text/markdown"),
     ]

@@ -33,9 +33,16 @@ libexec/proved-argon2/help.txt
 libexec/proved-argon2/x86-64-v2/argon2_program
 libexec/proved-argon2/x86-64-v3/argon2_program
 share/bash-completion/completions/proved-argon2
+share/doc/proved-argon2/LICENSE
+share/doc/proved-argon2/NOTICE
 share/man/man1/proved-argon2.1
 share/man/man3/proved_argon2.3
 share/proved-argon2/installed
 END
     )
+}
+
+# Whether each file and folder that was installed has the mode of the list, and is whose it was that installed it.
+has_modes_of_the_list() {
+    .ci/modes.py installed "$1"
 }

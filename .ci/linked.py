@@ -1,0 +1,361 @@
+#!/usr/bin/env python3
+"""Whether what is linked is what was proved and built here, whatever compiler and linker made it.
+
+    .ci/linked.py ARCHIVE FILE..    ARCHIVE is what libraries are linked from (bindings/out/CPU/libargon2_c.a); each FILE
+                                    is a shared object, or an archive of one object
+
+Each section of the archive's objects that is loaded, code and data, is looked for in FILE by its symbols and by what
+refers to it. It has to be there byte for byte but for the places that a linker fills in, and each of these has to lead
+where the object says. FILE may have no other code than that and a linker's own ways to the C library, export the
+library's calls alone, and have the loader do nothing else. Of what is only read where a stack is unwound (.eh_frame),
+and by people (names of local symbols, comments), nothing is said.
+
+A line for each fault; the status is 1 where there is one.
+"""
+
+import re
+import struct
+import sys
+from pathlib import Path
+
+sys.dont_write_bytecode = True
+sys.path.insert(0, str(Path(__file__).resolve().parent))
+from elf import (ALLOC, EXECUTE, INTERPRETER, LOAD, MERGE, NOBITS, RELOCATABLE, SHARED, STRINGS, WRITE,  # noqa: E402
+                 Elf, members, text_at)
+
+# Kinds of relocations, and how many bytes each fills in.
+WORD, NEAR, CALL, SLOT, SLOT_OF_CALL, SLOT_OF_MOVE = 1, 2, 4, 9, 41, 42
+SIZES = {WORD: 8, NEAR: 4, CALL: 4, SLOT: 4, SLOT_OF_CALL: 4, SLOT_OF_MOVE: 4}
+IN_SLOT, OF_CALL, RELATIVE = 6, 7, 8  # those of a shared object
+# What the loader's table may ask for beside tables: no other code to run first, no other place to look in.
+TAGS = {0, 1, 2, 3, 4, 5, 6, 7, 8, 9, 10, 11, 14, 20, 23, 30, 0x6ffffef5, 0x6ffffff0, 0x6ffffff9, 0x6ffffffb, 0x6ffffffc,
+        0x6ffffffd, 0x6ffffffe, 0x6fffffff}
+NEEDED, STRTAB, SYMBOLS, RELA, RELA_SIZE, NAME, OF_CALLS, OF_CALLS_SIZE = 1, 5, 6, 7, 8, 14, 23, 2
+OBJECT, FUNCTION = 1, 2
+HASHES, FLAGS, MORE_FLAGS, COUNT = 0x6ffffef5, 30, 0x6ffffffb, 0x6ffffff9
+# Sections that no code and no loader's start reads.
+UNREAD = re.compile(r'\.eh_frame|\.note\.|\.comment|\.llvm')
+PADDING = re.compile(rb'(?:[\0\x90\xcc]|[\x66\x2e]*\x0f\x1f(?:\x00|\x40.|\x44..|\x80....|\x84.....)|\x66\x90|\xf4)*', re.S)
+# The ways to the C library, through the tables that the loader fills.
+STUBS = re.compile(rb'(?:\xff\x35.{4}\xff\x25.{4}\x0f\x1f\x40\x00|\xff\x25.{4}\x68.{4}\xe9.{4}|\xff\x25.{4}\x66\x90'
+                   rb'|\xff\x35.{4}\xf2\xff\x25.{4}\x0f\x1f\x00|\xf3\x0f\x1e\xfa\x68.{4}\xf2?\xe9.{4}\x66?\x90'
+                   rb'|\xf3\x0f\x1e\xfa\xf2?\xff\x25.{4}(?:\x66\x0f\x1f\x44|\x0f\x1f\x44)\x00\x00)*', re.S)
+BESIDE = re.compile(b'(?:' + PADDING.pattern + STUBS.pattern + b')*' + PADDING.pattern, re.S)
+STUB = re.compile(rb'(?:\xf3\x0f\x1e\xfa)?\xf2?\xff\x25', re.S)
+CALLS = 'proved_argon2_'
+
+
+class Fault(Exception):
+    """What differs."""
+
+
+class Linked:
+    """What the files here have in common: bytes at addresses, names of addresses, and what was filled in."""
+
+    def __init__(self, elf):
+        self.elf = elf
+        self.filled = set()  # the places of relocations that are accounted for
+        self.named = {}
+        for symbol in elf.symbols:
+            if symbol.section and symbol.name:
+                self.named.setdefault(symbol.name, []).append(self.address_of(symbol))
+
+
+class Object(Linked):
+    """An object: its sections are put at addresses far apart, and its relocations are still to be done."""
+
+    def __init__(self, elf):
+        self.bases = {it.index: (it.index + 1) << 32 for it in elf.sections}
+        super().__init__(elf)
+        self.relocations = {self.bases[section.index] + it.offset: it for section in elf.sections
+                            for it in section.relocations if section.has(ALLOC) and not UNREAD.match(section.name)}
+
+    def address_of(self, symbol):
+        return self.bases[symbol.section] + symbol.value
+
+    def read(self, address, size):
+        section = self.elf.sections[(address >> 32) - 1]
+        at = address & 0xffffffff
+        content = bytes(section.size) if section.kind == NOBITS else section.content
+        return content[at:at + size]
+
+    def leads_to(self, address, kind, addend):
+        """Where a relocation leads: the name of what is not here or None, and the address of what is here or None."""
+        found = self.relocations.get(address)
+        if found is None or found.kind != kind:
+            raise Fault('another relocation')
+        self.filled.add(address)
+        if not found.symbol.section:
+            return found.symbol.name if found.addend == addend else None, None
+        return None, self.address_of(found.symbol) + found.addend - addend
+
+    def executable(self):
+        return [(self.bases[it.index], it.content, it.name) for it in self.elf.sections if it.has(ALLOC) and it.has(EXECUTE)]
+
+    def check(self, inputs):
+        """What is beside the sections: no other is loaded, and the calls alone can be seen."""
+        for section in self.elf.sections:
+            base = self.bases[section.index]
+            is_read = section.has(ALLOC) and section.size and not UNREAD.match(section.name)
+            is_constant = section.has(MERGE) and not section.has(WRITE | EXECUTE)  # (looked at where it is referred to)
+            if is_read and not is_constant and not any(base <= it < base + section.size for it in inputs.places.values()):
+                raise Fault(f'{section.name} is no section of what it is linked from')
+        exports = {it.name: self.address_of(it) for it in self.elf.symbols if it.section and it.is_global}
+        inputs.check_exports(exports)
+        if set(self.relocations) - self.filled:
+            raise Fault('a relocation that no object has')
+
+
+class Shared(Linked):
+    """A shared object, as the loader sees it."""
+
+    def __init__(self, elf):
+        super().__init__(elf)
+        self.loaded = [it for it in elf.segments if it.kind == LOAD]
+        self.table = elf.dynamic()
+        self.tags = dict(self.table)
+        self.relocations = {}
+        for at, size in ((RELA, RELA_SIZE), (OF_CALLS, OF_CALLS_SIZE)):
+            rows = self.read(self.tags[at], self.tags[size]) if at in self.tags else b''
+            self.relocations.update((offset, (info & 0xffffffff, info >> 32, addend))
+                                    for offset, info, addend in struct.iter_unpack('<QQq', rows))
+
+    def address_of(self, symbol):
+        return symbol.value
+
+    def read(self, address, size):
+        for it in self.loaded:
+            if it.address <= address < it.address + it.size:
+                at = address - it.address
+                return it.content[at:at + size].ljust(min(size, it.size - at), b'\0')
+        return b''
+
+    def text(self, at):
+        return text_at(self.read(self.tags[STRTAB] + at, 4096), 0)
+
+    def symbol(self, index):
+        name, info, _, section, value, _ = struct.unpack('<IBBHQQ', self.read(self.tags[SYMBOLS] + 24 * index, 24))
+        return self.text(name), section, value, info & 15
+
+    def in_slot(self, slot):
+        """What the loader writes into a slot: a name, or an address."""
+        kind, symbol, addend = self.relocations.get(slot, (0, 0, 0))
+        self.filled.add(slot)
+        if kind == RELATIVE:
+            return None, addend
+        if kind not in (IN_SLOT, OF_CALL) or addend:
+            raise Fault('a slot that the loader does not fill')
+        return self.symbol(symbol)[0], None
+
+    def leads_to(self, address, kind, addend):
+        if kind == WORD:
+            found = self.relocations.get(address)
+            if found is None or found[0] not in (WORD, RELATIVE):
+                raise Fault('a word that the loader does not fill')
+            self.filled.add(address)
+            return (None, found[2] - addend) if found[0] == RELATIVE else (self.symbol(found[1])[0], None)
+        to = struct.unpack('<i', self.read(address, 4))[0] + address - addend
+        if kind in (SLOT, SLOT_OF_CALL, SLOT_OF_MOVE) and not self.is_direct(address, kind):
+            return self.in_slot(to)
+        stub = STUB.match(self.read(to, 8))
+        if kind != NEAR and stub:
+            at = to + stub.end()
+            return self.in_slot(at + 4 + struct.unpack('<i', self.read(at, 4))[0])
+        return None, to
+
+    def is_direct(self, address, kind):
+        """Whether the linker has put the address itself in the place of one that the loader writes into a slot."""
+        before = self.read(address - 2, 2)
+        return kind == SLOT_OF_MOVE and before[:1] == b'\x8d' or kind == SLOT_OF_CALL and before == b'\x67\xe8'
+
+    def executable(self):
+        found = [it for it in self.loaded if it.flags & 1]
+        if any(it.flags & 2 for it in found):
+            raise Fault('code that can be written')
+        return [(it.address, it.content, '') for it in found]
+
+    def exported(self):
+        """What the loader finds by its hashes: the last chain ends the table."""
+        count, first, masks = struct.unpack('<III', self.read(self.tags[HASHES], 12))
+        buckets = self.tags[HASHES] + 16 + 8 * masks
+        last = max(struct.unpack(f'<{count}I', self.read(buckets, 4 * count)))
+        while last >= first and not struct.unpack('<I', self.read(buckets + 4 * (count + last - first), 4))[0] & 1:
+            last += 1
+        symbols = [self.symbol(it) for it in range(first, last + 1)]
+        if any(kind not in (OBJECT, FUNCTION) for _, _, _, kind in symbols):
+            raise Fault('a name that the loader finds by running code')
+        return {name: value for name, section, value, _ in symbols if section and section < 0xff00}
+
+    def check_table(self):
+        unknown = {tag for tag, _ in self.table} - TAGS
+        if unknown:
+            raise Fault(f'the loader is asked for {", ".join(map(hex, sorted(unknown)))}')
+        if self.tags.get(FLAGS, 0) & ~8 or self.tags.get(MORE_FLAGS, 0) & ~1:
+            raise Fault('the loader is asked for more than to bind at once')
+        kinds = [kind for kind, _, _ in self.relocations.values()]
+        if self.tags.get(COUNT, 0) > sum(it == RELATIVE for it in kinds[:self.tags.get(COUNT, 0)]):
+            raise Fault('the loader is told of other relocations than there are')
+
+    def check(self, inputs):
+        self.check_table()
+        needed = [self.text(value) for tag, value in self.table if tag == NEEDED]
+        if needed != ['libc.so.6'] or any(it.kind == INTERPRETER for it in self.elf.segments):
+            raise Fault(f'it needs {" ".join(needed)}')
+        if not self.text(self.tags.get(NAME, 0)).startswith('libproved_argon2.so.'):
+            raise Fault('another name')
+        inputs.check_exports(self.exported())
+        if set(self.relocations) - self.filled:
+            raise Fault('the loader fills in what no object asks for')
+
+
+class Inputs:
+    """The objects that something is linked from, and where their sections are found in it."""
+
+    def __init__(self, archive):
+        self.objects = [Elf(body) for _, body in members(archive)]
+        self.globals = {it.name: (at, it) for at, elf in enumerate(self.objects) for it in elf.symbols
+                        if it.section and it.is_global}
+        self.linked, self.places = None, {}
+
+    def loaded(self):
+        return [(at, it) for at, elf in enumerate(self.objects) for it in elf.sections
+                if it.has(ALLOC) and it.size and not UNREAD.match(it.name)]
+
+    def is_at(self, section, address):
+        """Whether a section is at an address, but for what a linker fills in."""
+        size, mine = section.size, bytearray(section.content if section.kind != NOBITS else bytes(section.size))
+        there = bytearray(self.linked.read(address, size))
+        for it in section.relocations:
+            before = 2 if it.kind in (SLOT_OF_CALL, SLOT_OF_MOVE) else 0
+            hole = slice(it.offset - before, it.offset + SIZES.get(it.kind, 0))
+            mine[hole] = there[hole] = bytes(hole.stop - hole.start)
+        return mine == there
+
+    def put(self, at, section, address):
+        if not self.is_at(section, address):
+            raise Fault(f'{section.name} differs')
+        self.places[at, section.index] = address
+
+    def place_by_names(self, at, section):
+        """Puts a section where one of its symbols is, if that is in what is linked."""
+        marks = [it for it in self.objects[at].symbols if it.section == section.index and it.name in self.linked.named]
+        if section.has(MERGE) or not marks:
+            return
+        taken = set(self.places.values())
+        bases = [base - marks[0].value for base in self.linked.named[marks[0].name]]
+        fitting = [base for base in bases if base not in taken and self.is_at(section, base)]
+        self.put(at, section, (fitting or bases)[0])
+
+    def check_constant(self, section, offset, address):
+        """A constant that a linker may have put together with equal ones."""
+        if section.has(STRINGS):
+            end = section.content.index(b'\0', offset) + 1
+        else:
+            offset, address = offset - offset % section.unit, address - offset % section.unit
+            end = offset + section.unit
+        if self.linked.read(address, end - offset) != section.content[offset:end]:
+            raise Fault(f'a constant of {section.name} differs')
+
+    def check_lead(self, at, it, name, address):
+        """Whether a relocation leads to its symbol."""
+        symbol = it.symbol
+        if symbol.is_global and name is not None:
+            if name != symbol.name:
+                raise Fault(f'{name} in the place of {symbol.name}')
+            return
+        if not symbol.section and symbol.name in self.globals:
+            at, symbol = self.globals[symbol.name]
+        if not symbol.section or address is None:
+            raise Fault(f'{name or hex(address or 0)} in the place of {symbol.name}')
+        section = self.objects[at].sections[symbol.section]
+        if section.has(MERGE):
+            near = -4 if symbol.is_section and it.kind != WORD else 0
+            inside = it.addend - near if symbol.is_section else 0
+            self.check_constant(section, symbol.value + inside, address + inside)
+        elif (at, section.index) not in self.places:
+            self.put(at, section, address - symbol.value)
+        elif self.places[at, section.index] + symbol.value != address:
+            raise Fault(f'something else in the place of {symbol.name or section.name}')
+
+    def check_relocations(self, at, section):
+        base = self.places[at, section.index]
+        for it in section.relocations:
+            if it.kind not in SIZES:
+                raise Fault(f'{section.name} has a relocation of the unknown kind {it.kind}')
+            try:
+                self.check_lead(at, it, *self.linked.leads_to(base + it.offset, it.kind, it.addend))
+            except Fault as fault:
+                raise Fault(f'{section.name} has at {it.offset:#x} {fault}') from None
+
+    def check_leads(self):
+        """Follows each relocation of what is placed, and so comes to what has no name."""
+        done = set()
+        while set(self.places) - done:
+            for at, index in sorted(set(self.places) - done):
+                self.check_relocations(at, self.objects[at].sections[index])
+                done.add((at, index))
+
+    def gaps(self, start, end):
+        """What is between placed sections, as pairs of addresses."""
+        at = start
+        for base, size in sorted((base, self.objects[at].sections[index].size) for (at, index), base in self.places.items()
+                                 if start <= base < end):
+            yield at, base
+            at = base + size
+        yield at, end
+
+    def check_code(self):
+        """All that can be executed is a placed section, a way to the C library, or between them."""
+        for start, content, name in self.linked.executable():
+            for begin, end in self.gaps(start, start + len(content)):
+                if not BESIDE.fullmatch(content[begin - start:end - start]):
+                    raise Fault(f'{end - begin} bytes of other code at {name} {begin:#x}')
+
+    def check_exports(self, exports):
+        wanted = {name: self.places.get((at, it.section), 0) + it.value for name, (at, it) in self.globals.items()
+                  if name.startswith(CALLS)}
+        differing = sorted(it for it in {*exports, *wanted} if exports.get(it) != wanted.get(it))
+        if differing:
+            raise Fault(f'it exports otherwise: {" ".join(differing)}')
+
+    def check(self, linked):
+        self.linked, self.places = linked, {}
+        for at, section in self.loaded():
+            self.place_by_names(at, section)
+        self.check_leads()
+        for at, section in self.loaded():
+            if section.has(EXECUTE) and (at, section.index) not in self.places:
+                raise Fault(f'{section.name} is not there')
+        self.check_code()
+        linked.check(self)
+
+
+def read_linked(content):
+    """What a file has: a shared object, or the object of an archive that has one."""
+    if content[:8] == b'!<arch>\n':
+        found = members(content)
+        if len(found) != 1:
+            raise Fault(f'it has {len(found)} objects')
+        content = found[0][1]
+    elf = Elf(content)
+    if elf.kind not in (RELOCATABLE, SHARED):
+        raise Fault('it is neither an object nor a shared object')
+    return Object(elf) if elf.kind == RELOCATABLE else Shared(elf)
+
+
+def main(archive, *files):
+    inputs = Inputs(Path(archive).read_bytes())
+    faults = 0
+    for file in files:
+        try:
+            inputs.check(read_linked(Path(file).read_bytes()))
+        except (Fault, ValueError, struct.error, IndexError, KeyError) as fault:
+            print(f'{file}: {fault}')
+            faults += 1
+    return faults != 0
+
+
+if __name__ == '__main__':
+    if len(sys.argv) < 3:
+        sys.exit(__doc__)
+    sys.exit(main(*sys.argv[1:]))
