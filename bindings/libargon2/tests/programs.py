@@ -1,0 +1,154 @@
+#!/usr/bin/env python3
+"""Runs Debian's own programs over two libraries with libargon2's interface, Debian's and ours, and compares what they
+answer: PHP, cryptsetup, argon2-cffi and the command argon2. What is made over one is verified over the other too.
+
+    programs.py FOLDER     FOLDER has libargon2.so.1, glibc-hwcaps and the command argon2
+
+A line for each check, which begins with 'passed', 'FAILED' or 'skipped'.
+"""
+
+import itertools
+import os
+import re
+import shutil
+import subprocess
+import sys
+import tempfile
+from pathlib import Path
+
+HERE = Path(__file__).resolve().parent
+LUKS_TYPES, LUKS_LANES = ('argon2i', 'argon2id'), ('1', '2', '4')
+COMMAND_SETTINGS = [list(it) for it in itertools.product(
+    (['-i'], ['-d'], ['-id'], []), (['-v', '10'], ['-v', '13']), (['-t', '1'], []), (['-m', '3'], ['-k', '99'], ['-p', '4']),
+    (['-l', '4'], ['-l', '65'], []), (['-e'], ['-r'], []))]
+COMMAND_WRONG = [
+    [], ['-h'], ['salt'], ['somesalt', '-h'], ['somesalt', '-m'], ['somesalt', '-m', '0'], ['somesalt', '-m', '33'],
+    ['somesalt', '-m', '3', '-k', '9'], ['somesalt', '-k', '7'], ['somesalt', '-k', '0'], ['somesalt', '-k', 'x'],
+    ['somesalt', '-t', '0'], ['somesalt', '-t', '4294967296'], ['somesalt', '-p', '0'], ['somesalt', '-p', '16777216'],
+    ['somesalt', '-p', '2', '-k', '15'], ['somesalt', '-l', '3'], ['somesalt', '-l', '0'], ['somesalt', '-l', '-1x', '-e', '-r'],
+    ['somesalt', '-v', '12'], ['somesalt', '-v'], ['somesalt', '-x'], ['somesalt', '-i', '-d'], ['somesalt', '-id', '-id'],
+    ['somesalt', '-e', '-r'], ['somesalt', '-e', '-h', '-x'], ['somesalt', ''], ['somesalt', '-k', '99999999999999999999']]
+
+
+def note(what, holds, told=''):
+    print(f'{"passed" if holds else "FAILED"}: {what}' + ('' if holds or not told else f'\n    {told}'), flush=True)
+
+
+def compare(what, its, own):
+    """Whether two outputs are the same, and of how many lines."""
+    lines = its.count('\n')
+    differing = [pair for pair in itertools.zip_longest(its.splitlines(), own.splitlines()) if pair[0] != pair[1]]
+    note(f'{what} ({lines} lines)', its == own and lines > 0, f'{len(differing)} lines differ: {differing[:1]}')
+
+
+class Libraries:
+    """Runs a program over Debian's library, or over ours, and gives what it printed."""
+
+    def __init__(self, folder):
+        self.folder = folder
+
+    def environment(self, name):
+        return {**os.environ, 'LD_LIBRARY_PATH': str(self.folder) if name == 'ours' else ''}
+
+    def run(self, name, *words, given=b''):
+        done = subprocess.run(words, input=given, env=self.environment(name), stdout=subprocess.PIPE,
+                              stderr=subprocess.STDOUT, check=False, timeout=600)
+        return done.stdout.decode(), done.returncode
+
+    def are_taken(self, what, file):
+        """Whether a program or a module takes each library from where it is."""
+        told = [re.search(r'libargon2\.so\.1 => (\S+)', self.run(name, 'ldd', str(file))[0]) for name in ('debian', 'ours')]
+        paths = [it and os.path.realpath(it.group(1)) for it in told]
+        is_ours = bool(paths[1]) and Path(paths[1]).is_relative_to(self.folder.resolve())
+        note(f'{what} takes either library', is_ours and bool(paths[0]) and not Path(paths[0]).is_relative_to(
+            self.folder.resolve()), paths)
+
+
+def both_ways(libraries, what, make, check):
+    """Has each library make encoded hashes, and each one verify those of both."""
+    with tempfile.TemporaryDirectory() as folder:
+        made = {}
+        for name in ('debian', 'ours'):
+            made[name] = Path(folder, name)
+            made[name].write_text(libraries.run(name, *make)[0])
+        for maker, file in made.items():
+            its, own = (libraries.run(name, *check, str(file))[0] for name in ('debian', 'ours'))
+            compare(f'{what}: what is made by {maker} is read by both', its, own)
+            count = len(file.read_text().splitlines())
+            note(f'{what}: of what is made by {maker} ours accepts the right password alone', count > 0 and count == sum(
+                line.startswith(('[true,false', 'True VerifyMismatchError')) for line in own.splitlines()), own[:300])
+
+
+def check_php(libraries):
+    php, script = os.path.realpath(shutil.which('php')), str(HERE / 'programs.php')
+    libraries.are_taken('PHP', php)
+    both_ways(libraries, 'PHP', [php, script, 'make'], [php, script, 'check'])
+    compare('PHP: errors', *(libraries.run(name, php, script, 'errors')[0] for name in ('debian', 'ours')))
+
+
+def check_cffi(libraries):
+    python, script = '/usr/bin/python3', str(HERE / 'cffi.py')
+    module = subprocess.run([python, '-c', 'import _argon2_cffi_bindings._ffi as m; print(m.__file__)'],
+                            stdout=subprocess.PIPE, stderr=subprocess.DEVNULL, check=False).stdout
+    module = module or subprocess.check_output([python, '-c', 'import argon2._ffi as m; print(m.__file__)'])
+    libraries.are_taken('argon2-cffi', module.decode().strip())
+    compare('argon2-cffi: tags, errors and contexts',
+            *(libraries.run(name, python, script, 'tags')[0] for name in ('debian', 'ours')))
+    both_ways(libraries, 'argon2-cffi', [python, script, 'make'], [python, script, 'check'])
+
+
+def check_cryptsetup(libraries):
+    cryptsetup = shutil.which('cryptsetup', path='/usr/sbin:/sbin')
+    libraries.are_taken('cryptsetup', subprocess.check_output(
+        ['sh', '-c', f'ldd {cryptsetup} | sed -n "s/.*libcryptsetup.* => \\([^ ]*\\).*/\\1/p"']).decode().strip())
+    with tempfile.TemporaryDirectory() as folder:
+        right, wrong = Path(folder, 'right'), Path(folder, 'wrong')
+        right.write_text('correct horse')
+        wrong.write_text('correct house')
+        for maker, kind, lanes in itertools.product(('debian', 'ours'), LUKS_TYPES, LUKS_LANES):
+            image = Path(folder, f'{maker}.{kind}.{lanes}')
+            with open(image, 'wb') as file:
+                file.truncate(20 << 20)
+            said, status = libraries.run(
+                maker, cryptsetup, 'luksFormat', '-q', '--type', 'luks2', '--pbkdf', kind, '--pbkdf-force-iterations', '4',
+                '--pbkdf-memory', '4096' if lanes != '4' else '65536', '--pbkdf-parallel', lanes, str(image), '--key-file',
+                str(right))
+            opened = [libraries.run(name, cryptsetup, 'open', '--test-passphrase', '--key-file', str(key), str(image))[1]
+                      for name, key in itertools.product(('debian', 'ours'), (right, wrong))]
+            note(f'cryptsetup: a {kind} header of {lanes} lanes by {maker} is opened by both, with the right key alone',
+                 status == 0 and opened == [0, 2, 0, 2], f'{said} {status} {opened}')
+
+
+def command_told(command, words, given):
+    """The output of a command, with no time in it, its error and its status."""
+    done = subprocess.run([command, *words], executable=command, input=given, capture_output=True, check=False, timeout=600)
+    without_time = re.sub(rb'(?m)^\d+\.\d{3} seconds$', b'0.000 seconds', done.stdout)
+    return without_time.replace(command.encode(), b'argon2'), done.stderr, done.returncode
+
+
+def check_command(libraries):
+    its, own = shutil.which('argon2', path='/usr/bin'), str(libraries.folder / 'argon2')
+    cases = [(['somesalt', *itertools.chain(*it)], b'password') for it in COMMAND_SETTINGS]
+    cases += [(words, b'password') for words in COMMAND_WRONG]
+    cases += [(['somesalt', '-k', '8'], given) for given in (b'', b'x' * 127, b'x' * 128, b'x' * 500, b'a\0b\n')]
+    same = [it for it in cases if command_told(its, *it) == command_told(own, *it)]
+    differing = [it for it in cases if it not in same]
+    note(f'argon2: {len(cases)} outputs, errors and statuses are the same to the byte', not differing, differing[:2])
+
+
+def main():
+    libraries = Libraries(Path(sys.argv[1]).resolve())
+    has_cffi = subprocess.run(['/usr/bin/python3', '-c', 'import argon2'], stderr=subprocess.DEVNULL, check=False)
+    for name, is_there, check in (
+            ('php-cli', shutil.which('php'), check_php),
+            ('cryptsetup-bin', shutil.which('cryptsetup', path='/usr/sbin:/sbin'), check_cryptsetup),
+            ('python3-argon2', has_cffi.returncode == 0, check_cffi),
+            ('argon2', shutil.which('argon2', path='/usr/bin'), check_command)):
+        if is_there:
+            check(libraries)
+        else:
+            print(f'skipped: {name} over either library (there is none)')
+
+
+if __name__ == '__main__':
+    main()
