@@ -76,9 +76,8 @@ static __attribute__((noinline)) void clear_stack(void)
 
 uint32_t begin_call(call *it, const options *with, int is_missing)
 {
-    const int error = errno;
-    explicit_bzero(it, sizeof *it); /* (bound here, where no register holds a secret that this could spill) */
-    it->error = error;
+    *it = (call){.error = errno};
+    explicit_bzero(&it->job, sizeof it->job); /* (bound here, where no register holds a secret that this could spill) */
     pthread_setcancelstate(PTHREAD_CANCEL_DISABLE, &it->cancel);
     if (with == NULL || is_missing) {
         return PROVED_ARGON2_NULL_POINTER;

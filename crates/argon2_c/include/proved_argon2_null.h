@@ -205,7 +205,7 @@ PROVED_ARGON2_CHECKED
 static inline uint32_t proved_argon2_nullable_job_begin(
     const proved_argon2_job *job, uint32_t lane, proved_argon2_block *own, size_t own_len)
 {
-    proved_argon2_block spare;
+    static proved_argon2_block spare;
     if (job == NULL || proved_argon2_is_missing(own, own_len)) {
         return PROVED_ARGON2_NULL_POINTER;
     }
@@ -223,8 +223,7 @@ static inline uint32_t proved_argon2_nullable_job_fill(
     const proved_argon2_block *third, size_t third_len,
     proved_argon2_block *own, size_t own_len)
 {
-    static const proved_argon2_block none = {{0}};
-    proved_argon2_block spare;
+    static proved_argon2_block spare; /* (here and below static, so that no stack is left unwritten) */
     if (job == NULL || proved_argon2_is_missing(first, first_len) || proved_argon2_is_missing(second, second_len)
         || proved_argon2_is_missing(third, third_len) || proved_argon2_is_missing(own, own_len)) {
         return PROVED_ARGON2_NULL_POINTER;
@@ -235,9 +234,9 @@ static inline uint32_t proved_argon2_nullable_job_fill(
     }
     return proved_argon2_job_fill(
         job, pass, slice, lane,
-        proved_argon2_readable_blocks(first, first_len, &none), first_len,
-        proved_argon2_readable_blocks(second, second_len, &none), second_len,
-        proved_argon2_readable_blocks(third, third_len, &none), third_len,
+        proved_argon2_readable_blocks(first, first_len, &spare), first_len,
+        proved_argon2_readable_blocks(second, second_len, &spare), second_len,
+        proved_argon2_readable_blocks(third, third_len, &spare), third_len,
         proved_argon2_writable_blocks(own, own_len, &spare), own_len);
 }
 
@@ -281,7 +280,7 @@ PROVED_ARGON2_CHECKED
 static inline uint32_t proved_argon2_nullable_job_hash_over(
     const proved_argon2_job *job, proved_argon2_block *blocks, size_t blocks_len, uint8_t *out, size_t out_len)
 {
-    proved_argon2_block none;
+    static proved_argon2_block none;
     uint8_t spare;
     if (job == NULL || proved_argon2_is_missing(blocks, blocks_len) || proved_argon2_is_missing(out, out_len)) {
         return PROVED_ARGON2_NULL_POINTER;
@@ -299,7 +298,7 @@ static inline uint32_t proved_argon2_nullable_job_verify_over(
     const proved_argon2_job *job, proved_argon2_block *blocks, size_t blocks_len,
     const uint8_t *hash, size_t hash_len, uint8_t *tag, size_t tag_len)
 {
-    proved_argon2_block none;
+    static proved_argon2_block none;
     uint8_t spare;
     if (job == NULL || proved_argon2_is_missing(blocks, blocks_len) || proved_argon2_is_missing(hash, hash_len)
         || proved_argon2_is_missing(tag, tag_len)) {
@@ -323,7 +322,7 @@ static inline uint32_t proved_argon2_nullable_hash_over(
     proved_argon2_block *blocks, size_t blocks_len,
     uint8_t *out, size_t out_len)
 {
-    proved_argon2_block none;
+    static proved_argon2_block none;
     uint8_t spare;
     if (proved_argon2_are_missing(pwd, pwd_len, salt, salt_len, secret, secret_len, ad, ad_len, settings)
         || proved_argon2_is_missing(blocks, blocks_len) || proved_argon2_is_missing(out, out_len)) {
@@ -353,7 +352,7 @@ static inline uint32_t proved_argon2_nullable_verify_over(
     const uint8_t *hash, size_t hash_len,
     uint8_t *tag, size_t tag_len)
 {
-    proved_argon2_block none;
+    static proved_argon2_block none;
     uint8_t spare;
     if (proved_argon2_are_missing(pwd, pwd_len, salt, salt_len, secret, secret_len, ad, ad_len, settings)
         || proved_argon2_is_missing(blocks, blocks_len) || proved_argon2_is_missing(hash, hash_len)
