@@ -6,10 +6,10 @@
 mod errno;
 mod pages;
 
+pub use errno::Errno;
 pub use pages::{advise, clear, Lent, Page};
 
 use crate::{Config, Limits as LimitsOfCrate};
-use errno::Errno;
 use pages::address;
 use std::ffi::c_void;
 use std::mem::{size_of, size_of_val};

@@ -31,7 +31,6 @@ extern "C" {
 /// that can do neither leaves them as they are.
 pub fn advise(pages: &mut [MaybeUninit<Page>]) {
     if size_of_val(pages) >= HUGE_PAGE {
-        let _kept = Errno::kept();
         // SAFETY: the address and the length are those of the whole pages of a slice, and what they hold stays.
         unsafe {
             madvise(address(pages), size_of_val(pages), MADV_HUGEPAGE);
