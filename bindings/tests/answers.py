@@ -163,8 +163,9 @@ class Answers(unittest.TestCase):
             hasher.verify(TEXT, "word")
             found = (passed(COMPUTING), STUB.bytes_lent_to_the_last())
             self.assertEqual(found, (f"text {TEXT} word   10 11 12", lent))
-        PasswordHasher().verify(TEXT, "word")
-        self.assertEqual(passed(COMPUTING), f"text {TEXT} word   7 8 9")
+        for settings, limits in (((1, 1, 1), "7 8 9"), ((9, 8, 1), "8 9 9"), ((8, 7, 10), "7 8 10")):
+            PasswordHasher(*settings).verify(TEXT, "word")
+            self.assertEqual(passed(COMPUTING), f"text {TEXT} word   {limits}")
 
     def test_a_kept_memory_grows_where_the_library_says_that_it_is_too_small(self):
         hashing, verifying = (b"p", b"somesalt", *SETTINGS), (TEXT.encode(), b"p", Type.ID)

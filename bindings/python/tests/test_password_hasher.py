@@ -10,7 +10,7 @@ from unittest import mock
 
 import proved_argon2
 from proved_argon2 import (
-    Limits,
+    DEFAULT_LIMITS,
     Parameters,
     PasswordHasher,
     Type,
@@ -46,7 +46,7 @@ class Names(unittest.TestCase):
                 ("salt_len", 16),
                 ("encoding", "utf-8"),
                 ("type", Type.ID),
-                ("limits", Limits(memory_cost=2097152, time_cost=10, parallelism=16)),
+                ("limits", DEFAULT_LIMITS),
                 ("keep_memory", False),
             ],
         )
@@ -74,6 +74,13 @@ class Names(unittest.TestCase):
             hasher = PasswordHasher.from_parameters(given)
             self.assertEqual(hasher._parameters, given)
             self.assertEqual(extract_parameters(hasher.hash("password")), given)
+
+    def test_a_hasher_shows_its_settings_and_nothing_else(self):
+        self.assertEqual(
+            repr(PasswordHasher(**SMALL, limits=None, keep_memory=True)),
+            "PasswordHasher(time_cost=1, memory_cost=32, parallelism=2, hash_len=32, salt_len=16, encoding='utf-8', "
+            "type=<Type.ID: 2>, limits=None, keep_memory=True)",
+        )
 
     def test_parameters_can_be_changed_and_the_profiles_stay(self):
         changed = profiles.get_default_parameters()
@@ -186,6 +193,20 @@ class Deprecated(unittest.TestCase):
             )
         self.assertEqual(str(inspect.signature(verify_password)).split(" ->")[0].count("Type.I"), 1)
 
+    def test_they_warn_in_the_words_of_argon2_cffi_where_they_are_called(self):
+        given = (b"password", b"somesalt", 1, 32, 2)
+        text = low_level.hash_secret(*given, 16, Type.I)
+        for call, arguments in (
+            (hash_password, given),
+            (hash_password_raw, given),
+            (verify_password, (text, b"password")),
+        ):
+            with self.assertWarnsRegex(
+                DeprecationWarning, f"^argon2.{call.__name__} is deprecated, use argon2.PasswordHasher instead$"
+            ) as warned:
+                call(*arguments)
+            self.assertEqual(warned.filename, __file__)
+
     def test_the_module_measures(self):
         words = [sys.executable, "-m", "proved_argon2", "-n", "2", "-t", "1", "-m", "64", "-p", "2", "-l", "16"]
         done = subprocess.run(words, capture_output=True, text=True, timeout=60)
@@ -195,6 +216,21 @@ class Deprecated(unittest.TestCase):
         self.assertRegex(done.stdout, r"\d+\.\dms per password verification")
         done = subprocess.run([*words, "--profile", "CHEAPEST"], capture_output=True, text=True, timeout=60)
         self.assertIn("memory_cost: 8 KiB", done.stdout)
+
+    def test_the_module_names_what_cannot_be_measured(self):
+        for words, why in (
+            (["-n", "0"], "argument -n: 0 is not above 0"),
+            (["-n", "-1"], "argument -n: -1 is not above 0"),
+            (["-t", "0"], "argument -t: 0 is not above 0"),
+            (["-m", "7"], "Memory cost is too small"),
+            (["-p", "4294967296"], "parallelism is 4294967296"),
+            (["-l", "3"], "Output is too short"),
+        ):
+            words = [sys.executable, "-m", "proved_argon2", *words]
+            done = subprocess.run(words, capture_output=True, text=True, timeout=60)
+            self.assertEqual((done.returncode, done.stdout), (2, ""), done.stderr)
+            self.assertIn(why, done.stderr)
+            self.assertNotIn("Traceback", done.stderr)
 
 
 class Hashing(unittest.TestCase):

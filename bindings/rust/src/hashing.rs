@@ -1,4 +1,4 @@
-use crate::face::{self, OK, WRONG_LENGTH};
+use crate::face::{self, Errno, OK, WRONG_LENGTH};
 use crate::{Config, Error, Memory, Result, ThreadMode, Variant, Version};
 
 /// The length in bytes of the text of a hash.
@@ -175,6 +175,7 @@ fn require_done(number: u32) -> Result<()> {
 
 /// So many zeros, where there is memory.
 fn zeros(length: usize) -> Result<Vec<u8>> {
+    let _kept = Errno::kept();
     let mut bytes = Vec::new();
     bytes.try_reserve_exact(length).map_err(|_| Error::OutOfMemory)?;
     bytes.resize(length, 0);

@@ -43,8 +43,8 @@
 //!
 //! # Limits
 //!
-//! The memory of a hash is cleared, and passwords are not. A text says how much memory it is verified with, up to 4 TiB, and how many
-//! passes: verify a text of a stranger by [`verify_encoded_within`].
+//! The memory of a hash is cleared, and passwords are not. A text says how much memory it is verified with, up to
+//! 4 TiB, and how many passes: verify a text of a stranger by [`verify_encoded_within`].
 #![deny(unsafe_code)]
 #![warn(missing_docs)]
 

@@ -1,6 +1,6 @@
 use crate::face::{self, Lent, MISMATCH, OK, TOO_COSTLY};
-use crate::{Error, Memory};
-use std::{fmt, result};
+use crate::{Config, Error, Memory};
+use std::{error, fmt, result};
 
 /// The greatest numbers that a text may spell, for [`verify_encoded_within`].
 #[derive(Clone, Copy, Debug, Eq, PartialEq)]
@@ -13,6 +13,30 @@ pub struct Limits {
 
     /// The passes over the memory.
     pub time_cost: u32,
+}
+
+impl Limits {
+    /// The default limits, each raised to the number of the settings where that is greater: what is hashed with these
+    /// settings is within.
+    ///
+    /// # Examples
+    ///
+    /// ```
+    /// use proved_argon2::{self as argon2, Config, Limits};
+    ///
+    /// let config = Config { time_cost: 11, ..Config::owasp5() };
+    /// let text = argon2::hash_encoded(b"password", b"somesalt", &config)?;
+    /// assert!(argon2::verify_encoded_within(&text, b"password", &[], &[], &Limits::at_least(&config))?);
+    /// # Ok::<(), argon2::Unverified>(())
+    /// ```
+    pub fn at_least(config: &Config<'_>) -> Limits {
+        let Limits { lanes, mem_cost, time_cost } = Limits::default();
+        Limits {
+            lanes: lanes.max(config.lanes),
+            mem_cost: mem_cost.max(config.mem_cost),
+            time_cost: time_cost.max(config.time_cost),
+        }
+    }
 }
 
 impl Default for Limits {
@@ -42,7 +66,21 @@ impl fmt::Display for Unverified {
     }
 }
 
-impl std::error::Error for Unverified {}
+impl error::Error for Unverified {
+    fn source(&self) -> Option<&(dyn error::Error + 'static)> {
+        match self {
+            Unverified::TooCostly => None,
+            Unverified::Refused(error) => Some(error),
+        }
+    }
+}
+
+/// So that `?` serves calls with limits and calls without, in one function.
+impl From<Error> for Unverified {
+    fn from(error: Error) -> Unverified {
+        Unverified::Refused(error)
+    }
+}
 
 /// Whether a text is the hash of a password with this secret and this associated data, where it asks for no more
 /// than the limits.

@@ -1,4 +1,4 @@
-use crate::face::{self, Lent, Page, OUT_OF_MEMORY};
+use crate::face::{self, Errno, Lent, Page, OUT_OF_MEMORY};
 use std::fmt;
 
 /// The memory of hashes, kept from call to call: for the calls whose names end in `_in`.
@@ -51,6 +51,7 @@ impl Memory {
         if self.pages.capacity() >= count {
             return false;
         }
+        let _kept = Errno::kept();
         *self = Memory::new();
         let is_granted = self.pages.try_reserve_exact(count).is_ok();
         face::advise(self.pages.spare_capacity_mut());

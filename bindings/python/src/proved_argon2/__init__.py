@@ -11,7 +11,7 @@ is raised.
 """
 from . import exceptions, low_level, profiles
 from ._legacy import hash_password, hash_password_raw, verify_password
-from ._limits import Limits
+from ._limits import DEFAULT_LIMITS, Limits
 from ._parameters import Parameters, extract_parameters
 from ._password_hasher import (
     DEFAULT_HASH_LENGTH,
@@ -27,6 +27,7 @@ __version__ = "1.0.0"
 
 __all__ = [
     "DEFAULT_HASH_LENGTH",
+    "DEFAULT_LIMITS",
     "DEFAULT_MEMORY_COST",
     "DEFAULT_PARALLELISM",
     "DEFAULT_RANDOM_SALT_LENGTH",

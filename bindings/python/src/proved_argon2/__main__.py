@@ -1,30 +1,53 @@
 """Measures a hash with given settings: `python -m proved_argon2 --help`."""
 import argparse
 import time
-from typing import List, Optional
 
 from . import PasswordHasher, profiles
+from .exceptions import HashingError
+
+TYPE_CHECKING = False
+if TYPE_CHECKING:
+    from typing import List, Optional
 
 
-def _arguments(words: Optional[List[str]]) -> argparse.Namespace:
+def _positive(word: str) -> int:
+    """The number that a word spells, where it is one above 0."""
+    number = int(word)
+    if number < 1:
+        raise argparse.ArgumentTypeError(f"{word} is not above 0")
+    return number
+
+
+def _parser() -> argparse.ArgumentParser:
     default = profiles.get_default_parameters()
     parser = argparse.ArgumentParser(prog="python -m proved_argon2", description="Measures a hash with settings.")
-    parser.add_argument("-n", type=int, default=100, help="how many hashes are measured")
-    parser.add_argument("-t", type=int, default=default.time_cost, help="the passes, time_cost")
-    parser.add_argument("-m", type=int, default=default.memory_cost, help="the memory in KiB, memory_cost")
-    parser.add_argument("-p", type=int, default=default.parallelism, help="the lanes, parallelism")
-    parser.add_argument("-l", type=int, default=default.hash_len, help="the length of the hash in bytes, hash_len")
+    for letter, number, about in (
+        ("n", 100, "how many hashes are measured"),
+        ("t", default.time_cost, "the passes, time_cost"),
+        ("m", default.memory_cost, "the memory in KiB, memory_cost"),
+        ("p", default.parallelism, "the lanes, parallelism"),
+        ("l", default.hash_len, "the length of the hash in bytes, hash_len"),
+    ):
+        parser.add_argument(f"-{letter}", type=_positive, default=number, help=about)
     parser.add_argument("--profile", choices=[name for name in profiles.__all__ if name.isupper()])
-    return parser.parse_args(words)
+    return parser
 
 
-def main(words: Optional[List[str]] = None) -> None:
-    """Verifies a password of these settings so many times, and prints the mean."""
-    given = _arguments(words)
-    hasher = PasswordHasher(time_cost=given.t, memory_cost=given.m, parallelism=given.p, hash_len=given.l)
+def _hasher(given: argparse.Namespace) -> PasswordHasher:
     if given.profile is not None:
-        hasher = PasswordHasher.from_parameters(getattr(profiles, given.profile))
-    text = hasher.hash("secret")
+        return PasswordHasher.from_parameters(getattr(profiles, given.profile))
+    return PasswordHasher(time_cost=given.t, memory_cost=given.m, parallelism=given.p, hash_len=given.l)
+
+
+def main(words: "Optional[List[str]]" = None) -> None:
+    """Verifies a password of these settings so many times, and prints the mean."""
+    parser = _parser()
+    given = parser.parse_args(words)
+    hasher = _hasher(given)
+    try:
+        text = hasher.hash("secret")
+    except HashingError as error:
+        parser.error(str(error))
     print(f"Running Argon2id {given.n} times with:")
     units = {"hash_len": "bytes", "memory_cost": "KiB", "parallelism": "lanes", "time_cost": "passes"}
     for name, unit in units.items():

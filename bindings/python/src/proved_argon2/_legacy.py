@@ -1,7 +1,6 @@
 """The calls that argon2-cffi had before `PasswordHasher`. Each warns that it is deprecated, as there."""
 import os
 import warnings
-from typing import Literal, Optional
 
 from ._password_hasher import (
     DEFAULT_HASH_LENGTH,
@@ -12,20 +11,23 @@ from ._password_hasher import (
 )
 from .low_level import Type, hash_secret, hash_secret_raw, verify_secret
 
-_INSTEAD = "argon2-cffi has deprecated this call: use PasswordHasher for passwords"
+TYPE_CHECKING = False
+if TYPE_CHECKING:
+    from typing import Literal, Optional
 
 
-def _warn() -> None:
-    warnings.warn(_INSTEAD, DeprecationWarning, stacklevel=3)
+def _warn(name: str) -> None:
+    """Warns in the words of argon2-cffi, by which programs choose the warnings that they ignore."""
+    warnings.warn(f"argon2.{name} is deprecated, use argon2.PasswordHasher instead", DeprecationWarning, stacklevel=3)
 
 
-def _salt_or_random(salt: Optional[bytes]) -> bytes:
+def _salt_or_random(salt: "Optional[bytes]") -> bytes:
     return os.urandom(DEFAULT_RANDOM_SALT_LENGTH) if salt is None else salt
 
 
 def hash_password(
     password: bytes,
-    salt: Optional[bytes] = None,
+    salt: "Optional[bytes]" = None,
     time_cost: int = DEFAULT_TIME_COST,
     memory_cost: int = DEFAULT_MEMORY_COST,
     parallelism: int = DEFAULT_PARALLELISM,
@@ -33,13 +35,13 @@ def hash_password(
     type: Type = Type.I,
 ) -> bytes:
     """`low_level.hash_secret` with defaults, and a random salt where none is given. Its variant is Argon2i."""
-    _warn()
+    _warn("hash_password")
     return hash_secret(password, _salt_or_random(salt), time_cost, memory_cost, parallelism, hash_len, type)
 
 
 def hash_password_raw(
     password: bytes,
-    salt: Optional[bytes] = None,
+    salt: "Optional[bytes]" = None,
     time_cost: int = DEFAULT_TIME_COST,
     memory_cost: int = DEFAULT_MEMORY_COST,
     parallelism: int = DEFAULT_PARALLELISM,
@@ -47,11 +49,11 @@ def hash_password_raw(
     type: Type = Type.I,
 ) -> bytes:
     """`low_level.hash_secret_raw` with defaults, and a random salt where none is given."""
-    _warn()
+    _warn("hash_password_raw")
     return hash_secret_raw(password, _salt_or_random(salt), time_cost, memory_cost, parallelism, hash_len, type)
 
 
-def verify_password(hash: bytes, password: bytes, type: Type = Type.I) -> Literal[True]:
+def verify_password(hash: bytes, password: bytes, type: Type = Type.I) -> "Literal[True]":
     """`low_level.verify_secret`, of Argon2i where no variant is named."""
-    _warn()
+    _warn("verify_password")
     return verify_secret(hash, password, type)

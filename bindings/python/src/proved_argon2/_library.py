@@ -2,13 +2,18 @@
 import ctypes
 import os
 import sys
-from pathlib import Path
-from typing import Any, Callable, List, Optional, Tuple, Union
 
 from ._memory import Memory, Pages
 
+TYPE_CHECKING = False
+if TYPE_CHECKING:
+    from typing import Any, Callable, Iterator, List, Optional, Tuple, Type, Union
+
 SONAME = "libproved_argon2.so.1"
 VARIABLE = "PROVED_ARGON2_LIBRARY"
+
+# Where this file's folder stands in the repository.
+IN_REPOSITORY = "/bindings/python/src/proved_argon2"
 
 # What a processor has for which the object of x86-64-v3 is built, as Linux names it.
 FLAGS_OF_V3 = {"avx", "avx2", "bmi1", "bmi2", "f16c", "fma", "abm", "movbe"}
@@ -76,37 +81,41 @@ class Refused(Exception):
         self.number = number
 
 
-def _bundled(here: Path) -> List[str]:
-    """The shared objects that a wheel brings along and this processor runs, the newest first."""
-    if not (here / "libs").is_dir():
-        return []
+def _cpus() -> "List[str]":
+    """For which processors an object runs on this one, the newest first."""
     try:
-        about = Path("/proc/cpuinfo").read_text(errors="replace")
+        with open("/proc/cpuinfo", encoding="ascii", errors="replace") as about:
+            flags = next((line for line in about if line.startswith("flags")), "").split()
     except OSError:
-        about = ""
-    flags = next((line for line in about.splitlines() if line.startswith("flags")), "").split()
-    cpus = ["x86-64-v3"] if FLAGS_OF_V3.issubset(flags) else []
-    return [str(here / "libs" / cpu / SONAME) for cpu in [*cpus, "x86-64-v2"]]
+        flags = []
+    return [*(["x86-64-v3"] if FLAGS_OF_V3.issubset(flags) else []), "x86-64-v2"]
 
 
-def _files() -> List[str]:
+def _files() -> "Iterator[str]":
     """Where the shared object may be: where the environment says, or else in the wheel, where the loader looks, beside
-    this Python, or in the repository's build where this file stands in the repository."""
+    this Python, or in the repository's build where this file stands in the repository. The loader chooses by the
+    processor itself."""
     named = os.environ.get(VARIABLE)
     if named:
-        return [named]
-    here = Path(__file__).resolve().parent
-    files = [*_bundled(here), SONAME, os.path.join(sys.prefix, "lib", SONAME)]
-    if here.parts[-4:] == ("bindings", "python", "src", "proved_argon2"):
-        files.append(str(here.parents[2] / "out" / "x86-64-v2" / SONAME))
-    return files
+        yield named
+        return
+    here = os.path.dirname(os.path.realpath(__file__))
+    if os.path.isdir(os.path.join(here, "libs")):
+        yield from (os.path.join(here, "libs", cpu, SONAME) for cpu in _cpus())
+    yield SONAME
+    beside = os.path.join(sys.prefix, "lib")
+    yield from (os.path.join(beside, "glibc-hwcaps", cpu, SONAME) for cpu in _cpus()[:-1])
+    yield os.path.join(beside, SONAME)
+    bindings, inside = here[: -len(IN_REPOSITORY)], here[-len(IN_REPOSITORY) :]
+    if inside == IN_REPOSITORY:
+        yield from (os.path.join(bindings, "bindings", "out", cpu, SONAME) for cpu in _cpus())
 
 
 # The types of what each call takes, and of what it returns.
-_BYTES: List[Any] = [ctypes.c_char_p, ctypes.c_size_t]
-_SETTINGS: List[Any] = [ctypes.POINTER(Settings)]
-_OPTIONS: List[Any] = [ctypes.POINTER(Options)]
-_CALLS: Tuple[Tuple[str, List[Any], Any], ...] = (
+_BYTES: "List[Any]" = [ctypes.c_char_p, ctypes.c_size_t]
+_SETTINGS: "List[Any]" = [ctypes.POINTER(Settings)]
+_OPTIONS: "List[Any]" = [ctypes.POINTER(Options)]
+_CALLS: "Tuple[Tuple[str, List[Any], Any], ...]" = (
     ("hash_raw", 4 * _BYTES + _SETTINGS + _BYTES, ctypes.c_uint32),
     ("hash_encoded", 4 * _BYTES + _SETTINGS + _BYTES, ctypes.c_uint32),
     ("hash_raw_with", _OPTIONS + 4 * _BYTES + _SETTINGS + _BYTES, ctypes.c_uint32),
@@ -145,9 +154,17 @@ def _load() -> ctypes.CDLL:
 _library = _load()
 
 
-def _slices(*pieces: bytes) -> List[Union[bytes, int]]:
+def require_number(name: str, number: object, refusal: "Type[Exception]") -> None:
+    """Raises where a number is no integer, or has not 32 bits: `ctypes` would pass its lowest bits."""
+    if not isinstance(number, int) or isinstance(number, bool):
+        raise TypeError(f"'{name}' must be int, not {number.__class__.__name__}")
+    if not 0 <= number <= MAX_NUMBER:
+        raise refusal(f"{name} is {number}: no number of 32 bits")
+
+
+def _slices(*pieces: bytes) -> "List[Union[bytes, int]]":
     """Each piece and its length. An empty piece has an address too."""
-    arguments: List[Union[bytes, int]] = []
+    arguments: "List[Union[bytes, int]]" = []
     for piece in pieces:
         arguments += [piece, len(piece)]
     return arguments
@@ -166,7 +183,7 @@ def _room(length: int) -> "ctypes.Array[ctypes.c_char]":
         raise Refused(OUT_OF_MEMORY) from None
 
 
-def _options(threads: int, limits: Optional[NumberLimits], pages: Optional[Pages]) -> Options:
+def _options(threads: int, limits: "Optional[NumberLimits]", pages: "Optional[Pages]") -> Options:
     """Options of at most so many threads. They keep the limits alive, and not the pages."""
     options = Options(ctypes.sizeof(Options), threads)
     if pages is not None:
@@ -177,11 +194,11 @@ def _options(threads: int, limits: Optional[NumberLimits], pages: Optional[Pages
 
 
 def _compute(
-    call: Callable[[Options], Any],
+    call: "Callable[[Options], Any]",
     threads: int,
-    memory: Optional[Memory],
-    kib: Callable[[], Any],
-    limits: Optional[NumberLimits] = None,
+    memory: "Optional[Memory]",
+    kib: "Callable[[], Any]",
+    limits: "Optional[NumberLimits]" = None,
 ) -> None:
     """Makes a call over pages of a memory, or over its own. One that finds them too small is made again over so many
     KiB: only then are its settings known to be accepted."""
@@ -196,7 +213,7 @@ def _compute(
 
 
 def hash_raw(
-    pwd: bytes, salt: bytes, secret: bytes, ad: bytes, settings: Settings, memory: Optional[Memory] = None
+    pwd: bytes, salt: bytes, secret: bytes, ad: bytes, settings: Settings, memory: "Optional[Memory]" = None
 ) -> bytes:
     """The tag, by a thread for each lane. The settings are judged without room to write to first, before any memory is
     asked for."""
@@ -213,7 +230,7 @@ def hash_raw(
 
 
 def hash_encoded(
-    pwd: bytes, salt: bytes, secret: bytes, ad: bytes, settings: Settings, memory: Optional[Memory] = None
+    pwd: bytes, salt: bytes, secret: bytes, ad: bytes, settings: Settings, memory: "Optional[Memory]" = None
 ) -> bytes:
     """The text, by a thread for each lane. The settings are judged without room to write to first, before any memory is
     asked for."""
@@ -234,8 +251,8 @@ def verify_encoded(
     pwd: bytes,
     secret: bytes,
     ad: bytes,
-    limits: Optional[NumberLimits] = None,
-    memory: Optional[Memory] = None,
+    limits: "Optional[NumberLimits]" = None,
+    memory: "Optional[Memory]" = None,
 ) -> None:
     """Returns where the text is the hash of the password and asks for no more than the limits, and else raises
     `Refused`. There are as many threads as the text has lanes, and at most 16."""
@@ -263,14 +280,14 @@ def read(text: bytes) -> Stored:
 
 
 def message(number: int) -> str:
-    """The text of a refusal's number."""
+    """The text of a refusal's number, which has 32 bits."""
     text = ctypes.create_string_buffer(MESSAGE_SIZE)
     if _library.proved_argon2_message(number, text, len(text)) != OK:
         return f"There is no refusal {number}"
     return text.value.decode("ascii")
 
 
-def version() -> Tuple[int, int, int]:
+def version() -> "Tuple[int, int, int]":
     """The version of the shared object."""
     number = _library.proved_argon2_library_version()
     return number // 1_000_000, number // 1_000 % 1_000, number % 1_000

@@ -2,8 +2,10 @@
 import ctypes
 import mmap
 from collections import deque
-from contextlib import contextmanager
-from typing import Deque, Iterator, Tuple, Type, Union
+
+TYPE_CHECKING = False
+if TYPE_CHECKING:
+    from typing import Deque, Tuple, Type, Union
 
 # Of Linux: huge pages, as the library's driver has for its own memory, and pages that core dumps leave out.
 _ADVICE = [getattr(mmap, name) for name in ("MADV_HUGEPAGE", "MADV_DONTDUMP") if hasattr(mmap, name)]
@@ -15,7 +17,7 @@ class Pages:
     __slots__ = ("_first", "length")
 
     def __init__(self) -> None:
-        self._first: Union[ctypes.c_uint64, ctypes.c_char] = ctypes.c_uint64()
+        self._first: "Union[ctypes.c_uint64, ctypes.c_char]" = ctypes.c_uint64()
         self.length = 0
 
     @property
@@ -52,19 +54,30 @@ class Memory:
     __slots__ = ("_free",)
 
     def __init__(self) -> None:
-        self._free: Deque[Pages] = deque()
+        self._free: "Deque[Pages]" = deque()
 
-    def __reduce__(self) -> Tuple[Type["Memory"], Tuple[()]]:
+    def __reduce__(self) -> "Tuple[Type[Memory], Tuple[()]]":
         return Memory, ()
 
-    @contextmanager
-    def lent(self) -> Iterator[Pages]:
-        """Pages that nobody else uses meanwhile."""
+    def lent(self) -> "_Lent":
+        """For `with`: pages that nobody else uses meanwhile."""
+        return _Lent(self._free)
+
+
+class _Lent:
+    """Pages that are taken from those that are free, and given back."""
+
+    __slots__ = ("_free", "_pages")
+
+    def __init__(self, free: "Deque[Pages]") -> None:
+        self._free = free
+
+    def __enter__(self) -> Pages:
         try:
-            pages = self._free.pop()
+            self._pages = self._free.pop()
         except IndexError:
-            pages = Pages()
-        try:
-            yield pages
-        finally:
-            self._free.append(pages)
+            self._pages = Pages()
+        return self._pages
+
+    def __exit__(self, *_: object) -> None:
+        self._free.append(self._pages)

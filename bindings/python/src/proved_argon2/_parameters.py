@@ -1,13 +1,14 @@
 """The settings of a hash, and what they are in a text."""
-from dataclasses import dataclass
-from typing import Union
-
 from ._library import Refused, read
+from ._record import Record
 from .low_level import Type, reading_error
 
+TYPE_CHECKING = False
+if TYPE_CHECKING:
+    from typing import Union
 
-@dataclass
-class Parameters:
+
+class Parameters(Record):
     """The settings of a hash: lengths in bytes, and memory in KiB.
 
     They can be changed, as those of argon2-cffi: Django sets the length of the salt.
@@ -15,16 +16,26 @@ class Parameters:
 
     __slots__ = ("type", "version", "salt_len", "hash_len", "time_cost", "memory_cost", "parallelism")
 
-    type: Type
-    version: int
-    salt_len: int
-    hash_len: int
-    time_cost: int
-    memory_cost: int
-    parallelism: int
+    def __init__(
+        self,
+        type: Type,
+        version: int,
+        salt_len: int,
+        hash_len: int,
+        time_cost: int,
+        memory_cost: int,
+        parallelism: int,
+    ) -> None:
+        self.type = type
+        self.version = version
+        self.salt_len = salt_len
+        self.hash_len = hash_len
+        self.time_cost = time_cost
+        self.memory_cost = memory_cost
+        self.parallelism = parallelism
 
 
-def extract_parameters(hash: Union[str, bytes]) -> Parameters:
+def extract_parameters(hash: "Union[str, bytes]") -> Parameters:
     """What a text spells. It raises `InvalidHashError` where that is nothing, `MemoryError` where there is no memory
     to read it, and verifies nothing.
 

@@ -1,13 +1,17 @@
 """Passwords as texts to keep."""
 import os
-from typing import Literal, Optional, Union
 
-from ._limits import Limits
+from ._library import require_number
+from ._limits import DEFAULT_LIMITS, Limits, default_limits_of
 from ._memory import Memory
 from ._parameters import Parameters, extract_parameters
-from .exceptions import Argon2Error, InvalidHashError, VerificationError
+from .exceptions import Argon2Error, HashingError, InvalidHashError, VerificationError
 from .low_level import ARGON2_VERSION, Type, hash_secret, verify_secret
 from .profiles import RFC_9106_LOW_MEMORY
+
+TYPE_CHECKING = False
+if TYPE_CHECKING:
+    from typing import Any, Dict, Literal, Optional, Tuple, Union
 
 DEFAULT_RANDOM_SALT_LENGTH = RFC_9106_LOW_MEMORY.salt_len
 DEFAULT_HASH_LENGTH = RFC_9106_LOW_MEMORY.hash_len
@@ -18,17 +22,28 @@ DEFAULT_PARALLELISM = RFC_9106_LOW_MEMORY.parallelism
 _BEGINNINGS = (b"$argon2i$", b"$argon2d$", b"$argon2id")
 
 
+def _require_types(settings: "Dict[str, Tuple[Any, Any]]") -> None:
+    """Names all settings of another type than theirs. A bool is no number."""
+    wrong = [
+        f"'{name}' must be {wanted.__name__}, not {value.__class__.__name__}"
+        for name, (value, wanted) in settings.items()
+        if not isinstance(value, wanted) or (wanted is int and isinstance(value, bool))
+    ]
+    if wrong:
+        raise TypeError(", ".join(wrong))
+
+
 class PasswordHasher:
     """Hashes passwords with these settings, and verifies those of any settings within limits.
 
     `time_cost` is the passes over the memory; `memory_cost` is in KiB, at least 8 for each of the lanes, which
     `parallelism` says. The lengths are in bytes: `hash_len` is at least 4 and `salt_len` at least 8. A password
-    that is a `str` is encoded in `encoding`. `limits` is what a text may ask for that is verified: `Limits()`,
-    others, or `None` for whatever the text names. With `keep_memory` the memory of a hash is kept for the next one, as
-    `low_level.Memory` says, until the hasher goes.
+    that is a `str` is encoded in `encoding`. `limits` is what a text may ask for that is verified: those given, `None`
+    for whatever the text names, or else `DEFAULT_LIMITS` and no less than these settings. With `keep_memory` the memory
+    of a hash is kept for the next one, as `low_level.Memory` says, until the hasher goes.
     """
 
-    __slots__ = ("_memory", "_parameters", "encoding", "limits")
+    __slots__ = ("_limits", "_memory", "_parameters", "encoding")
 
     def __init__(
         self,
@@ -40,10 +55,10 @@ class PasswordHasher:
         encoding: str = "utf-8",
         type: Type = Type.ID,
         *,
-        limits: Optional[Limits] = Limits(),
+        limits: "Optional[Limits]" = DEFAULT_LIMITS,
         keep_memory: bool = False,
     ) -> None:
-        settings = {
+        _require_types({
             "time_cost": (time_cost, int),
             "memory_cost": (memory_cost, int),
             "parallelism": (parallelism, int),
@@ -51,16 +66,8 @@ class PasswordHasher:
             "salt_len": (salt_len, int),
             "encoding": (encoding, str),
             "type": (type, Type),
-            "limits": (Limits() if limits is None else limits, Limits),
             "keep_memory": (keep_memory, bool),
-        }
-        wrong = [
-            f"'{name}' must be {wanted.__name__}, not {value.__class__.__name__}"
-            for name, (value, wanted) in settings.items()
-            if not isinstance(value, wanted)
-        ]
-        if wrong:
-            raise TypeError(", ".join(wrong))
+        })
         self._parameters = Parameters(
             type=type,
             version=ARGON2_VERSION,
@@ -71,11 +78,14 @@ class PasswordHasher:
             parallelism=parallelism,
         )
         self.encoding = encoding
-        self.limits = limits
+        is_default = limits is DEFAULT_LIMITS
+        self.limits = default_limits_of(memory_cost, time_cost, parallelism) if is_default else limits
         self._memory = Memory() if keep_memory else None
 
     @classmethod
-    def from_parameters(cls, params: Parameters) -> "PasswordHasher":
+    def from_parameters(
+        cls, params: Parameters, *, limits: "Optional[Limits]" = DEFAULT_LIMITS, keep_memory: bool = False
+    ) -> "PasswordHasher":
         """A hasher with these settings. Its version is `ARGON2_VERSION`, whatever theirs is."""
         return cls(
             time_cost=params.time_cost,
@@ -84,6 +94,8 @@ class PasswordHasher:
             hash_len=params.hash_len,
             salt_len=params.salt_len,
             type=params.type,
+            limits=limits,
+            keep_memory=keep_memory,
         )
 
     @property
@@ -121,11 +133,29 @@ class PasswordHasher:
         """Whether the memory of a hash is kept for the next one."""
         return self._memory is not None
 
-    def hash(self, password: Union[str, bytes], *, salt: Optional[bytes] = None) -> str:
+    @property
+    def limits(self) -> "Optional[Limits]":
+        """What a text may ask for that is verified, or `None` for whatever it names."""
+        return self._limits
+
+    @limits.setter
+    def limits(self, limits: "Optional[Limits]") -> None:
+        if limits is not None and not isinstance(limits, Limits):
+            raise TypeError(f"'limits' must be Limits or None, not {limits.__class__.__name__}")
+        self._limits = limits
+
+    def __repr__(self) -> str:
+        names = ("time_cost", "memory_cost", "parallelism", "hash_len", "salt_len", "encoding", "type", "limits")
+        shown = ", ".join(f"{name}={getattr(self, name)!r}" for name in (*names, "keep_memory"))
+        return f"{self.__class__.__name__}({shown})"
+
+    def hash(self, password: "Union[str, bytes]", *, salt: "Optional[bytes]" = None) -> str:
         """Hash a password to a text to keep, with a random salt where none is given.
 
         Raises `HashingError` where the settings are refused or there is no memory.
         """
+        if salt is None:
+            require_number("salt_len", self.salt_len, HashingError)
         return hash_secret(
             secret=self._password_bytes(password),
             salt=os.urandom(self.salt_len) if salt is None else salt,
@@ -137,7 +167,7 @@ class PasswordHasher:
             memory=self._memory,
         ).decode("ascii")
 
-    def verify(self, hash: Union[str, bytes], password: Union[str, bytes]) -> Literal[True]:
+    def verify(self, hash: "Union[str, bytes]", password: "Union[str, bytes]") -> "Literal[True]":
         """Return `True` where a text is that of a password, and raise where it is not.
 
         Raises `VerifyMismatchError` where it is that of another password, `TooCostlyError` where it asks for
@@ -148,7 +178,7 @@ class PasswordHasher:
         secret, variant = self._password_bytes(password), self._variant_of(text)
         return verify_secret(text, secret, variant, limits=self.limits, memory=self._memory)
 
-    def check_needs_rehash(self, hash: Union[str, bytes]) -> bool:
+    def check_needs_rehash(self, hash: "Union[str, bytes]") -> bool:
         """Whether a text was made with other settings than these, also with another length of the salt.
 
         Raises `InvalidHashError` where it spells no hash.
@@ -167,7 +197,7 @@ class PasswordHasher:
         except (Argon2Error, MemoryError) as error:
             raise VerificationError(str(error)) from None
 
-    def _password_bytes(self, password: Union[str, bytes]) -> bytes:
+    def _password_bytes(self, password: "Union[str, bytes]") -> bytes:
         if isinstance(password, str):
             return password.encode(self.encoding)
         if not isinstance(password, bytes):
@@ -175,7 +205,7 @@ class PasswordHasher:
         return password
 
     @staticmethod
-    def _text_bytes(hash: Union[str, bytes]) -> bytes:
+    def _text_bytes(hash: "Union[str, bytes]") -> bytes:
         if isinstance(hash, bytes):
             return hash
         try:

@@ -6,11 +6,9 @@ many threads as it has lanes, of which one is the caller's; a stored text is ver
 it is computed over that, and what it took is kept for the next call.
 """
 from enum import Enum
-from typing import Literal, Optional
 
 from ._library import (
     DECODING_FAIL,
-    MAX_NUMBER,
     MISMATCH,
     NOT_UTF8,
     OUT_OF_MEMORY,
@@ -22,6 +20,7 @@ from ._library import (
     hash_raw,
     message,
     read,
+    require_number,
     verify_encoded,
 )
 from ._limits import Limits
@@ -34,6 +33,10 @@ from .exceptions import (
     VerificationError,
     VerifyMismatchError,
 )
+
+TYPE_CHECKING = False
+if TYPE_CHECKING:
+    from typing import Literal, Optional
 
 ARGON2_VERSION = 19
 """The version of RFC 9106, 0x13."""
@@ -70,8 +73,7 @@ def _settings(
     names = ("version", "memory_cost", "time_cost", "parallelism", "hash_len")
     numbers = (version, memory_cost, time_cost, parallelism, hash_len)
     for name, number in zip(names, numbers):
-        if not 0 <= number <= MAX_NUMBER:
-            raise HashingError(f"{name} is {number}: no number of 32 bits")
+        require_number(name, number, HashingError)
     return Settings(Type(type).value, *numbers)
 
 
@@ -93,7 +95,7 @@ def hash_secret(
     *,
     key: bytes = b"",
     associated_data: bytes = b"",
-    memory: Optional[Memory] = None,
+    memory: "Optional[Memory]" = None,
 ) -> bytes:
     """Hash the password `secret` to a text, in `memory_cost` KiB.
 
@@ -119,7 +121,7 @@ def hash_secret_raw(
     *,
     key: bytes = b"",
     associated_data: bytes = b"",
-    memory: Optional[Memory] = None,
+    memory: "Optional[Memory]" = None,
 ) -> bytes:
     """Hash the password `secret` to `hash_len` bytes, in `memory_cost` KiB.
 
@@ -140,9 +142,9 @@ def verify_secret(
     *,
     key: bytes = b"",
     associated_data: bytes = b"",
-    limits: Optional[Limits] = None,
-    memory: Optional[Memory] = None,
-) -> Literal[True]:
+    limits: "Optional[Limits]" = None,
+    memory: "Optional[Memory]" = None,
+) -> "Literal[True]":
     """Return `True` where the text `hash` is that of the password `secret`, and is of this type.
 
     Raises `VerifyMismatchError` where it is that of another password, `TooCostlyError` where it asks for more
@@ -150,13 +152,14 @@ def verify_secret(
     there is no memory. Without limits the memory and the passes are those that the text names.
     """
     _require_bytes(hash=hash, secret=secret, key=key, associated_data=associated_data)
+    numbers = None if limits is None else _numbers(limits)
     try:
         if read(hash).settings.variant != Type(type).value:
             raise Refused(DECODING_FAIL)
     except Refused as refused:
         raise VerificationError(str(refused)) from None
     try:
-        verify_encoded(hash, secret, key, associated_data, None if limits is None else _numbers(limits), memory)
+        verify_encoded(hash, secret, key, associated_data, numbers, memory)
     except Refused as refused:
         errors = {MISMATCH: VerifyMismatchError, TOO_COSTLY: TooCostlyError}
         raise errors.get(refused.number, VerificationError)(str(refused)) from None
@@ -164,11 +167,17 @@ def verify_secret(
 
 
 def _numbers(limits: Limits) -> NumberLimits:
+    if not isinstance(limits, Limits):
+        raise TypeError(f"'limits' must be Limits, not {limits.__class__.__name__}")
     return NumberLimits(limits.memory_cost, limits.time_cost, limits.parallelism)
 
 
 def error_to_str(error: int) -> str:
     """The text of a refusal's number, which is the library's own and not libargon2's."""
+    try:
+        require_number("error", error, ValueError)
+    except ValueError:
+        return f"There is no refusal {error}"
     return message(error)
 
 

@@ -1,11 +1,8 @@
 """Recommended settings.
 
-`RFC_9106_LOW_MEMORY` is the default of `PasswordHasher`, as in argon2-cffi. The library fills lanes one
-after another, so that settings with one lane take the same time: `OWASP` are those of OWASP's Password
-Storage Cheat Sheet.
+`RFC_9106_LOW_MEMORY` is the default of `PasswordHasher`, as in argon2-cffi. Its four lanes are filled by four threads.
+`OWASP` are those of OWASP's Password Storage Cheat Sheet, in one lane.
 """
-from dataclasses import replace
-
 from ._parameters import Parameters
 from .low_level import Type
 
@@ -46,4 +43,4 @@ CHEAPEST = Parameters(
 
 def get_default_parameters() -> Parameters:
     """The settings of `PasswordHasher()`, to change: `RFC_9106_LOW_MEMORY`."""
-    return replace(RFC_9106_LOW_MEMORY)
+    return Parameters(*RFC_9106_LOW_MEMORY._values())

@@ -1,5 +1,6 @@
 //! The pages that are lent to the library, and what the system does with them.
 
+use super::errno::Errno;
 use std::ffi::c_void;
 use std::mem::{size_of_val, MaybeUninit};
 use std::os::raw::c_int;
@@ -40,6 +41,7 @@ pub fn advise(pages: &mut [MaybeUninit<Page>]) {
 
 /// Clears pages, which no compiler leaves out, and lets core dumps have them again.
 pub fn clear(pages: &mut [MaybeUninit<Page>]) {
+    let _kept = Errno::kept();
     // SAFETY: the address and the length are those of the whole pages of a slice, which may hold any bytes.
     unsafe {
         explicit_bzero(address(pages), size_of_val(pages));

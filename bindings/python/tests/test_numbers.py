@@ -1,0 +1,192 @@
+"""No number wraps: each place that takes one, with numbers that it does not take. The lowest 32 bits of each are a number
+that would be accepted."""
+import copy
+import dataclasses
+import pickle
+import unittest
+import warnings
+
+from proved_argon2 import (
+    DEFAULT_LIMITS,
+    Limits,
+    Parameters,
+    PasswordHasher,
+    Type,
+    hash_password,
+    hash_password_raw,
+    profiles,
+)
+from proved_argon2.exceptions import HashingError, TooCostlyError
+from proved_argon2.low_level import error_to_str, hash_secret, hash_secret_raw, verify_secret
+
+NO_NUMBERS = (True, 64.0, "64", None)
+# Each with 64 more, so that what is cut off leaves settings of which none is refused.
+WRAPPING = (-(1 << 32) + 64, (1 << 32) + 64, (1 << 64) + 64, -(1 << 64) + 64, (1 << 1000) + 64)
+TOO_MUCH = (-1, 1 << 32, 1 << 64, *WRAPPING)
+SETTINGS = {"time_cost": 1, "memory_cost": 1024, "parallelism": 1, "hash_len": 16}
+TEXT = "$argon2id$v=19$m=64,t=4,p=1$c29tZXNhbHQ$AAAAAAAAAAAAAAAAAAAAAA"
+
+
+def hashing(settings):
+    """The calls that hash with settings, where a hasher takes them too."""
+    given = (b"password", b"somesalt")
+    version = {} if "version" not in settings else {"version": settings["version"]}
+    numbers = [settings[name] for name in SETTINGS]
+    yield lambda: hash_secret(*given, *numbers, Type.ID, **version)
+    yield lambda: hash_secret_raw(*given, *numbers, Type.ID, **version)
+    if not version:
+        yield lambda: PasswordHasher(**settings).hash("password")
+        yield lambda: PasswordHasher.from_parameters(of_settings(settings)).hash("password")
+        yield lambda: hash_password(*given, *numbers)
+        yield lambda: hash_password_raw(*given, *numbers)
+
+
+def of_settings(settings):
+    """Parameters, which take any value."""
+    parameters = profiles.get_default_parameters()
+    for name, number in settings.items():
+        setattr(parameters, name, number)
+    return parameters
+
+
+class Settings(unittest.TestCase):
+    def setUp(self):
+        caught = warnings.catch_warnings()
+        caught.__enter__()
+        self.addCleanup(caught.__exit__, None, None, None)
+        warnings.simplefilter("ignore", DeprecationWarning)
+
+    def test_a_setting_above_or_below_32_bits_is_refused(self):
+        for name in (*SETTINGS, "version"):
+            for number in TOO_MUCH:
+                for call in hashing({**SETTINGS, name: number}):
+                    with self.subTest(name=name, number=number), self.assertRaisesRegex(HashingError, f"^{name} is"):
+                        call()
+
+    def test_a_setting_that_is_no_integer_is_refused(self):
+        for name in (*SETTINGS, "version"):
+            for number in NO_NUMBERS:
+                for call in hashing({**SETTINGS, name: number}):
+                    with self.subTest(name=name, number=number), self.assertRaisesRegex(TypeError, f"'{name}'"):
+                        call()
+
+    def test_a_salt_has_no_length_beyond_32_bits(self):
+        for number in TOO_MUCH:
+            with self.subTest(number=number), self.assertRaisesRegex(HashingError, "^salt_len is"):
+                PasswordHasher(**SETTINGS, salt_len=number).hash("password")
+        for number in NO_NUMBERS:
+            with self.subTest(number=number), self.assertRaisesRegex(TypeError, "'salt_len'"):
+                PasswordHasher(**SETTINGS, salt_len=number)
+
+    def test_a_refusal_has_no_number_beyond_32_bits(self):
+        for number in (*TOO_MUCH, (1 << 32) + 5, 5 - (1 << 32)):
+            self.assertEqual(error_to_str(number), f"There is no refusal {number}")
+        for number in NO_NUMBERS:
+            with self.assertRaises(TypeError):
+                error_to_str(number)
+
+
+class OfLimits(unittest.TestCase):
+    names = ("memory_cost", "time_cost", "parallelism")
+
+    def test_a_limit_is_a_number_of_32_bits(self):
+        for name in self.names:
+            for number in TOO_MUCH:
+                with self.subTest(name=name, number=number), self.assertRaisesRegex(ValueError, f"^{name} is"):
+                    Limits(**{name: number})
+            for number in NO_NUMBERS:
+                with self.subTest(name=name, number=number), self.assertRaisesRegex(TypeError, f"'{name}'"):
+                    Limits(**{name: number})
+            for number in (0, 1, 0xFFFFFFFF):
+                self.assertEqual(getattr(Limits(**{name: number}), name), number)
+
+    def test_limits_cannot_be_changed(self):
+        limits = Limits()
+        for name in (*self.names, "another"):
+            with self.assertRaises(AttributeError):
+                setattr(limits, name, 1000)
+            with self.assertRaises(AttributeError):
+                delattr(limits, name)
+        self.assertEqual(limits, Limits(2097152, 10, 16))
+        with self.assertRaises(AttributeError):
+            PasswordHasher().limits.time_cost = 1000
+        self.assertEqual(PasswordHasher().limits, Limits(2097152, 10, 16))
+
+    def test_limits_are_values(self):
+        limits = Limits(memory_cost=1, time_cost=2, parallelism=3)
+        for other in (Limits(1, 2, 3), copy.copy(limits), copy.deepcopy(limits), pickle.loads(pickle.dumps(limits))):
+            self.assertEqual((other, hash(other)), (limits, hash(limits)))
+        self.assertEqual(repr(limits), "Limits(memory_cost=1, time_cost=2, parallelism=3)")
+        for other in (Limits(0, 2, 3), Limits(1, 0, 3), Limits(1, 2, 0), (1, 2, 3), None):
+            self.assertNotEqual(limits, other)
+
+    def test_dataclasses_works_with_limits_and_parameters(self):
+        limits = dataclasses.replace(Limits(1, 2, 3), time_cost=5)
+        self.assertEqual((type(limits), limits), (Limits, Limits(1, 5, 3)))
+        with self.assertRaises(ValueError):
+            dataclasses.replace(limits, time_cost=-1)
+        self.assertEqual(dataclasses.asdict(limits), {"memory_cost": 1, "time_cost": 5, "parallelism": 3})
+        self.assertTrue(dataclasses.is_dataclass(Parameters))
+        self.assertEqual([it.name for it in dataclasses.fields(Parameters)], list(Parameters.__slots__))
+        self.assertEqual(dataclasses.replace(profiles.OWASP, time_cost=3).time_cost, 3)
+        self.assertIn("memory_cost=19456, parallelism=1)", repr(profiles.OWASP))
+        with self.assertRaises(TypeError):
+            hash(profiles.OWASP)
+
+    def test_limits_are_judged_where_they_are_given(self):
+        for limits in ((1, 2, 3), 1, "x", profiles.OWASP):
+            with self.assertRaisesRegex(TypeError, "'limits'"):
+                PasswordHasher(limits=limits)
+            with self.assertRaisesRegex(TypeError, "'limits'"):
+                PasswordHasher.from_parameters(profiles.OWASP, limits=limits)
+            with self.assertRaisesRegex(TypeError, "'limits'"):
+                PasswordHasher().limits = limits
+            with self.assertRaisesRegex(TypeError, "'limits'"):
+                verify_secret(TEXT.encode(), b"password", Type.ID, limits=limits)
+
+    def test_a_hasher_has_other_limits_where_they_are_set(self):
+        hasher = PasswordHasher()
+        hasher.limits = Limits(time_cost=3)
+        with self.assertRaises(TooCostlyError):
+            hasher.verify(TEXT, "password")
+        self.assertEqual(PasswordHasher().limits.time_cost, 10)
+        hasher.limits = None
+        self.assertIsNone(hasher.limits)
+
+
+class OwnSettings(unittest.TestCase):
+    """A hasher verifies what it hashes, where no limits are given."""
+
+    large = {"time_cost": 11, "memory_cost": 1360, "parallelism": 17}
+
+    def test_a_hasher_verifies_what_it_hashes(self):
+        for settings in (self.large, {**self.large, "time_cost": 1}, {**self.large, "parallelism": 1}):
+            for keep_memory in (False, True):
+                hasher = PasswordHasher(**settings, keep_memory=keep_memory)
+                self.assertIs(hasher.verify(hasher.hash("password"), "password"), True)
+        of = of_settings(self.large)
+        hasher = PasswordHasher.from_parameters(of)
+        self.assertIs(hasher.verify(hasher.hash("password"), "password"), True)
+
+    def test_the_default_limits_are_the_library_s_or_the_settings(self):
+        wanted = Limits(2097152, 10, 16)
+        self.assertEqual(DEFAULT_LIMITS, wanted)
+        for name in ("memory_cost", "time_cost", "parallelism"):
+            limit = getattr(wanted, name)
+            for number, expected in ((1, limit), (limit, limit), (limit + 1, limit + 1), (0xFFFFFFFF, 0xFFFFFFFF)):
+                limits = PasswordHasher(**{name: number}).limits
+                self.assertEqual(limits, dataclasses.replace(wanted, **{name: expected}))
+            self.assertEqual(getattr(PasswordHasher(**{name: 1 << 40}).limits, name), 0xFFFFFFFF)
+
+    def test_limits_that_are_given_stay_as_they_are(self):
+        for limits in (Limits(), Limits(time_cost=3), None):
+            self.assertIs(PasswordHasher(**self.large, limits=limits).limits, limits)
+            hasher = PasswordHasher.from_parameters(of_settings(self.large), limits=limits, keep_memory=True)
+            self.assertIs(hasher.limits, limits)
+            self.assertIs(hasher.keep_memory, True)
+        with self.assertRaises(TooCostlyError):
+            PasswordHasher(limits=Limits()).verify(PasswordHasher(**self.large).hash("password"), "password")
+
+
+if __name__ == "__main__":
+    unittest.main()
