@@ -18,6 +18,11 @@ NAMES = re.compile(r'^((?:\w+\.)+\w+)\.\{(.*)\}$')
 ALIAS = re.compile(r'^((?:\w+\.)+(\w+))(?: as (\w+))?$')
 TOKEN = re.compile(r'[^\s(){}\[\],;.@]+')
 TYPE = re.compile(r'\b(?:struct|enum|trait|union) (\w+)')
+FIELDS = r'^ *pub(?:\([a-z]+\))? struct {}\b[^;{{]*(?:\{{.*?^\}}|;)'
+MODEL = re.compile(r'^impl(?:<[^>]*>)? Model for (\w+)[^{]*\{\n.*?^\}', re.M | re.S)
+COMMENT = re.compile(r'//.*')
+ALIAS_OF_TYPE = re.compile(r'^(?:pub(?:\([a-z]+\))? )?type (\w+)[^=;]*= ([^;]*);', re.M)
+GHOST = re.compile(r'^ *ghost use [^;]*;', re.M)
 USE = re.compile(r'^(?:(?:pub|unfoldable|abbrev) )*use ')
 KEYWORDS = ('pub mod', 'mod ', 'unfolding', 'ruleset', 'infix', 'mutual', 'syntax', 'prefix', 'pub syntax')
 
@@ -45,6 +50,26 @@ class Definition:
 
     def words(self):
         return words_of(self.text)
+
+
+class View(Definition):
+    """What clauses see of a type in the place of its fields (`impl Model`), with the imports of its file."""
+
+    def __init__(self, name, file, text, source):
+        super().__init__(name, f'Rattle.{file.relative_to(TOP / "crates").parts[0]}.src', '', text)
+        self.file, self.imports = file, [' '.join(it.split()) for it in GHOST.findall(source)]
+        fields = re.search(FIELDS.format(name), source, re.M | re.S)
+        self.held = set(re.findall(r'\w+', COMMENT.sub('', fields.group(0)))) - {name} if fields else set()
+        for alias, meant in ALIAS_OF_TYPE.findall(source):
+            self.held |= set(re.findall(r'\w+', meant)) if alias in self.held else set()
+
+
+def read_views():
+    """The view of each type of the repository that has one."""
+    for file in sorted((TOP / 'crates').glob('*/src/**/*.rt')):
+        source = file.read_text(encoding='utf-8')
+        for it in MODEL.finditer(source):
+            yield View(it.group(1), file, it.group(0), source)
 
 
 def is_used(name, words):
@@ -210,6 +235,16 @@ class Meanings:
             raise Fault(f'{line}: a whole module')
         for name in re.findall(rf'(?<![\w.]){local}\.([\w\'-]+)', text):
             yield self.find(module, name)
+
+    def views_of(self, names):
+        """The views of these types, and of those that they hold."""
+        known, found, waiting = {it.name: it for it in read_views()}, {}, sorted(names)
+        while waiting:
+            view = known.get(waiting.pop())
+            if view and view.name not in found:
+                found[view.name] = view
+                waiting.extend(sorted(view.held))
+        return [found[name] for name in sorted(found)]
 
     def used_by(self, definition):
         file = self.file(definition.module)

@@ -7,7 +7,7 @@ from pathlib import Path
 
 TOP = Path(__file__).resolve().parent.parent
 FUNCTION = re.compile(r'^( *)(pub(?:\([a-z]+\))? )?(?:const )?(?:extern "C" )?fn (\w+)')
-IMPL = re.compile(r'^impl(?:<[^{]*?>)? (?:(.+) for )?([\w<>\'_, &()]+?)(?: \{|$)')
+IMPL = re.compile(r'^impl(?:<[^{]*?>)? (?:(.+) for )?([\w<>\'_, &()\[\];]+?)(?: \{|$)')
 CLAUSE = re.compile(r'^ +(requires|ensures)\*?(?: (\w+))? \{')
 GHOST = re.compile(r'^    ghost (?!use)(\w+) =')
 RE_EXPORT = re.compile(r'^pub use ([\w:]+?)(?:::\{([^}]*)\})?;', re.M)
