@@ -1,16 +1,23 @@
-/* What the two parts of the driver share: proved_argon2_driver.c computes, and proved_argon2_calls.c has the calls of the
- * headers. It is tested and not proved. */
+/* What the two parts of the driver share: proved_argon2_driver.c computes, and proved_argon2_calls.c has the calls of
+ * the headers. It is tested and not proved. */
 #ifndef DRIVER_H
 #define DRIVER_H
 
 #define _GNU_SOURCE
 #include "proved_argon2.h"
 
+#include <pthread.h>
 #include <stdatomic.h>
 
+#if __has_attribute(zero_call_used_regs)
+#define CLEARS_REGISTERS __attribute__((zero_call_used_regs("all")))
+#else
+#define CLEARS_REGISTERS
+#endif
 #define INPUTS const uint8_t *pwd, size_t pwd_len, const uint8_t *salt, size_t salt_len, const uint8_t *secret, \
     size_t secret_len, const uint8_t *ad, size_t ad_len, const proved_argon2_settings *settings
-#define OF_INPUTS pwd, pwd_len, salt, salt_len, secret, secret_len, ad, ad_len, settings
+#define OF_BYTES pwd, pwd_len, salt, salt_len, secret, secret_len, ad, ad_len
+#define OF_INPUTS OF_BYTES, settings
 #define STORED const uint8_t *text, size_t text_len, const uint8_t *pwd, size_t pwd_len, const uint8_t *secret, \
     size_t secret_len, const uint8_t *ad, size_t ad_len
 #define OF_STORED text, text_len, pwd, pwd_len, secret, secret_len, ad, ad_len
@@ -18,6 +25,14 @@
 
 typedef proved_argon2_block block;
 typedef proved_argon2_options options;
+
+/* What has some lanes: worker i the lanes i, i + tasks, i + 2 tasks .. */
+typedef struct worker {
+    struct call *call;
+    pthread_t thread;
+    _Atomic uint64_t state; /* 2 n before it takes step n, 2 n + 1 meanwhile, 2 n + 2 behind it */
+    uint32_t code;
+} worker;
 
 /* A call, from its options to what is cleared. */
 typedef struct call {
@@ -27,16 +42,22 @@ typedef struct call {
     size_t len;
     int error, cancel;     /* the caller's errno, and whether his thread can be cancelled */
     block *blocks;
-    size_t segment, slice; /* how many blocks they have */
-    struct worker *workers;
-    uint32_t tasks;        /* worker i has the lanes i, i + tasks, i + 2 tasks .. */
+    size_t slice;          /* how many blocks one of their four slices has */
+    worker *workers;
+    uint32_t tasks;        /* how many workers there are */
     uint64_t step;         /* step 0 writes the first blocks, and step n + 1 fills slice number n, over all passes */
     atomic_int is_astray;  /* a task was run that is not there, or once too often */
 } call;
 
+/* How many bytes the blocks of a job have. */
+static inline size_t bytes_of(const proved_argon2_job *job)
+{
+    return 4 * sizeof(block) * job->lanes * job->segment_length;
+}
+
 #pragma GCC visibility push(hidden)
 
-/* Begins a call with options, of which later fields are none. That a pointer is missing comes before all else. */
+/* Begins a call with options, whose later fields are none. That a pointer is missing comes before all else. */
 uint32_t begin_call(call *it, const options *with, int is_missing);
 
 /* Memory of malloc for so many bytes, which the end of the call clears and frees. */
@@ -46,13 +67,10 @@ uint32_t take_bytes(call *it, size_t len);
 uint32_t compute(call *it, const uint8_t *hash, uint8_t *tag);
 
 /* Ends a call with its answer: clears its bytes, its job, the stack and the registers. */
-uint32_t end_call(call *it, uint32_t code);
+CLEARS_REGISTERS uint32_t end_call(call *it, uint32_t code);
 
 /* Memory for blocks, or null: malloc's, or a mapping, in huge pages where the system has them and in no core dump. */
 void *take_blocks(size_t bytes);
-
-/* How many bytes the blocks of a job have. */
-size_t bytes_of(const proved_argon2_job *job);
 
 #pragma GCC visibility pop
 

@@ -1,13 +1,7 @@
-/* The calls of the library for C that hash or verify. Each puts together what is proved: a job is made or read, its tag is
- * computed, and a text is written. These lines are tested and not proved. */
+/* The calls of the library for C that hash or verify, put together of what is proved; this is tested and not proved. */
 #include "driver.h"
 
-#define MOST_FOR_A_TEXT 16 /* threads, as many as Rattle's library has for a stored text */
-
-/* The options of the plain calls: one thread, and memory of the call's own. */
-static const options plain = PROVED_ARGON2_OPTIONS;
-
-/* ---- by inputs */
+static const options plain = PROVED_ARGON2_OPTIONS; /* one thread, and memory of the call's own */
 
 uint32_t proved_argon2_hash_raw_with(const options *with, INPUTS, uint8_t *out, size_t out_len)
 {
@@ -32,7 +26,8 @@ uint32_t proved_argon2_hash_encoded_with(const options *with, INPUTS, uint8_t *t
     code = code || text_len > least ? code : PROVED_ARGON2_WRONG_LENGTH;
     code = code ? code : take_bytes(&it, it.job.hash_length);
     code = code ? code : compute(&it, NULL, it.bytes);
-    return end_call(&it, code ? code : proved_argon2_encode(salt, salt_len, settings, it.bytes, it.len, text, text_len));
+    code = code ? code : proved_argon2_encode(salt, salt_len, settings, it.bytes, it.len, text, text_len);
+    return end_call(&it, code);
 }
 
 uint32_t proved_argon2_hash_encoded(INPUTS, uint8_t *text, size_t text_len)
@@ -44,12 +39,9 @@ uint32_t proved_argon2_verify_raw_with(const options *with, INPUTS, const uint8_
 {
     call it;
     uint32_t code = begin_call(&it, with, proved_argon2_are_missing(OF_INPUTS) || IS_MISSING(hash));
-    if (code == PROVED_ARGON2_OK) {
-        proved_argon2_settings own = *settings;
-        own.hash_length = hash_len > UINT32_MAX ? UINT32_MAX : (uint32_t)hash_len;
-        settings = &own;
-        code = proved_argon2_job_make(OF_INPUTS, &it.job);
-    }
+    proved_argon2_settings own = code ? (proved_argon2_settings){0} : *settings;
+    own.hash_length = hash_len > UINT32_MAX ? UINT32_MAX : (uint32_t)hash_len;
+    code = code ? code : proved_argon2_job_make(OF_BYTES, &own, &it.job);
     code = code || hash_len <= UINT32_MAX ? code : PROVED_ARGON2_OUTPUT_TOO_LONG;
     code = code ? code : take_bytes(&it, hash_len);
     return end_call(&it, code ? code : compute(&it, hash, it.bytes));
@@ -60,16 +52,13 @@ uint32_t proved_argon2_verify_raw(INPUTS, const uint8_t *hash, size_t hash_len)
     return proved_argon2_verify_raw_with(&plain, OF_INPUTS, hash, hash_len);
 }
 
-/* ---- by a stored text */
-
-/* Reads the job of a text, its hash with as much room behind it for the tag, and its salt. What is refused costs no memory:
- * it is judged first, without room for salt and hash, for which all that is accepted is refused. */
+/* Reads the job of a text, its hash with as much room behind it for the tag, and its salt. What is refused costs no
+ * memory: it is judged first, without room for salt and hash, for which all that is accepted is refused. */
 static uint32_t read_text(call *it, STORED)
 {
     static const proved_argon2_limits none = {UINT32_MAX, UINT32_MAX, UINT32_MAX};
-    const proved_argon2_limits *const limits = it->with.limits == NULL ? &none : it->with.limits;
     proved_argon2_stored stored;
-    uint32_t code = proved_argon2_read_within(text, text_len, limits, &stored);
+    uint32_t code = proved_argon2_read_within(text, text_len, it->with.limits ? it->with.limits : &none, &stored);
     code = code ? code : proved_argon2_job_read(OF_STORED, &it->job, NULL, 0, NULL, 0);
     if (code != PROVED_ARGON2_WRONG_LENGTH) {
         return code;
@@ -84,7 +73,7 @@ uint32_t proved_argon2_verify_encoded_with(const options *with, STORED)
     call it;
     uint32_t code = begin_call(&it, with, IS_MISSING(text) || IS_MISSING(pwd) || IS_MISSING(secret) || IS_MISSING(ad));
     code = code ? code : read_text(&it, OF_STORED);
-    it.with.threads = it.with.threads < MOST_FOR_A_TEXT ? it.with.threads : MOST_FOR_A_TEXT;
+    it.with.threads = it.with.threads < 16 ? it.with.threads : 16; /* as many as Rattle's library has for a text */
     return end_call(&it, code ? code : compute(&it, it.bytes, it.bytes + it.job.hash_length));
 }
 
@@ -100,16 +89,13 @@ uint32_t proved_argon2_verify_encoded_within(STORED, const proved_argon2_limits 
     return proved_argon2_verify_encoded_with(limits == NULL ? NULL : &with, OF_STORED);
 }
 
-/* ---- by a job, which is judged by a call over no blocks: these alone are wrong where it is one */
-
-static uint32_t run_job(const options *with, const proved_argon2_job *job, const uint8_t *hash, uint8_t *tag, size_t len)
+/* A run of a job, which is judged by a call over no blocks: where it is one, these alone are wrong. */
+static uint32_t run(const options *with, const proved_argon2_job *job, const uint8_t *hash, uint8_t *tag, size_t len)
 {
     call it;
     uint32_t code = begin_call(&it, with, job == NULL || proved_argon2_is_missing(hash == NULL ? tag : hash, len));
-    if (code == PROVED_ARGON2_OK) {
-        it.job = *job;
-        code = proved_argon2_job_hash_over(&it.job, NULL, 0, NULL, 0);
-    }
+    it.job = code ? it.job : *job;
+    code = code ? code : proved_argon2_job_hash_over(&it.job, NULL, 0, NULL, 0);
     code = code == PROVED_ARGON2_WRONG_BLOCKS ? PROVED_ARGON2_OK : code;
     code = code || len == it.job.hash_length ? code : PROVED_ARGON2_WRONG_LENGTH;
     code = code || hash == NULL ? code : take_bytes(&it, len);
@@ -118,16 +104,14 @@ static uint32_t run_job(const options *with, const proved_argon2_job *job, const
 
 uint32_t proved_argon2_job_run(const options *with, const proved_argon2_job *job, uint8_t *tag, size_t tag_len)
 {
-    return run_job(with, job, NULL, tag, tag_len);
+    return run(with, job, NULL, tag, tag_len);
 }
 
 uint32_t proved_argon2_job_run_verify(
     const options *with, const proved_argon2_job *job, const uint8_t *hash, size_t hash_len)
 {
-    return run_job(with, job, hash, NULL, hash_len);
+    return run(with, job, hash, NULL, hash_len);
 }
-
-/* ---- memory that the caller keeps */
 
 uint32_t proved_argon2_memory_new(const proved_argon2_settings *settings, void **memory, size_t *memory_len)
 {

@@ -1,35 +1,16 @@
-/* How the library for C computes: this lends memory and threads to the proved calls of proved_argon2_jobs.h, clears both,
- * and answers what those answered. It is tested and not proved. */
+/* How the library for C computes: this lends memory and threads to the proved calls of proved_argon2_jobs.h, clears
+ * both, and answers what those answered. It is tested and not proved. */
 #include "driver.h"
-
 #include <errno.h>
-#include <pthread.h>
 #include <signal.h>
 #include <stdlib.h>
 #include <sys/mman.h>
 
 #define HUGE_PAGE ((size_t)2 << 20)
-#define POPULATE 23              /* MADV_POPULATE_WRITE of Linux 5.14 */
-#define LINE 64                  /* bytes of the cache: blocks at a multiple of it are written sooner */
-#define STACK_OF_A_THREAD 262144 /* bytes */
-#define STACK_BELOW 16384        /* bytes: a call needs two thirds */
+#define POPULATE 23       /* MADV_POPULATE_WRITE of Linux 5.14 */
+#define STACK_BELOW 16384 /* bytes: a call needs two thirds */
 
-#if __has_attribute(zero_call_used_regs)
-#define CLEARS_REGISTERS __attribute__((zero_call_used_regs("all")))
-#else
-#define CLEARS_REGISTERS
-#endif
-
-typedef struct worker {
-    call *call;
-    pthread_t thread;
-    _Atomic uint64_t state; /* 2 n before it takes step n, 2 n + 1 meanwhile, 2 n + 2 behind it */
-    uint32_t number, code;
-} worker;
-
-/* ---- memory */
-
-/* The bytes of a mapping, whole huge pages; 0 for less than one, which takes longer to map than a hash over it takes. */
+/* The bytes of a mapping, whole huge pages; 0 for less than one, which takes longer to map than a hash over it. */
 static size_t mapped(size_t bytes)
 {
     return bytes < HUGE_PAGE ? 0 : (bytes + HUGE_PAGE - 1) / HUGE_PAGE * HUGE_PAGE;
@@ -39,7 +20,7 @@ void *take_blocks(size_t bytes)
 {
     const size_t whole = mapped(bytes);
     if (whole == 0) {
-        return aligned_alloc(LINE, bytes);
+        return aligned_alloc(64, bytes); /* a line of the cache: so blocks are written sooner */
     }
     char *const all = mmap(NULL, whole + HUGE_PAGE, PROT_READ | PROT_WRITE, MAP_PRIVATE | MAP_ANONYMOUS, -1, 0);
     if (all == MAP_FAILED) {
@@ -65,15 +46,6 @@ void proved_argon2_memory_free(void *memory, size_t memory_len)
     errno = error;
 }
 
-/* Clears what earlier calls of the caller left on the stack. */
-static __attribute__((noinline)) void clear_stack(void)
-{
-    unsigned char below[STACK_BELOW];
-    explicit_bzero(below, sizeof below);
-}
-
-/* ---- the beginning and the end of a call */
-
 uint32_t begin_call(call *it, const options *with, int is_missing)
 {
     *it = (call){.error = errno};
@@ -93,7 +65,14 @@ uint32_t take_bytes(call *it, size_t len)
     return it->bytes == NULL ? PROVED_ARGON2_OUT_OF_MEMORY : PROVED_ARGON2_OK;
 }
 
-CLEARS_REGISTERS uint32_t end_call(call *it, uint32_t code)
+/* Clears what earlier calls of the caller left on the stack. */
+static __attribute__((noinline)) void clear_stack(void)
+{
+    unsigned char below[STACK_BELOW];
+    explicit_bzero(below, sizeof below);
+}
+
+uint32_t end_call(call *it, uint32_t code)
 {
     const int error = it->error;
     if (it->bytes != NULL) {
@@ -107,34 +86,17 @@ CLEARS_REGISTERS uint32_t end_call(call *it, uint32_t code)
     return code;
 }
 
-/* ---- the steps of a job */
-
 /* Asks for a worker's part of the pages at once; a system that cannot do so gives them one by one. */
 static uint32_t populate(const call *it, uint32_t number)
 {
     const size_t bytes = it->with.memory == NULL ? mapped(bytes_of(&it->job)) : 0;
     const size_t part = (bytes / it->tasks / HUGE_PAGE + 1) * HUGE_PAGE, from = part * number;
     const size_t left = from >= bytes ? 0 : bytes - from;
-    const int refused = left != 0 && madvise((char *)it->blocks + from, left < part ? left : part, POPULATE) != 0;
-    return refused && (errno == ENOMEM || errno == EFAULT) ? PROVED_ARGON2_OUT_OF_MEMORY : PROVED_ARGON2_OK;
+    return left != 0 && madvise((char *)it->blocks + from, left < part ? left : part, POPULATE) != 0
+        && (errno == ENOMEM || errno == EFAULT) ? PROVED_ARGON2_OUT_OF_MEMORY : PROVED_ARGON2_OK;
 }
 
-static uint32_t fill_lanes(const call *it, uint32_t number)
-{
-    const uint32_t slice = it->step == 0 ? 0 : (uint32_t)((it->step - 1) % 4);
-    const block *const first = it->blocks + (slice == 0 ? 1 : 0) * it->slice;
-    const block *const second = it->blocks + (slice <= 1 ? 2 : 1) * it->slice;
-    const block *const third = it->blocks + (slice <= 2 ? 3 : 2) * it->slice;
-    uint32_t code = it->step == 0 ? populate(it, number) : PROVED_ARGON2_OK;
-    for (uint64_t lane = number; lane < it->job.lanes && code == PROVED_ARGON2_OK; lane += it->tasks) {
-        block *const own = it->blocks + slice * it->slice + lane * it->segment;
-        code = it->step == 0 ? proved_argon2_job_begin(&it->job, (uint32_t)lane, own, it->segment)
-            : proved_argon2_job_fill(&it->job, (uint32_t)((it->step - 1) / 4), slice, (uint32_t)lane,
-                first, it->slice, second, it->slice, third, it->slice, own, it->segment);
-    }
-    return code;
-}
-
+/* Has a worker take a step for each of its lanes. */
 static void take_step(void *arg, uint32_t number)
 {
     call *const it = arg;
@@ -143,29 +105,44 @@ static void take_step(void *arg, uint32_t number)
         it->is_astray = 1;
         return;
     }
-    it->workers[number].code = fill_lanes(it, number);
+    const uint32_t slice = it->step == 0 ? 0 : (uint32_t)((it->step - 1) % 4), length = it->job.segment_length;
+    const block *const first = it->blocks + (slice == 0 ? 1 : 0) * it->slice;
+    const block *const second = it->blocks + (slice <= 1 ? 2 : 1) * it->slice;
+    const block *const third = it->blocks + (slice <= 2 ? 3 : 2) * it->slice;
+    uint32_t code = it->step == 0 ? populate(it, number) : PROVED_ARGON2_OK;
+    for (uint64_t lane = number; lane < it->job.lanes && code == PROVED_ARGON2_OK; lane += it->tasks) {
+        block *const own = it->blocks + slice * it->slice + lane * length;
+        code = it->step == 0 ? proved_argon2_job_begin(&it->job, (uint32_t)lane, own, length)
+            : proved_argon2_job_fill(&it->job, (uint32_t)((it->step - 1) / 4), slice, (uint32_t)lane,
+                first, it->slice, second, it->slice, third, it->slice, own, length);
+    }
     clear_stack();
+    it->workers[number].code = code;
     it->workers[number].state = 2 * it->step + 2;
 }
 
 static void *run_thread(void *self)
 {
-    take_step(((worker *)self)->call, ((worker *)self)->number);
+    call *const it = ((worker *)self)->call;
+    take_step(it, (uint32_t)((worker *)self - it->workers));
     return NULL;
 }
 
 /* Starts threads for worker 1, 2 and so on until one is refused, and gives the number of the first that has none. */
-static uint32_t start_threads(worker *workers, uint32_t tasks)
+static uint32_t start_threads(call *it)
 {
     uint32_t started = 1;
     sigset_t all, before;
     pthread_attr_t small;
     sigfillset(&all);
     pthread_attr_init(&small);
-    pthread_attr_setstacksize(&small, STACK_OF_A_THREAD);
+    pthread_attr_setstacksize(&small, 256 * 1024);
     pthread_sigmask(SIG_SETMASK, &all, &before); /* the program's signals go to its own threads */
-    while (started < tasks && pthread_create(&workers[started].thread, &small, run_thread, &workers[started]) == 0) {
-        started++;
+    for (worker *next = it->workers + 1; started < it->tasks; started++, next++) {
+        next->call = it;
+        if (pthread_create(&next->thread, &small, run_thread, next) != 0) {
+            break;
+        }
     }
     pthread_sigmask(SIG_SETMASK, &before, NULL);
     pthread_attr_destroy(&small);
@@ -173,26 +150,24 @@ static uint32_t start_threads(worker *workers, uint32_t tasks)
 }
 
 /* The call's own threads: the caller's takes worker 0, and those whose thread was refused. */
-static int run_threads(void *pool, uint32_t tasks, void (*task)(void *, uint32_t), void *arg)
+static int run_threads(call *it)
 {
-    worker *const workers = pool;
-    const uint32_t started = tasks == 1 ? 1 : start_threads(workers, tasks);
-    task(arg, 0);
-    for (uint32_t i = started; i < tasks; i++) {
-        task(arg, i);
+    const uint32_t started = it->tasks == 1 ? 1 : start_threads(it);
+    take_step(it, 0);
+    for (uint32_t i = started; i < it->tasks; i++) {
+        take_step(it, i);
     }
     for (uint32_t i = 1; i < started; i++) {
-        pthread_join(workers[i].thread, NULL);
+        pthread_join(it->workers[i].thread, NULL);
     }
     return 0;
 }
 
-/* Has each task take a step once, and tells how many slices are filled. */
+/* Has each worker take a step once, and tells how many slices are filled. */
 static uint32_t run_step(call *it, uint64_t slices)
 {
     const options *const with = &it->with;
-    const int refused = with->run == NULL ? run_threads(it->workers, it->tasks, take_step, it)
-        : with->run(with->pool, it->tasks, take_step, it);
+    const int refused = with->run == NULL ? run_threads(it) : with->run(with->pool, it->tasks, take_step, it);
     uint32_t code = refused || it->is_astray ? PROVED_ARGON2_WORKER_REFUSED : PROVED_ARGON2_OK;
     for (uint32_t i = 0; i < it->tasks && code == PROVED_ARGON2_OK; i++) {
         code = it->workers[i].state == 2 * it->step + 2 ? it->workers[i].code : PROVED_ARGON2_WORKER_REFUSED;
@@ -201,24 +176,17 @@ static uint32_t run_step(call *it, uint64_t slices)
     return is_told && with->tell(with->arg, it->step, slices) != 0 ? PROVED_ARGON2_STOPPED : code;
 }
 
-/* Fills all slices of a job. */
 static uint32_t fill(call *it)
 {
     const uint64_t slices = 4 * (uint64_t)it->job.passes;
     it->workers = calloc(it->tasks, sizeof(worker));
     uint32_t code = it->workers == NULL ? PROVED_ARGON2_OUT_OF_MEMORY : PROVED_ARGON2_OK;
-    for (uint32_t i = 0; i < it->tasks && code == PROVED_ARGON2_OK; i++) {
-        it->workers[i].call = it;
-        it->workers[i].number = i;
-    }
     for (it->step = 0; it->step <= slices && code == PROVED_ARGON2_OK; it->step++) {
         code = run_step(it, slices);
     }
     free(it->workers);
     return code;
 }
-
-/* ---- the tag of a job, or the verdict on a hash */
 
 /* In one call, where the caller's thread is alone and nobody is told how far it is; else in steps. */
 static uint32_t compute_over(call *it, const uint8_t *hash, uint8_t *tag)
@@ -234,12 +202,7 @@ static uint32_t compute_over(call *it, const uint8_t *hash, uint8_t *tag)
         : proved_argon2_job_verify(&it->job, last, it->slice, hash, len, tag, len);
 }
 
-size_t bytes_of(const proved_argon2_job *job)
-{
-    return 4 * sizeof(block) * job->lanes * job->segment_length;
-}
-
-/* Over blocks of the call's own or of the caller's; none is left in either. */
+/* Over blocks of the call's own, or of the caller's; neither has any left afterwards. */
 uint32_t compute(call *it, const uint8_t *hash, uint8_t *tag)
 {
     const size_t bytes = bytes_of(&it->job);
@@ -247,19 +210,14 @@ uint32_t compute(call *it, const uint8_t *hash, uint8_t *tag)
     void *const own = it->with.memory == NULL ? take_blocks(bytes) : NULL;
     it->blocks = own == NULL ? it->with.memory : own;
     it->tasks = most < it->job.lanes ? most : it->job.lanes;
-    it->segment = it->job.segment_length;
-    it->slice = it->job.lanes * it->segment;
-    if ((uintptr_t)it->blocks % _Alignof(block) != 0) {
-        return PROVED_ARGON2_WRONG_BLOCKS;
+    it->slice = bytes / sizeof(block) / 4;
+    const int is_short = it->blocks == NULL || (own == NULL && it->with.memory_len < bytes);
+    uint32_t code = (uintptr_t)it->blocks % _Alignof(block) != 0 ? PROVED_ARGON2_WRONG_BLOCKS
+        : is_short ? PROVED_ARGON2_OUT_OF_MEMORY : PROVED_ARGON2_OK;
+    if (code == PROVED_ARGON2_OK) {
+        code = compute_over(it, hash, tag);
+        explicit_bzero(it->blocks, own == NULL ? bytes : 0);
     }
-    if (it->blocks == NULL || (own == NULL && it->with.memory_len < bytes)) {
-        return PROVED_ARGON2_OUT_OF_MEMORY;
-    }
-    const uint32_t code = compute_over(it, hash, tag);
-    if (own != NULL) {
-        proved_argon2_memory_free(own, bytes);
-    } else {
-        explicit_bzero(it->blocks, bytes);
-    }
+    proved_argon2_memory_free(own, own == NULL ? 0 : bytes);
     return code;
 }
