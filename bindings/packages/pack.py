@@ -84,7 +84,8 @@ def pack_tar(file, folder):
 
 
 def member(name, content):
-    return b"%-16s%-12d0     0     100644  %-10d`\n" % (name.encode(), epoch(), len(content)) + content + b"\n" * (len(content) % 2)
+    told = b"%-16s%-12d0     0     100644  %-10d`\n" % (name.encode(), epoch(), len(content))
+    return told + content + b"\n" * (len(content) % 2)
 
 
 def compressed(folder, paths):
