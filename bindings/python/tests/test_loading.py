@@ -45,9 +45,11 @@ class Objects(unittest.TestCase):
     older = newer.replace(" avx2", "")
 
     def files(self, about, folder="/site/proved_argon2", has_libs=False):
-        with mock.patch.dict(os.environ), mock.patch("builtins.open", mock.mock_open(read_data=about)), mock.patch(
-            "sys.prefix", "/prefix"
-        ), mock.patch.object(_library, "__file__", f"{folder}/_library.py"), mock.patch("os.path.isdir", lambda _: has_libs):
+        with mock.patch.dict(os.environ), mock.patch("sys.prefix", "/prefix"), mock.patch(
+            "builtins.open", mock.mock_open(read_data=about)
+        ), mock.patch.object(_library, "__file__", f"{folder}/_library.py"), mock.patch(
+            "os.path.isdir", lambda _: has_libs
+        ):
             os.environ.pop(_library.VARIABLE, None)
             return [*_library._files()]
 

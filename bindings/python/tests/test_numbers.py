@@ -1,5 +1,5 @@
-"""No number wraps: each place that takes one, with numbers that it does not take. The lowest 32 bits of each are a number
-that would be accepted."""
+"""No number wraps: each place that takes one, with numbers that it does not take. The lowest 32 bits of each are a
+number that would be accepted."""
 import copy
 import dataclasses
 import pickle

@@ -1,4 +1,4 @@
-"""Records that `dataclasses` works with and that are made without it: to import it takes longer than this whole package."""
+"""Records that `dataclasses` works with, made without it: to import it takes longer than this whole package."""
 
 TYPE_CHECKING = False
 if TYPE_CHECKING:
