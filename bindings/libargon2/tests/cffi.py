@@ -1,5 +1,5 @@
-"""What Debian's argon2-cffi answers over the libargon2.so.1 of this process, a line each: its tags, its errors but those
-for versions that do not exist, and its verdicts.
+"""What Debian's argon2-cffi answers over the libargon2.so.1 of this process, a line each: its tags, its errors but
+those for versions that do not exist, and its verdicts.
 
     cffi.py tags
     cffi.py make

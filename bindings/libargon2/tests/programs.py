@@ -17,17 +17,19 @@ import tempfile
 from pathlib import Path
 
 HERE = Path(__file__).resolve().parent
+BOTH = ('debian', 'ours')
 LUKS_TYPES, LUKS_LANES = ('argon2i', 'argon2id'), ('1', '2', '4')
 COMMAND_SETTINGS = [list(it) for it in itertools.product(
-    (['-i'], ['-d'], ['-id'], []), (['-v', '10'], ['-v', '13']), (['-t', '1'], []), (['-m', '3'], ['-k', '99'], ['-p', '4']),
-    (['-l', '4'], ['-l', '65'], []), (['-e'], ['-r'], []))]
+    (['-i'], ['-d'], ['-id'], []), (['-v', '10'], ['-v', '13']), (['-t', '1'], []),
+    (['-m', '3'], ['-k', '99'], ['-p', '4']), (['-l', '4'], ['-l', '65'], []), (['-e'], ['-r'], []))]
 COMMAND_WRONG = [
     [], ['-h'], ['salt'], ['somesalt', '-h'], ['somesalt', '-m'], ['somesalt', '-m', '0'], ['somesalt', '-m', '33'],
     ['somesalt', '-m', '3', '-k', '9'], ['somesalt', '-k', '7'], ['somesalt', '-k', '0'], ['somesalt', '-k', 'x'],
     ['somesalt', '-t', '0'], ['somesalt', '-t', '4294967296'], ['somesalt', '-p', '0'], ['somesalt', '-p', '16777216'],
-    ['somesalt', '-p', '2', '-k', '15'], ['somesalt', '-l', '3'], ['somesalt', '-l', '0'], ['somesalt', '-l', '-1x', '-e', '-r'],
-    ['somesalt', '-v', '12'], ['somesalt', '-v'], ['somesalt', '-x'], ['somesalt', '-i', '-d'], ['somesalt', '-id', '-id'],
-    ['somesalt', '-e', '-r'], ['somesalt', '-e', '-h', '-x'], ['somesalt', ''], ['somesalt', '-k', '99999999999999999999']]
+    ['somesalt', '-p', '2', '-k', '15'], ['somesalt', '-l', '3'], ['somesalt', '-l', '0'],
+    ['somesalt', '-l', '-1x', '-e', '-r'], ['somesalt', '-v', '12'], ['somesalt', '-v'], ['somesalt', '-x'],
+    ['somesalt', '-i', '-d'], ['somesalt', '-id', '-id'], ['somesalt', '-e', '-r'], ['somesalt', '-e', '-h', '-x'],
+    ['somesalt', ''], ['somesalt', '-k', '99999999999999999999']]
 
 
 def note(what, holds, told=''):
@@ -57,33 +59,31 @@ class Libraries:
 
     def are_taken(self, what, file):
         """Whether a program or a module takes each library from where it is."""
-        told = [re.search(r'libargon2\.so\.1 => (\S+)', self.run(name, 'ldd', str(file))[0]) for name in ('debian', 'ours')]
-        paths = [it and os.path.realpath(it.group(1)) for it in told]
-        is_ours = bool(paths[1]) and Path(paths[1]).is_relative_to(self.folder.resolve())
-        note(f'{what} takes either library', is_ours and bool(paths[0]) and not Path(paths[0]).is_relative_to(
-            self.folder.resolve()), paths)
+        told = [re.search(r'libargon2\.so\.1 => (\S+)', self.run(name, 'ldd', str(file))[0]) for name in BOTH]
+        are_ours = [it and Path(it.group(1)).resolve().is_relative_to(self.folder) for it in told]
+        note(f'{what} takes either library', are_ours == [False, True], told)
 
 
 def both_ways(libraries, what, make, check):
     """Has each library make encoded hashes, and each one verify those of both."""
     with tempfile.TemporaryDirectory() as folder:
         made = {}
-        for name in ('debian', 'ours'):
+        for name in BOTH:
             made[name] = Path(folder, name)
             made[name].write_text(libraries.run(name, *make)[0])
         for maker, file in made.items():
-            its, own = (libraries.run(name, *check, str(file))[0] for name in ('debian', 'ours'))
+            its, own = (libraries.run(name, *check, str(file))[0] for name in BOTH)
             compare(f'{what}: what is made by {maker} is read by both', its, own)
-            count = len(file.read_text().splitlines())
-            note(f'{what}: of what is made by {maker} ours accepts the right password alone', count > 0 and count == sum(
-                line.startswith(('[true,false', 'True VerifyMismatchError')) for line in own.splitlines()), own[:300])
+            right = [line.startswith(('[true,false', 'True VerifyMismatchError')) for line in own.splitlines()]
+            note(f'{what}: of what is made by {maker} ours accepts the right password alone',
+                 right and all(right) and len(right) == file.read_text().count('\n'), own[:300])
 
 
 def check_php(libraries):
     php, script = os.path.realpath(shutil.which('php')), str(HERE / 'programs.php')
     libraries.are_taken('PHP', php)
     both_ways(libraries, 'PHP', [php, script, 'make'], [php, script, 'check'])
-    compare('PHP: errors', *(libraries.run(name, php, script, 'errors')[0] for name in ('debian', 'ours')))
+    compare('PHP: errors', *(libraries.run(name, php, script, 'errors')[0] for name in BOTH))
 
 
 def check_cffi(libraries):
@@ -93,7 +93,7 @@ def check_cffi(libraries):
     module = module or subprocess.check_output([python, '-c', 'import argon2._ffi as m; print(m.__file__)'])
     libraries.are_taken('argon2-cffi', module.decode().strip())
     compare('argon2-cffi: tags, errors and contexts',
-            *(libraries.run(name, python, script, 'tags')[0] for name in ('debian', 'ours')))
+            *(libraries.run(name, python, script, 'tags')[0] for name in BOTH))
     both_ways(libraries, 'argon2-cffi', [python, script, 'make'], [python, script, 'check'])
 
 
@@ -105,25 +105,26 @@ def check_cryptsetup(libraries):
         right, wrong = Path(folder, 'right'), Path(folder, 'wrong')
         right.write_text('correct horse')
         wrong.write_text('correct house')
-        for maker, kind, lanes in itertools.product(('debian', 'ours'), LUKS_TYPES, LUKS_LANES):
+        for maker, kind, lanes in itertools.product(BOTH, LUKS_TYPES, LUKS_LANES):
             image = Path(folder, f'{maker}.{kind}.{lanes}')
             with open(image, 'wb') as file:
                 file.truncate(20 << 20)
-            said, status = libraries.run(
-                maker, cryptsetup, 'luksFormat', '-q', '--type', 'luks2', '--pbkdf', kind, '--pbkdf-force-iterations', '4',
-                '--pbkdf-memory', '4096' if lanes != '4' else '65536', '--pbkdf-parallel', lanes, str(image), '--key-file',
-                str(right))
-            opened = [libraries.run(name, cryptsetup, 'open', '--test-passphrase', '--key-file', str(key), str(image))[1]
-                      for name, key in itertools.product(('debian', 'ours'), (right, wrong))]
-            note(f'cryptsetup: a {kind} header of {lanes} lanes by {maker} is opened by both, with the right key alone',
-                 status == 0 and opened == [0, 2, 0, 2], f'{said} {status} {opened}')
+            made = libraries.run(
+                maker, cryptsetup, 'luksFormat', '-q', '--type', 'luks2', '--pbkdf', kind, '--pbkdf-force-iterations',
+                '4', '--pbkdf-memory', '4096' if lanes != '4' else '65536', '--pbkdf-parallel', lanes, str(image),
+                '--key-file', str(right))
+            opened = [libraries.run(name, cryptsetup, 'open', '--test-passphrase', '--key-file', str(key), str(image))
+                      for name, key in itertools.product(BOTH, (right, wrong))]
+            statuses = [status for _, status in [made, *opened]]
+            note(f'cryptsetup: both open a header of {kind} with {lanes} lanes by {maker}, with the right key alone',
+                 statuses == [0, 0, 2, 0, 2], f'{made[0]} {statuses}')
 
 
 def command_told(command, words, given):
     """The output of a command, with no time in it, its error and its status."""
-    done = subprocess.run([command, *words], executable=command, input=given, capture_output=True, check=False, timeout=600)
-    without_time = re.sub(rb'(?m)^\d+\.\d{3} seconds$', b'0.000 seconds', done.stdout)
-    return without_time.replace(command.encode(), b'argon2'), done.stderr, done.returncode
+    done = subprocess.run(['argon2', *words], executable=command, input=given, capture_output=True, check=False,
+                          timeout=600)
+    return re.sub(rb'(?m)^\d+\.\d{3} seconds$', b'seconds', done.stdout), done.stderr, done.returncode
 
 
 def check_command(libraries):
