@@ -274,13 +274,7 @@ impl<'a> OwnBlocks for LentSegment<'a> {
     }
 
     fn write(&mut self, index: usize, prev: Source<'_>, reference: Source<'_>, with_xor: bool) {
-        write_among(
-            self.blocks,
-            &mut self.tally,
-            index,
-            prev,
-            reference,
-            with_xor,
-        );
+        let blocks = &mut *self.blocks;
+        write_among(blocks, &mut self.tally, index, prev, reference, with_xor);
     }
 }
