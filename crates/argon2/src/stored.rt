@@ -6,7 +6,7 @@ ghost use Rattle.argon2_standard.specs.Standard.SettingsTable.{refusal_of};
 ghost use Rattle.argon2_standard.specs.declared.config.Config.{Config};
 ghost use Rattle.argon2_standard.specs.Standard.Grammar.{IsItem, Spells, SpellsNothing};
 ghost use Rattle.argon2_standard.specs.Standard.Text.{Spelled};
-ghost use Rattle.argon2_text.specs.Views.Texts.{IsSpelledBy, numbers_of, spelled_by, spelled_with};
+ghost use Rattle.argon2_text.specs.Views.Texts.{IsSpelledBy, IsSpellingOf, numbers_of, spelled_by, spelled_with};
 ghost use Rattle.argon2.specs.Views.StoredTexts.{IsAccepted, IsAccepting, IsConfigOf};
 ghost use Rattle.argon2_standard.specs.Standard.Stored.{IsStoredConfig};
 
@@ -48,6 +48,7 @@ pub fn accepted_spelling<'a>(
         → IsStoredConfig d secret.now ad.now config
         → IsAccepting (refusal_of config pwd_len (length d.salt) (length d.hash))
         (λ head. IsSpelledBy encoded.now head d.salt d.hash) result }
+    ensures spelling { IfOk result (IsSpellingOf encoded.now) }
     ensures accepted { IfOk result (λ head. (salt hash : List ℕ) → IsItem head.salt.now salt
         → IsItem head.hash.now hash
         → IsAccepted (spelled_with head salt hash) pwd_len secret.now ad.now) }

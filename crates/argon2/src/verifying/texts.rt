@@ -8,7 +8,7 @@ ghost use Rattle.argon2.specs.Standard.Leaves.{LeavesMemory};
 ghost use Rattle.argon2_standard.specs.Standard.Stored.{IsStoredConfig};
 ghost use Rattle.argon2_standard.specs.Standard.Outcome.{IsVerdict};
 
-use crate::Result;
+use crate::{Error, Result};
 use crate::ending::release;
 use crate::parts::memory::Memory;
 use crate::stored::{accepted_text, config_of, stored_context};

@@ -1,39 +1,23 @@
--- The head of a text that spells a value is refused as the value is.
-use Rattle.std.proofs.lemmas.Option.{MatchOption-at_none, MatchOption-at_some}
-use Rattle.argon2_text.specs.Views.Texts.{IsSpellingOf}
-use Rattle.argon2.proofs.Verification.StoredTexts.{head_accepted, spells_some, text_decoded, text_refused}
+-- A head that was accepted is decoded, and one that was refused is refused.
+use Rattle.std.proofs.Common.{◌≡◌}
+use Rattle.std.proofs.lemmas.Result.{err_from_is_err_and}
+use Rattle.argon2_text.specs.declared.decoded.Decoded.{Decoded}
+use Rattle.argon2_text.specs.Views.Texts.{spelled_by}
+use Rattle.argon2.proofs.Verification.StoredTexts.{refused_too, text_decoded}
 use Rattle.argon2.proofs.stored.accepted_text.Goals as goal
 
 pub returns-in_err-head-clause-spelled : goal.returns-in_err-head-clause-spelled
 returns-in_err-head-clause-spelled c d config spells stored =
-    let none = MatchOption-at_none _ (IsSpellingOf c.args.encoded.now) c.in_err-head.ensures.ok_part c.spelling_of.ensures in
-    absurd (none d spells)
+    let p = err_from_is_err_and c.from_residual.result c.from_residual.ensures.1 in
+    rw (p.1, p.2) (refused_too _ _ (λ (x : Decoded). spelled_by x ≡ d) c.in_err-head.field-0.0 (c.in_err-head.ensures.spelled d config spells stored))
 
-pub returns-in-None-clause-unspelled : goal.returns-in-None-clause-unspelled
-returns-in-None-clause-unspelled c none =
-    let s = MatchOption-at_some _ (IsSpellingOf c.args.encoded.now) c.in_ok-head.head c.in_ok-head.ensures.ok_part c.spelling_of.ensures in
-    absurd (spells_some c.args.encoded.now c.in_ok-head.head s none)
+pub decode-requires-clause-salt : goal.decode-requires-clause-salt
+decode-requires-clause-salt c = let s = c.in_ok-head.ensures.spelling in (s.0, s.2.salt_item)
 
-pub returns-in-None-clause-spelled : goal.returns-in-None-clause-spelled
-returns-in-None-clause-spelled c d config spells stored =
-    let s = MatchOption-at_some _ (IsSpellingOf c.args.encoded.now) c.in_ok-head.head c.in_ok-head.ensures.ok_part c.spelling_of.ensures in
-    text_decoded c.args.encoded.now c.in_ok-head.head c.args.pwd_len c.args.secret.now c.args.ad.now c.refusal.result d config c.decode.result
-    c.refusal.ensures s
-    c.in-None.is spells stored c.decode.ensures.settings c.decode.ensures.items c.decode.ensures.refused
+pub decode-requires-clause-hash : goal.decode-requires-clause-hash
+decode-requires-clause-hash c = let s = c.in_ok-head.ensures.spelling in (s.1, s.2.hash_item)
 
-pub returns-in-Some-clause-unspelled : goal.returns-in-Some-clause-unspelled
-returns-in-Some-clause-unspelled c none =
-    let s = MatchOption-at_some _ (IsSpellingOf c.args.encoded.now) c.in_ok-head.head c.in_ok-head.ensures.ok_part c.spelling_of.ensures in
-    absurd (spells_some c.args.encoded.now c.in_ok-head.head s none)
-
-pub returns-in-Some-clause-spelled : goal.returns-in-Some-clause-spelled
-returns-in-Some-clause-spelled c d config spells stored =
-    let s = MatchOption-at_some _ (IsSpellingOf c.args.encoded.now) c.in_ok-head.head c.in_ok-head.ensures.ok_part c.spelling_of.ensures in
-    text_refused c.args.encoded.now c.in_ok-head.head c.args.pwd_len c.args.secret.now c.args.ad.now c.refusal.result d config c.in-Some.refusal
-    c.refusal.ensures s
-    c.in-Some.is spells stored
-
-pub returns-in-None-clause-accepted : goal.returns-in-None-clause-accepted
-returns-in-None-clause-accepted c =
-    head_accepted c.in_ok-head.head c.args.pwd_len c.args.secret.now c.args.ad.now c.refusal.result c.decode.result c.refusal.ensures c.in-None.is
-    c.decode.ensures.settings c.decode.ensures.items
+pub returns-clause-spelled : goal.returns-clause-spelled
+returns-clause-spelled c d config spells stored =
+    text_decoded c.args.encoded.now c.in_ok-head.head _ d c.decode.result (c.in_ok-head.ensures.spelled d config spells stored) spells
+    c.decode.ensures.settings c.decode.ensures.items c.decode.ensures.refused

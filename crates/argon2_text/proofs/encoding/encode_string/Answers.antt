@@ -2,7 +2,7 @@ use Rattle.std.proofs.Common.{arith, drop, length}
 use Rattle.std.proofs.lemmas.List.{take_at}
 use Rattle.std.proofs.lemmas.Str.{IsUtf8-from_ascii}
 use Rattle.argon2_settings.proofs.Settings.Accepted as settings
-use Rattle.argon2_standard.specs.Standard.Text.{spelled_of}
+use Rattle.argon2_standard.specs.Standard.Text.{spelled_of, text_of}
 use Rattle.argon2_text.proofs.Writing.TextBytes.{IsAscii-text_of}
 use Rattle.argon2_text.proofs.encoding.encode_string.Goals as goal
 
@@ -17,5 +17,5 @@ from_utf8_unchecked-requires c =
     let x = c.args.context.now in
     let new = c.write_encoded.new.text in
     let ascii = IsAscii-text_of (spelled_of x.config x.salt.now c.args.hash.now) (omega arith) (omega arith) (omega arith) in
-    let text = IsUtf8-from_ascii _ ascii in
+    let text = IsUtf8-from_ascii (text_of (spelled_of x.config x.salt.now c.args.hash.now)) ascii in
     rw (take_at new (drop (length new) c.in_ok-text.text.items) c.in_ok-text.text.len (omega arith), c.write_encoded.ensures) text
