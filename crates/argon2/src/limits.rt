@@ -13,7 +13,8 @@ ghost use Rattle.argon2_text.specs.Views.Texts.{numbers_of};
 
 use crate::stored::numbers_of_text;
 use crate::verifying::{verify_encoded_ext, verify_encoded_sequential};
-use crate::{Error, Result};
+use argon2_standard::error::Error;
+use argon2_standard::result::Result;
 use argon2_text::numbers::Numbers;
 use std::alloc::Global;
 use std::marker::Sync;

@@ -31,8 +31,10 @@ pub fn numbers_of_text(encoded: &str) -> Result<Numbers>
     ensures unspelled { SpellsNothing encoded.now → result ≡ Err Error.DecodingFail }
     ensures spelled { (d : Spelled) → Spells encoded.now d → result ≡ Ok (numbers_of d) }
 {
-    let head = spelling_of(encoded).ok_or(Error::DecodingFail)?;
-    Ok(head.numbers())
+    match spelling_of(encoded) {
+        Some(head) => Ok(head.numbers()),
+        None => Err(Error::DecodingFail),
+    }
 }
 
 /// The head of a stored text, where its settings are accepted for a password of this length. It

@@ -12,12 +12,12 @@ ghost use Rattle.argon2.specs.Views.Comparison.{difference_of};
 mod texts;
 
 use crate::ending::release;
-use crate::parts::context::{Context, first_refusal};
-use crate::parts::fill::{tag, tag_sequential};
-use crate::parts::memory::Memory;
-use crate::{Config, Result};
 use argon2_blocks::blake2b::wipe;
-use argon2_settings::context::accepted_context;
+use argon2_fill::fill::{tag, tag_sequential};
+use argon2_memory::memory::Memory;
+use argon2_settings::context::{Context, accepted_context, first_refusal};
+use argon2_standard::config::Config;
+use argon2_standard::result::Result;
 use std::alloc::Global;
 use std::marker::Sync;
 use std::sync::Wait;

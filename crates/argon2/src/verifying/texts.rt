@@ -8,11 +8,12 @@ ghost use Rattle.argon2.specs.Standard.Leaves.{LeavesMemory};
 ghost use Rattle.argon2_standard.specs.Standard.Stored.{IsStoredConfig};
 ghost use Rattle.argon2_standard.specs.Standard.Outcome.{IsVerdict};
 
-use crate::{Error, Result};
 use crate::ending::release;
-use crate::parts::memory::Memory;
 use crate::stored::{accepted_text, config_of, stored_context};
 use crate::verifying::{is_tag, is_tag_sequential};
+use argon2_memory::memory::Memory;
+use argon2_standard::error::Error;
+use argon2_standard::result::Result;
 use std::alloc::Global;
 use std::marker::Sync;
 use std::sync::Wait;
