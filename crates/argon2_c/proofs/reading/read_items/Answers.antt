@@ -8,7 +8,9 @@ returns-clause-answer c s h salt hash =
     let same_salt = item_unique c.args.head.now.salt.now c.read_salt.new.salt s c.read_salt.ensures salt in
     let same_hash = item_unique c.args.head.now.hash.now c.read_hash.new.hash h c.read_hash.ensures hash in
     record {
-      wrong_length = λ no. absurd (no (c.if-salt-item_len.false ∙ c.item_len.ensures.exact s salt,
-      c.if-hash-item_len.false ∙ c.item_len-else-salt-item_len.ensures.exact h hash));
+      wrong_length = λ no. absurd (no (
+        c.if-salt-item_len.false ∙ c.item_len.ensures.exact s salt,
+        c.if-hash-item_len.false ∙ c.item_len-else-salt-item_len.ensures.exact h hash,
+      ));
       written = λ fit. (refl, rw (same_salt, same_hash) refl);
     }
