@@ -1,5 +1,5 @@
 -- The configuration of settings rests on their numbers alone: with any secret and associated data it is the same otherwise.
-use Rattle.std.proofs.Common.{◌≡◌, ℕ, List, length, Option, None, Some, Result, Ok, Err, refl, sym, ap, ◌∙◌, Bor}
+use Rattle.std.proofs.Common.{◌≡◌, ℕ, List, Option, None, Some, Ok, Err, refl, sym, ap, ◌∙◌, Bor}
 use Rattle.argon2.specs.ConfigType.{Config}
 use Rattle.argon2.specs.ErrorType.{Error}
 use Rattle.argon2.specs.SettingsTable.{refusal_of}

@@ -9,9 +9,8 @@ ghost use Rattle.argon2_c.specs.Jobs.{WritesTagText};
 ghost use Rattle.argon2_c.specs.Settings.{config_of};
 
 use crate::refusal::Refusal;
-use crate::settings::{Settings, text_len};
+use crate::settings::{Settings, refused, text_len};
 use argon2::Config;
-use argon2::parts::context::first_refusal;
 use argon2_text::encoding::write_encoded;
 
 /// Writes the text of a given tag, and zeros behind it, to a buffer with more bytes than the text.
@@ -24,10 +23,7 @@ pub fn encode(salt: &[u8], settings: &Settings, tag: &[u8], text: &mut [u8]) -> 
         result }
 {
     let config = settings.config(&[], &[])?;
-    let hash_len = u64::from(config.hash_length);
-    // The password of the tag is not known here. An empty one stands for it, since none is too
-    // short.
-    match first_refusal(&config, 0, salt.len() as u64, hash_len) {
+    match refused(&config, salt.len() as u64) {
         Some(error) => Err(Refusal::Library(error)),
         None => write_tag_text(&config, salt, tag, text),
     }

@@ -1,7 +1,7 @@
 //! Whole hashes in the caller's thread, over blocks that C lends: all steps of a hash in one call.
 
-ghost use Rattle.std.specs.Prelude.{◌≡◌, ◌^◌, ◌<◌, ◌↔◌, IsTrue, length};
-ghost use Rattle.argon2.specs.Tag.{last_blocks, tag_from, tag_of};
+ghost use Rattle.std.specs.Prelude.{◌≡◌, ◌↔◌, IsTrue, length};
+ghost use Rattle.argon2.specs.Tag.{tag_of};
 ghost use Rattle.argon2.specs.Setting.{memory_blocks};
 ghost use Rattle.argon2_c.specs.Answers.{judgement_of};
 ghost use Rattle.argon2_c.specs.Jobs.{setting_of_job};
@@ -12,11 +12,9 @@ use crate::jobs::LentJob;
 use crate::refusal::Refusal;
 use crate::settings::Settings;
 use argon2::parts::block::Block;
-use argon2::parts::common::SYNC_POINTS;
 use argon2::parts::context::{Context, Job};
 use argon2::parts::stored::{are_equal, context_of_hash};
-use argon2_fill::lent::{fill_lent, finalize_lent, hash_lent, initialize_lent};
-use argon2_memory::job::recall_job;
+use argon2_fill::lent::{hash_lent, hash_lent_job};
 
 /// Writes the tag of a password to a buffer of `settings.hash_length` bytes. The numbers of the
 /// settings are looked at first, then the settings table, then how many blocks there are, and last
@@ -154,22 +152,4 @@ fn is_memory(job: &Job, blocks: &[Block]) -> bool
     ensures { IsTrue result ↔ (length blocks.now ≡ memory_blocks job.now.setting) }
 {
     blocks.len() == job.memory_blocks() as usize
-}
-
-/// The tag of a job, computed in the caller's thread over a memory that is lent whole, slice after
-/// slice.
-fn hash_lent_job(job: &Job, blocks: &mut [Block], out: &mut [u8])
-    requires blocks_fit { length blocks.old ≡ memory_blocks job.now.setting }
-    requires some { 0 < length out.old }
-    requires few { length out.old < 2 ^ 32 }
-    ensures { out.new ≡ tag_from (last_blocks job.now.setting) (length out.old) }
-{
-    recall_job(job);
-    let length = blocks.len() / SYNC_POINTS as usize;
-    let (first, rest) = blocks.split_at_mut(length);
-    let (second, rest) = rest.split_at_mut(length);
-    let (third, fourth) = rest.split_at_mut(length);
-    initialize_lent(job, first);
-    fill_lent(job, first, second, third, fourth);
-    finalize_lent(job, fourth, out);
 }

@@ -8,7 +8,7 @@ ghost use Rattle.argon2.specs.Texts.{numbers_of};
 ghost use Rattle.argon2_text.specs.Views.Faults.{IsSomeItem};
 ghost use Rattle.argon2_c.specs.Answers.{WritesWhere};
 ghost use Rattle.argon2_c.specs.Limits.{limits_of};
-ghost use Rattle.argon2_c.specs.Reading.{AreLengths, ComparesSettings, ReadsBytes, ReadsText, ReadsTextWithin, held, stored_of};
+ghost use Rattle.argon2_c.specs.Reading.{AreLengths, ComparesSettings, Items, ReadsBytes, ReadsText, ReadsTextWithin, held, stored_of};
 ghost use Rattle.argon2_c.specs.Settings.{config_of};
 
 use crate::limits::Limits;
@@ -107,8 +107,8 @@ pub fn read_items(head: &Head<'_>, salt: &mut [u8], hash: &mut [u8]) -> Result<(
     ensures items { OnOk result (IsItem head.now.salt.now salt.new
         × IsItem head.now.hash.now hash.new) }
     ensures answer { (s h : List ℕ) → IsItem head.now.salt.now s → IsItem head.now.hash.now h
-        → let items = record { salt = s; hash = h } in
-        let old = record { salt = salt.old; hash = hash.old } in
+        → let items : Items = record { salt = s; hash = h } in
+        let old : Items = record { salt = salt.old; hash = hash.old } in
         WritesWhere (AreLengths items old) items old (record { salt = salt.new; hash = hash.new })
         result }
 {

@@ -7,21 +7,25 @@ use Rattle.argon2_c.proofs.encoding.encode.Goals as goal
 pub write_tag_text-requires : goal.write_tag_text-requires
 write_tag_text-requires c =
     let config = c.in_ok-config.config in
-    let fits = accepted_salt config 0 (length c.args.salt.now) c.from-hash_len.result (sym c.first_refusal.ensures ∙ c.in-None.is) in
+    let fits = accepted_salt config 0 (length c.args.salt.now) config.hash_length (sym c.refused.ensures ∙ c.in-None.is) in
     omega (arith, fits)
 
 pub returns-in-Some : goal.returns-in-Some
 returns-in-Some c secret ad no_secret no_ad =
     let config = c.in_ok-config.config in
     let is = c.in_ok-config.ensures in
-    rw (other_inputs c.args.settings.now _ _ secret ad config is,
-    same_refusal c.args.settings.now _ _ secret ad config 0 (length c.args.salt.now) config.hash_length is (sym no_secret) (sym no_ad),
-    sym c.first_refusal.ensures ∙ c.in-Some.is) (refl, refl)
+    rw (
+      other_inputs c.args.settings.now _ _ secret ad config is,
+      same_refusal c.args.settings.now _ _ secret ad config 0 (length c.args.salt.now) config.hash_length is (sym no_secret) (sym no_ad),
+      sym c.refused.ensures ∙ c.in-Some.is,
+    ) (refl, refl)
 
 pub returns-in-None : goal.returns-in-None
 returns-in-None c secret ad no_secret no_ad =
     let config = c.in_ok-config.config in
     let is = c.in_ok-config.ensures in
-    rw (other_inputs c.args.settings.now _ _ secret ad config is,
-    same_refusal c.args.settings.now _ _ secret ad config 0 (length c.args.salt.now) config.hash_length is (sym no_secret) (sym no_ad),
-    sym c.first_refusal.ensures ∙ c.in-None.is) c.write_tag_text.ensures
+    rw (
+      other_inputs c.args.settings.now _ _ secret ad config is,
+      same_refusal c.args.settings.now _ _ secret ad config 0 (length c.args.salt.now) config.hash_length is (sym no_secret) (sym no_ad),
+      sym c.refused.ensures ∙ c.in-None.is,
+    ) c.write_tag_text.ensures

@@ -1,5 +1,5 @@
 -- What is read is the only salt and the only hash of the head.
-use Rattle.std.proofs.Common.{◌≡◌, Err, Ok, length, refl, sym, ap, ◌∙◌}
+use Rattle.std.proofs.Common.{Err, length, refl, sym, ap, ◌∙◌}
 use Rattle.std.proofs.lemmas.Result.{err_from_is_err_and}
 use Rattle.argon2.specs.Texts.{spelled_with}
 use Rattle.argon2.proofs.Verification.StoredTexts.{own_length, stored_accepted}
@@ -26,9 +26,9 @@ pub accepted_context-requires : goal.accepted_context-requires
 accepted_context-requires c =
     let items = c.in_ok-read_items.ensures.items in
     let d = spelled_with c.args.head.now c.read_items.new.salt c.read_items.new.hash in
-    stored_accepted d (length c.args.pwd.now) c.args.secret.now c.args.ad.now c.config_of_numbers.result
+    stored_accepted d (length c.args.pwd.now) c.args.secret.now c.args.ad.now c.config_of_numbers-config.result
     (λ config stored. sym (c.refusal.ensures config _ _ items.0 items.1 stored) ∙ c.in_default.is)
-    (c.config_of_numbers.ensures d (c.numbers.ensures _ _ items.0 items.1))
+    (c.config_of_numbers-config.ensures d (c.numbers.ensures _ _ items.0 items.1))
 
 pub returns : goal.returns
 returns c s h config salt hash stored =
@@ -38,8 +38,8 @@ returns c s h config salt hash stored =
     let same_salt = item_unique c.args.head.now.salt.now c.read_items.new.salt s items.0 salt in
     let same_hash = item_unique c.args.head.now.hash.now c.read_items.new.hash h items.1 hash in
     let d = spelled_with c.args.head.now s h in
-    let used = c.config_of_numbers.result in
-    let is_used = c.config_of_numbers.ensures d (c.numbers.ensures s h salt hash) in
+    let used = c.config_of_numbers-config.result in
+    let is_used = c.config_of_numbers-config.ensures d (c.numbers.ensures s h salt hash) in
     let own = own_length d (length c.args.pwd.now) c.args.secret.now c.args.ad.now used
     (λ config stored. sym (c.refusal.ensures config s h salt hash stored) ∙ c.in_default.is) is_used in
     let is = c.accepted_context.ensures in
