@@ -1,8 +1,7 @@
 -- Texts that are too costly to check.
-use Rattle.std.proofs.Common.{◌≡◌, ◌⊎◌, ℕ, Bool, true, false, [], List, length, Option, Result, Ok, Err, Bor, ap, arith, inl, inr, refl, subst, sym, ◌∙◌}
+use Rattle.std.proofs.Common.{◌≡◌, ℕ, Bool, true, false, [], List, Option, Result, Ok, Err, Bor, ap, arith, inl, inr, refl, subst, sym, ◌∙◌}
 use Rattle.argon2.specs.ConfigType.{Config}
 use Rattle.argon2.specs.ErrorType.{Error}
-use Rattle.argon2.specs.ErrorType.TheVariants.{OutOfMemory}
 use Rattle.argon2.specs.Standard.Limits.{AnswersWithin, is_too_costly}
 use Rattle.argon2.specs.Stored.{IsStoredConfig}
 use Rattle.argon2.specs.Text.{Spelled}

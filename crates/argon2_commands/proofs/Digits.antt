@@ -1,5 +1,5 @@
 -- Texts that are pairs of hexadecimal digits.
-use Rattle.std.proofs.Common.{◌≡◌, ◌<◌, ◌%◌, ℕ, List, length, slice_index_or, false, Option, Some, Result, Ok, Err, inl, inr, refl, sym, ◌∙◌, ap, arith, nat_eq, is_ok}
+use Rattle.std.proofs.Common.{◌≡◌, ◌<◌, ◌%◌, ℕ, List, length, slice_index_or, false, Some, Result, Ok, Err, inl, inr, refl, sym, ◌∙◌, ap, arith, nat_eq, is_ok}
 use Rattle.std.specs.Char.{is_ascii_hexdigit}
 use Rattle.std.specs.List.{AllPass}
 use Rattle.std.specs.Result.{result_ok}

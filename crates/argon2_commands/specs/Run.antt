@@ -1,7 +1,7 @@
 -- What a run does.
 use Rattle.std.specs.Prelude.{◌≡◌, ◌⊎◌, ◌+◌, ℕ, List, Option}
 use Rattle.std.specs.Io.KnownBytes.{Appends, Keeps}
-use Rattle.argon2_commands.specs.Answer.{AsksTooMuch, IsAnswer, MayRefuse, NeedsNoInput, ReadsUpTo, answer_status, lines_of, longest_password}
+use Rattle.argon2_commands.specs.Answer.{AsksTooMuch, IsAnswer, MayRefuse, NeedsNoInput, answer_status, lines_of, longest_password}
 use Rattle.argon2_commands.specs.CommandLine.{AreWords}
 use Rattle.argon2_commands.specs.Words.{IsCommand}
 use Rattle.argon2.specs.SettingsTable.{max_length}

@@ -1,4 +1,4 @@
-use Rattle.std.proofs.Common.{◌∙◌, arith, inr, refl, sym}
+use Rattle.std.proofs.Common.{◌∙◌, arith, inr, refl}
 use Rattle.argon2_commands.proofs.Passwords.{long_is_more, short_is_all}
 use Rattle.argon2_commands.proofs.password.read_short_password.Goals as goal
 

@@ -1,4 +1,4 @@
-use Rattle.std.proofs.Common.{◌≡◌, ◌-◌, ◌++◌, ◌∙◌, ap, arith, length, min, take}
+use Rattle.std.proofs.Common.{◌-◌, ◌++◌, ◌∙◌, ap, min, take}
 use Rattle.argon2_commands.proofs.Passwords.{piece_fits, read_on}
 use Rattle.argon2_commands.proofs.password.read_up_to.Goals as goal
 

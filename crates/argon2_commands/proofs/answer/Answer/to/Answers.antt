@@ -1,4 +1,4 @@
-use Rattle.std.proofs.Common.{Err, Ok, inl, inr, refl, string_bytes, subst, ◌∙◌}
+use Rattle.std.proofs.Common.{Err, Ok, inl, inr, refl, string_bytes, subst}
 use Rattle.std.proofs.lemmas.Result.{IfOk-from_err}
 use Rattle.argon2.specs.ErrorType.TheVariants.{OutOfMemory}
 use Rattle.argon2_commands.specs.Answer.{CheckAnswers, HashAnswers, IsRefusal, MayRefuse, NeedsNoInput, VerifyAnswers}

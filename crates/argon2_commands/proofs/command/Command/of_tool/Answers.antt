@@ -1,8 +1,7 @@
-use Rattle.std.proofs.Common.{ap, arith, sym, ◌∙◌, subst}
+use Rattle.std.proofs.Common.{arith, sym, ◌∙◌, subst}
 use Rattle.std.specs.Cmp.Lexicographic.{same_text}
 use Rattle.std.proofs.lemmas.List.{length-map}
-use Rattle.hex.specs.Hex.{decode_of}
-use Rattle.argon2_commands.specs.Words.{IsMode, texts_of}
+use Rattle.argon2_commands.specs.Words.{IsMode}
 use Rattle.argon2_commands.proofs.Digits.{decoded}
 use Rattle.argon2_commands.proofs.Places.{word-texts_of}
 use Rattle.argon2_commands.proofs.command.Command.of_tool.Goals as goal
