@@ -1,16 +1,15 @@
 # The shell's part around the program, for the script `argon2` and the installed `proved-argon2`, which read
 # this file. They set these and then call `main "$@"`:
 #
-#     program     the file of the program
 #     name        what the user calls it
 #     version     the version
 #     help        the file help.txt, in which NAME is replaced by that name
-#     prepare     a function that makes the program ready, or fails; it may name another file of it
+#     prepare     a function that makes a program ready, argon2_program or argon2_tool, and sets `program` to its file
 #
-# The words `--help`, `--version`, `new` and `tune` are answered here, and for `check` a password is asked for on a
-# terminal, and a text is read from a descriptor. All others go to the program as they are, with its standard streams
-# and its exit status. Where it says `usage` or `Decoding failed`, a line on standard error may be added, which names
-# what looks wrong.
+# The words `--help` and `--version` are answered here. `new`, `check` and `tune` are done by argon2_tool: it gets the
+# salt and the settings from here, and a password that is asked for on a terminal, or a text that is read from a
+# descriptor. All other words go to argon2_program as they are, with its standard streams and its exit status. Where
+# either says `usage` or `Decoding failed`, a line on standard error may be added, which names what looks wrong.
 # shellcheck shell=sh disable=SC2154
 
 newline='
@@ -22,6 +21,10 @@ owasp_settings='argon2id 19 2 19456 1 32 seq'
 # The memory that `tune` measures if none is named, in KiB: RFC 9106's second recommendation.
 tuned_memory=65536
 
+# The most passes that `check` takes, and the salt that is measured with, in hexadecimal.
+most_passes=10
+tuned_salt=736f6d6573616c74
+
 # What the processors of a build have, as Linux names it, beside what every one of 64 bits has.
 flags_of_v2='cx16 lahf_lm popcnt pni sse4_1 sse4_2 ssse3'
 flags_of_v3='avx avx2 bmi1 bmi2 f16c fma abm movbe'
@@ -31,6 +34,9 @@ tunables=glibc.malloc.hugetlb=1
 
 # How many bytes of a line a terminal gives at most. It drops the rest silently.
 terminal_line=4095
+
+# How much of its input the tool reads at most: one byte more than the longest password that it takes.
+most_read=65537
 
 main() {
     if asks_for_help "$@"; then
@@ -48,7 +54,7 @@ main() {
     2:check) if [ "$2" = - ]; then check_described; else check "$2"; fi ;;
     2:tune) tune "$2" "$tuned_memory" ;;
     3:tune) tune "$2" "$3" ;;
-    *) run_program "$@" ;;
+    *) run_program argon2_program "$@" ;;
     esac
 }
 
@@ -71,10 +77,11 @@ fail() {
     exit "$1"
 }
 
-# Runs the program in place of this shell, so that signals reach it. Where it may refuse the words themselves, the
-# shell stays and says which of them looks wrong.
+# Runs a program in place of this shell, so that signals reach it: `run_program NAME WORD..`. Where it may refuse the
+# words themselves, the shell stays and says which of them looks wrong.
 run_program() {
-    prepare || exit 70
+    prepare "$1" || exit 70
+    shift
     if looks_right "$@"; then
         GLIBC_TUNABLES=${GLIBC_TUNABLES-$tunables}
         export GLIBC_TUNABLES
@@ -84,7 +91,7 @@ run_program() {
     end_with "$?" "$@"
 }
 
-# Runs the program, in huge pages where the user has not set what the C library's memory is tuned by.
+# Runs the program that was made ready, in huge pages where the user has not set what the C library's memory is tuned by.
 call() {
     GLIBC_TUNABLES=${GLIBC_TUNABLES-$tunables} "$program" "$@"
 }
@@ -122,6 +129,7 @@ end_with() {
     case $status:${1-} in
     2:verify | 2:check) hint_at_text "$2" ;;
     2:rehash) hint_at_text "$8" ;;
+    5:new) add 'such settings make a text that check does not take: it may ask for at most 2 GiB, 10 passes and 16 lanes' ;;
     3:*) name_wrong_word "$@" ;;
     esac
     exit "$status"
@@ -132,7 +140,7 @@ end_with() {
 # Whether words look like a command of the program. Only the program decides whether they are one.
 looks_right() {
     case $#:${1-} in
-    9:hash) looks_like_settings "$@" && looks_like_mode "$8" && looks_like_salt "$9" ;;
+    9:hash) looks_like_settings "$@" && looks_like_mode "$8" && is_plain "$9" ;;
     2:verify | 2:check) looks_like_text "$2" ;;
     8:rehash) looks_like_settings "$@" && looks_like_text "$8" ;;
     *) return 1 ;;
@@ -172,21 +180,6 @@ looks_like_mode() {
     max*) looks_like_number "${1#max}" ;;
     *) return 1 ;;
     esac
-}
-
-looks_like_salt() {
-    case $1 in
-    hex:*) are_bytes "${1#hex:}" ;;
-    *) is_plain "$1" ;;
-    esac
-}
-
-# Whether a word is hexadecimal digits, two for each byte.
-are_bytes() {
-    case $1 in
-    *[!0123456789ABCDEFabcdef]*) return 1 ;;
-    esac
-    [ $((${#1} % 2)) = 0 ]
 }
 
 # Whether a word has letters, digits and the signs of base64 and of texts alone. Other words may be no UTF-8.
@@ -257,7 +250,7 @@ name_wrong_number() {
     elif ! looks_like_mode "$8"; then
         add "'$8' is no mode: seq, par, or max and a number, as max4"
     else
-        name_wrong_salt "${9-}"
+        add 'the salt is not UTF-8'
     fi
 }
 
@@ -265,13 +258,6 @@ name_wrong_number() {
 is_below_2_to_32() {
     digits=${1#"${1%%[!0]*}"}
     [ "${#digits}" -lt 10 ] || { [ "${#digits}" = 10 ] && [ "$digits" -le 4294967295 ]; }
-}
-
-name_wrong_salt() {
-    case $1 in
-    hex:*) add "'$1' is no salt: behind hex: stand hexadecimal digits, two for each byte" ;;
-    *) add 'the salt is not UTF-8' ;;
-    esac
 }
 
 name_wrong_bound() {
@@ -321,10 +307,10 @@ ask() {
         || fail 4 'the password is too long for a terminal: pass it by a pipe'
 }
 
-# A word that names 16 random bytes of the system.
+# 16 random bytes of the system, in hexadecimal.
 new_salt() {
-    salt=hex:$(od -An -v -tx1 -N16 /dev/urandom | tr -dc 0123456789abcdef)
-    [ "${#salt}" = 36 ] || fail 4 'there are no random bytes'
+    salt=$(od -An -v -tx1 -N16 /dev/urandom | tr -dc 0123456789abcdef)
+    [ "${#salt}" = 32 ] || fail 4 'there are no random bytes'
 }
 
 # Passes standard input on, and says on standard error where it ends with a newline, which `echo` adds. Where it
@@ -333,11 +319,11 @@ watch_for_newline() {
     { pass_on 3>&1 | tell_of_newline; } 4>&1
 }
 
-# Passes standard input to the descriptors 3 and 4. A status of 1 is that of a failed read; a signal ends `tee` where
-# the program reads no more.
+# Passes standard input to the descriptors 3 and 4, as much as the tool reads. A status of 1 is that of a failed read; a
+# signal ends `head` and `tee` where the tool reads no more.
 pass_on() {
-    tee /dev/fd/3 >&4 2>/dev/null
-    [ $? != 1 ] || { add 'the input cannot be read' && kill -USR1 $$; }
+    { head -c "$most_read" 2>/dev/null || [ $? != 1 ] || { add 'the input cannot be read' && kill -USR1 $$; }; } \
+        | tee /dev/fd/3 >&4 2>/dev/null
 }
 
 tell_of_newline() {
@@ -347,18 +333,18 @@ tell_of_newline() {
 # Prints the text of a password: `new_text VARIANT VERSION T M P LEN MODE`. The password is typed twice, or it
 # is all of standard input where that is no terminal.
 new_text() {
-    prepare || exit 70
+    prepare argon2_tool || exit 70
     new_salt
     if [ -t 0 ]; then
         ask 'Password: '
         password=$answer
         ask 'The same once more: '
         [ "$password" = "$answer" ] || fail 1 'the two are not the same'
-        lines=$(printf '%s' "$password" | call hash "$@" "$salt") || end_with "$?" new "$@"
+        lines=$(printf '%s' "$password" | call new "$@" "$salt") || end_with "$?" new "$@"
     else
         [ -e /dev/fd/0 ] || fail 4 'there is no input'
         trap 'exit 4' USR1
-        lines=$(watch_for_newline | call hash "$@" "$salt") || end_with "$?" new "$@"
+        lines=$(watch_for_newline | call new "$@" "$salt") || end_with "$?" new "$@"
         trap - USR1
     fi
     text=${lines#*"$newline"}
@@ -369,7 +355,7 @@ new_text() {
 # Ends if a text is that of the empty password. That password comes from a command that failed, as in
 # `failing | proved-argon2 new`, and would let in anyone who types nothing.
 refuse_empty_password() {
-    call verify "$1" </dev/null >/dev/null
+    call check "$1" </dev/null >/dev/null
     case $? in
     0) fail 2 'the password is empty' ;;
     1) ;;
@@ -377,10 +363,10 @@ refuse_empty_password() {
     esac
 }
 
-# Whether a password is that of a text, with the program's lines and statuses: `check TEXT`.
+# Whether a password is that of a text, with the tool's lines and statuses: `check TEXT`.
 check() {
-    [ -t 0 ] || run_program check "$1"
-    prepare || exit 70
+    [ -t 0 ] || run_program argon2_tool check "$1"
+    prepare argon2_tool || exit 70
     ask 'Password: '
     printf '%s' "$answer" | call check "$1"
     end_with "$?" check "$1"
@@ -424,13 +410,20 @@ progress() {
     [ ! -t 2 ] || printf '\r\033[K%s' "$1" >&2
 }
 
-# Sets `took` to the milliseconds of a hash, the least of three: `measure PASSES MEMORY`.
+# Sets `took` to the milliseconds of a hash, the least of three: `measure PASSES MEMORY`. It fails where `check` would
+# not take the text.
 measure() {
     took=
     for turn in 1 2 3; do
         progress "$1 passes over $2 KiB, measurement $turn of 3"
         began=$(date +%s%N)
-        printf password | call hash argon2id 19 "$1" "$2" 1 32 seq somesalt >/dev/null || exit
+        said=$(printf password | call new argon2id 19 "$1" "$2" 1 32 seq "$tuned_salt" 2>&1 >/dev/null)
+        status=$?
+        case $status in
+        0) ;;
+        5) return 1 ;;
+        *) progress '' && printf '%s\n' "$said" >&2 && exit "$status" ;;
+        esac
         ended=$(date +%s%N)
         is_clock "$ended" || fail 4 'there is no clock of milliseconds'
         elapsed=$(((ended - began) / 1000000 + 1))
@@ -449,13 +442,13 @@ is_clock() {
 # Prints settings whose hash took no longer than this, with as many passes as were found to fit:
 # `tune MILLISECONDS KIB`.
 tune() {
-    is_number "$1" || run_program tune "$@"
-    is_number "$2" || run_program tune "$@"
+    is_number "$1" || run_program argon2_program tune "$@"
+    is_number "$2" || run_program argon2_program tune "$@"
     [ "$1" -le 60000 ] || fail 2 'tune: at most 60000 milliseconds'
     passes=$(least_passes "$2")
     [ -n "$passes" ] || fail 2 'tune: less than 7168 KiB are too little for passwords'
-    prepare || exit 70
-    measure "$passes" "$2"
+    prepare argon2_tool || exit 70
+    measure "$passes" "$2" || { progress '' && fail 5 "tune: check takes no text of $2 KiB"; }
     if [ "$took" -gt "$1" ]; then
         progress ''
         fail 1 "tune: $passes passes over $2 KiB, the least for passwords, take $took milliseconds"
@@ -466,21 +459,23 @@ tune() {
     printf 'argon2id 19 %s %s 1 32 seq\n' "$passes" "$2" || exit 4
 }
 
-# Raises `passes`, which were measured as `took`, as far as the hash takes no longer:
+# Raises `passes`, which were measured as `took`, as far as the hash takes no longer and `check` takes its text:
 # `add_passes MILLISECONDS KIB`.
 add_passes() {
     fitting=$passes
     fitting_took=$took
     guess=$((passes * $1 / took))
+    [ "$guess" -le "$most_passes" ] || guess=$most_passes
     while [ "$guess" -gt "$fitting" ]; do
-        measure "$guess" "$2"
-        if [ "$took" -le "$1" ]; then
-            fitting=$guess
-            fitting_took=$took
-            break
+        closer=$((guess - 1))
+        if measure "$guess" "$2"; then
+            if [ "$took" -le "$1" ]; then
+                fitting=$guess
+                fitting_took=$took
+                break
+            fi
+            [ $((guess * $1 / took)) -ge "$guess" ] || closer=$((guess * $1 / took))
         fi
-        closer=$((guess * $1 / took))
-        [ "$closer" -lt "$guess" ] || closer=$((guess - 1))
         guess=$closer
     done
     passes=$fitting

@@ -31,7 +31,9 @@ lib/pkgconfig/proved_argon2.pc
 libexec/proved-argon2/commands.sh
 libexec/proved-argon2/help.txt
 libexec/proved-argon2/x86-64-v2/argon2_program
+libexec/proved-argon2/x86-64-v2/argon2_tool
 libexec/proved-argon2/x86-64-v3/argon2_program
+libexec/proved-argon2/x86-64-v3/argon2_tool
 share/bash-completion/completions/proved-argon2
 share/doc/proved-argon2/LICENSE
 share/doc/proved-argon2/NOTICE

@@ -13,6 +13,7 @@ import tempfile
 import traceback
 
 PROGRAM, *COMMAND = sys.argv[1:]
+TOOL = str(pathlib.Path(PROGRAM).with_name("argon2_tool"))
 ROOT = pathlib.Path(__file__).resolve().parents[2]
 VERSION = (ROOT / "VERSION").read_text().strip()
 SMALL = "argon2id 19 1 8 1 16 seq".split()

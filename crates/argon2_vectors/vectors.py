@@ -6,7 +6,7 @@ usage: vectors.py [--check]
 The questions are those of rows.txt, each a line with its answer behind a tab; those that are made here
 from BLAKE2b of hashlib and from rfc9106.py; and those of bindings/vectors. Its raw.txt has a line for each
 tag: variant, version, t, m, p, tag length, password, salt, secret and associated data (the last four in
-hexadecimal, - for empty), with single blanks between them, and behind the tenth blank the answer; the program is
+hexadecimal, - for empty), with single blanks between them, and behind the tenth blank the answer; the tool is
 asked too where the salt is no text. Its texts.txt has an encoded text, a tab, and the verdict on it for the
 password `password`. Nothing here runs the library. With --check it writes nothing and fails where a file is another.
 """
@@ -109,15 +109,18 @@ def tags():
 
 
 def runs():
-    """Runs of the program with a salt that no other word names, its digits in lower and in upper case in turn."""
+    """Runs of the tool with a salt that is no text, its digits in lower and in upper case in turn."""
     count = 0
     for line in lines_of(OUTSIDE / "raw.txt"):
         variant, version, time, memory, lanes, length, password, salt, secret, data, answer = line.split(" ", 10)
         if secret == data == "-" and salt != "-" and not is_text(bytes.fromhex(salt)):
             count += 1
             digits = salt.upper() if count % 2 else salt
-            words = f"hash {variant} {version} {time} {memory} {lanes} {length} seq hex:{digits}"
-            yield f"run {password} {words}", told(variant, version, memory, time, lanes, salt, answer)
+            words = f"new {variant} {version} {time} {memory} {lanes} {length} seq {digits}"
+            if int(time) > 10 or int(memory) > 2097152 or int(lanes) > 16:
+                yield f"tool {password} {words}", '5 "" "The text is above the limits\\n"'
+                continue
+            yield f"tool {password} {words}", told(variant, version, memory, time, lanes, salt, answer)
 
 
 def is_text(salt):

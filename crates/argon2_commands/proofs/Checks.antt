@@ -1,8 +1,7 @@
 -- Texts that are too costly to check.
-use Rattle.std.proofs.Common.{◌≡◌, ◌⊎◌, ℕ, Bool, true, false, [], List, length, Option, Result, Ok, Err, Bor, ap, arith, inl, inr, refl, subst, sym, ◌∙◌}
+use Rattle.std.proofs.Common.{◌≡◌, ℕ, Bool, true, false, [], List, Option, Result, Ok, Err, Bor, ap, arith, inl, inr, refl, subst, sym, ◌∙◌}
 use Rattle.argon2.specs.ConfigType.{Config}
 use Rattle.argon2.specs.ErrorType.{Error}
-use Rattle.argon2.specs.ErrorType.TheVariants.{OutOfMemory}
 use Rattle.argon2.specs.Standard.Limits.{AnswersWithin, is_too_costly}
 use Rattle.argon2.specs.Stored.{IsStoredConfig}
 use Rattle.argon2.specs.Text.{Spelled}
@@ -10,14 +9,16 @@ use Rattle.argon2.specs.ThreadModeType.TheVariants.{Sequential}
 use Rattle.argon2.specs.Views.Limits.{default_limits}
 use Rattle.argon2.specs.declared.limits.Unverified.{Unverified}
 use Rattle.argon2.specs.declared.limits.Unverified.TheVariants as unverified
-use Rattle.argon2_commands.specs.Answer.{ChecksTooCostly, CheckAnswers, IsAnswer, IsPassword, IsTooCostly, MayFail}
+use Rattle.argon2_commands.specs.Answer.{AsksTooMuch, CheckAnswers, IsAnswer, IsShortPassword, IsTooCostly, MayFail, NewFails, RefusesLong, is_above_limits}
 use Rattle.argon2_commands.specs.Fault.{fault_of}
-use Rattle.argon2_commands.specs.Run.{AreTooCostly}
-use Rattle.argon2_commands.specs.Words.{IsCommand, IsNoCommand}
+use Rattle.argon2_commands.specs.Run.{AreTooCostly, MayPrecede}
+use Rattle.argon2_commands.specs.Words.{AreSettings, IsCheck, IsCommand, IsNew, IsNumber, word}
 use Rattle.argon2_commands.specs.declared.answer.Answer.{Answer}
 use Rattle.argon2_commands.specs.declared.answer.Answer.TheVariants.{Hashed, Verdict}
 use Rattle.argon2_commands.specs.declared.command.Command.{Command}
-use Rattle.argon2_commands.specs.declared.command.Command.TheVariants.{Hash, Verify, Check, Rehash}
+use Rattle.argon2_commands.specs.declared.command.Command.TheVariants.{Hash, Verify, Rehash, New, Check}
+use Rattle.argon2_commands.specs.declared.command.Program.{Program}
+use Rattle.argon2_commands.specs.declared.command.Program.TheVariants.{Argon2, Tool}
 use Rattle.argon2_commands.specs.declared.fault.Fault.{Fault}
 use Rattle.argon2_commands.specs.declared.fault.Fault.TheVariants.{Usage, Input, Refused, TooCostly, Output, OutputShort}
 
@@ -69,59 +70,112 @@ no_other_answer encoded password result costly h other =
 -- ---- commands
 
 -- why a text was not verified is a fault of the command that checks it
-pub check_fault : (encoded : Bor (List ℕ)) (input : Option (List ℕ)) (password : List ℕ) (why : Unverified) → IsPassword input password
+pub check_fault : (encoded : Bor (List ℕ)) (input : Option (List ℕ)) (password : List ℕ) (why : Unverified) → IsShortPassword input password
     → CheckAnswers encoded.now password (Err why) → MayFail (Check encoded) input (fault_of why)
 check_fault encoded input password unverified.TooCostly is h = is_too_costly_text encoded password h
 check_fault encoded input password (unverified.Refused refusal) is h = inr (password, is, h)
 
--- a text above the limits is that of the words
-pub is_costly : (words : List (List ℕ)) (input : Option (List ℕ)) (command : Command) (fault : Fault) → IsCommand words command
-    → MayFail command input fault → fault ≡ TooCostly → AreTooCostly words
-is_costly words input (Hash config salt) fault is may costly = absurd (subst (MayFail (Hash config salt) input) costly may)
-is_costly words input (Verify encoded) fault is may costly = absurd (subst (MayFail (Verify encoded) input) costly may)
-is_costly words input (Check encoded) fault is may costly =
-    record { encoded = encoded.now; is_check = is; is_costly = subst (MayFail (Check encoded) input) costly may }
-is_costly words input (Rehash config encoded) fault is may costly = absurd (subst (MayFail (Rehash config encoded) input) costly may)
+-- and why no hash was made is one of the command that makes it
+pub new_fault : (config : Config) (salt : List ℕ) (input : Option (List ℕ)) (password : List ℕ) (fault : Fault) → IsShortPassword input password
+    → NewFails config salt password fault → MayFail (New config salt) input fault
+new_fault config salt input password TooCostly is h = h
+new_fault config salt input password (Refused refusal) is h = inr (password, is, h)
+new_fault config salt input password Usage is h = absurd h
+new_fault config salt input password Input is h = absurd h
+new_fault config salt input password Output is h = absurd h
+new_fault config salt input password OutputShort is h = absurd h
 
--- the words to check a text above the limits are those of no other command
-checks : (words : List (List ℕ)) (command : Command) → AreTooCostly words → IsCommand words command → ChecksTooCostly command
-checks words (Hash config salt) costly is = let one = costly.is_check.count in let other = is.count in absurd (omega (arith, one, other))
-checks words (Verify encoded) costly is = let e = ap length (sym costly.is_check.name ∙ is.name) in absurd (cc)
-checks words (Check encoded) costly is = subst IsTooCostly (costly.is_check.text ∙ sym is.text) costly.is_costly
-checks words (Rehash config encoded) costly is = let one = costly.is_check.count in let other = is.count in absurd (omega (arith, one, other))
+-- words that ask for too much are those of the command
+pub is_costly : (program : Program) (words : List (List ℕ)) (input : Option (List ℕ)) (command : Command) (fault : Fault)
+    → IsCommand program words command → MayFail command input fault → fault ≡ TooCostly → AreTooCostly program words
+is_costly program words input command fault is may costly =
+    record { command = command; is_command = is; asks_too_much = subst (MayFail command input) costly may }
+
+-- no words of `argon2` ask for too much
+pub nothing_costly : {A : Type 0} (words : List (List ℕ)) → AreTooCostly Argon2 words → A
+nothing_costly words costly = none costly.command costly.is_command costly.asks_too_much where
+  none : {A : Type 0} (command : Command) → IsCommand Argon2 words command → AsksTooMuch command → A
+  none (Hash config salt) is costly = absurd costly
+  none (Verify encoded) is costly = absurd costly
+  none (Rehash config encoded) is costly = absurd costly
+  none (New config salt) is costly = absurd is
+  none (Check encoded) is costly = absurd is
+
+-- two settings of the same words ask for the same
+same_number : (word : List ℕ) (one other : ℕ) → IsNumber word one → IsNumber word other → one ≡ other
+same_number word one other is also = sym is.1 ∙ also.1
+
+same_costs : (words : List (List ℕ)) (one other : Config) → AreSettings words one → AreSettings words other
+    → is_above_limits one ≡ is_above_limits other
+same_costs words one other is also =
+    let memory = same_number (word words 4) one.mem_cost other.mem_cost is.mem_cost also.mem_cost in
+    let time = same_number (word words 3) one.time_cost other.time_cost is.time_cost also.time_cost in
+    let lanes = same_number (word words 5) one.lanes other.lanes is.lanes also.lanes in
+    rw (memory, time, lanes) refl
+
+-- words of the tool that ask for too much do so whichever command they are taken for
+other_new : (words : List (List ℕ)) (config : Config) (salt : List ℕ) (other : Command) → IsNew words config salt → is_above_limits config ≡ true
+    → IsCommand Tool words other → AsksTooMuch other
+other_new words config salt (Hash config' salt') is costly also = absurd also
+other_new words config salt (Verify encoded) is costly also = absurd also
+other_new words config salt (Rehash config' encoded) is costly also = absurd also
+other_new words config salt (New config' salt') is costly also = sym (same_costs words config config' is.settings also.settings) ∙ costly
+other_new words config salt (Check encoded) is costly also = let one = is.count in let two = also.count in absurd (omega (arith, one, two))
+
+other_check : (words : List (List ℕ)) (encoded : List ℕ) (other : Command) → IsCheck words encoded → IsTooCostly encoded
+    → IsCommand Tool words other → AsksTooMuch other
+other_check words encoded (Hash config salt) is costly also = absurd also
+other_check words encoded (Verify encoded') is costly also = absurd also
+other_check words encoded (Rehash config encoded') is costly also = absurd also
+other_check words encoded (New config salt) is costly also = let one = is.count in let two = also.count in absurd (omega (arith, one, two))
+other_check words encoded (Check encoded') is costly also = subst IsTooCostly (is.text ∙ sym also.text) costly
+
+of_tool : (words : List (List ℕ)) (one other : Command) → IsCommand Tool words one → AsksTooMuch one → IsCommand Tool words other → AsksTooMuch other
+of_tool words (Hash config salt) other is costly also = absurd is
+of_tool words (Verify encoded) other is costly also = absurd is
+of_tool words (Rehash config encoded) other is costly also = absurd is
+of_tool words (New config salt) other is costly also = other_new words config salt other is costly also
+of_tool words (Check encoded) other is costly also = other_check words encoded.now other is costly also
+
+asks : (program : Program) (words : List (List ℕ)) (command : Command) → AreTooCostly program words → IsCommand program words command
+    → AsksTooMuch command
+asks Argon2 words command costly is = nothing_costly words costly
+asks Tool words command costly is = of_tool words costly.command command costly.is_command costly.asks_too_much is
 
 -- such a command has no answer
-unanswered : {A : Type 0} (command : Command) (input : Option (List ℕ)) (answer : Answer) → ChecksTooCostly command → IsAnswer command input answer → A
+unanswered : {A : Type 0} (command : Command) (input : Option (List ℕ)) (answer : Answer) → AsksTooMuch command → IsAnswer command input answer → A
 unanswered (Hash config salt) input answer costly is = absurd costly
 unanswered (Verify encoded) input answer costly is = absurd costly
+unanswered (Rehash config encoded) input answer costly is = absurd costly
+unanswered (New config salt) input (Hashed lines) costly is = let within = is.2.within in absurd (cc (costly, within))
+unanswered (New config salt) input (Verdict verdict) costly is = absurd is
 unanswered (Check encoded) input (Hashed lines) costly is = absurd is
 unanswered (Check encoded) input (Verdict verdict) costly is = no_other_answer encoded is.0 (Ok verdict) costly is.2 (λ e. cc (e))
-unanswered (Rehash config encoded) input answer costly is = absurd costly
 
-pub no_answer : {A : Type 0} (words : List (List ℕ)) (input : Option (List ℕ)) (command : Command) (answer : Answer) → IsCommand words command
-    → IsAnswer command input answer → AreTooCostly words → A
-no_answer words input command answer is answers costly = unanswered command input answer (checks words command costly is) answers
+pub no_answer : {A : Type 0} (program : Program) (words : List (List ℕ)) (input : Option (List ℕ)) (command : Command) (answer : Answer)
+    → IsCommand program words command → IsAnswer command input answer → AreTooCostly program words → A
+no_answer program words input command answer is answers costly = unanswered command input answer (asks program words command costly is) answers
 
 -- and it fails for that reason, unless the password cannot be read
-fails_so : (command : Command) (input : Option (List ℕ)) (fault : Fault) → ChecksTooCostly command → MayFail command input fault
-    → (fault ≡ TooCostly) ⊎ ((fault ≡ Input) ⊎ (fault ≡ Refused OutOfMemory))
+long_fault : (input : Option (List ℕ)) (refusal : Error) → RefusesLong input refusal → MayPrecede (Refused refusal)
+long_fault input refusal (inl short) = inr (inr (inl (ap Refused short)))
+long_fault input refusal (inr long) = inr (inr (inr (ap Refused long.0)))
+
+fails_so : (command : Command) (input : Option (List ℕ)) (fault : Fault) → AsksTooMuch command → MayFail command input fault → MayPrecede fault
 fails_so (Hash config salt) input fault costly may = absurd costly
 fails_so (Verify encoded) input fault costly may = absurd costly
-fails_so (Check encoded) input TooCostly costly may = inl refl
-fails_so (Check encoded) input Input costly may = inr (inl refl)
-fails_so (Check encoded) input (Refused refusal) costly (inl short) = inr (inr (ap Refused short))
+fails_so (Rehash config encoded) input fault costly may = absurd costly
+fails_so command input TooCostly costly may = inl refl
+fails_so command input Input costly may = inr (inl refl)
+fails_so (New config salt) input (Refused refusal) costly (inl long) = long_fault input refusal long
+fails_so (New config salt) input (Refused refusal) costly (inr (password, is, h)) = let within = h.0 in absurd (cc (costly, within))
+fails_so (Check encoded) input (Refused refusal) costly (inl long) = long_fault input refusal long
 fails_so (Check encoded) input (Refused refusal) costly (inr (password, is, h)) =
     no_other_answer encoded password (Err (unverified.Refused refusal)) costly h (λ e. cc (e))
-fails_so (Check encoded) input Usage costly may = absurd may
-fails_so (Check encoded) input Output costly may = absurd may
-fails_so (Check encoded) input OutputShort costly may = absurd may
-fails_so (Rehash config encoded) input fault costly may = absurd costly
+fails_so command input Usage costly may = absurd may
+fails_so command input Output costly may = absurd may
+fails_so command input OutputShort costly may = absurd may
 
-pub fails_costly : (words : List (List ℕ)) (input : Option (List ℕ)) (command : Command) (fault : Fault) → IsCommand words command
-    → MayFail command input fault → AreTooCostly words → (fault ≡ TooCostly) ⊎ ((fault ≡ Input) ⊎ (fault ≡ Refused OutOfMemory))
-fails_costly words input command fault is may costly = fails_so command input fault (checks words command costly is) may
-
--- words to check a text are those of a command; any reference has a place for its text
-pub no_command_costly : {A B : Type 0} (some : Bor B) (words : List (List ℕ)) → IsNoCommand words → AreTooCostly words → A
-no_command_costly some words none costly =
-    absurd (none (Check (record { ref_ptr = some.ref_ptr; now = costly.encoded })) costly.is_check)
+pub fails_costly : (program : Program) (words : List (List ℕ)) (input : Option (List ℕ)) (command : Command) (fault : Fault)
+    → IsCommand program words command → MayFail command input fault → AreTooCostly program words → MayPrecede fault
+fails_costly program words input command fault is may costly = fails_so command input fault (asks program words command costly is) may

@@ -1,7 +1,8 @@
 -- Texts that are pairs of hexadecimal digits.
-use Rattle.std.proofs.Common.{◌≡◌, ◌<◌, ◌%◌, ℕ, List, length, slice_index_or, false, Result, Ok, Err, inl, inr, refl, sym, ◌∙◌, ap, arith, nat_eq, is_ok}
+use Rattle.std.proofs.Common.{◌≡◌, ◌<◌, ◌%◌, ℕ, List, length, slice_index_or, false, Some, Result, Ok, Err, inl, inr, refl, sym, ◌∙◌, ap, arith, nat_eq, is_ok}
 use Rattle.std.specs.Char.{is_ascii_hexdigit}
 use Rattle.std.specs.List.{AllPass}
+use Rattle.std.specs.Result.{result_ok}
 use Rattle.std.proofs.lemmas.Bool.{cases_eq}
 use Rattle.std.proofs.lemmas.Bool.Decides.{nat_tests}
 use Rattle.hex.specs.Hex.{decode_of, is_hex_digit}
@@ -22,6 +23,14 @@ pub no_pairs : (text : List ℕ) (place : ℕ) → place < length text → is_as
     → false ≡ is_ok (decode_of text)
 no_pairs text place within other =
     other_letter text place (decode_of text) refl within (sym (same_test (slice_index_or text place 0)) ∙ other)
+
+-- what the digits of a word name is what its text decodes to
+of_result : {E : Type 0} (read : Result (List ℕ) E) (bytes : List ℕ) → result_ok read ≡ Some bytes → read ≡ Ok bytes
+of_result (Ok other) bytes some = let same : other ≡ bytes = cc in ap Ok same
+of_result (Err fault) bytes some = absurd (cc)
+
+pub decoded : (word text bytes : List ℕ) → result_ok (decode_of text) ≡ Some bytes → word ≡ text → decode_of word ≡ Ok bytes
+decoded word text bytes some same = rw same (of_result _ bytes some)
 
 -- a text of digits alone decodes exactly where it has an even number of them
 pub pairs : (text : List ℕ) → AllPass is_hex_digit text → nat_eq (length text % 2) 0 ≡ is_ok (decode_of text)

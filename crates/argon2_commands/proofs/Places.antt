@@ -7,8 +7,9 @@ use Rattle.std.specs.declared.alloc.Global.{Global}
 use Rattle.std.specs.declared.string.String.{String}
 use Rattle.std.proofs.lemmas.List.{get_or-map}
 use Rattle.argon2.specs.ConfigType.{Config}
-use Rattle.argon2_commands.specs.Words.{IsHash, IsNoCommand, IsNumber, IsRehash, texts_of, word}
-use Rattle.argon2_commands.specs.declared.command.Command.TheVariants.{Hash, Verify, Check, Rehash}
+use Rattle.argon2_commands.specs.Words.{IsHash, IsNew, IsNoCommand, IsNumber, IsRehash, texts_of, word}
+use Rattle.argon2_commands.specs.declared.command.Command.TheVariants.{Hash, Verify, Rehash, New, Check}
+use Rattle.argon2_commands.specs.declared.command.Program.TheVariants.{Argon2, Tool}
 
 -- the text of a word is the word at its place
 pub word-texts_of : (words : List (String Global)) (place : ℕ) (s : String Global) (text : List ℕ) → place < length words
@@ -35,16 +36,28 @@ value_of P Q (Ok other) value e m = let same : other ≡ value = cc in subst P s
 value_of P Q (Err e') value e m = absurd (cc)
 
 -- nine words that are no hash are no command
-pub no_hash : (words : List (List ℕ)) → length words ≡ 9 → ((config : Config) (salt : List ℕ) → IsHash words config salt → ⊥) → IsNoCommand words
-no_hash words nine none (Hash config salt) is = none config salt is
+pub no_hash : (words : List (List ℕ)) → length words ≡ 9 → ((config : Config) (salt : List ℕ) → IsHash words config salt → ⊥)
+    → IsNoCommand Argon2 words
+no_hash words nine none (Hash config salt) is = none config salt.now is
 no_hash words nine none (Verify encoded) is = omega (arith, nine, is.count)
-no_hash words nine none (Check encoded) is = omega (arith, nine, is.count)
 no_hash words nine none (Rehash config encoded) is = omega (arith, nine, is.count)
+no_hash words nine none (New config salt) is = is
+no_hash words nine none (Check encoded) is = is
 
 -- and eight that are no rehash
 pub no_rehash : (words : List (List ℕ)) → length words ≡ 8 → ((config : Config) (encoded : List ℕ) → IsRehash words config encoded → ⊥)
-    → IsNoCommand words
+    → IsNoCommand Argon2 words
 no_rehash words eight none (Hash config salt) is = omega (arith, eight, is.count)
 no_rehash words eight none (Verify encoded) is = omega (arith, eight, is.count)
-no_rehash words eight none (Check encoded) is = omega (arith, eight, is.count)
 no_rehash words eight none (Rehash config encoded) is = none config encoded.now is
+no_rehash words eight none (New config salt) is = is
+no_rehash words eight none (Check encoded) is = is
+
+-- nine words that are no new hash are no command of the tool
+pub no_new : (words : List (List ℕ)) → length words ≡ 9 → ((config : Config) (salt : List ℕ) → IsNew words config salt → ⊥)
+    → IsNoCommand Tool words
+no_new words nine none (Hash config salt) is = is
+no_new words nine none (Verify encoded) is = is
+no_new words nine none (Rehash config encoded) is = is
+no_new words nine none (New config salt) is = none config salt is
+no_new words nine none (Check encoded) is = omega (arith, nine, is.count)

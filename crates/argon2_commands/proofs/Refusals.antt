@@ -11,6 +11,7 @@ use Rattle.argon2_commands.specs.Answer.{MayFail, MayRefuse}
 use Rattle.argon2_commands.specs.Run.{IsRefused}
 use Rattle.argon2_commands.specs.Words.{IsCommand}
 use Rattle.argon2_commands.specs.declared.command.Command.{Command}
+use Rattle.argon2_commands.specs.declared.command.Program.{Program}
 
 -- what holds of a fault that is passed on
 pub passed_on : {A E : Type 0} (result : Result A E) (fault : E) (P : E → Type 0) →
@@ -35,9 +36,9 @@ read_fault fault command input (inl failed) may = subst (MayFail command input) 
 read_fault fault command input (inr short) may = subst (MayFail command input) (sym short) may
 
 -- a refusal among the faults of a command's answer is the command's
-pub is_refused : (words : List (List ℕ)) (input : Option (List ℕ)) (command : Command) (fault : Fault) → IsCommand words command
-    → MayFail command input fault → (refusal : Error) → fault ≡ Refused refusal → IsRefused words input refusal
-is_refused words input command fault is may refusal refused =
+pub is_refused : (program : Program) (words : List (List ℕ)) (input : Option (List ℕ)) (command : Command) (fault : Fault) → IsCommand program words command
+    → MayFail command input fault → (refusal : Error) → fault ≡ Refused refusal → IsRefused program words input refusal
+is_refused program words input command fault is may refusal refused =
     record { command = command; is_command = is; may_refuse = subst (MayFail command input) refused may }
 
 -- and none of them is the output's

@@ -4,8 +4,11 @@ use Rattle.std.specs.Io.KnownBytes.{Keeps}
 use Rattle.argon2.specs.ErrorType.{Error}
 use Rattle.argon2_commands.specs.Answer.{answer_status}
 use Rattle.argon2_commands.specs.Fault.{IsBeforeOutput, fault_status}
-use Rattle.argon2_commands.specs.Run.{Answered, HasAnswer, IsRefused, IsShortOrRefused}
+use Rattle.argon2_commands.specs.Run.{Answered, AreTooCostly, HasAnswer, IsRefused, IsShortOrRefused, statuses_of}
 use Rattle.argon2_commands.specs.Words.{IsNoCommand}
+use Rattle.argon2_commands.proofs.Checks.{nothing_costly}
+use Rattle.argon2_commands.specs.declared.command.Program.{Program}
+use Rattle.argon2_commands.specs.declared.command.Program.TheVariants.{Argon2, Tool}
 use Rattle.argon2_commands.specs.declared.answer.Answer.{Answer}
 use Rattle.argon2_commands.specs.declared.answer.Answer.TheVariants.{Hashed, Verdict}
 use Rattle.argon2_commands.specs.declared.fault.Fault.{Fault}
@@ -13,14 +16,25 @@ use Rattle.argon2_commands.specs.declared.fault.Fault.TheVariants.{Usage, Input,
 
 -- ---- faults
 
--- the status of a fault is 2, 3, 4 or 5
-pub fault_bounded : (fault : Fault) (status : ℕ) → status ≡ fault_status fault → status < 6
-fault_bounded (Refused refusal) status e = omega arith
-fault_bounded Usage status e = omega arith
-fault_bounded Input status e = omega arith
-fault_bounded TooCostly status e = omega arith
-fault_bounded Output status e = omega arith
-fault_bounded OutputShort status e = omega arith
+-- the statuses of both programs begin with 0 to 4
+below_five : (program : Program) (status : ℕ) → status < 5 → status < statuses_of program
+below_five Argon2 status low = low
+below_five Tool status low = omega (arith, low)
+
+-- and 5 is one where a program's words can ask for too much
+five : (program : Program) (words : List (List ℕ)) (status : ℕ) → AreTooCostly program words → status ≡ 5 → status < statuses_of program
+five Argon2 words status costly e = nothing_costly words costly
+five Tool words status costly e = omega (arith, e)
+
+-- the status of a fault is 2, 3, 4 or, of such words, 5
+pub fault_bounded : (program : Program) (words : List (List ℕ)) (fault : Fault) (status : ℕ) → status ≡ fault_status fault
+    → (fault ≡ TooCostly → AreTooCostly program words) → status < statuses_of program
+fault_bounded program words (Refused refusal) status e costly = below_five program status (omega (arith, e))
+fault_bounded program words Usage status e costly = below_five program status (omega (arith, e))
+fault_bounded program words Input status e costly = below_five program status (omega (arith, e))
+fault_bounded program words TooCostly status e costly = five program words status (costly refl) e
+fault_bounded program words Output status e costly = below_five program status (omega (arith, e))
+fault_bounded program words OutputShort status e costly = below_five program status (omega (arith, e))
 
 pub fault_above : (fault : Fault) (status : ℕ) → status ≡ fault_status fault → 1 < status
 fault_above (Refused refusal) status e = omega arith
@@ -57,15 +71,15 @@ at_five Output status e five = absurd (omega arith)
 at_five OutputShort status e five = absurd (omega arith)
 
 -- 2 is that of a refusal, before anything was written, and of an output that lacked memory
-pub at_two : (fault : Fault) (status : ℕ) (words : List (List ℕ)) (input before after : Option (List ℕ)) → status ≡ fault_status fault →
-    ((refusal : Error) → fault ≡ Refused refusal → IsRefused words input refusal) → (fault ≡ OutputShort → HasAnswer words input) →
-    (IsBeforeOutput fault → Keeps before after) → status ≡ 2 → IsShortOrRefused words input before after
-at_two (Refused refusal) status words input before after e refused short kept two = inl ((refusal, refused refusal refl), kept tt)
-at_two Usage status words input before after e refused short kept two = absurd (omega arith)
-at_two Input status words input before after e refused short kept two = absurd (omega arith)
-at_two TooCostly status words input before after e refused short kept two = absurd (omega arith)
-at_two Output status words input before after e refused short kept two = absurd (omega arith)
-at_two OutputShort status words input before after e refused short kept two = inr (short refl)
+pub at_two : (program : Program) (fault : Fault) (status : ℕ) (words : List (List ℕ)) (input before after : Option (List ℕ)) → status ≡ fault_status fault →
+    ((refusal : Error) → fault ≡ Refused refusal → IsRefused program words input refusal) → (fault ≡ OutputShort → HasAnswer program words input) →
+    (IsBeforeOutput fault → Keeps before after) → status ≡ 2 → IsShortOrRefused program words input before after
+at_two program (Refused refusal) status words input before after e refused short kept two = inl ((refusal, refused refusal refl), kept tt)
+at_two program Usage status words input before after e refused short kept two = absurd (omega arith)
+at_two program Input status words input before after e refused short kept two = absurd (omega arith)
+at_two program TooCostly status words input before after e refused short kept two = absurd (omega arith)
+at_two program Output status words input before after e refused short kept two = absurd (omega arith)
+at_two program OutputShort status words input before after e refused short kept two = inr (short refl)
 
 -- so what is known of that fault is known of the status
 pub usage_status : (fault : Fault) (status : ℕ) (P : Type 0) → status ≡ fault_status fault →
@@ -83,18 +97,18 @@ answer_below (Hashed lines) = omega arith
 answer_below (Verdict true) = omega arith
 answer_below (Verdict false) = omega arith
 
-module _ {words : List (List ℕ)} {input before after : Option (List ℕ)} {status : ℕ} where
+module _ {program : Program} {words : List (List ℕ)} {input before after : Option (List ℕ)} {status : ℕ} where
   -- so is that of a run that answers
-  answered_below : Answered words input before after status → status < 2
+  answered_below : Answered program words input before after status → status < 2
   answered_below h = subst (λ n. n < 2) (sym h.is_status) (answer_below h.answer)
 
-  pub answered_bounded : Answered words input before after status → status < 6
-  answered_bounded h = let below = answered_below h in omega arith
+  pub answered_bounded : Answered program words input before after status → status < statuses_of program
+  answered_bounded h = let below = answered_below h in below_five program status (omega (arith, below))
 
   -- and no other
-  pub answered_not : {A : Type 0} (other : ℕ) → 2 ≤ other → Answered words input before after status → status ≡ other → A
+  pub answered_not : {A : Type 0} (other : ℕ) → 2 ≤ other → Answered program words input before after status → status ≡ other → A
   answered_not other high h same = let below = answered_below h in absurd (omega (arith, below, high, same))
 
   -- the words of a run that answers are those of a command
-  pub answered_usage : Answered words input before after status → (status ≡ 3) ↔ IsNoCommand words
+  pub answered_usage : Answered program words input before after status → (status ≡ 3) ↔ IsNoCommand program words
   answered_usage h = (answered_not 3 (omega arith) h, λ none. absurd (none h.command h.is_command))

@@ -1,19 +1,20 @@
 -- What a command answers.
-use Rattle.std.specs.Prelude.{◌≡◌, ◌↔◌, ◌⊎◌, ℕ, true, false, List, [], ◌++◌, codes, length, nat_lt, string_bytes, Bool, IsTrue, Option, IfSome}
+use Rattle.std.specs.Prelude.{◌≡◌, ◌↔◌, ◌⊎◌, ◌<◌, ◌≤◌, ◌+◌, ℕ, true, false, List, [], ◌++◌, codes, length, nat_lt, string_bytes, Bool, IsTrue, Option, IfSome}
 use Rattle.std.specs.Prelude.{IsNone, MatchOption, MatchResult, Result, Ok, Err, ⊤}
+use Rattle.std.specs.Io.KnownBytes.{Consumes}
 use Rattle.hex.specs.Hex.{encode_lower}
 use Rattle.argon2.specs.Outcome.{IsShortage}
 use Rattle.argon2.specs.ThreadModes.{may_lack_workers}
 use Rattle.argon2.specs.Grammar.{Spells, SpellsNothing}
 use Rattle.argon2.specs.Stored.{Differs}
-use Rattle.argon2.specs.SettingsTable.{refusal_of}
+use Rattle.argon2.specs.SettingsTable.{max_length, refusal_of}
 use Rattle.argon2.specs.Stored.{IsStoredConfig}
 use Rattle.argon2.specs.Tag.{tag_of}
 use Rattle.argon2.specs.Text.{Spelled, spelled_of, text_of}
 use Rattle.argon2.specs.Outcome.{IsVerdict}
 use Rattle.argon2.specs.ConfigType.{Config}
 use Rattle.argon2.specs.ErrorType.{Error}
-use Rattle.argon2.specs.ErrorType.TheVariants.{DecodingFail, OutOfMemory}
+use Rattle.argon2.specs.ErrorType.TheVariants.{DecodingFail, OutOfMemory, PwdTooLong}
 use Rattle.argon2.specs.Standard.Limits.{AnswersWithin, is_too_costly}
 use Rattle.argon2.specs.Views.Limits.{default_limits}
 use Rattle.argon2.specs.declared.limits.Unverified.{Unverified}
@@ -21,7 +22,7 @@ use Rattle.argon2.specs.declared.limits.Unverified.TheVariants.{Refused}
 use Rattle.argon2_commands.specs.declared.answer.Answer.{Answer}
 use Rattle.argon2_commands.specs.declared.answer.Answer.TheVariants.{Hashed, Verdict}
 use Rattle.argon2_commands.specs.declared.command.Command.{Command}
-use Rattle.argon2_commands.specs.declared.command.Command.TheVariants.{Hash, Verify, Check, Rehash}
+use Rattle.argon2_commands.specs.declared.command.Command.TheVariants.{Hash, Verify, Rehash, New, Check}
 use Rattle.argon2_commands.specs.declared.fault.Fault.{Fault}
 use Rattle.argon2_commands.specs.declared.fault.Fault.TheVariants.{Usage, Input, Refused as RefusedFault, TooCostly as TooCostlyFault, Output, OutputShort}
 
@@ -63,29 +64,53 @@ pub record RehashAnswers (encoded : List ℕ) (config : Config) (result : Result
   pub spelled : (d : Spelled) → Spells encoded d →
       MatchResult result (λ differs. IsTrue differs ↔ Differs d config) (λ e. e ≡ OutOfMemory)
 
+-- the longest password that `new` and `check` take, in bytes
+abbrev pub longest_password : ℕ
+longest_password = 65536
+
 -- the password is what the input held, where its bytes are known
 abbrev pub IsPassword : Option (List ℕ) → List ℕ → Type 0
 IsPassword input password = IfSome input (λ bytes. password ≡ bytes)
+
+-- and `new` and `check` take it
+abbrev pub IsShortPassword : Option (List ℕ) → List ℕ → Type 0
+IsShortPassword input password = IsPassword input password × (length password ≤ longest_password)
+
+-- the input holds more than they take
+abbrev pub IsTooLong : Option (List ℕ) → Type 0
+IsTooLong input = IfSome input (λ bytes. longest_password < length bytes)
 
 -- the settings were accepted for the password, and the lines are those of its tag
 pub record HashAnswers (config : Config) (salt password lines : List ℕ) : Type 0 where
   pub accepted : IsNone (refusal_of config (length password) (length salt) config.hash_length)
   pub written : lines ≡ hash_lines config salt password
 
--- the answer fits the command: of `hash` the lines for the password that was read, whose settings were
+-- the text of a hash with these settings is above a default limit
+abbrev pub is_above_limits : Config → Bool
+is_above_limits config = is_too_costly default_limits (spelled_of config [] [])
+
+-- what `new` writes: the lines of a hash whose text is within the limits
+pub record NewAnswers (config : Config) (salt password lines : List ℕ) : Type 0 where
+  pub within : is_above_limits config ≡ false
+  pub hashed : HashAnswers config salt password lines
+
+-- the answer fits the command: of `hash` and `new` the lines for the password that was read, whose settings were
 -- accepted; of the others the verdict
 abbrev pub IsAnswer : Command → Option (List ℕ) → Answer → Type 0
 IsAnswer (Hash config salt) input (Hashed lines) =
-    (password : List ℕ) × IsPassword input password × HashAnswers config salt password (string_bytes lines)
+    (password : List ℕ) × IsPassword input password × HashAnswers config salt.now password (string_bytes lines)
 IsAnswer (Hash config salt) input (Verdict verdict) = ⊥
 IsAnswer (Verify encoded) input (Hashed lines) = ⊥
 IsAnswer (Verify encoded) input (Verdict verdict) =
     (password : List ℕ) × IsPassword input password × VerifyAnswers encoded.now password (Ok verdict)
-IsAnswer (Check encoded) input (Hashed lines) = ⊥
-IsAnswer (Check encoded) input (Verdict verdict) =
-    (password : List ℕ) × IsPassword input password × CheckAnswers encoded.now password (Ok verdict)
 IsAnswer (Rehash config encoded) input (Hashed lines) = ⊥
 IsAnswer (Rehash config encoded) input (Verdict verdict) = RehashAnswers encoded.now config (Ok verdict)
+IsAnswer (New config salt) input (Hashed lines) =
+    (password : List ℕ) × IsShortPassword input password × NewAnswers config salt password (string_bytes lines)
+IsAnswer (New config salt) input (Verdict verdict) = ⊥
+IsAnswer (Check encoded) input (Hashed lines) = ⊥
+IsAnswer (Check encoded) input (Verdict verdict) =
+    (password : List ℕ) × IsShortPassword input password × CheckAnswers encoded.now password (Ok verdict)
 
 -- the refusal of a hash: the first of the settings table, or a shortage where there is none
 abbrev pub IsRefusal : Config → List ℕ → List ℕ → Error → Type 0
@@ -94,33 +119,51 @@ IsRefusal config salt password refusal =
     (IsShortage (may_lack_workers config) refusal)
     (λ first. refusal ≡ first)
 
+-- why `new` makes no hash of a password: its text would be above a limit; else the refusal of the hash, or that of
+-- the memory for the salt
+abbrev pub NewFails : Config → List ℕ → List ℕ → Fault → Type 0
+NewFails config salt password TooCostlyFault = is_above_limits config ≡ true
+NewFails config salt password (RefusedFault refusal) =
+    (is_above_limits config ≡ false) × ((refusal ≡ OutOfMemory) ⊎ IsRefusal config salt password refusal)
+NewFails config salt password Usage = ⊥
+NewFails config salt password Input = ⊥
+NewFails config salt password Output = ⊥
+NewFails config salt password OutputShort = ⊥
+
+-- the refusal is that of the memory to read the password, or of its length
+abbrev pub RefusesLong : Option (List ℕ) → Error → Type 0
+RefusesLong input refusal = (refusal ≡ OutOfMemory) ⊎ ((refusal ≡ PwdTooLong) × IsTooLong input)
+
 -- the refusal may be that of the command: that of the password that was read, or that of the memory to
--- read it; `rehash` reads none
+-- read it; `rehash` reads none, and `new` and `check` refuse a long one
 abbrev pub MayRefuse : Command → Option (List ℕ) → Error → Type 0
 MayRefuse (Hash config salt) input refusal = (refusal ≡ OutOfMemory)
-    ⊎ ((password : List ℕ) × IsPassword input password × IsRefusal config salt password refusal)
+    ⊎ ((password : List ℕ) × IsPassword input password × IsRefusal config salt.now password refusal)
 MayRefuse (Verify encoded) input refusal = (refusal ≡ OutOfMemory)
     ⊎ ((password : List ℕ) × IsPassword input password × VerifyAnswers encoded.now password (Err refusal))
-MayRefuse (Check encoded) input refusal = (refusal ≡ OutOfMemory)
-    ⊎ ((password : List ℕ) × IsPassword input password × CheckAnswers encoded.now password (Err (Refused refusal)))
 MayRefuse (Rehash config encoded) input refusal = RehashAnswers encoded.now config (Err refusal)
+MayRefuse (New config salt) input refusal = RefusesLong input refusal
+    ⊎ ((password : List ℕ) × IsShortPassword input password × NewFails config salt password (RefusedFault refusal))
+MayRefuse (Check encoded) input refusal = RefusesLong input refusal
+    ⊎ ((password : List ℕ) × IsShortPassword input password × CheckAnswers encoded.now password (Err (Refused refusal)))
 
 -- the text spells something, and whatever it spells is above a default limit
 abbrev pub IsTooCostly : List ℕ → Type 0
 IsTooCostly encoded = (SpellsNothing encoded → ⊥) × ((d : Spelled) → Spells encoded d → is_too_costly default_limits d ≡ true)
 
--- the command is to check such a text
-abbrev pub ChecksTooCostly : Command → Type 0
-ChecksTooCostly (Hash config salt) = ⊥
-ChecksTooCostly (Verify encoded) = ⊥
-ChecksTooCostly (Check encoded) = IsTooCostly encoded.now
-ChecksTooCostly (Rehash config encoded) = ⊥
+-- the command is to check such a text, or to make one
+abbrev pub AsksTooMuch : Command → Type 0
+AsksTooMuch (Hash config salt) = ⊥
+AsksTooMuch (Verify encoded) = ⊥
+AsksTooMuch (Rehash config encoded) = ⊥
+AsksTooMuch (New config salt) = is_above_limits config ≡ true
+AsksTooMuch (Check encoded) = IsTooCostly encoded.now
 
 -- the fault may be that of the command
 abbrev pub MayFail : Command → Option (List ℕ) → Fault → Type 0
 MayFail command input Input = ⊤
 MayFail command input (RefusedFault refusal) = MayRefuse command input refusal
-MayFail command input TooCostlyFault = ChecksTooCostly command
+MayFail command input TooCostlyFault = AsksTooMuch command
 MayFail command input Usage = ⊥
 MayFail command input Output = ⊥
 MayFail command input OutputShort = ⊥
@@ -129,5 +172,18 @@ MayFail command input OutputShort = ⊥
 abbrev pub NeedsNoInput : Command → Type 0
 NeedsNoInput (Hash config salt) = ⊥
 NeedsNoInput (Verify encoded) = ⊥
-NeedsNoInput (Check encoded) = ⊥
 NeedsNoInput (Rehash config encoded) = ⊤
+NeedsNoInput (New config salt) = ⊥
+NeedsNoInput (Check encoded) = ⊥
+
+-- at most so many bytes of an input were read, which are gone from it
+abbrev pub ReadsUpTo : ℕ → Option (List ℕ) → Option (List ℕ) → Type 0
+ReadsUpTo most before after = (bytes : List ℕ) × Consumes before after bytes × (length bytes ≤ most)
+
+-- the most bytes that a command reads: one more than the longest password that it can accept
+abbrev pub most_read : Command → ℕ
+most_read (Hash config salt) = max_length + 1
+most_read (Verify encoded) = max_length + 1
+most_read (Rehash config encoded) = 0
+most_read (New config salt) = longest_password + 1
+most_read (Check encoded) = longest_password + 1

@@ -2,5 +2,4 @@ pub mod Answer
 pub mod CommandLine
 pub mod Fault
 pub mod Run
-pub mod Salts
 pub mod Words

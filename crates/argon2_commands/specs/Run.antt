@@ -1,51 +1,71 @@
 -- What a run does.
-use Rattle.std.specs.Prelude.{◌≡◌, ◌⊎◌, ℕ, List, Option}
+use Rattle.std.specs.Prelude.{◌≡◌, ◌⊎◌, ◌+◌, ℕ, List, Option}
 use Rattle.std.specs.Io.KnownBytes.{Appends, Keeps}
-use Rattle.argon2_commands.specs.Answer.{IsAnswer, IsTooCostly, MayRefuse, NeedsNoInput, answer_status, lines_of}
+use Rattle.argon2_commands.specs.Answer.{AsksTooMuch, IsAnswer, MayRefuse, NeedsNoInput, answer_status, lines_of, longest_password}
 use Rattle.argon2_commands.specs.CommandLine.{AreWords}
-use Rattle.argon2_commands.specs.Words.{IsCheck, IsCommand}
+use Rattle.argon2_commands.specs.Words.{IsCommand}
+use Rattle.argon2.specs.SettingsTable.{max_length}
 use Rattle.argon2.specs.ErrorType.{Error}
+use Rattle.argon2.specs.ErrorType.TheVariants.{OutOfMemory, PwdTooLong}
+use Rattle.argon2_commands.specs.declared.fault.Fault.{Fault}
+use Rattle.argon2_commands.specs.declared.fault.Fault.TheVariants.{Input, Refused, TooCostly}
 use Rattle.argon2_commands.specs.declared.answer.Answer.{Answer}
 use Rattle.argon2_commands.specs.declared.command.Command.{Command}
+use Rattle.argon2_commands.specs.declared.command.Program.{Program}
+use Rattle.argon2_commands.specs.declared.command.Program.TheVariants.{Argon2, Tool}
 
 -- the status is that of the answer to the words' command, whose lines were written: the input's bytes
 -- before the run, and the output's before and after it, where they are known
-pub record Answered (words : List (List ℕ)) (input before after : Option (List ℕ)) (status : ℕ) : Type 0 where
+pub record Answered (program : Program) (words : List (List ℕ)) (input before after : Option (List ℕ)) (status : ℕ) : Type 0 where
   pub command : Command
   pub answer : Answer
-  pub is_command : IsCommand words command
+  pub is_command : IsCommand program words command
   pub is_answer : IsAnswer command input answer
   pub is_status : status ≡ answer_status answer
   pub is_written : Appends before after (lines_of answer)
 
 -- the words' command has an answer
-pub record HasAnswer (words : List (List ℕ)) (input : Option (List ℕ)) : Type 0 where
+pub record HasAnswer (program : Program) (words : List (List ℕ)) (input : Option (List ℕ)) : Type 0 where
   pub command : Command
   pub answer : Answer
-  pub is_command : IsCommand words command
+  pub is_command : IsCommand program words command
   pub is_answer : IsAnswer command input answer
 
 -- the words' command may be refused so, for the input's bytes, where they are known
-pub record IsRefused (words : List (List ℕ)) (input : Option (List ℕ)) (refusal : Error) : Type 0 where
+pub record IsRefused (program : Program) (words : List (List ℕ)) (input : Option (List ℕ)) (refusal : Error) : Type 0 where
   pub command : Command
-  pub is_command : IsCommand words command
+  pub is_command : IsCommand program words command
   pub may_refuse : MayRefuse command input refusal
 
--- the words are to check a text that is above a default limit
-pub record AreTooCostly (words : List (List ℕ)) : Type 0 where
-  pub encoded : List ℕ
-  pub is_check : IsCheck words encoded
-  pub is_costly : IsTooCostly encoded
+-- the words' command is to check a text that is above a default limit, or to make one
+pub record AreTooCostly (program : Program) (words : List (List ℕ)) : Type 0 where
+  pub command : Command
+  pub is_command : IsCommand program words command
+  pub asks_too_much : AsksTooMuch command
+
+-- the fault of words that ask for too much, or one that is told before it: the password cannot be read
+abbrev pub MayPrecede : Fault → Type 0
+MayPrecede fault = (fault ≡ TooCostly) ⊎ ((fault ≡ Input) ⊎ ((fault ≡ Refused OutOfMemory) ⊎ (fault ≡ Refused PwdTooLong)))
 
 -- the words are those of a command that needs no input, or of none
-abbrev pub NeedNoInput : List (List ℕ) → Type 0
-NeedNoInput words = (command : Command) → IsCommand words command → NeedsNoInput command
+abbrev pub NeedNoInput : Program → List (List ℕ) → Type 0
+NeedNoInput program words = (command : Command) → IsCommand program words command → NeedsNoInput command
+
+-- the most bytes that a run reads: one more than the longest password that its commands can accept
+abbrev pub most_read_by : Program → ℕ
+most_read_by Argon2 = max_length + 1
+most_read_by Tool = longest_password + 1
+
+-- the statuses of a run are below this
+abbrev pub statuses_of : Program → ℕ
+statuses_of Argon2 = 5
+statuses_of Tool = 6
 
 -- the words' command may be refused, and nothing was written; or it has an answer, and the output had no
 -- memory to take all of it. A status does not say which of the two it was: a fault does
-abbrev pub IsShortOrRefused : List (List ℕ) → Option (List ℕ) → Option (List ℕ) → Option (List ℕ) → Type 0
-IsShortOrRefused words input before after =
-    (((refusal : Error) × IsRefused words input refusal) × Keeps before after) ⊎ HasAnswer words input
+abbrev pub IsShortOrRefused : Program → List (List ℕ) → Option (List ℕ) → Option (List ℕ) → Option (List ℕ) → Type 0
+IsShortOrRefused program words input before after =
+    (((refusal : Error) × IsRefused program words input refusal) × Keeps before after) ⊎ HasAnswer program words input
 
 -- what holds of the command line's words, where its arguments are known, or of some words where they are not
 abbrev pub OfWords : Option (List (List ℕ)) → (List (List ℕ) → Type 0) → Type 0

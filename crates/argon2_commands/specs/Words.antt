@@ -1,16 +1,18 @@
 -- How the words of a command are read.
-use Rattle.std.specs.Prelude.{◌≡◌, ℕ, ◌<◌, ◌^◌, List, [], ◌++◌, codes, length, map, slice_index_or, string_bytes, Some}
+use Rattle.std.specs.Prelude.{◌≡◌, ℕ, ◌<◌, ◌^◌, List, [], ◌++◌, codes, length, map, slice_index_or, string_bytes, Ok}
 use Rattle.std.specs.Str.Parse.{IsNumeral, digits_value, without_leading_plus}
 use Rattle.std.specs.declared.alloc.Global.{Global}
 use Rattle.std.specs.declared.string.String.{String}
+use Rattle.hex.specs.Hex.{decode_of}
 use Rattle.argon2.specs.Variant.{IsName}
 use Rattle.argon2.specs.Version.{version_text}
 use Rattle.argon2.specs.ConfigType.{Config}
 use Rattle.argon2.specs.ThreadModeType.{ThreadMode}
 use Rattle.argon2.specs.ThreadModeType.TheVariants.{Sequential, Parallel, AtMost}
-use Rattle.argon2_commands.specs.Salts.{salt_of}
 use Rattle.argon2_commands.specs.declared.command.Command.{Command}
-use Rattle.argon2_commands.specs.declared.command.Command.TheVariants.{Hash, Verify, Check, Rehash}
+use Rattle.argon2_commands.specs.declared.command.Command.TheVariants.{Hash, Verify, Rehash, New, Check}
+use Rattle.argon2_commands.specs.declared.command.Program.{Program}
+use Rattle.argon2_commands.specs.declared.command.Program.TheVariants.{Argon2, Tool}
 
 -- the bytes of each word
 abbrev pub texts_of : List (String Global) → List (List ℕ)
@@ -44,24 +46,20 @@ pub record AreSettings (words : List (List ℕ)) (config : Config) : Type 0 wher
   pub secret : config.secret.now ≡ []
   pub ad : config.ad.now ≡ []
 
+-- ---- the words of `argon2`
+
 -- hash VARIANT VERSION T M P LEN MODE SALT
 pub record IsHash (words : List (List ℕ)) (config : Config) (salt : List ℕ) : Type 0 where
   pub count : length words ≡ 9
   pub name : word words 0 ≡ codes "hash"
   pub settings : AreSettings words config
   pub mode : IsMode (word words 7) config.thread_mode
-  pub salted : salt_of (word words 8) ≡ Some salt
+  pub salted : salt ≡ word words 8
 
 -- verify TEXT
 pub record IsVerify (words : List (List ℕ)) (encoded : List ℕ) : Type 0 where
   pub count : length words ≡ 2
   pub name : word words 0 ≡ codes "verify"
-  pub text : encoded ≡ word words 1
-
--- check TEXT
-pub record IsCheck (words : List (List ℕ)) (encoded : List ℕ) : Type 0 where
-  pub count : length words ≡ 2
-  pub name : word words 0 ≡ codes "check"
   pub text : encoded ≡ word words 1
 
 -- rehash VARIANT VERSION T M P LEN TEXT
@@ -72,13 +70,37 @@ pub record IsRehash (words : List (List ℕ)) (config : Config) (encoded : List 
   pub mode : config.thread_mode ≡ Sequential
   pub text : encoded ≡ word words 7
 
--- the words are those of the command
-abbrev pub IsCommand : List (List ℕ) → Command → Type 0
-IsCommand words (Hash config salt) = IsHash words config salt
-IsCommand words (Verify encoded) = IsVerify words encoded.now
-IsCommand words (Check encoded) = IsCheck words encoded.now
-IsCommand words (Rehash config encoded) = IsRehash words config encoded.now
+-- ---- the words of the tool
 
--- the words are those of no command
-abbrev pub IsNoCommand : List (List ℕ) → Type 0
-IsNoCommand words = (command : Command) → IsCommand words command → ⊥
+-- new VARIANT VERSION T M P LEN MODE DIGITS: the salt in hexadecimal, two digits of either case for each byte
+pub record IsNew (words : List (List ℕ)) (config : Config) (salt : List ℕ) : Type 0 where
+  pub count : length words ≡ 9
+  pub name : word words 0 ≡ codes "new"
+  pub settings : AreSettings words config
+  pub mode : IsMode (word words 7) config.thread_mode
+  pub salted : decode_of (word words 8) ≡ Ok salt
+
+-- check TEXT
+pub record IsCheck (words : List (List ℕ)) (encoded : List ℕ) : Type 0 where
+  pub count : length words ≡ 2
+  pub name : word words 0 ≡ codes "check"
+  pub text : encoded ≡ word words 1
+
+-- ---- both
+
+-- the words are those of the command, for the program
+abbrev pub IsCommand : Program → List (List ℕ) → Command → Type 0
+IsCommand Argon2 words (Hash config salt) = IsHash words config salt.now
+IsCommand Argon2 words (Verify encoded) = IsVerify words encoded.now
+IsCommand Argon2 words (Rehash config encoded) = IsRehash words config encoded.now
+IsCommand Argon2 words (New config salt) = ⊥
+IsCommand Argon2 words (Check encoded) = ⊥
+IsCommand Tool words (Hash config salt) = ⊥
+IsCommand Tool words (Verify encoded) = ⊥
+IsCommand Tool words (Rehash config encoded) = ⊥
+IsCommand Tool words (New config salt) = IsNew words config salt
+IsCommand Tool words (Check encoded) = IsCheck words encoded.now
+
+-- the words are those of no command of the program
+abbrev pub IsNoCommand : Program → List (List ℕ) → Type 0
+IsNoCommand program words = (command : Command) → IsCommand program words command → ⊥

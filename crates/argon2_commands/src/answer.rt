@@ -1,23 +1,23 @@
 //! What a command answers.
 
-ghost use Rattle.std.specs.Prelude.{◌≡◌, ◌⊎◌, IfErr, IfOk, IfSome, IsNone, OnOk, length, string_bytes};
+ghost use Rattle.std.specs.Prelude.{◌≡◌, [], IfErr, IfOk, IsNone, OnOk, length, string_bytes};
 ghost use Rattle.std.specs.Io.KnownBytes.{Keeps};
+ghost use Rattle.argon2.specs.Standard.Limits.{is_too_costly};
+ghost use Rattle.argon2.specs.Text.{spelled_of};
 ghost use Rattle.argon2.specs.Outcome.{IsShortage};
 ghost use Rattle.argon2.specs.ThreadModes.{may_lack_workers};
 ghost use Rattle.argon2.specs.SettingsTable.{refusal_of};
-ghost use Rattle.argon2.specs.ErrorType.{Error};
-ghost use Rattle.argon2.specs.ErrorType.TheVariants.{OutOfMemory};
-ghost use Rattle.argon2_commands.specs.Answer.{CheckAnswers, IsAnswer, IsPassword, IsRefusal, MayFail, NeedsNoInput, answer_status, hash_lines, lines_of};
+ghost use Rattle.argon2_commands.specs.Answer.{CheckAnswers, IsAnswer, IsRefusal, MayFail, NeedsNoInput, NewAnswers, NewFails, ReadsUpTo, answer_status, hash_lines, lines_of, most_read};
 
 use crate::command::Command;
 use crate::fault::Fault;
+use crate::password::{read_password, read_short_password};
+use crate::salt::Salt;
 use argon2::parts::context::Context;
 use argon2::parts::encoding::encode_string;
 use argon2::parts::fill::tag;
 use argon2::parts::memory::{Memory, release};
-use argon2::{
-    Config, Error, Limits, Unverified, needs_rehash, verify_encoded, verify_encoded_within,
-};
+use argon2::{Config, Limits, Unverified, needs_rehash, verify_encoded, verify_encoded_within};
 use std::alloc::Global;
 use std::io::Read;
 use std::marker::Sync;
@@ -47,13 +47,14 @@ impl Answer {
         ensures fault { IfErr result (MayFail command.now (I.remaining input.old)) }
         ensures unread { NeedsNoInput command.now
             → Keeps (I.remaining input.old) (I.remaining input.new) }
+        ensures stops { ReadsUpTo (most_read command.now) (I.remaining input.old)
+            (I.remaining input.new) }
     {
+        // The input first, since its fault is told before any of the call.
         match command {
             Command::Hash { config, salt } => {
-                // The input first, since its fault is told before any of the call.
                 let password = read_password(alloc, input)?;
-                let salt = salt.to_bytes(alloc)?;
-                let lines = hash_lines(rt, alloc, password.as_slice(), salt.as_slice(), *config)?;
+                let lines = hash_lines(rt, alloc, password.as_slice(), salt.as_bytes(), *config)?;
                 Ok(Answer::Hashed(lines))
             }
             Command::Verify { encoded } => {
@@ -62,13 +63,18 @@ impl Answer {
                 let verdict = verify_encoded(rt, alloc, encoded, password.as_slice())?;
                 Ok(Answer::Verdict(verdict))
             }
-            Command::Check { encoded } => {
-                let password = read_password(alloc, input)?;
-                let verdict = verify_within(rt, alloc, encoded, password.as_slice())?;
-                Ok(Answer::Verdict(verdict))
-            }
             Command::Rehash { config, encoded } => {
                 Ok(Answer::Verdict(needs_rehash(alloc, encoded, config)?))
+            }
+            Command::New { config, salt } => {
+                let password = read_short_password(alloc, input)?;
+                let lines = new_lines(rt, alloc, password.as_slice(), salt, *config)?;
+                Ok(Answer::Hashed(lines))
+            }
+            Command::Check { encoded } => {
+                let password = read_short_password(alloc, input)?;
+                let verdict = verify_within(rt, alloc, encoded, password.as_slice())?;
+                Ok(Answer::Verdict(verdict))
             }
         }
     }
@@ -92,24 +98,6 @@ impl Answer {
             Answer::Hashed(_) | Answer::Verdict(true) => 0,
             Answer::Verdict(false) => 1,
         }
-    }
-}
-
-/// All of the input, so that a password may have any bytes, a newline at its end too. A reader that
-/// lacked memory is told apart, since that is a shortage and no fault of the input.
-fn read_password<I: Read>(alloc: Global, input: &mut I) -> Result<Vec<u8>, Fault>
-    ensures bytes { IfOk result (λ password. IsPassword (I.remaining input.old) password.items) }
-    ensures fault { IfErr result (λ fault. (fault ≡ Fault.Input)
-        ⊎ (fault ≡ Fault.Refused OutOfMemory)) }
-{
-    let mut password = Vec::new(alloc);
-    match input.read_to_end(&mut password) {
-        Ok(_) => Ok(password),
-        Err(error) => Err(Fault::of_stream(
-            &error,
-            Fault::Refused(Error::OutOfMemory),
-            Fault::Input,
-        )),
     }
 }
 
@@ -164,4 +152,32 @@ fn hash_lines<R: Threads + Wait + Sync>(
         Ok(context) => tag_lines(rt, alloc, &context),
         Err(refusal) => Err(refusal),
     }
+}
+
+/// The same where the text of the hash is within the default limits.
+fn new_lines<R: Threads + Wait + Sync>(
+    rt: &R,
+    alloc: Global,
+    password: &[u8],
+    salt: &Salt<'_>,
+    config: Config<'_>,
+) -> Result<String, Fault>
+    ensures lines { IfOk result (λ lines. NewAnswers config.entry salt.now password.now
+        (string_bytes lines)) }
+    ensures fault { IfErr result (NewFails config.entry salt.now password.now) }
+{
+    if is_above(&config, &Limits::default()) {
+        return Err(Fault::TooCostly);
+    }
+    let salt = salt.to_bytes(alloc)?;
+    Ok(hash_lines(rt, alloc, password, salt.as_slice(), config)?)
+}
+
+/// Whether the text of a hash with these settings is above a limit.
+fn is_above(config: &Config<'_>, limits: &Limits) -> bool
+    ensures { result ≡ is_too_costly limits.now (spelled_of config.now [] []) }
+{
+    config.mem_cost > limits.mem_cost
+        || config.time_cost > limits.time_cost
+        || config.lanes > limits.lanes
 }

@@ -8,22 +8,28 @@ ghost use Rattle.argon2_commands.specs.Words.{AreSettings, IsCommand, IsMode, Is
 use crate::salt::Salt;
 use argon2::{Config, ThreadMode, Variant, Version};
 
-/// What the program does.
+/// A program, each with words of its own.
+#[derive(Clone, Copy, Debug, Eq, PartialEq)]
+pub enum Program {
+    /// `argon2`: `hash`, `verify` and `rehash`.
+    Argon2,
+
+    /// The tool that the shell's script runs: `new` and `check`.
+    Tool,
+}
+
+/// What a program does.
 #[derive(Debug, Drop)]
 pub enum Command<'a> {
     /// `hash VARIANT VERSION T M P LEN MODE SALT`: the tag of the password, and its encoded text.
+    /// The salt is the bytes of its word.
     Hash {
         config: Config<'a>,
-        salt: Salt<'a>,
+        salt: &'a str,
     },
 
     /// `verify TEXT`: whether the password is that of an encoded text.
     Verify {
-        encoded: &'a str,
-    },
-
-    /// `check TEXT`: the same, where the text asks for no more than the default limits.
-    Check {
         encoded: &'a str,
     },
 
@@ -33,25 +39,44 @@ pub enum Command<'a> {
         config: Config<'a>,
         encoded: &'a str,
     },
+
+    /// `new VARIANT VERSION T M P LEN MODE DIGITS`: as `hash`, with a salt in hexadecimal, where
+    /// `check` takes the text.
+    New {
+        config: Config<'a>,
+        salt: Salt<'a>,
+    },
+
+    /// `check TEXT`: as `verify`, where the text asks for no more than the default limits.
+    Check {
+        encoded: &'a str,
+    },
 }
 
 impl<'a> Command<'a> {
-    /// The command of these words, those after the program's name; None where they are none.
-    pub fn from_words(words: &'a [String]) -> Option<Command<'a>>
-        ensures { MatchOption result (IsNoCommand (texts_of words.now)) (IsCommand
+    /// A program's command of these words, those after its name; None where they are none.
+    pub fn from_words(program: Program, words: &'a [String]) -> Option<Command<'a>>
+        ensures { MatchOption result (IsNoCommand program (texts_of words.now)) (IsCommand program
             (texts_of words.now)) }
+    {
+        match program {
+            Program::Argon2 => Command::of_argon2(words),
+            Program::Tool => Command::of_tool(words),
+        }
+    }
+
+    fn of_argon2(words: &'a [String]) -> Option<Command<'a>>
+        ensures { MatchOption result (IsNoCommand Program.Argon2 (texts_of words.now))
+            (IsCommand Program.Argon2 (texts_of words.now)) }
     {
         match words {
             [name, _, _, _, _, _, _, mode, salt] if name.as_str() == "hash" => Some(
                 Command::Hash {
                     config: settings_of(words, mode_of(mode.as_str())?)?,
-                    salt: Salt::from_word(salt.as_str())?,
+                    salt: salt.as_str(),
                 },
             ),
             [name, encoded] if name.as_str() == "verify" => Some(Command::Verify {
-                encoded: encoded.as_str(),
-            }),
-            [name, encoded] if name.as_str() == "check" => Some(Command::Check {
                 encoded: encoded.as_str(),
             }),
             [name, _, _, _, _, _, _, encoded] if name.as_str() == "rehash" => Some(
@@ -61,6 +86,24 @@ impl<'a> Command<'a> {
                     encoded: encoded.as_str(),
                 },
             ),
+            _ => None,
+        }
+    }
+
+    fn of_tool(words: &'a [String]) -> Option<Command<'a>>
+        ensures { MatchOption result (IsNoCommand Program.Tool (texts_of words.now))
+            (IsCommand Program.Tool (texts_of words.now)) }
+    {
+        match words {
+            [name, _, _, _, _, _, _, mode, digits] if name.as_str() == "new" => Some(
+                Command::New {
+                    config: settings_of(words, mode_of(mode.as_str())?)?,
+                    salt: Salt::from_digits(digits.as_str())?,
+                },
+            ),
+            [name, encoded] if name.as_str() == "check" => Some(Command::Check {
+                encoded: encoded.as_str(),
+            }),
             _ => None,
         }
     }

@@ -1,16 +1,22 @@
-//! The commands of the program `argon2`: words, what is done for them, faults and exit statuses.
+//! The commands of the program `argon2` and of the shell's tool: words, what is done for them,
+//! faults and exit statuses.
 #![tactic(auto)]
 
 mod answer;
 mod command;
 mod command_line;
 mod fault;
+mod password;
 mod program;
+mod runs;
 mod salt;
+pub mod tool;
 
 pub use answer::Answer;
-pub use command::Command;
+pub use command::{Command, Program};
 pub use command_line::{CommandLine, OfProcess, arguments};
 pub use fault::Fault;
-pub use program::{attempt, run, start};
+pub use password::LONGEST_PASSWORD;
+pub use program::{run, start};
+pub use runs::attempt;
 pub use salt::Salt;

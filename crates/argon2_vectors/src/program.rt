@@ -8,18 +8,19 @@
 //! | `run/without_memory WORDS` | the input `password`, and an output without memory |
 //! | `run/fails_once STEP REASON WORDS` | the input `password`, and an output whose first `write` or `flush` fails, for want of `memory` or for `another` reason |
 //! | `start ARGUMENT..` | the input `password`: the arguments, with the program's name, are looked at first |
+//! | `tool INPUT WORDS`, `tool/broken`, .. `tool/start` | the same of the shell's tool |
 //! | `arguments ARGUMENT..` | none: the words of these arguments are given, each behind how often it stands there in a row |
 //!
-//! The answer of a run is its status, and what stands on the output and on the error stream; of `start`
+//! The answer of a run is its status, and what stands on the output and on the error stream; of a start
 //! only the last two. An argument is bytes, as in `words`, with a number and `*` before it where it stands there
 //! so often.
 
 use crate::streams::{Broken, FailsOnce, Full, Started, WithoutMemory};
 use crate::words::{Words, bytes_of, repeated};
 use anyhow::Result;
-use argon2_commands::{Fault, OfProcess, arguments, run, start};
+use argon2_commands::{Fault, OfProcess, Program, arguments, run, start, tool};
 use std::alloc::Global;
-use std::io::{ErrorKind, Read};
+use std::io::{ErrorKind, Read, Write};
 use std::marker::Sync;
 use std::sync::Wait;
 use std::thread::Threads;
@@ -30,19 +31,39 @@ pub fn answer<R: Threads + Wait + Sync>(
     call: &str,
     words: &mut Words<'_>,
 ) -> Result<String> {
-    match call {
-        "run" => {
+    let (program, streams) = match call.strip_prefix("tool") {
+        Some(streams) => (Program::Tool, streams),
+        None => (Program::Argon2, call.strip_prefix("run").unwrap_or(call)),
+    };
+    match streams {
+        "" => {
             let input = words.bytes(alloc)?;
-            in_memory(rt, alloc, words, &mut input.as_slice())
+            in_memory(rt, alloc, program, words, &mut input.as_slice())
         }
-        "run/broken" => {
+        "/broken" => {
             let input = words.bytes(alloc)?;
-            in_memory(rt, alloc, words, &mut Broken(input.as_slice()))
+            in_memory(rt, alloc, program, words, &mut Broken(input.as_slice()))
         }
-        "run/full" => in_little_room(rt, alloc, words),
-        "run/without_memory" => without_memory(rt, alloc, words),
-        "run/fails_once" => failing_once(rt, alloc, words),
-        _ => started(rt, alloc, words),
+        "/full" => in_little_room(rt, alloc, program, words),
+        "/without_memory" => without_memory(rt, alloc, program, words),
+        "/fails_once" => failing_once(rt, alloc, program, words),
+        _ => started(rt, alloc, program, words),
+    }
+}
+
+/// A run of a program.
+fn run_of<R: Threads + Wait + Sync, I: Read, O: Write, E: Write>(
+    rt: &R,
+    alloc: Global,
+    program: Program,
+    words: &[String],
+    input: &mut I,
+    output: &mut O,
+    errors: &mut E,
+) -> u8 {
+    match program {
+        Program::Argon2 => run(rt, alloc, words, input, output, errors),
+        Program::Tool => tool::run(rt, alloc, words, input, output, errors),
     }
 }
 
@@ -64,15 +85,17 @@ fn told(alloc: Global, status: u8, written: &[u8], errors: &[u8]) -> Result<Stri
 fn in_memory<R: Threads + Wait + Sync, I: Read>(
     rt: &R,
     alloc: Global,
+    program: Program,
     words: &mut Words<'_>,
     input: &mut I,
 ) -> Result<String> {
     let words = words_of(alloc, words.others())?;
     let mut written = Vec::new(alloc);
     let mut errors = Vec::new(alloc);
-    let status = run(
+    let status = run_of(
         rt,
         alloc,
+        program,
         words.as_slice(),
         input,
         &mut written,
@@ -85,6 +108,7 @@ fn in_memory<R: Threads + Wait + Sync, I: Read>(
 fn in_little_room<R: Threads + Wait + Sync>(
     rt: &R,
     alloc: Global,
+    program: Program,
     words: &mut Words<'_>,
 ) -> Result<String> {
     let room = words.number()? as usize;
@@ -92,9 +116,10 @@ fn in_little_room<R: Threads + Wait + Sync>(
     let mut input = b"password".as_slice();
     let mut written = Full::new(alloc, room);
     let mut errors = Full::new(alloc, room);
-    let status = run(
+    let status = run_of(
         rt,
         alloc,
+        program,
         words.as_slice(),
         &mut input,
         &mut written,
@@ -111,14 +136,16 @@ fn in_little_room<R: Threads + Wait + Sync>(
 fn without_memory<R: Threads + Wait + Sync>(
     rt: &R,
     alloc: Global,
+    program: Program,
     words: &mut Words<'_>,
 ) -> Result<String> {
     let words = words_of(alloc, words.others())?;
     let mut input = b"password".as_slice();
     let mut errors = Vec::new(alloc);
-    let status = run(
+    let status = run_of(
         rt,
         alloc,
+        program,
         words.as_slice(),
         &mut input,
         &mut WithoutMemory,
@@ -130,6 +157,7 @@ fn without_memory<R: Threads + Wait + Sync>(
 fn failing_once<R: Threads + Wait + Sync>(
     rt: &R,
     alloc: Global,
+    program: Program,
     words: &mut Words<'_>,
 ) -> Result<String> {
     let step = words.word()?;
@@ -150,9 +178,10 @@ fn failing_once<R: Threads + Wait + Sync>(
         taken,
     };
     let mut errors = Vec::new(alloc);
-    let status = run(
+    let status = run_of(
         rt,
         alloc,
+        program,
         words.as_slice(),
         &mut input,
         &mut written,
@@ -181,6 +210,7 @@ fn add(alloc: Global, arguments: &mut Vec<Vec<u8>>, count: u32, argument: &str) 
 fn started<R: Threads + Wait + Sync>(
     rt: &R,
     alloc: Global,
+    program: Program,
     words: &mut Words<'_>,
 ) -> Result<String> {
     let given = given(alloc, words.others())?;
@@ -189,7 +219,10 @@ fn started<R: Threads + Wait + Sync>(
     let mut written = Vec::new(alloc);
     let mut errors = Vec::new(alloc);
     let line = OfProcess(&started);
-    start(rt, alloc, &line, &mut input, &mut written, &mut errors);
+    match program {
+        Program::Argon2 => start(rt, alloc, &line, &mut input, &mut written, &mut errors),
+        Program::Tool => tool::start(rt, alloc, &line, &mut input, &mut written, &mut errors),
+    };
     let written = String::from_utf8(written)?;
     let errors = String::from_utf8(errors)?;
     Ok(format!(in alloc; "{written:?} {errors:?}")?)

@@ -23,13 +23,19 @@ pub fn answer<R: Threads + Wait + Sync>(rt: &R, alloc: Global, line: &str) -> Re
         "hash_raw" | "hash_encoded" | "verify_raw" => in_modes(rt, alloc, call, &mut words),
         "verify_encoded" => texts::verdict_and_text(rt, alloc, words.text(alloc)?.as_str()),
         "verify_encoded_ext" => texts::verdict(rt, alloc, &mut words),
-        "run" | "run/broken" | "run/full" | "run/without_memory" | "run/fails_once" | "start" => {
-            program::answer(rt, alloc, call, &mut words)
-        }
+        _ if is_of_a_program(call) => program::answer(rt, alloc, call, &mut words),
         _ => answer_alone(alloc, call, &mut words),
     }?;
     words.end()?;
     Ok(answered)
+}
+
+/// Whether a call is a run or a start of a program.
+fn is_of_a_program(call: &str) -> bool {
+    match call.split_once('/') {
+        Some((whose, _)) => whose == "run" || whose == "tool",
+        None => call == "run" || call == "tool" || call == "start",
+    }
 }
 
 /// The answer of a call that may work in several threads.

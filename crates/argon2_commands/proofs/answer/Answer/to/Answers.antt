@@ -1,8 +1,9 @@
-use Rattle.std.proofs.Common.{Err, Ok, inl, inr, refl, string_bytes, subst, ◌∙◌}
+use Rattle.std.proofs.Common.{Err, Ok, inl, inr, refl, string_bytes, subst}
 use Rattle.std.proofs.lemmas.Result.{IfOk-from_err}
 use Rattle.argon2.specs.ErrorType.TheVariants.{OutOfMemory}
 use Rattle.argon2_commands.specs.Answer.{CheckAnswers, HashAnswers, IsRefusal, MayRefuse, NeedsNoInput, VerifyAnswers}
 use Rattle.argon2_commands.proofs.Checks.{check_fault}
+use Rattle.argon2_commands.proofs.Passwords.{hash_of_input, refusal_of_input, verify_of_input}
 use Rattle.argon2_commands.proofs.Refusals.{passed_on, read_fault, untouched}
 use Rattle.argon2_commands.proofs.answer.Answer.to.Goals as goal
 
@@ -11,12 +12,9 @@ use Rattle.argon2_commands.proofs.answer.Answer.to.Goals as goal
 pub returns-in_err-verdict-in-Verify-clause-fault :
     goal.returns-in_err-verdict-in-Verify-clause-fault
 returns-in_err-verdict-in-Verify-clause-fault g c = rw c.in-Verify.is
-    (passed_on _ _ _ c.from_residual-in_err-verdict-in-Verify.ensures (inr (
-      _,
-      c.in_ok-password-in-Verify.ensures.bytes,
-      subst (λ read. VerifyAnswers c.in-Verify.encoded.now read (Err c.in_err-verdict-in-Verify.field-0.0)) c.as_slice-in-Verify.ensures.value
-          (record { unspelled = c.in_err-verdict-in-Verify.ensures.unspelled; spelled = c.in_err-verdict-in-Verify.ensures.spelled }),
-    )))
+    (passed_on _ _ _ c.from_residual-in_err-verdict-in-Verify.ensures (inr (verify_of_input _ _ _ _ c.in_ok-password-in-Verify.ensures.bytes
+    (subst (λ read. VerifyAnswers c.in-Verify.encoded.now read (Err c.in_err-verdict-in-Verify.field-0.0)) c.as_slice-in-Verify.ensures.value
+    (record { unspelled = c.in_err-verdict-in-Verify.ensures.unspelled; spelled = c.in_err-verdict-in-Verify.ensures.spelled })))))
 
 pub returns-in_err-verdict-in-Check-clause-fault :
     goal.returns-in_err-verdict-in-Check-clause-fault
@@ -92,28 +90,19 @@ returns-in_ok-needs_rehash-in-Rehash-clause-unread g c need = untouched (g.I.Rea
 
 pub returns-in_err-lines-in-Hash-clause-fault : goal.returns-in_err-lines-in-Hash-clause-fault
 returns-in_err-lines-in-Hash-clause-fault g c = rw c.in-Hash.is
-    (passed_on _ _ _ c.from_residual-in_err-lines-in-Hash.ensures (inr (
-      _,
-      c.in_ok-password-in-Hash.ensures.bytes,
-      subst (λ read. IsRefusal c.in-Hash.config c.in-Hash.salt read c.in_err-lines-in-Hash.field-0.0) c.as_slice.ensures.value
-          (subst (λ salt. IsRefusal c.in-Hash.config salt c.as_slice.result.now c.in_err-lines-in-Hash.field-0.0)
-          (c.as_slice-in-Hash.ensures.value ∙ c.in_ok-salt-in-Hash.ensures) c.in_err-lines-in-Hash.ensures.refused),
-    )))
+    (passed_on _ _ _ c.from_residual-in_err-lines-in-Hash.ensures (inr (refusal_of_input _ _ _ _ _ c.in_ok-password-in-Hash.ensures.bytes
+    (subst (λ read. IsRefusal c.in-Hash.config c.in-Hash.salt.now read c.in_err-lines-in-Hash.field-0.0) c.as_slice.ensures.value
+    (subst (λ salt. IsRefusal c.in-Hash.config salt c.as_slice.result.now c.in_err-lines-in-Hash.field-0.0)
+    c.as_bytes.ensures.value c.in_err-lines-in-Hash.ensures.refused)))))
 
 pub returns-in_ok-lines-in-Hash-clause-answer : goal.returns-in_ok-lines-in-Hash-clause-answer
-returns-in_ok-lines-in-Hash-clause-answer g c = rw c.in-Hash.is (
-  _,
-  c.in_ok-password-in-Hash.ensures.bytes,
-  subst (λ read. HashAnswers c.in-Hash.config c.in-Hash.salt read (string_bytes c.in_ok-lines-in-Hash.lines)) c.as_slice.ensures.value
-      (subst (λ salt. HashAnswers c.in-Hash.config salt c.as_slice.result.now (string_bytes c.in_ok-lines-in-Hash.lines))
-      (c.as_slice-in-Hash.ensures.value ∙ c.in_ok-salt-in-Hash.ensures)
-      (record { accepted = c.in_ok-lines-in-Hash.ensures.accepted; written = c.in_ok-lines-in-Hash.ensures.lines })),
-)
+returns-in_ok-lines-in-Hash-clause-answer g c = rw c.in-Hash.is (hash_of_input _ _ _ _ _ c.in_ok-password-in-Hash.ensures.bytes
+    (subst (λ read. HashAnswers c.in-Hash.config c.in-Hash.salt.now read (string_bytes c.in_ok-lines-in-Hash.lines)) c.as_slice.ensures.value
+    (subst (λ salt. HashAnswers c.in-Hash.config salt c.as_slice.result.now (string_bytes c.in_ok-lines-in-Hash.lines))
+    c.as_bytes.ensures.value
+    (record { accepted = c.in_ok-lines-in-Hash.ensures.accepted; written = c.in_ok-lines-in-Hash.ensures.lines }))))
 
 pub returns-in_ok-verdict-in-Verify-clause-answer : goal.returns-in_ok-verdict-in-Verify-clause-answer
-returns-in_ok-verdict-in-Verify-clause-answer g c = rw c.in-Verify.is (
-  _,
-  c.in_ok-password-in-Verify.ensures.bytes,
-  subst (λ read. VerifyAnswers c.in-Verify.encoded.now read (Ok c.in_ok-verdict-in-Verify.verdict)) c.as_slice-in-Verify.ensures.value
-      (record { unspelled = c.in_ok-verdict-in-Verify.ensures.unspelled; spelled = c.in_ok-verdict-in-Verify.ensures.spelled }),
-)
+returns-in_ok-verdict-in-Verify-clause-answer g c = rw c.in-Verify.is (verify_of_input _ _ _ _ c.in_ok-password-in-Verify.ensures.bytes
+    (subst (λ read. VerifyAnswers c.in-Verify.encoded.now read (Ok c.in_ok-verdict-in-Verify.verdict)) c.as_slice-in-Verify.ensures.value
+    (record { unspelled = c.in_ok-verdict-in-Verify.ensures.unspelled; spelled = c.in_ok-verdict-in-Verify.ensures.spelled })))

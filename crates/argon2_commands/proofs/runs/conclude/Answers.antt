@@ -1,8 +1,9 @@
 use Rattle.std.proofs.Common.{sym, subst, arith}
 use Rattle.argon2_commands.specs.Fault.{IsBeforeOutput}
+use Rattle.argon2_commands.specs.Words.{texts_of}
 use Rattle.argon2_commands.proofs.Refusals.{untouched}
 use Rattle.argon2_commands.proofs.Statuses.{answered_bounded, answered_not, answered_usage, at_five, at_three, at_two, fault_above, fault_bounded, no_fault, usage_status}
-use Rattle.argon2_commands.proofs.program.run.Goals as goal
+use Rattle.argon2_commands.proofs.runs.conclude.Goals as goal
 
 pub returns-in-Ok-clause-answered : goal.returns-in-Ok-clause-answered
 returns-in-Ok-clause-answered g c low = c.in-Ok.ensures.answered
@@ -32,7 +33,8 @@ pub returns-in-Ok-clause-silent : goal.returns-in-Ok-clause-silent
 returns-in-Ok-clause-silent g c low = untouched (g.E.Write.contents c.args.errors.now)
 
 pub returns-in-Err-clause-bounded : goal.returns-in-Err-clause-bounded
-returns-in-Err-clause-bounded g c = fault_bounded c.in-Err.fault c.report.result c.report.ensures
+returns-in-Err-clause-bounded g c =
+    fault_bounded c.args.program (texts_of c.args.words.now) c.in-Err.fault c.report.result c.report.ensures c.in-Err.ensures.costly
 
 pub returns-in-Err-clause-answered : goal.returns-in-Err-clause-answered
 returns-in-Err-clause-answered g c = no_fault c.in-Err.fault c.report.result c.report.ensures
@@ -42,7 +44,7 @@ returns-in-Err-clause-usage g c = usage_status c.in-Err.fault c.report.result _ 
 
 pub returns-in-Err-clause-refused : goal.returns-in-Err-clause-refused
 returns-in-Err-clause-refused g c =
-    at_two c.in-Err.fault c.report.result _ _ _ _ c.report.ensures c.in-Err.ensures.refused c.in-Err.ensures.short c.in-Err.ensures.unwritten
+    at_two c.args.program c.in-Err.fault c.report.result _ _ _ _ c.report.ensures c.in-Err.ensures.refused c.in-Err.ensures.short c.in-Err.ensures.unwritten
 
 pub returns-in-Err-clause-costly : goal.returns-in-Err-clause-costly
 returns-in-Err-clause-costly g c five =

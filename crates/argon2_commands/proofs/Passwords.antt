@@ -1,0 +1,192 @@
+-- Passwords that are read up to a length.
+use Rattle.std.proofs.Common.{◌≡◌, ◌+◌, ◌*◌, ◌==◌, ◌||◌, ◌++◌, ◌-◌, ◌∷◌, ◌<◌, ◌≤◌, ◌⊎◌, ℕ, [], Bool, true, false, List, Option, None, Some, IfSome, IsNone, MatchOption, Result, Err, arith, inl, inr, length, min, nat_lt, refl, sym, ◌∙◌, ap, drop, subst, take}
+use Rattle.std.proofs.Math.Nat.{min-le_left, min-le_right}
+use Rattle.std.proofs.lemmas.Bool.{cases_lt, lt-ltb}
+use Rattle.std.proofs.lemmas.List.{append-nil, append_assoc, length-append, length-take, length-take-le, take-append-le, take_all}
+use Rattle.std.specs.Io.KnownBytes.{Consumes, IsAtEnd}
+use Rattle.argon2.specs.ConfigType.{Config}
+use Rattle.argon2.specs.ErrorType.{Error}
+use Rattle.argon2.specs.ErrorType.TheVariants.{LanesTooFew, LanesTooMany, MemoryTooLittle, PwdTooLong, TimeTooSmall}
+use Rattle.argon2.specs.Outcome.{IsShortage, IsVerdict}
+use Rattle.argon2.specs.SettingsTable.{first_that_applies, max_lanes, max_length, min_memory, refusal_of, settings_table}
+use Rattle.argon2.specs.ThreadModes.{may_lack_workers}
+use Rattle.argon2_commands.specs.Answer.{HashAnswers, IsPassword, IsRefusal, IsShortPassword, IsTooLong, ReadsUpTo, VerifyAnswers, longest_password, most_read}
+use Rattle.argon2_commands.specs.Run.{most_read_by}
+use Rattle.argon2_commands.specs.Words.{IsCommand}
+use Rattle.argon2_commands.specs.declared.command.Command.{Command}
+use Rattle.argon2_commands.specs.declared.command.Command.TheVariants.{Hash, Verify, Rehash, New, Check}
+use Rattle.argon2_commands.specs.declared.command.Program.{Program}
+use Rattle.argon2_commands.specs.declared.command.Program.TheVariants.{Argon2, Tool}
+
+-- where nothing was done, nothing was read
+pub nothing_read : (most : ℕ) (known : Option (List ℕ)) → ReadsUpTo most known known
+nothing_read most None = ([], tt, omega arith)
+nothing_read most (Some bytes) = ([], refl, omega arith)
+
+-- what reads few bytes reads no more than many
+pub fewer_read : (few many : ℕ) (before after : Option (List ℕ)) → few ≤ many → ReadsUpTo few before after → ReadsUpTo many before after
+fewer_read few many before after low (bytes, gone, within) = (bytes, gone, omega (arith, low, within))
+
+-- no command of a program reads more than its runs do
+pub most_read_of : (program : Program) (words : List (List ℕ)) (command : Command) → IsCommand program words command
+    → most_read command ≤ most_read_by program
+most_read_of Argon2 words (Hash config salt) is = omega arith
+most_read_of Argon2 words (Verify encoded) is = omega arith
+most_read_of Argon2 words (Rehash config encoded) is = omega arith
+most_read_of Argon2 words (New config salt) is = absurd is
+most_read_of Argon2 words (Check encoded) is = absurd is
+most_read_of Tool words (Hash config salt) is = absurd is
+most_read_of Tool words (Verify encoded) is = absurd is
+most_read_of Tool words (Rehash config encoded) is = absurd is
+most_read_of Tool words (New config salt) is = omega arith
+most_read_of Tool words (Check encoded) is = omega arith
+
+-- ---- a password that was read up to its greatest length
+
+-- what was read is all, or both are too long
+abbrev IsEnough : List ℕ → List ℕ → Type 0
+IsEnough password bytes = (password ≡ bytes) ⊎ ((nat_lt max_length (length password) ≡ true) × (nat_lt max_length (length bytes) ≡ true))
+
+is_enough : (password bytes : List ℕ) → password ≡ take (max_length + 1) bytes → IsEnough password bytes
+is_enough password bytes read = elim (cases_lt (max_length + 1) (length bytes)) [
+  | inr within ↦ inl (read ∙ take_all (max_length + 1) bytes within)
+  | inl long ↦
+      let most : length password ≡ max_length + 1 = ap length read ∙ length-take-le (max_length + 1) bytes (omega (arith, long)) in
+      inr (lt-ltb _ _ (omega (arith, most)), lt-ltb _ _ (omega (arith, long)))
+]
+
+-- a call with a password that is too long is refused, and by the same row whatever the password is
+first_of : (a b c d long : Bool) (rows : List (Bool × Error)) → long ≡ true →
+    (e : Error) × (first_that_applies ((a, LanesTooFew) ∷ (b, LanesTooMany) ∷ (c, MemoryTooLittle) ∷ (d, TimeTooSmall) ∷ (long, PwdTooLong) ∷ rows) ≡ Some e)
+first_of true b c d long rows e = (LanesTooFew, refl)
+first_of false true c d long rows e = (LanesTooMany, refl)
+first_of false false true d long rows e = (MemoryTooLittle, refl)
+first_of false false false true long rows e = (TimeTooSmall, refl)
+first_of false false false false true rows e = (PwdTooLong, refl)
+first_of false false false false false rows e = absurd (cc)
+
+refused_long : (config : Config) (password salt hash : ℕ) → nat_lt max_length password ≡ true → (e : Error) × (refusal_of config password salt hash ≡ Some e)
+unfolding refusal_of
+refused_long config password salt hash long =
+    first_of (config.lanes == 0) (nat_lt max_lanes config.lanes) (nat_lt config.mem_cost min_memory || nat_lt config.mem_cost (min_memory * config.lanes))
+    (config.time_cost == 0) (nat_lt max_length password) (drop 5 (settings_table config password salt hash)) long
+
+same_refusal : (config : Config) (one other salt hash : ℕ) → nat_lt max_length one ≡ true → nat_lt max_length other ≡ true
+    → refusal_of config one salt hash ≡ refusal_of config other salt hash
+unfolding refusal_of
+same_refusal config one other salt hash long also = rw (long, also) refl
+
+-- so what is answered for what was read is the answer for all
+hash_of_all : (config : Config) (salt lines password bytes : List ℕ) → IsEnough password bytes → HashAnswers config salt password lines
+    → HashAnswers config salt bytes lines
+hash_of_all config salt lines password bytes (inl same) h = subst (λ p. HashAnswers config salt p lines) same h
+hash_of_all config salt lines password bytes (inr long) h =
+    let refused = refused_long config (length password) (length salt) config.hash_length long.0 in
+    let none = subst IsNone refused.1 h.accepted in absurd (cc (none))
+
+refusal_of_all : (config : Config) (salt : List ℕ) (refusal : Error) (password bytes : List ℕ) → IsEnough password bytes
+    → IsRefusal config salt password refusal → IsRefusal config salt bytes refusal
+refusal_of_all config salt refusal password bytes (inl same) h = subst (λ p. IsRefusal config salt p refusal) same h
+refusal_of_all config salt refusal password bytes (inr long) h =
+    subst (λ (r : Option Error). MatchOption r (IsShortage (may_lack_workers config) refusal) (λ first. refusal ≡ first))
+    (same_refusal config (length password) (length bytes) (length salt) config.hash_length long.0 long.1) h
+
+verdict_of_all : (config : Config) (salt hash : List ℕ) (workers : Bool) (result : Result Bool Error) (password bytes : List ℕ) → IsEnough password bytes
+    → IsVerdict password salt hash config workers result → IsVerdict bytes salt hash config workers result
+verdict_of_all config salt hash workers result password bytes (inl same) h = subst (λ p. IsVerdict p salt hash config workers result) same h
+verdict_of_all config salt hash workers result password bytes (inr long) h =
+    let one = refused_long config (length password) (length salt) (length hash) long.0 in
+    let other = sym (same_refusal config (length password) (length bytes) (length salt) (length hash) long.0 long.1) ∙ one.1 in
+    let told : result ≡ Err one.0 = rw one.1 at h in
+    rw other told
+
+verify_of_all : (encoded : List ℕ) (result : Result Bool Error) (password bytes : List ℕ) → IsEnough password bytes
+    → VerifyAnswers encoded password result → VerifyAnswers encoded bytes result
+verify_of_all encoded result password bytes enough h = record {
+  unspelled = h.unspelled;
+  spelled = λ d config spells stored.
+      verdict_of_all config d.salt d.hash (nat_lt 1 d.parallelism) result password bytes enough (h.spelled d config spells stored);
+}
+
+-- there is a password that the input held, for which P holds
+abbrev pub OfInput : Option (List ℕ) → (List ℕ → Type 0) → Type 0
+OfInput input P = (password : List ℕ) × IsPassword input password × P password
+
+of_input : (P : List ℕ → Type 0) (input : Option (List ℕ)) (password : List ℕ) → IfSome input (λ bytes. password ≡ take (max_length + 1) bytes)
+    → ((bytes : List ℕ) → IsEnough password bytes → P password → P bytes) → P password → OfInput input P
+of_input P None password read all h = (password, tt, h)
+of_input P (Some bytes) password read all h = (bytes, refl, all bytes (is_enough password bytes read) h)
+
+-- the password was read from the input, but for what lies beyond the longest that is accepted
+abbrev WasRead : Option (List ℕ) → List ℕ → Type 0
+WasRead input password = IfSome input (λ bytes. password ≡ take (max_length + 1) bytes)
+
+pub hash_of_input : (config : Config) (salt lines : List ℕ) (input : Option (List ℕ)) (password : List ℕ) → WasRead input password
+    → HashAnswers config salt password lines → OfInput input (λ p. HashAnswers config salt p lines)
+hash_of_input config salt lines input password read h =
+    of_input (λ p. HashAnswers config salt p lines) input password read (λ bytes enough. hash_of_all config salt lines password bytes enough) h
+
+pub refusal_of_input : (config : Config) (salt : List ℕ) (refusal : Error) (input : Option (List ℕ)) (password : List ℕ) → WasRead input password
+    → IsRefusal config salt password refusal → OfInput input (λ p. IsRefusal config salt p refusal)
+refusal_of_input config salt refusal input password read h =
+    of_input (λ p. IsRefusal config salt p refusal) input password read (λ bytes enough. refusal_of_all config salt refusal password bytes enough) h
+
+pub verify_of_input : (encoded : List ℕ) (result : Result Bool Error) (input : Option (List ℕ)) (password : List ℕ) → WasRead input password
+    → VerifyAnswers encoded password result → OfInput input (λ p. VerifyAnswers encoded p result)
+verify_of_input encoded result input password read h =
+    of_input (λ p. VerifyAnswers encoded p result) input password read (λ bytes enough. verify_of_all encoded result password bytes enough) h
+
+-- ---- a password that was read up to the longest of `new` and `check`
+
+-- a short one is all
+pub short_is_all : (input : Option (List ℕ)) (password : List ℕ) → IfSome input (λ bytes. password ≡ take (longest_password + 1) bytes)
+    → length password ≤ longest_password → IsShortPassword input password
+short_is_all None password read short = (tt, short)
+short_is_all (Some bytes) password read short =
+    let taken : length password ≡ min (longest_password + 1) (length bytes) = ap length read ∙ length-take (longest_password + 1) bytes in
+    (read ∙ take_all (longest_password + 1) bytes (omega (arith, taken, short)), short)
+
+-- and a long one is of more than they take
+pub long_is_more : (input : Option (List ℕ)) (password : List ℕ) → IfSome input (λ bytes. password ≡ take (longest_password + 1) bytes)
+    → longest_password < length password → IsTooLong input
+long_is_more None password read long = tt
+long_is_more (Some bytes) password read long =
+    let taken : length password ≡ min (longest_password + 1) (length bytes) = ap length read ∙ length-take (longest_password + 1) bytes in
+    let few = min-le_right (longest_password + 1) (length bytes) in
+    omega (arith, taken, long, few)
+
+-- ---- one read after another
+
+-- two reads are one of both
+pub read_on : (known now later : Option (List ℕ)) (bytes piece : List ℕ) → Consumes known now bytes → Consumes now later piece
+    → Consumes known later (bytes ++ piece)
+read_on None now later bytes piece gone also = tt
+read_on (Some all) None later bytes piece gone also = absurd gone
+read_on (Some all) (Some rest) None bytes piece gone also = absurd also
+read_on (Some all) (Some rest) (Some left) bytes piece gone also = gone ∙ ap (λ r. bytes ++ r) also ∙ sym (append_assoc bytes piece left)
+
+-- and no more than there is room for
+pub piece_fits : (bytes buf piece : List ℕ) (count room most : ℕ) → length bytes ≤ most → count ≤ length buf → count ≡ length (take count buf)
+    → length buf ≡ length (take room piece) → room ≡ min 4096 (most - length bytes) → length (bytes ++ take count buf) ≤ most
+piece_fits bytes buf piece count room most within of_buf taken same left =
+    let room_left = min-le_right 4096 (most - length bytes) in
+    let of_piece = min-le_left room (length piece) in
+    let is = same ∙ length-take room piece in
+    rw (length-append bytes (take count buf)) (omega (arith, within, of_buf, sym taken, is, of_piece, left, room_left))
+
+-- so many bytes were read, and they are the first of all
+pub all_room : (known now : Option (List ℕ)) (bytes : List ℕ) (most : ℕ) → Consumes known now bytes → length bytes ≡ most
+    → IfSome known (λ all. bytes ≡ take most all)
+all_room None now bytes most gone full = tt
+all_room (Some all) None bytes most gone full = absurd gone
+all_room (Some all) (Some rest) bytes most gone full =
+    sym (ap (take most) gone ∙ take-append-le most bytes rest (omega (arith, full)) ∙ take_all most bytes (omega (arith, full)))
+
+-- the input ended before that, and they are all
+pub all_given : (known now : Option (List ℕ)) (bytes : List ℕ) (most : ℕ) → Consumes known now bytes → IsAtEnd now → length bytes ≤ most
+    → IfSome known (λ all. bytes ≡ take most all)
+all_given None now bytes most gone end within = tt
+all_given (Some all) None bytes most gone end within = absurd gone
+all_given (Some all) (Some rest) bytes most gone end within =
+    let same : all ≡ bytes = gone ∙ ap (λ r. bytes ++ r) end ∙ append-nil bytes in
+    rw same (sym (take_all most bytes within))

@@ -1,0 +1,81 @@
+//! How a password is read from the input.
+
+ghost use Rattle.std.specs.Prelude.{◌≡◌, ◌⊎◌, ◌≤◌, ◌+◌, IfErr, IfOk, IfSome, length, take};
+ghost use Rattle.argon2.specs.ErrorType.TheVariants.{OutOfMemory, PwdTooLong};
+ghost use Rattle.argon2.specs.SettingsTable.{max_length};
+ghost use Rattle.argon2_commands.specs.Answer.{IsShortPassword, IsTooLong, ReadsUpTo, longest_password};
+
+use crate::fault::Fault;
+use argon2::Error;
+use std::alloc::Global;
+use std::io;
+use std::io::{ErrorKind, Read};
+
+/// The longest password that `new` and `check` take, in bytes: far more than anybody types, and
+/// little memory for an input without end.
+pub const LONGEST_PASSWORD: usize = 65536;
+
+/// All of the input, so that a password may have any bytes, a newline at its end too. It stops
+/// behind the first byte that no call accepts, and the call refuses what was read for its length.
+pub(crate) fn read_password<I: Read>(alloc: Global, input: &mut I) -> Result<Vec<u8>, Fault>
+    ensures bytes { IfOk result (λ password. IfSome (I.remaining input.old) (λ bytes.
+        password.items ≡ take (max_length + 1) bytes)) }
+    ensures fault { IfErr result (λ fault. (fault ≡ Fault.Input)
+        ⊎ (fault ≡ Fault.Refused OutOfMemory)) }
+    ensures stops { ReadsUpTo (max_length + 1) (I.remaining input.old) (I.remaining input.new) }
+{
+    read_up_to(alloc, input, 4_294_967_296)
+}
+
+/// All of the input, where that is no longer than the longest password of `new` and `check`.
+pub(crate) fn read_short_password<I: Read>(alloc: Global, input: &mut I) -> Result<Vec<u8>, Fault>
+    ensures bytes { IfOk result (λ password. IsShortPassword (I.remaining input.old)
+        password.items) }
+    ensures fault { IfErr result (λ fault. (fault ≡ Fault.Input)
+        ⊎ ((fault ≡ Fault.Refused OutOfMemory)
+        ⊎ ((fault ≡ Fault.Refused PwdTooLong) × IsTooLong (I.remaining input.old)))) }
+    ensures stops { ReadsUpTo (longest_password + 1) (I.remaining input.old)
+        (I.remaining input.new) }
+{
+    let password = read_up_to(alloc, input, LONGEST_PASSWORD + 1)?;
+    if password.len() > LONGEST_PASSWORD {
+        return Err(Fault::Refused(Error::PwdTooLong));
+    }
+    Ok(password)
+}
+
+/// The first bytes of the input, at most so many, and all where there are fewer. A reader that
+/// lacked memory is told apart, since that is a shortage and no fault of the input.
+fn read_up_to<I: Read>(alloc: Global, input: &mut I, most: usize) -> Result<Vec<u8>, Fault>
+    ensures bytes { IfOk result (λ password. IfSome (I.remaining input.old) (λ bytes.
+        password.items ≡ take most bytes)) }
+    ensures fault { IfErr result (λ fault. (fault ≡ Fault.Input)
+        ⊎ (fault ≡ Fault.Refused OutOfMemory)) }
+    ensures stops { ReadsUpTo most (I.remaining input.old) (I.remaining input.new) }
+{
+    let mut password = Vec::new(alloc);
+    let mut piece = [0u8; 4096];
+    // The bound only lets the prover see an end: so many pieces fit no memory.
+    for _ in 0..u64::MAX {
+        let room = piece.len().min(most - password.len());
+        if room == 0 {
+            return Ok(password);
+        }
+        match input.read(&mut piece[..room]) {
+            Ok(0) => return Ok(password),
+            Ok(count) => password.extend_from_slice(&piece[..count])?,
+            Err(error) => fault_of_read(&error)?,
+        }
+    }
+    Err(Fault::Input)
+}
+
+/// The fault of a read that failed. One that a signal interrupted is made again.
+fn fault_of_read(error: &io::Error) -> Result<(), Fault>
+    ensures { IfErr result (λ fault. (fault ≡ Fault.Input) ⊎ (fault ≡ Fault.Refused OutOfMemory)) }
+{
+    if error.kind() == ErrorKind::Interrupted {
+        return Ok(());
+    }
+    Err(Fault::of_stream(error, Fault::Refused(Error::OutOfMemory), Fault::Input))
+}

@@ -1,0 +1,97 @@
+//! A run of either program over any input and outputs.
+
+ghost use Rattle.std.specs.Prelude.{◌≡◌, ◌≢◌, ◌<◌, ◌↔◌, IfErr, IfOk, IsErrAnd, OnOk};
+ghost use Rattle.std.specs.Io.KnownBytes.{Appends, Keeps};
+ghost use Rattle.argon2.specs.ErrorType.{Error};
+ghost use Rattle.argon2_commands.specs.Answer.{ReadsUpTo};
+ghost use Rattle.argon2_commands.specs.Fault.{IsBeforeOutput};
+ghost use Rattle.argon2_commands.specs.Run.{Answered, AreTooCostly, HasAnswer, IsRefused, IsShortOrRefused, MayPrecede, NeedNoInput, most_read_by, statuses_of};
+ghost use Rattle.argon2_commands.specs.Words.{IsNoCommand, texts_of};
+
+use crate::answer::Answer;
+use crate::command::{Command, Program};
+use crate::fault::Fault;
+use std::alloc::Global;
+use std::io;
+use std::io::{Read, Write};
+use std::marker::Sync;
+use std::sync::Wait;
+use std::thread::Threads;
+
+/// Does what the words of a program say, and gives the exit status. Of an attempt that fails it
+/// writes the fault's line.
+pub(crate) fn conclude<R: Threads + Wait + Sync, I: Read, O: Write, E: Write>(
+    rt: &R,
+    alloc: Global,
+    program: Program,
+    words: &[String],
+    input: &mut I,
+    output: &mut O,
+    errors: &mut E,
+) -> u8
+    ensures bounded { result < statuses_of program }
+    ensures answered { result < 2 → Answered program (texts_of words.now) (I.remaining input.old)
+        (O.contents output.old) (O.contents output.new) result }
+    ensures usage { (result ≡ 3) ↔ IsNoCommand program (texts_of words.now) }
+    ensures refused { result ≡ 2 → IsShortOrRefused program (texts_of words.now) (I.remaining input.old)
+        (O.contents output.old) (O.contents output.new) }
+    ensures costly { result ≡ 5 → Keeps (O.contents output.old) (O.contents output.new)
+        × AreTooCostly program (texts_of words.now) }
+    ensures judged { AreTooCostly program (texts_of words.now) → 1 < result }
+    ensures unwritten { result ≡ 3 → Keeps (O.contents output.old) (O.contents output.new) }
+    ensures stops { ReadsUpTo (most_read_by program) (I.remaining input.old)
+        (I.remaining input.new) }
+    ensures unread { NeedNoInput program (texts_of words.now)
+        → Keeps (I.remaining input.old) (I.remaining input.new) }
+    ensures silent { result < 2 → Keeps (E.contents errors.old) (E.contents errors.new) }
+{
+    match attempt(rt, alloc, program, words, input, output) {
+        Ok(status) => status,
+        Err(fault) => fault.report(errors),
+    }
+}
+
+/// Writes the answer of the words' command, and gives the exit status. It tells the call's refusals
+/// from an output that lacked memory, which have one exit status: nothing was written where
+/// anything but the output failed.
+pub fn attempt<R: Threads + Wait + Sync, I: Read, O: Write>(
+    rt: &R,
+    alloc: Global,
+    program: Program,
+    words: &[String],
+    input: &mut I,
+    output: &mut O,
+) -> Result<u8, Fault>
+    ensures answered { IfOk result (Answered program (texts_of words.now) (I.remaining input.old)
+        (O.contents output.old) (O.contents output.new)) }
+    ensures usage { (result ≡ Err Fault.Usage) ↔ IsNoCommand program (texts_of words.now) }
+    ensures refused { IfErr result (λ fault. (refusal : Error) → fault ≡ Fault.Refused refusal
+        → IsRefused program (texts_of words.now) (I.remaining input.old) refusal) }
+    ensures costly { IfErr result (λ fault. fault ≡ Fault.TooCostly
+        → AreTooCostly program (texts_of words.now)) }
+    ensures judged { AreTooCostly program (texts_of words.now) → IsErrAnd result
+        MayPrecede }
+    ensures short { IfErr result (λ fault. fault ≡ Fault.OutputShort
+        → HasAnswer program (texts_of words.now) (I.remaining input.old)) }
+    ensures unwritten { IfErr result (λ fault. IsBeforeOutput fault
+        → Keeps (O.contents output.old) (O.contents output.new)) }
+    ensures stops { ReadsUpTo (most_read_by program) (I.remaining input.old)
+        (I.remaining input.new) }
+    ensures unread { NeedNoInput program (texts_of words.now)
+        → Keeps (I.remaining input.old) (I.remaining input.new) }
+{
+    let command = Command::from_words(program, words).ok_or(Fault::Usage)?;
+    let answer = Answer::to(rt, alloc, &command, input)?;
+    match write_lines(output, answer.lines()) {
+        Ok(()) => Ok(answer.status()),
+        Err(error) => Err(Fault::of_stream(&error, Fault::OutputShort, Fault::Output)),
+    }
+}
+
+/// Writes all lines, and flushes them: an output may take them and fail only when it is flushed.
+fn write_lines<O: Write>(output: &mut O, lines: &str) -> io::Result<()>
+    ensures { OnOk result (Appends (O.contents output.old) (O.contents output.new) lines.now) }
+{
+    output.write_all(lines.as_bytes())?;
+    output.flush()
+}
