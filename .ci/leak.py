@@ -36,16 +36,16 @@ LEAKS = {
         test $0x400, %eax
         je original
         """},
-    # the bytes are the second argument, and their number is the third; any bytes are a table
-    'table_of_letters': {'argon2_text::encoding::push_item': """
-        test %rdx, %rdx
+    # the hash is the last argument, behind a buffer and a place in it; any bytes are a table
+    'table_of_letters': {'argon2_text::encoding::items::put_hash': """
+        test %r8, %r8
         je original
-        movzbl (%rsi), %eax
+        movzbl (%rcx), %eax
         lea start(%rip), %r10
         movzbl (%r10, %rax), %eax
         """},
     # the letters are the first argument, and their number is the second
-    'branch_on_a_letter': {'argon2_text::encoding::is_item': """
+    'branch_on_a_letter': {'argon2_text::encoding::letters::is_item': """
         test %rsi, %rsi
         je original
         cmpb $'A', (%rdi)
