@@ -20,6 +20,7 @@
 
 #define LANES 64
 #define LENGTH 32
+#define FIRST 20 /* calls, in which the C library takes what it keeps: stacks of threads, and a heap that has settled */
 #define TIMES 30
 #define MOST_GROWTH (4 << 20) /* bytes, of which each call would leave more if it left its memory */
 #define GREAT (1 << 18)       /* KiB, more than the process may have */
@@ -143,8 +144,8 @@ static int is_right_without_callbacks(void)
 static int stays_right(int (*is_right)(void))
 {
     int count = 0;
-    for (int i = 0; i < 3; i++) {
-        count += is_right(); /* (the C library keeps stacks of threads, and memory of a first call) */
+    for (int i = 0; i < FIRST; i++) {
+        count += is_right();
     }
     const size_t before = size_of_process();
     for (int i = 0; i < TIMES; i++) {
@@ -152,8 +153,8 @@ static int stays_right(int (*is_right)(void))
     }
     const size_t after = size_of_process(), growth = after > before ? after - before : 0;
     printf("%d of %d right, %zu bytes of growth, %u threads denied, memory taken %u times and given back %u times\n",
-        count, TIMES + 3, growth, denied, taken, given_back);
-    return count == TIMES + 3 && growth < MOST_GROWTH;
+        count, TIMES + FIRST, growth, denied, taken, given_back);
+    return count == TIMES + FIRST && growth < MOST_GROWTH;
 }
 
 int main(int count, char **words)
