@@ -216,7 +216,7 @@ def _runs_handlers() -> bool:
 
 class Telling:
     """What a call tells how far it is, where there is somebody to be told: `progress`, and handlers of signals. What
-    they raise stops it.
+    they raise stops it, and comes out of `with`.
 
     It is told by a generator, since handlers run where that is resumed, which is within its `try`. In a function they
     would run before its first line, and what they raise would be lost.
@@ -224,6 +224,7 @@ class Telling:
 
     def __init__(self, progress: "Optional[Progress]", slices: int) -> None:
         self._raised: "List[BaseException]" = []
+        self._is_over = False
         generator = self._answers(progress, slices)
         next(generator)
         self.send = generator.send
@@ -236,14 +237,18 @@ class Telling:
                 if progress is not None:
                     progress(done, slices)
                 yield 0
-        except GeneratorExit:
-            raise
         except BaseException as error:
+            if self._is_over:
+                raise
             self._raised.append(error)
         while True:
             yield 1
 
-    def raise_what_was_raised(self) -> None:
+    def __enter__(self) -> "Telling":
+        return self
+
+    def __exit__(self, *_: object) -> None:
+        self._is_over = True
         if self._raised:
             raise self._raised.pop()
 
@@ -256,20 +261,27 @@ def _compute(
     progress: "Optional[Progress]",
     limits: "Optional[NumberLimits]" = None,
 ) -> None:
-    """Makes a call over pages of a memory, or over its own. One that finds them too small is made again over what its
-    settings want: only then are they known to be accepted."""
-    is_told = progress is not None or _runs_handlers()
-    telling = Telling(progress, 4 * settings.time_cost) if is_told else None
-    if memory is None:
-        number = call(_options(threads, limits, None, telling))
-    else:
-        with memory.lent() as pages:
-            number = call(_options(threads, limits, pages, telling))
-            if number == OUT_OF_MEMORY and pages.grow(settings):
-                number = call(_options(threads, limits, pages, telling))
-    if telling is not None:
-        telling.raise_what_was_raised()
+    """Makes a call over pages of a memory, or over its own, and tells whom there is to be told."""
+    if progress is None and not _runs_handlers():
+        _require(_over_memory(lambda pages: call(_options(threads, limits, pages, None)), settings, memory))
+        return
+    with Telling(progress, 4 * settings.time_cost) as telling:
+        number = _over_memory(lambda pages: call(_options(threads, limits, pages, telling)), settings, memory)
     _require(number)
+
+
+def _over_memory(call: "Callable[[Optional[Pages]], Any]", settings: Settings, memory: "Optional[Memory]") -> int:
+    """What a call answers. One that finds the pages of a memory too small is made again over what its settings want: only
+    then are they known to be accepted."""
+    number: int
+    if memory is None:
+        number = call(None)
+        return number
+    with memory.lent() as pages:
+        number = call(pages)
+        if number == OUT_OF_MEMORY and pages.grow(settings):
+            number = call(pages)
+    return number
 
 
 def hash_raw(
