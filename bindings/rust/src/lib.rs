@@ -56,6 +56,7 @@ mod hashing;
 mod limits;
 mod memory;
 mod result;
+mod run;
 mod stored;
 mod thread_mode;
 mod variant;
@@ -68,6 +69,7 @@ pub use hashing::{encoded_len, hash_encoded, hash_encoded_in, hash_raw, hash_raw
 pub use limits::{verify_encoded_within, verify_encoded_within_in, Limits, Unverified};
 pub use memory::Memory;
 pub use result::Result;
+pub use run::Run;
 pub use stored::{read, Stored};
 pub use thread_mode::ThreadMode;
 pub use variant::Variant;
