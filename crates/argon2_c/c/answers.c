@@ -1,6 +1,6 @@
 /*
- * The answers of the calls by the inputs of RFC 9106, section 5, and over texts of rust-argon2's tests, with
- * and without a memory that is kept; each refusal by its number, with what the caller passed left as it was.
+ * The answers of the calls by the inputs of RFC 9106, section 5, and over texts of rust-argon2's tests; each
+ * refusal by its number, with what the caller passed left as it was.
  */
 #include "checks.h"
 
@@ -76,37 +76,6 @@ static void check_text(void)
     check_code(verify(of_16_lanes, "Password"), 64, "a text of 16 lanes, another password");
     check_code(verify(older, "password"), 0, "a text without a version");
     check_code(verify(older, "Password"), 64, "a text without a version, another password");
-}
-
-/* ---- over a memory that is kept, with a call of other settings between */
-
-static void check_tag_in(proved_argon2_memory *memory, uint32_t variant, const char *expected, const char *name)
-{
-    uint8_t tag[32] = {0};
-    const proved_argon2_settings settings = settings_of_rfc(variant);
-    uint32_t code = proved_argon2_hash_raw_in(memory, pwd, 32, salt, 16, secret, 8, ad, 12, &settings, tag, sizeof tag);
-    check(code == 0 && is_hex(tag, sizeof tag, expected), name);
-    code = proved_argon2_verify_encoded_in(memory, bytes_of(older), strlen(older), bytes_of("password"), 8, NULL, 0,
-                                           NULL, 0);
-    check_code(code, 0, "a text of other settings between");
-    code = proved_argon2_verify_raw_in(memory, pwd, 32, salt, 16, secret, 8, ad, 12, &settings, tag, sizeof tag);
-    check_code(code, 0, "its password");
-}
-
-static void check_text_in(proved_argon2_memory *memory)
-{
-    uint8_t text[SEVENS];
-    const proved_argon2_settings settings = settings_of_rfc(2);
-    const uint8_t *written = bytes_of(text_of_rfc);
-    const size_t len = strlen(text_of_rfc);
-    memset(text, 7, sizeof text);
-    uint32_t code = proved_argon2_hash_encoded_in(memory, pwd, 32, salt, 16, secret, 8, ad, 12, &settings, text,
-                                                  sizeof text);
-    check(code == 0 && holds_text(text, sizeof text, text_of_rfc), "a text over a memory that is kept");
-    code = proved_argon2_verify_encoded_in(memory, written, len, pwd, 32, secret, 8, ad, 12);
-    check_code(code, 0, "its password");
-    code = proved_argon2_verify_encoded_in(memory, written, len, bytes_of("guess"), 5, secret, 8, ad, 12);
-    check_code(code, 64, "another password");
 }
 
 /* ---- refusals */
@@ -232,7 +201,6 @@ int main(void)
     static const char argon2d[] = "512b391b6f1162975371d30919734294f868e3be3984f3c1a13a4db9fabe4acb";
     static const char argon2i[] = "c814d9d1dc7f37aa13f0d77f2494bda1c8de6b016dd388d29952a4c4672b6ce8";
     static const char argon2id[] = "0d640df58d78766c08c037a34a8b53c9d01ef0452d75b65eb52520e96b01e659";
-    proved_argon2_memory memory = proved_argon2_memory_new();
     memset(pwd, 1, sizeof pwd);
     memset(salt, 2, sizeof salt);
     memset(secret, 3, sizeof secret);
@@ -241,12 +209,6 @@ int main(void)
     check_tag(1, argon2i, "the tag of Argon2i");
     check_tag(2, argon2id, "the tag of Argon2id");
     check_text();
-    check_tag_in(&memory, 0, argon2d, "the tag of Argon2d over a memory that is kept");
-    check_tag_in(&memory, 2, argon2id, "the tag of Argon2id over the same memory");
-    proved_argon2_memory_free(&memory);
-    check(memory.kept == NULL, "nothing is kept");
-    check_text_in(&memory);
-    proved_argon2_memory_free(&memory);
     check_refusals();
     check_buffers();
     check_no_texts();

@@ -3,9 +3,9 @@
 #define CALLS_H
 
 #include "checks.h"
-#include "proved_argon2_threads.h"
 
 #include <argon2.h>
+#include <stdlib.h>
 
 enum { LONGEST = 96, INPUTS = 40 };
 
@@ -103,6 +103,27 @@ static inline int forgets_at(void *pool, uint32_t tasks, void (*task)(void *, ui
 {
     int *const left = pool;
     return backwards(NULL, --*left == 0 ? tasks - 1 : tasks, task, arg);
+}
+
+/* Pools that run one task twice, or one that is not there, at one of their runs. */
+static inline int repeats_at(void *pool, uint32_t tasks, void (*task)(void *, uint32_t), void *arg)
+{
+    int *const left = pool;
+    backwards(NULL, tasks, task, arg);
+    if (--*left == 0) {
+        task(arg, tasks / 2);
+    }
+    return 0;
+}
+
+static inline int exceeds_at(void *pool, uint32_t tasks, void (*task)(void *, uint32_t), void *arg)
+{
+    int *const left = pool;
+    if (--*left == 0) {
+        task(arg, tasks);
+        task(arg, UINT32_MAX);
+    }
+    return backwards(NULL, tasks, task, arg);
 }
 
 static inline proved_argon2_options by(uint32_t threads)

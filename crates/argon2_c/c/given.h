@@ -3,17 +3,18 @@
 #define GIVEN_H
 
 #include "checks.h"
-#include "proved_argon2_threads.h"
 
 enum { TAG = 32, TEXT = 128, LANES = 3, LENGTH = 2, SLICE = LANES * LENGTH, PASSES = 2 };
 
 static const proved_argon2_settings small = {
     PROVED_ARGON2_ID, PROVED_ARGON2_VERSION_13, 4 * SLICE, PASSES, LANES, TAG};
 
-/* What the calls are given: the places of `given`, of which those from MEMORY on are written to. */
+/* What the calls are given: the places of `given`, of which those from MEMORY on are written to. A memory is a pointer to
+ * one, which has its length elsewhere. */
 enum place {
     END, OPTIONS, TEXT_READ, TEXT_ENDED, PWD, PASSWORD, SALT, SECRET, AD, SETTINGS, LIMITS, JOB, FIRST, SECOND, THIRD,
-    LAST, HASH, TAG_READ, MEMORY, OUT, TEXT_WRITTEN, ROOM, STORED, JOB_WRITTEN, OWN, HASH_WRITTEN, TAG_WRITTEN, PLACES
+    LAST, HASH, TAG_READ, MEMORY, MEMORY_LEN, BLOCKS, OUT, TAG_OUT, TEXT_WRITTEN, ROOM, STORED, JOB_WRITTEN, OWN,
+    SALT_WRITTEN, HASH_WRITTEN, TAG_WRITTEN, PLACES
 };
 
 /* A pointer by the name that the headers give it; its length, in bytes or blocks, is 0 where it has none. */
@@ -40,11 +41,12 @@ static struct known {
 
 /* What the calls write to, and more of it than they are to write. */
 static struct written {
-    proved_argon2_memory memory;
+    void *memory;
+    size_t memory_len;
     proved_argon2_stored stored;
     proved_argon2_job job;
-    proved_argon2_block own[LENGTH + 2];
-    uint8_t out[TAG + 1], text[TEXT], hash[TAG], tag[TAG + 1];
+    proved_argon2_block own[LENGTH + 2], blocks[4 * SLICE + 2];
+    uint8_t out[TAG + 1], text[TEXT], salt[8], hash[TAG], tag[TAG + 1];
 } written, written_before;
 
 #define BYTES(place) given[place].at, given[place].len
@@ -60,6 +62,10 @@ CALL(job_begin, given[JOB].at, lane, BYTES(OWN))
 CALL(job_fill, given[JOB].at, pass, slice, lane, SLICES, BYTES(OWN))
 CALL(job_finish, given[JOB].at, BYTES(LAST), BYTES(OUT))
 CALL(job_verify, given[JOB].at, BYTES(LAST), BYTES(HASH), BYTES(TAG_WRITTEN))
+CALL(job_hash_over, given[JOB].at, BYTES(BLOCKS), BYTES(OUT))
+CALL(job_verify_over, given[JOB].at, BYTES(BLOCKS), BYTES(HASH), BYTES(TAG_WRITTEN))
+CALL(hash_over, INPUTS, BYTES(BLOCKS), BYTES(OUT))
+CALL(verify_over, INPUTS, BYTES(BLOCKS), BYTES(HASH), BYTES(TAG_WRITTEN))
 
 static inline void give(enum place place, const char *name, void *at, size_t len)
 {
@@ -96,17 +102,19 @@ static inline void give_to_read(void)
 /* What is written to is filled with bytes first. */
 static inline void give_to_write(void)
 {
-    proved_argon2_memory_free(&written.memory);
     fill_bytes((uint8_t *)&written, sizeof written, 7);
-    written.memory = proved_argon2_memory_new();
     memcpy(&written_before, &written, sizeof written);
     give(MEMORY, "memory", &written.memory, 0);
+    give(MEMORY_LEN, "memory_len", &written.memory_len, 0);
+    give(BLOCKS, "blocks", written.blocks, 4 * SLICE);
     give(OUT, "out", written.out, TAG);
+    give(TAG_OUT, "tag", written.out, TAG);
     give(TEXT_WRITTEN, "text", written.text, TEXT);
     give(ROOM, "text", written.text, 0);
     give(STORED, "stored", &written.stored, 0);
     give(JOB_WRITTEN, "job", &written.job, 0);
     give(OWN, "own", written.own, LENGTH);
+    give(SALT_WRITTEN, "salt", written.salt, 8);
     give(HASH_WRITTEN, "hash", written.hash, TAG);
     give(TAG_WRITTEN, "tag", written.tag, TAG);
 }

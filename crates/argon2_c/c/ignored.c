@@ -14,13 +14,16 @@ static const uint8_t *const it = room;
 static proved_argon2_settings settings;
 static proved_argon2_stored stored;
 static proved_argon2_limits limits;
-static proved_argon2_memory memory;
 static proved_argon2_job job;
 static proved_argon2_block block;
+static proved_argon2_options options;
+static void *memory;
+static size_t memory_len;
 
 int main(void)
 {
-    (void)it, (void)text, (void)settings, (void)limits, (void)stored, (void)memory, (void)job, (void)block;
+    (void)it, (void)text, (void)settings, (void)limits, (void)stored, (void)job, (void)block;
+    (void)options, (void)memory, (void)memory_len;
 #ifdef IGNORED
     CALL;
     return 0;

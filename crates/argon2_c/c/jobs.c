@@ -55,6 +55,52 @@ static uint32_t make(const proved_argon2_settings *settings, proved_argon2_job *
                                   job);
 }
 
+/* All steps in one call, over blocks that hold other things. */
+static void check_over(const proved_argon2_job *job)
+{
+    uint8_t pwd[32], salt[16], secret[8], ad[12], tag[32], again[32];
+    memset(pwd, 1, sizeof pwd);
+    memset(salt, 2, sizeof salt);
+    memset(secret, 3, sizeof secret);
+    memset(ad, 4, sizeof ad);
+    check(proved_argon2_memory_len(&rfc) == 32 * 1024, "the bytes of its blocks");
+    check_code(proved_argon2_job_hash_over(job, blocks, 32, tag, 32), PROVED_ARGON2_OK, "its tag in one call");
+    check(is_hex(tag, 32, tag_of_rfc), "is the same");
+    fill_bytes((uint8_t *)blocks, sizeof blocks, 9);
+    check_code(proved_argon2_job_verify_over(job, blocks, 32, tag, 32, again, 32), PROVED_ARGON2_OK, "its verdict");
+    check(memcmp(tag, again, 32) == 0, "and its tag is there");
+    check_code(proved_argon2_verify_over(pwd, 32, salt, 16, secret, 8, ad, 12, &rfc, blocks, 32, tag, 32, again, 32),
+               PROVED_ARGON2_OK, "the verdict of its inputs");
+    tag[31] ^= 1;
+    check_code(proved_argon2_job_verify_over(job, blocks, 32, tag, 32, again, 32), PROVED_ARGON2_MISMATCH, "another hash");
+    check_code(proved_argon2_verify_over(pwd, 32, salt, 16, secret, 8, ad, 12, &rfc, blocks, 32, tag, 32, again, 32),
+               PROVED_ARGON2_MISMATCH, "another hash of its inputs");
+    check(is_hex(again, 32, tag_of_rfc), "its tag is there");
+    check_code(proved_argon2_hash_over(pwd, 32, salt, 16, secret, 8, ad, 12, &rfc, blocks, 32, tag, 32), PROVED_ARGON2_OK,
+               "the tag of its inputs");
+    check(is_hex(tag, 32, tag_of_rfc), "is the same as well");
+}
+
+/* The run of a job, whose inputs are gone. */
+static void check_runs(const proved_argon2_job *job)
+{
+    const proved_argon2_job same = *job;
+    proved_argon2_options with = PROVED_ARGON2_OPTIONS;
+    uint8_t tag[32];
+    for (with.threads = 1; with.threads <= 4; with.threads++) {
+        memset(tag, 0, sizeof tag);
+        check_code(proved_argon2_job_run(&with, job, tag, 32), PROVED_ARGON2_OK, "its run");
+        check(is_hex(tag, 32, tag_of_rfc), "gives its tag");
+        check_code(proved_argon2_job_run_verify(&with, job, tag, 32), PROVED_ARGON2_OK, "and its verdict");
+        tag[31] ^= 1;
+        check_code(proved_argon2_job_run_verify(&with, job, tag, 32), PROVED_ARGON2_MISMATCH, "on another hash too");
+        memset(tag, 9, sizeof tag);
+        check_code(proved_argon2_job_run(&with, job, tag, 31), PROVED_ARGON2_WRONG_LENGTH, "not into 31 bytes");
+        check_code(proved_argon2_job_run_verify(&with, job, tag, 31), PROVED_ARGON2_WRONG_LENGTH, "nor on 31");
+        check(tag[0] == 9 && tag[31] == 9 && memcmp(job, &same, sizeof same) == 0, "nothing is written, and it stays");
+    }
+}
+
 static void check_tags(void)
 {
     const proved_argon2_block *const last = blocks + 3 * 8;
@@ -67,6 +113,8 @@ static void check_tags(void)
         check_code(proved_argon2_job_finish(&job, last, 8, tag, 32), PROVED_ARGON2_OK, "its end");
         check(is_hex(tag, 32, tag_of_rfc), "its tag");
     }
+    check_over(&job);
+    check_runs(&job);
     check_code(proved_argon2_job_verify(&job, last, 8, tag, 32, again, 32), PROVED_ARGON2_OK, "its tag is verified");
     check(memcmp(tag, again, 32) == 0, "and is there");
     for (size_t i = 0; i < 32; i++) {
@@ -89,7 +137,12 @@ static void check_tags(void)
 static uint32_t read_job(
     const char *text, size_t len, const char *pwd, proved_argon2_job *job, uint8_t *hash, size_t hash_len)
 {
-    return proved_argon2_job_read(bytes_of(text), len, bytes_of(pwd), 8, NULL, 0, NULL, 0, job, hash, hash_len);
+    uint8_t salt[8];
+    memset(salt, 9, sizeof salt);
+    const uint32_t code = proved_argon2_job_read(bytes_of(text), len, bytes_of(pwd), 8, NULL, 0, NULL, 0, job, salt,
+                                                 sizeof salt, hash, hash_len);
+    const char *const expected = code == PROVED_ARGON2_OK ? "somesalt" : "\t\t\t\t\t\t\t\t";
+    return memcmp(salt, expected, sizeof salt) == 0 ? code : PROVED_ARGON2_UNKNOWN_NUMBER;
 }
 
 static void check_text(void)

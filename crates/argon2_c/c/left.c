@@ -1,19 +1,31 @@
 /*
- * What the calls with options leave of secrets: nothing but what SECURITY.md names, whatever they answer. What is given
- * to free is looked through, and after a call all memory of the process that can be written. leaves.c has the calls
- * without options. It is linked with --wrap for what it looks at and refuses.
+ * What the calls that hash or verify leave of secrets: nothing but what SECURITY.md names, whatever they answer. What is
+ * given to free is looked through, and after a call the vector registers and all memory of the process that can be
+ * written. leaves.c has the calls that are proved. It is linked with --wrap for what it looks at and refuses.
  *
  *     left            all checks
  *     left unwiped    what is left where nothing is cleared: each call has to fail
  */
 #include "left.h"
 
-enum { NAMES = 4, MEMORIES = 4 };
+enum { NAMES = 13, WITH = 6, PLAIN = 11, MEMORIES = 3 };
 
+/* The calls with options, those with none, and those of a password alone. */
 static const char *const names[NAMES] = {
-    "hash_raw_with", "hash_encoded_with", "verify_raw_with", "verify_encoded_with"};
+    "hash_raw_with", "hash_encoded_with", "job_run", "verify_raw_with", "verify_encoded_with", "job_run_verify",
+    "hash_raw", "hash_encoded", "verify_raw", "verify_encoded", "verify_encoded_within", "password_hash",
+    "password_verify"};
+
 static _Alignas(8) uint8_t lent[2048 * 1024 + 8];
 static uint8_t out[512];
+
+ssize_t __wrap_getrandom(void *buffer, size_t length, unsigned flags);
+
+ssize_t __wrap_getrandom(void *buffer, size_t length, unsigned flags)
+{
+    fill_bytes(buffer, length, 0x80);
+    return flags == 0 ? (ssize_t)length : -1;
+}
 
 /* A call, with what decides how it ends. */
 typedef struct trial {
@@ -23,18 +35,45 @@ typedef struct trial {
     uint32_t expected, or_else; /* what it may answer */
 } trial;
 
+static bool is_hashing(size_t name)
+{
+    return name < 3 || name == 6 || name == 7 || name == 11;
+}
+
+/* A run of a job, which the caller clears. */
+static uint32_t run_job(const trial *it, bool is_hashing)
+{
+    static proved_argon2_job job;
+    uint32_t code = proved_argon2_job_make(INPUTS_OF(calls[it->call]), &job);
+    code = code ? code : is_hashing ? proved_argon2_job_run(&it->with, &job, out, it->is_short ? TAG - 1 : TAG)
+        : proved_argon2_job_run_verify(&it->with, &job, it->is_right ? sought->tag : zeros, it->is_short ? TAG - 1 : TAG);
+    __real_explicit_bzero(&job, sizeof job);
+    return code;
+}
+
+#define STORED_OF(it) text, strlen((const char *)text), BYTES(it, pwd), BYTES(it, secret), BYTES(it, ad)
+
 static uint32_t answer(size_t name, const trial *it)
 {
     const call *const of = &calls[it->call];
+    const uint8_t *const hash = it->is_right ? sought->tag : zeros, *const text = it->is_right ? sought->text : sought->other;
+    const size_t tag_len = it->is_short ? TAG - 1 : TAG, text_len = it->is_short ? TAG - 1 : sizeof out;
+    const proved_argon2_limits widest = {UINT32_MAX, UINT32_MAX, UINT32_MAX};
     switch (name) {
-    case 0:
-        return proved_argon2_hash_raw_with(&it->with, INPUTS_OF(*of), out, it->is_short ? TAG - 1 : TAG);
-    case 1:
-        return hash_encoded(&it->with, of, out, it->is_short ? TAG - 1 : sizeof out);
-    case 2:
-        return verify_raw(&it->with, of, it->is_right ? sought->tag : zeros);
-    default:
-        return verify_encoded(&it->with, of, it->is_right ? sought->text : sought->other);
+    case 0: return proved_argon2_hash_raw_with(&it->with, INPUTS_OF(*of), out, tag_len);
+    case 1: return hash_encoded(&it->with, of, out, text_len);
+    case 2: return run_job(it, true);
+    case 3: return verify_raw(&it->with, of, hash);
+    case 4: return verify_encoded(&it->with, of, text);
+    case 5: return run_job(it, false);
+    case 6: return proved_argon2_hash_raw(INPUTS_OF(*of), out, tag_len);
+    case 7: return proved_argon2_hash_encoded(INPUTS_OF(*of), out, text_len);
+    case 8: return proved_argon2_verify_raw(INPUTS_OF(*of), hash, TAG);
+    case 9: return proved_argon2_verify_encoded(STORED_OF(*of));
+    case 10:
+        return proved_argon2_verify_encoded_within(STORED_OF(*of), it->with.limits == NULL ? &widest : it->with.limits);
+    case 11: return proved_argon2_password_hash((char *)out, (const char *)of->pwd, of->pwd_len);
+    default: return proved_argon2_password_verify((const char *)text, (const char *)of->pwd, of->pwd_len);
     }
 }
 
@@ -49,24 +88,25 @@ static uint32_t answer_asked(const void *arg)
     return answer(asked->name, asked->it);
 }
 
-/* Whether a call answers what it is to, and leaves nothing but what it writes. */
+/* Whether a call answers what it is to, and leaves nothing but what it writes, and holds nothing. */
 static bool is_cleared(size_t name, const trial *it)
 {
     seek(it->call);
     memset(found, 0, sizeof found);
+    held = 0;
     look_at = look_at_request;
     const uint32_t code = far_below(answer_asked, &(struct asked){name, it});
     look_at = NULL;
     __real_explicit_bzero(out, sizeof out);
     look_everywhere();
     const bool is_expected = code == it->expected || code == it->or_else;
-    if (!is_expected) {
-        printf("%s answers %u\n", names[name], (unsigned)code);
+    if (!is_expected || held != 0) {
+        printf("%s answers %u and holds %zu bytes\n", names[name], (unsigned)code, held);
     }
-    return is_nothing_found(names[name]) && is_expected;
+    return is_nothing_found(names[name]) && is_expected && held == 0;
 }
 
-/* Over a mapping, a little of malloc's, the caller's memory, or as much as a mapping from malloc. */
+/* Over a mapping, a little of malloc's, or the caller's memory. */
 static trial over(size_t memory, uint32_t threads)
 {
     trial it = {.with = by(threads), .call = memory == 1 ? SMALL : MAPPED};
@@ -74,7 +114,20 @@ static trial over(size_t memory, uint32_t threads)
         it.with.memory = lent;
         it.with.memory_len = sizeof lent - 8;
     }
-    no_mappings = memory == 3;
+    return it;
+}
+
+/* As many of these as a call can be made over: a call without options has none of the caller's. */
+static size_t memories_of(size_t name)
+{
+    return name < WITH ? MEMORIES : name < PLAIN ? 2 : 1;
+}
+
+static trial trial_of(size_t name, size_t memory, uint32_t threads)
+{
+    trial it = over(memory, threads);
+    it.call = name < PLAIN ? it.call : ALONE;
+    it.expected = it.or_else = is_hashing(name) ? PROVED_ARGON2_OK : PROVED_ARGON2_MISMATCH;
     return it;
 }
 
@@ -88,13 +141,14 @@ static void check_cleared(size_t name, bool good, const char *where)
 static void check_done(size_t name)
 {
     bool good = true;
-    for (size_t n = 0; n < MEMORIES * 8; n++) {
+    for (size_t n = 0; n < memories_of(name) * 8; n++) {
         refuse_nothing();
-        trial it = over(n / 8, n % 2 == 0 ? 1 : 4);
+        trial it = trial_of(name, n / 8, n % 2 == 0 ? 1 : 4);
         it.with.run = n / 2 % 2 == 0 ? NULL : backwards;
-        it.is_right = name < 2 || n / 4 % 2 == 0;
-        it.expected = it.or_else = it.is_right ? PROVED_ARGON2_OK : PROVED_ARGON2_MISMATCH;
+        it.is_right = n / 4 % 2 == 0;
+        it.expected = it.or_else = it.is_right || is_hashing(name) ? PROVED_ARGON2_OK : PROVED_ARGON2_MISMATCH;
         good = good && is_cleared(name, &it);
+        n += name < WITH ? 0 : 3; /* (which has no threads and no pool) */
     }
     check_cleared(name, good, "it is done");
 }
@@ -103,27 +157,25 @@ static void check_starts(size_t name)
 {
     static const size_t from[] = {1, 5, 14, 27};
     bool good = true;
-    for (size_t n = 0; n < 3 * 4; n++) {
+    for (size_t n = 0; n < MEMORIES * 4; n++) {
         refuse_starts(from[n % 4], SIZE_MAX);
-        trial it = over(n / 4, 4);
-        it.expected = it.or_else = PROVED_ARGON2_WORKER_REFUSED;
+        const trial it = trial_of(name, n / 4, 4);
         good = good && is_cleared(name, &it);
     }
     check_cleared(name, good, "a start is refused");
 }
 
-/* Each request in turn, until one is not made any more. What is refused as a mapping may be had of malloc. */
+/* Each request in turn, until one is not made any more. */
 static bool is_cleared_at_requests(size_t name, size_t memory)
 {
     bool good = true;
     for (size_t number = 1; good; number++) {
         refuse_request(number);
-        trial it = over(memory, 4);
+        trial it = trial_of(name, memory, 4);
         it.expected = PROVED_ARGON2_OUT_OF_MEMORY;
-        it.or_else = name < 2 ? PROVED_ARGON2_OK : PROVED_ARGON2_MISMATCH;
         good = is_cleared(name, &it);
         if (requests < number) {
-            return number > (memory == 2 ? 1 : 2);
+            return number > 1;
         }
     }
     return false;
@@ -132,7 +184,7 @@ static bool is_cleared_at_requests(size_t name, size_t memory)
 static void check_requests(size_t name)
 {
     bool good = true;
-    for (size_t memory = 0; memory < MEMORIES; memory++) {
+    for (size_t memory = 0; memory < memories_of(name); memory++) {
         good = good && is_cleared_at_requests(name, memory);
     }
     check_cleared(name, good, "memory is refused");
@@ -140,12 +192,13 @@ static void check_requests(size_t name)
 
 static void check_pools(size_t name)
 {
+    static proved_argon2_run *const pools[] = {fails_at, forgets_at, repeats_at, exceeds_at};
     bool good = true;
-    for (int n = 0; n < MEMORIES * 9; n++) {
-        int left = n % 9 + 1;
+    for (int n = 0; n < MEMORIES * 9 * 4; n++) {
+        int left = n / 4 % 9 + 1;
         refuse_nothing();
-        trial it = over((size_t)n / 9, 4);
-        it.with.run = n % 2 == 0 ? fails_at : forgets_at;
+        trial it = trial_of(name, (size_t)n / 36, 4);
+        it.with.run = pools[n % 4];
         it.with.pool = &left;
         it.expected = it.or_else = PROVED_ARGON2_WORKER_REFUSED;
         good = good && is_cleared(name, &it);
@@ -153,31 +206,77 @@ static void check_pools(size_t name)
     check_cleared(name, good, "a pool refuses");
 }
 
+static int stops_at(void *arg, uint64_t done, uint64_t all)
+{
+    const uint64_t *const at = arg;
+    return done == *at && done <= all ? 1 : 0;
+}
+
+static void check_stops(size_t name)
+{
+    bool good = true;
+    for (size_t n = 0; n < MEMORIES * 8 * 2; n++) {
+        uint64_t at = n / 2 % 8 + 1;
+        refuse_nothing();
+        trial it = trial_of(name, n / 16, n % 2 == 0 ? 1 : 4);
+        it.with.tell = stops_at;
+        it.with.arg = &at;
+        it.expected = it.or_else = PROVED_ARGON2_STOPPED;
+        good = good && is_cleared(name, &it);
+    }
+    check_cleared(name, good, "it is stopped");
+}
+
+static uint32_t refusal_of(size_t name)
+{
+    return is_hashing(name) || name == 5 ? PROVED_ARGON2_WRONG_LENGTH
+        : name == 4 || name == 10 ? PROVED_ARGON2_TOO_COSTLY : PROVED_ARGON2_MISMATCH;
+}
+
 /* A buffer that does not fit, a text above its limits, and memories that do not. */
 static void check_arguments(size_t name)
 {
     static const proved_argon2_limits below = {2047, 2, 4};
     refuse_nothing();
-    trial it = over(0, 4);
+    trial it = trial_of(name, 0, 4);
     it.is_short = true;
     it.with.limits = &below;
-    it.expected = name < 2 ? PROVED_ARGON2_WRONG_LENGTH : name == 2 ? PROVED_ARGON2_MISMATCH : PROVED_ARGON2_TOO_COSTLY;
-    it.or_else = it.expected;
+    it.expected = it.or_else = refusal_of(name);
     bool good = is_cleared(name, &it);
-    it = over(2, 4);
-    it.with.memory_len--;
-    it.expected = it.or_else = PROVED_ARGON2_OUT_OF_MEMORY;
-    good = good && is_cleared(name, &it);
-    it = over(2, 4);
-    it.with.memory = lent + 1;
-    it.expected = it.or_else = PROVED_ARGON2_WRONG_BLOCKS;
-    good = good && is_cleared(name, &it);
+    if (name < WITH) {
+        it = trial_of(name, 2, 4);
+        it.with.memory_len--;
+        it.expected = it.or_else = PROVED_ARGON2_OUT_OF_MEMORY;
+        good = good && is_cleared(name, &it);
+        it = trial_of(name, 2, 4);
+        it.with.memory = lent + 1;
+        it.expected = it.or_else = PROVED_ARGON2_WRONG_BLOCKS;
+        good = good && is_cleared(name, &it);
+    }
     check_cleared(name, good, "its arguments are refused");
+}
+
+/* What stands in a memory that is given back is cleared: here, what is sought, byte by byte. */
+static void check_memory_free(size_t which)
+{
+    void *memory = NULL;
+    size_t len = 0;
+    seek(which);
+    memset(found, 0, sizeof found);
+    const bool is_made = proved_argon2_memory_new(&calls[which].settings, &memory, &len) == PROVED_ARGON2_OK;
+    for (size_t i = 0; is_made && i < sought->count * PART; i++) {
+        ((volatile uint8_t *)memory)[i] = sought->parts[i / PART].bytes[i % PART] ^ MASK;
+    }
+    look_at = look_at_request;
+    proved_argon2_memory_free(memory, len);
+    look_at = NULL;
+    look_everywhere();
+    check(is_nothing_found("memory_free") && is_made, "memory_free clears what stands there");
 }
 
 /* ---- out of core dumps */
 
-/* Whether the system has noted of the last mapping that a core dump leaves it out. */
+/* Whether the system has noted that a core dump leaves out what is left of the last mapping. */
 static bool is_left_out_of_dumps(void)
 {
     FILE *const maps = fopen("/proc/self/smaps", "r");
@@ -186,7 +285,7 @@ static bool is_left_out_of_dumps(void)
     while (maps != NULL && fgets(line, sizeof line, maps) != NULL) {
         unsigned long from, to;
         if (sscanf(line, "%lx-%lx ", &from, &to) == 2) {
-            is_in = from <= (uintptr_t)last_mapped && (uintptr_t)last_mapped + last_mapped_len <= to;
+            is_in = from < (uintptr_t)last_mapped + last_mapped_len && (uintptr_t)last_mapped < to;
         }
         is_left_out |= is_in && strncmp(line, "VmFlags:", 8) == 0 && strstr(line, " dd") != NULL;
     }
@@ -230,7 +329,7 @@ static void *verifies(void *unused)
     trial it = {.with = by(1)};
     seek(it.call = SMALL);
     frame_of_call = __builtin_frame_address(0);
-    return answer(3, &it) == PROVED_ARGON2_MISMATCH ? &stack_of_call : unused;
+    return answer(4, &it) == PROVED_ARGON2_MISMATCH ? &stack_of_call : unused;
 }
 
 /* Below the call's own frames all is cleared that was written, but for what the clearing itself leaves there. */
@@ -261,13 +360,20 @@ int main(int argc, char **argv)
     if (!no_wiping) {
         check_dumps();
         check_stack();
+        check_memory_free(MAPPED);
     }
+    check_memory_free(SMALL);
     for (size_t name = 0; name < NAMES; name++) {
         check_done(name);
-        check_starts(name);
         check_requests(name);
-        check_pools(name);
-        check_arguments(name);
+        if (name < WITH) {
+            check_starts(name);
+            check_pools(name);
+            check_stops(name);
+        }
+        if (name < PLAIN && refusal_of(name) != PROVED_ARGON2_MISMATCH) {
+            check_arguments(name);
+        }
     }
     return checks_failed != 0;
 }

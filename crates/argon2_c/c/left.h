@@ -1,11 +1,11 @@
-/* Looks through the memory of the process for pieces of what a call computes: H0, blocks, the tag and the inputs. */
+/* Looks through the memory of the process and its vector registers for pieces of what a call computes: H0, blocks, the tag
+ * and the inputs. */
 #ifndef LEFT_H
 #define LEFT_H
 
 #include "calls.h"
 #include "system.h"
 
-#include <malloc.h>
 #include <sys/wait.h>
 #include <unistd.h>
 
@@ -207,13 +207,27 @@ static inline void look_everywhere(void)
     }
 }
 
+/* What the vector registers held when a call had returned. */
+static uint8_t registers[16][32];
+
+#define NOTE(number) __asm__ volatile("vmovdqu %%ymm" #number ", %0" : "=m"(registers[number]))
+#define NOTE_HALF(number) __asm__ volatile("movdqu %%xmm" #number ", %0" : "=m"(registers[number]))
+#define EACH_BY(note) note(0); note(1); note(2); note(3); note(4); note(5); note(6); note(7); note(8); note(9); \
+    note(10); note(11); note(12); note(13); note(14); note(15)
+
 /* Makes a call with so much room above it that what looks afterwards has its frames there, and not where the call's
  * frames were. */
 __attribute__((noinline, unused)) static uint32_t far_below(uint32_t (*does)(const void *), const void *arg)
 {
     volatile uint8_t room[1 << 16];
     room[0] = 0;
-    return does(arg) + room[0];
+    const uint32_t code = does(arg);
+    if (__builtin_cpu_supports("avx")) {
+        EACH_BY(NOTE);
+    } else {
+        EACH_BY(NOTE_HALF);
+    }
+    return code + room[0];
 }
 
 /* Whether none is found; the first few that are, are told. */

@@ -1,188 +1,189 @@
 /*
- * Memory: each request of each call is refused in turn, and what was taken is given back. The program is
- * linked with -Wl,--wrap=malloc,--wrap=realloc,--wrap=free, so that the library asks here.
+ * Memory: what each call asks for, that each of its requests may be refused, that no more is held than the blocks and a
+ * little, and that all is given back. It is linked with --wrap for what it counts and refuses.
  */
-#include "checks.h"
+#include "calls.h"
+#include "system.h"
 
-#include <malloc.h>
-#include <stdlib.h>
-
-void *__real_malloc(size_t size);
-void *__real_realloc(void *block, size_t size);
-void __real_free(void *block);
-void *__wrap_malloc(size_t size);
-void *__wrap_realloc(void *block, size_t size);
-void __wrap_free(void *block);
-
-/* How often was asked, and how many bytes are and were held, by malloc's own count. */
-static size_t requests, refused_request, held, most_held;
-
-static bool is_refused(void)
-{
-    return ++requests == refused_request;
-}
-
-static void *hold(void *block)
-{
-    held += block == NULL ? 0 : malloc_usable_size(block);
-    most_held = held > most_held ? held : most_held;
-    return block;
-}
-
-void *__wrap_malloc(size_t size)
-{
-    return is_refused() ? NULL : hold(__real_malloc(size));
-}
-
-void *__wrap_realloc(void *block, size_t size)
-{
-    if (is_refused()) {
-        return NULL;
-    }
-    held -= block == NULL ? 0 : malloc_usable_size(block);
-    return hold(__real_realloc(block, size));
-}
-
-void __wrap_free(void *block)
-{
-    held -= block == NULL ? 0 : malloc_usable_size(block);
-    __real_free(block);
-}
-
-/* ---- the calls */
-
-static const proved_argon2_settings settings = {PROVED_ARGON2_ID, PROVED_ARGON2_VERSION_13, 64, 2, 3, 24};
-static const char stored[] = "$argon2d$m=256,t=2,p=1$c29tZXNhbHQ$vUBIaP8AxS51Q8gzLmp3KlckiS1+Mo1c8lO7yOcms3E";
+enum { TAG = 32, SMALL = 256, LARGE = 3072 };
 
 /* What a call may write to, which a refusal leaves as it was. */
-static uint8_t buffer[256];
-static proved_argon2_stored spelled;
+static uint8_t buffer[256], before[256];
 
-static uint32_t hash_raw(void)
+/* The call, of so many KiB by 4 lanes, its tag, its text and its job. */
+static call it;
+static uint8_t tag[TAG], text[256];
+static proved_argon2_job job;
+static proved_argon2_options with;
+
+#define INPUTS it.pwd, it.pwd_len, it.salt, it.salt_len, it.secret, it.secret_len, it.ad, it.ad_len, &it.settings
+#define STORED text, strlen((const char *)text), it.pwd, it.pwd_len, it.secret, it.secret_len, it.ad, it.ad_len
+#define CALL(name, ...) static uint32_t does_##name(void) { return proved_argon2_##name(__VA_ARGS__); }
+
+CALL(hash_raw, INPUTS, buffer, TAG)
+CALL(hash_encoded, INPUTS, buffer, sizeof buffer)
+CALL(verify_raw, INPUTS, tag, TAG)
+CALL(verify_encoded, STORED)
+CALL(verify_encoded_within, STORED, &(proved_argon2_limits){LARGE, 2, 4})
+CALL(hash_raw_with, &with, INPUTS, buffer, TAG)
+CALL(hash_encoded_with, &with, INPUTS, buffer, sizeof buffer)
+CALL(verify_raw_with, &with, INPUTS, tag, TAG)
+CALL(verify_encoded_with, &with, STORED)
+CALL(job_run, &with, &job, buffer, TAG)
+CALL(job_run_verify, &with, &job, tag, TAG)
+
+#define ROW(name, bytes, is_by_threads) {#name, does_##name, bytes, is_by_threads}
+
+/* Each call, how many requests it makes for bytes beside its blocks, and whether it may have several threads. */
+static const struct row {
+    const char *name;
+    uint32_t (*does)(void);
+    size_t bytes;
+    bool is_by_threads;
+} rows[] = {
+    ROW(hash_raw, 0, false), ROW(hash_encoded, 1, false), ROW(verify_raw, 1, false), ROW(verify_encoded, 1, false),
+    ROW(verify_encoded_within, 1, false), ROW(hash_raw_with, 0, true), ROW(hash_encoded_with, 1, true),
+    ROW(verify_raw_with, 1, true), ROW(verify_encoded_with, 1, true), ROW(job_run, 0, true),
+    ROW(job_run_verify, 1, true),
+};
+
+static void make(uint32_t mem_cost)
 {
-    return proved_argon2_hash_raw(bytes_of("password"), 8, bytes_of("somesalt"), 8, bytes_of("pepper"), 6,
-                                  bytes_of("data"), 4, &settings, buffer, 24);
+    refuse_nothing();
+    const proved_argon2_options alone = by(1);
+    it = (call){{PROVED_ARGON2_ID, PROVED_ARGON2_VERSION_13, mem_cost, 2, 4, TAG},
+                "password", "somesalt", "secret", "data", 8, 8, 6, 4};
+    const bool good = peer(&it, tag) && hash_encoded(&alone, &it, text, sizeof text) == PROVED_ARGON2_OK
+        && proved_argon2_job_make(INPUTS, &job) == PROVED_ARGON2_OK;
+    check(good, "what is asked");
 }
 
-static uint32_t hash_encoded(void)
+/* Whether a call comes to its value: what it wrote is the tag or the text. */
+static bool is_value(uint32_t code)
 {
-    return proved_argon2_hash_encoded(bytes_of("password"), 8, bytes_of("somesalt"), 8, bytes_of("pepper"), 6,
-                                      bytes_of("data"), 4, &settings, buffer, sizeof buffer);
+    const bool is_untouched = memcmp(buffer, before, sizeof buffer) == 0;
+    return code == PROVED_ARGON2_OK
+        && (is_untouched || memcmp(buffer, tag, TAG) == 0 || memcmp(buffer, text, sizeof buffer) == 0);
 }
 
-static uint32_t verify_raw(void)
+/* A call with one request refused: a shortage that writes nothing, or the value where it asked for no more; nothing is
+ * held then, and errno is as it was. */
+static bool ends_well(const struct row *row, size_t number)
 {
-    static const uint8_t hash[24];
-    uint32_t code = proved_argon2_verify_raw(bytes_of("password"), 8, bytes_of("somesalt"), 8, NULL, 0, NULL, 0, &settings,
-                                             hash, sizeof hash);
-    return code == PROVED_ARGON2_MISMATCH ? PROVED_ARGON2_OK : code;
+    fill_bytes(buffer, sizeof buffer, 7);
+    memcpy(before, buffer, sizeof buffer);
+    held = most_held = 0;
+    refuse_request(number);
+    errno = 77;
+    const uint32_t code = row->does();
+    const bool is_errno = errno == 77;
+    const bool is_short = code == PROVED_ARGON2_OUT_OF_MEMORY && memcmp(buffer, before, sizeof buffer) == 0;
+    return is_errno && held == 0 && (requests < number ? is_value(code) : is_short);
 }
 
-static uint32_t verify_encoded(void)
+/* Refuses the first request, the second and so on, until a run asks for no more. */
+static void check_call(const struct row *row, uint32_t threads)
 {
-    return proved_argon2_verify_encoded(bytes_of(stored), strlen(stored), bytes_of("password"), 8, NULL, 0, NULL, 0);
-}
-
-/* Just what the text spells. */
-static const proved_argon2_limits limits = {256, 2, 1};
-
-static uint32_t verify_encoded_within(void)
-{
-    return proved_argon2_verify_encoded_within(bytes_of(stored), strlen(stored), bytes_of("password"), 8, NULL, 0, NULL, 0,
-                                               &limits);
-}
-
-static uint32_t read(void)
-{
-    return proved_argon2_read(bytes_of(stored), strlen(stored), &spelled);
-}
-
-static uint32_t needs_rehash(void)
-{
-    uint32_t code = proved_argon2_needs_rehash(bytes_of(stored), strlen(stored), &settings);
-    return code == PROVED_ARGON2_NEEDS_REHASH ? PROVED_ARGON2_OK : code;
-}
-
-/* ---- refusing */
-
-static uint32_t with_refused(uint32_t (*call)(void), size_t number)
-{
-    memset(buffer, 7, sizeof buffer);
-    memset(&spelled, 7, sizeof spelled);
-    requests = most_held = 0;
-    refused_request = number;
-    uint32_t code = call();
-    refused_request = 0;
-    return code;
-}
-
-static bool is_as_it_was(void)
-{
-    uint8_t before[sizeof buffer];
-    memset(before, 7, sizeof before);
-    return memcmp(buffer, before, sizeof buffer) == 0 && memcmp(&spelled, before, sizeof spelled) == 0;
-}
-
-/* Refuses the first request, the second and so on, until a run meets no refusal and comes to its value. */
-static void check_call(uint32_t (*call)(void), size_t least, const char *name)
-{
-    bool holds = true;
+    const size_t blocks = (size_t)it.settings.mem_cost * 1024;
+    const size_t wanted = 1 + row->bytes + (threads > 1 || with.tell != NULL ? 1 : 0);
     size_t number = 1;
-    for (; with_refused(call, number) != PROVED_ARGON2_OK; number++) {
-        holds = holds && with_refused(call, number) == PROVED_ARGON2_OUT_OF_MEMORY && requests >= number && held == 0 &&
-                is_as_it_was();
-        if (!holds || number > 1000) {
-            break;
+    bool good = true;
+    char name[96];
+    with.threads = threads;
+    do {
+        good = ends_well(row, number);
+    } while (good && requests >= number++ && number < 100);
+    /* (a mapping is cut out of one that has a huge page more) */
+    const size_t most = blocks < 2048 * 1024 ? blocks + 2048 : (blocks / 2097152 + 2) * 2097152 + 2048;
+    snprintf(name, sizeof name, "%s of %u KiB by %u threads makes %zu requests, each of which may be refused", row->name,
+             (unsigned)it.settings.mem_cost, (unsigned)threads, wanted);
+    check(good && requests == wanted && most_held >= blocks && most_held <= most, name);
+}
+
+static int tells_nothing(void *arg, uint64_t done, uint64_t all)
+{
+    (void)arg;
+    return done > all;
+}
+
+static void check_calls(uint32_t mem_cost)
+{
+    make(mem_cost);
+    for (size_t i = 0; i < sizeof rows / sizeof *rows; i++) {
+        with = by(1);
+        check_call(&rows[i], 1);
+        if (rows[i].is_by_threads) {
+            check_call(&rows[i], 4);
+            with.tell = tells_nothing;
+            check_call(&rows[i], 1);
         }
     }
-    printf("%s: %zu requests refused, %zu bytes held at most\n", name, number - 1, most_held);
-    check(holds && number > least && requests == number - 1 && held == 0, name);
 }
 
-/* The last call took its matrix and a little more. */
-static void check_most_held(size_t memory, const char *name)
+/* A memory of the caller's own is the only request. */
+static void check_memory_new(uint32_t mem_cost)
 {
-    check(most_held <= memory + 2048, name);
+    void *memory = &memory;
+    size_t len = 5;
+    it.settings.mem_cost = mem_cost;
+    held = 0;
+    refuse_request(1);
+    errno = 77;
+    uint32_t code = proved_argon2_memory_new(&it.settings, &memory, &len);
+    check(code == PROVED_ARGON2_OUT_OF_MEMORY && memory == &memory && len == 5 && errno == 77 && held == 0,
+          "a memory that is refused");
+    refuse_nothing();
+    code = proved_argon2_memory_new(&it.settings, &memory, &len);
+    check(code == PROVED_ARGON2_OK && requests == 1 && held >= len, "a memory is one request");
+    proved_argon2_memory_free(memory, len);
+    check(held == 0 && errno == 77, "and is given back");
 }
 
-/* Calls that take no memory, and refusals that come before any is taken. */
+#define REFUSED_TEXT(it) bytes_of(it), strlen(it), NULL, 0, NULL, 0, NULL, 0
+
+/* Calls that take no memory, and refusals that come before any is taken, even where it would be refused. */
 static void check_without_memory(void)
 {
-    const char *no_passes = "$argon2d$m=256,t=0,p=1$c29tZXNhbHQ$AAAAAA", *no_hash = "$argon2d$m=256,t=2,p=1$c29tZXNhbHQ";
-    proved_argon2_settings refused = settings;
-    refused.lanes = 9;
-    requests = 0;
-    uint32_t little = proved_argon2_hash_raw(NULL, 0, bytes_of("somesalt"), 8, NULL, 0, NULL, 0, &refused, buffer, 24);
-    uint32_t shorter = proved_argon2_hash_raw(NULL, 0, bytes_of("somesalt"), 8, NULL, 0, NULL, 0, &settings, buffer, 23);
-    uint32_t full = proved_argon2_hash_encoded(NULL, 0, bytes_of("somesalt"), 8, NULL, 0, NULL, 0, &settings, buffer, 24);
-    uint32_t text = proved_argon2_verify_encoded(bytes_of(no_passes), strlen(no_passes), NULL, 0, NULL, 0, NULL, 0);
+    static const char no_passes[] = "$argon2d$m=256,t=0,p=1$c29tZXNhbHQ$AAAAAA", no_hash[] = "$argon2d$m=256,t=2,p=1$c2";
+    static const char right[] = "$argon2d$m=256,t=2,p=1$c29tZXNhbHQ$vUBIaP8AxS51Q8gzLmp3KlckiS1+Mo1c8lO7yOcms3E";
     const proved_argon2_limits below = {255, 2, 1};
-    uint32_t costly = proved_argon2_verify_encoded_within(bytes_of(stored), strlen(stored), NULL, 0, NULL, 0, NULL, 0, &below);
-    uint32_t fault = proved_argon2_read(bytes_of(no_hash), strlen(no_hash), &spelled);
-    uint32_t message = proved_argon2_message(PROVED_ARGON2_OUT_OF_MEMORY, buffer, sizeof buffer);
-    uint64_t len = proved_argon2_encoded_len(&settings, 8);
-    check(requests == 0, "nothing is asked for");
-    check(little == PROVED_ARGON2_MEMORY_TOO_LITTLE && shorter == PROVED_ARGON2_WRONG_LENGTH &&
-              full == PROVED_ARGON2_WRONG_LENGTH && text == PROVED_ARGON2_TIME_TOO_SMALL && costly == PROVED_ARGON2_TOO_COSTLY &&
-              fault == PROVED_ARGON2_DECODING_FAIL && message == PROVED_ARGON2_OK && len > 0,
-          "by calls that take no memory and refusals that come first");
+    proved_argon2_settings refused = it.settings;
+    proved_argon2_stored stored;
+    uint8_t salt[8], hash[32];
+    void *memory;
+    size_t len;
+    refused.lanes = 0;
+    with = by(4);
+    with.limits = &below;
+    refuse_request(1);
+    const uint32_t little = proved_argon2_hash_raw(NULL, 0, it.salt, 8, NULL, 0, NULL, 0, &refused, buffer, TAG);
+    const uint32_t shorter = proved_argon2_hash_raw(NULL, 0, it.salt, 8, NULL, 0, NULL, 0, &it.settings, buffer, TAG - 1);
+    const uint32_t full = proved_argon2_hash_encoded(NULL, 0, it.salt, 8, NULL, 0, NULL, 0, &it.settings, buffer, TAG);
+    const uint32_t text_of_none = proved_argon2_verify_encoded(REFUSED_TEXT(no_passes));
+    const uint32_t costly = proved_argon2_verify_encoded_within(REFUSED_TEXT(right), &below);
+    const uint32_t costly_with = proved_argon2_verify_encoded_with(&with, REFUSED_TEXT(right));
+    const uint32_t no_memory = proved_argon2_memory_new(&refused, &memory, &len);
+    check(requests == 0 && little == PROVED_ARGON2_LANES_TOO_FEW && shorter == PROVED_ARGON2_WRONG_LENGTH
+              && full == PROVED_ARGON2_WRONG_LENGTH && text_of_none == PROVED_ARGON2_TIME_TOO_SMALL
+              && costly == PROVED_ARGON2_TOO_COSTLY && costly_with == costly && no_memory == little,
+          "what is refused asks for nothing");
+    const uint32_t fault = proved_argon2_read(bytes_of(no_hash), strlen(no_hash), &stored);
+    const uint32_t read = proved_argon2_read(bytes_of(right), strlen(right), &stored);
+    const uint32_t bytes = proved_argon2_read_bytes(bytes_of(right), strlen(right), salt, 8, hash, 32);
+    const uint32_t rehash = proved_argon2_needs_rehash(bytes_of(right), strlen(right), &it.settings);
+    const uint32_t message = proved_argon2_message(PROVED_ARGON2_OUT_OF_MEMORY, buffer, sizeof buffer);
+    check(requests == 0 && fault == PROVED_ARGON2_DECODING_FAIL && read == PROVED_ARGON2_OK && bytes == PROVED_ARGON2_OK
+              && rehash == PROVED_ARGON2_NEEDS_REHASH && message == PROVED_ARGON2_OK
+              && proved_argon2_encoded_len(&it.settings, 8) > 0 && proved_argon2_memory_len(&it.settings) > 0,
+          "nor do the calls that hash and verify nothing");
 }
 
 int main(void)
 {
-    check_call(hash_raw, 2, "hash_raw");
-    check_most_held(64 * 1024, "the memory of hash_raw");
-    check_call(hash_encoded, 3, "hash_encoded");
-    check_most_held(64 * 1024, "the memory of hash_encoded");
-    check_call(verify_raw, 2, "verify_raw");
-    check_most_held(64 * 1024, "the memory of verify_raw");
-    check_call(verify_encoded, 4, "verify_encoded");
-    check_most_held(256 * 1024, "the memory of verify_encoded");
-    check_call(verify_encoded_within, 4, "verify_encoded_within");
-    check_most_held(256 * 1024, "the memory of verify_encoded_within");
-    check_call(read, 2, "read");
-    check_most_held(0, "the memory of read");
-    check_call(needs_rehash, 2, "needs_rehash");
+    check_calls(SMALL);
+    check_calls(LARGE);
+    check_memory_new(SMALL);
+    check_memory_new(LARGE);
     check_without_memory();
     return checks_failed != 0;
 }

@@ -50,6 +50,7 @@ static const refusal refusals[] = {
     {PROVED_ARGON2_WRONG_BLOCKS, "There are too many or too few blocks"},
     {PROVED_ARGON2_NULL_POINTER, "A pointer is null"},
     {PROVED_ARGON2_NO_RANDOM_BYTES, "There are no random bytes"},
+    {PROVED_ARGON2_STOPPED, "The hash was stopped"},
 };
 
 /* A text and zeros behind it, for each number of the header and for no other one. */

@@ -1,23 +1,25 @@
 /*
- * A password in one call each, and the numbers that the header alone answers. It is linked with --wrap=getentropy, so
- * that the salt is known.
+ * A password in one call each, and the numbers that C alone answers. It is linked with --wrap=getrandom, so that the salt
+ * is known.
  */
 #include "checks.h"
 
-int __wrap_getentropy(void *buffer, size_t length);
+ssize_t __wrap_getrandom(void *buffer, size_t length, unsigned flags);
 
-static int no_random_bytes;
+static int no_random_bytes, interruptions;
 static size_t asked_for;
 
 /* 0x80, 0x81 and so on. */
-int __wrap_getentropy(void *buffer, size_t length)
+ssize_t __wrap_getrandom(void *buffer, size_t length, unsigned flags)
 {
     asked_for = length;
-    if (no_random_bytes) {
+    if (no_random_bytes || interruptions > 0 || flags != 0) {
+        errno = interruptions > 0 ? EINTR : ENOSYS;
+        interruptions -= interruptions > 0;
         return -1;
     }
     fill_bytes((uint8_t *)buffer, length, 0x80);
-    return 0;
+    return (ssize_t)length;
 }
 
 /* ---- passwords */
@@ -48,13 +50,17 @@ static void check_password(void)
     check(code == PROVED_ARGON2_OK && proved_argon2_password_verify(text, "", 0) == PROVED_ARGON2_OK, "the empty one");
     memcpy(other, text, sizeof text);
     no_random_bytes = 1;
+    errno = 77;
     code = proved_argon2_password_hash(text, "password", 8);
     no_random_bytes = 0;
     check_code(code, PROVED_ARGON2_NO_RANDOM_BYTES, "no random bytes");
-    check(memcmp(text, other, sizeof text) == 0, "the text is as it was");
+    check(memcmp(text, other, sizeof text) == 0 && errno == 77, "the text is as it was, and so is errno");
+    interruptions = 3;
+    code = proved_argon2_password_hash(text, "password", 8);
+    check(code == PROVED_ARGON2_OK && errno == 77, "a signal is no refusal");
 }
 
-/* ---- the header's own numbers */
+/* ---- the numbers of C */
 
 static void check_message(uint32_t number, const char *expected)
 {
@@ -75,5 +81,6 @@ int main(void)
     check_password();
     check_message(PROVED_ARGON2_NULL_POINTER, "A pointer is null");
     check_message(PROVED_ARGON2_NO_RANDOM_BYTES, "There are no random bytes");
+    check_message(PROVED_ARGON2_STOPPED, "The hash was stopped");
     return checks_failed != 0;
 }

@@ -1,18 +1,19 @@
 /*
  * Null pointers, call by call: each pointer of the header and of the calls with options is null in turn. It is refused
  * by name, before what else is wrong with the call, and nothing is written; with the length 0 it passes nothing. c/run
- * compares the names of these checks with the pointers that the headers declare. It is linked with --wrap=getentropy,
+ * compares the names of these checks with the pointers that the headers declare. It is linked with --wrap=getrandom,
  * so that a salt is the same each time.
  */
 #include "given.h"
 
-int __wrap_getentropy(void *buffer, size_t length);
+ssize_t __wrap_getrandom(void *buffer, size_t length, unsigned flags);
 
 /* There are no random bytes where all is spoilt. */
-int __wrap_getentropy(void *buffer, size_t length)
+ssize_t __wrap_getrandom(void *buffer, size_t length, unsigned flags)
 {
     fill_bytes(buffer, length, 0x80);
-    return options.size == 0 ? -1 : 0;
+    errno = ENOSYS;
+    return options.size == 0 || flags != 0 ? -1 : (ssize_t)length;
 }
 
 /* ---- the other calls */
@@ -20,23 +21,23 @@ int __wrap_getentropy(void *buffer, size_t length)
 CALL(verify_raw, INPUTS, BYTES(HASH))
 CALL(verify_encoded, STORED_TEXT)
 CALL(verify_encoded_within, STORED_TEXT, given[LIMITS].at)
-CALL(hash_raw_in, given[MEMORY].at, INPUTS, BYTES(OUT))
-CALL(hash_encoded_in, given[MEMORY].at, INPUTS, BYTES(TEXT_WRITTEN))
-CALL(verify_raw_in, given[MEMORY].at, INPUTS, BYTES(HASH))
-CALL(verify_encoded_in, given[MEMORY].at, STORED_TEXT)
 CALL(read, BYTES(TEXT_READ), given[STORED].at)
+CALL(read_within, BYTES(TEXT_READ), given[LIMITS].at, given[STORED].at)
+CALL(read_bytes, BYTES(TEXT_READ), BYTES(SALT_WRITTEN), BYTES(HASH_WRITTEN))
 CALL(needs_rehash, BYTES(TEXT_READ), given[SETTINGS].at)
 CALL(message, PROVED_ARGON2_OUT_OF_MEMORY, BYTES(TEXT_WRITTEN))
 CALL(password_hash, given[ROOM].at, BYTES(PASSWORD))
 CALL(password_verify, given[TEXT_ENDED].at, BYTES(PASSWORD))
-CALL(job_read, STORED_TEXT, given[JOB_WRITTEN].at, BYTES(HASH_WRITTEN))
+CALL(job_read, STORED_TEXT, given[JOB_WRITTEN].at, BYTES(SALT_WRITTEN), BYTES(HASH_WRITTEN))
 CALL(encode, BYTES(SALT), given[SETTINGS].at, BYTES(TAG_READ), BYTES(TEXT_WRITTEN))
 CALL(hash_raw_with, given[OPTIONS].at, INPUTS, BYTES(OUT))
 CALL(hash_encoded_with, given[OPTIONS].at, INPUTS, BYTES(TEXT_WRITTEN))
 CALL(verify_raw_with, given[OPTIONS].at, INPUTS, BYTES(HASH))
 CALL(verify_encoded_with, given[OPTIONS].at, STORED_TEXT)
+CALL(job_run, given[OPTIONS].at, given[JOB].at, BYTES(TAG_OUT))
+CALL(job_run_verify, given[OPTIONS].at, given[JOB].at, BYTES(HASH))
 
-/* Two that have no number for it: no settings have no length, and nothing is freed where there is no memory. */
+/* Three that have no number for it: no settings have no length, and nothing is freed where there is no memory. */
 static uint32_t encoded_len(void)
 {
     const uint64_t len = proved_argon2_encoded_len(given[SETTINGS].at, 8);
@@ -44,10 +45,32 @@ static uint32_t encoded_len(void)
         : given[SETTINGS].at == NULL ? PROVED_ARGON2_NULL_POINTER : PROVED_ARGON2_INCORRECT_TYPE;
 }
 
+static uint32_t memory_len(void)
+{
+    const uint64_t len = proved_argon2_memory_len(given[SETTINGS].at);
+    return len == sizeof blocks - sizeof *blocks ? PROVED_ARGON2_OK : len != 0 ? PROVED_ARGON2_WRONG_LENGTH
+        : given[SETTINGS].at == NULL ? PROVED_ARGON2_NULL_POINTER : PROVED_ARGON2_INCORRECT_TYPE;
+}
+
+/* What is given back here is a memory that is made before. */
 static uint32_t memory_free(void)
 {
-    proved_argon2_memory_free(given[MEMORY].at);
-    return given[MEMORY].at == NULL ? PROVED_ARGON2_NULL_POINTER : PROVED_ARGON2_OK;
+    void *memory = NULL;
+    size_t len = 0;
+    const uint32_t code = given[MEMORY].at == NULL ? PROVED_ARGON2_NULL_POINTER
+        : proved_argon2_memory_new(&small, &memory, &len);
+    proved_argon2_memory_free(memory, len);
+    return code;
+}
+
+/* What is written to is not looked at but where the memory is refused: it is given back. */
+static uint32_t memory_new(void)
+{
+    const uint32_t code = proved_argon2_memory_new(given[SETTINGS].at, given[MEMORY].at, given[MEMORY_LEN].at);
+    if (code == PROVED_ARGON2_OK) {
+        proved_argon2_memory_free(written.memory, written.memory_len);
+    }
+    return code;
 }
 
 #define OF_INPUTS PWD, SALT, SECRET, AD, SETTINGS
@@ -61,16 +84,20 @@ static const struct row {
 } rows[] = {
     ROW(hash_raw, OF_INPUTS, OUT), ROW(hash_encoded, OF_INPUTS, TEXT_WRITTEN), ROW(verify_raw, OF_INPUTS, HASH),
     ROW(verify_encoded, OF_TEXT), ROW(verify_encoded_within, OF_TEXT, LIMITS),
-    ROW(hash_raw_in, MEMORY, OF_INPUTS, OUT), ROW(hash_encoded_in, MEMORY, OF_INPUTS, TEXT_WRITTEN),
-    ROW(verify_raw_in, MEMORY, OF_INPUTS, HASH), ROW(verify_encoded_in, MEMORY, OF_TEXT),
-    ROW(read, TEXT_READ, STORED), ROW(needs_rehash, TEXT_READ, SETTINGS), ROW(message, TEXT_WRITTEN),
+    ROW(read, TEXT_READ, STORED), ROW(read_within, TEXT_READ, LIMITS, STORED),
+    ROW(read_bytes, TEXT_READ, SALT_WRITTEN, HASH_WRITTEN), ROW(needs_rehash, TEXT_READ, SETTINGS), ROW(message, TEXT_WRITTEN),
     ROW(password_hash, ROOM, PASSWORD), ROW(password_verify, TEXT_ENDED, PASSWORD),
-    ROW(job_make, OF_INPUTS, JOB_WRITTEN), ROW(job_read, OF_TEXT, JOB_WRITTEN, HASH_WRITTEN), ROW(job_begin, JOB, OWN),
+    ROW(job_make, OF_INPUTS, JOB_WRITTEN), ROW(job_read, OF_TEXT, JOB_WRITTEN, SALT_WRITTEN, HASH_WRITTEN),
+    ROW(job_begin, JOB, OWN),
     ROW(job_fill, JOB, FIRST, SECOND, THIRD, OWN), ROW(job_finish, JOB, LAST, OUT),
     ROW(job_verify, JOB, LAST, HASH, TAG_WRITTEN), ROW(encode, SALT, SETTINGS, TAG_READ, TEXT_WRITTEN),
     ROW(hash_raw_with, OPTIONS, OF_INPUTS, OUT), ROW(hash_encoded_with, OPTIONS, OF_INPUTS, TEXT_WRITTEN),
     ROW(verify_raw_with, OPTIONS, OF_INPUTS, HASH), ROW(verify_encoded_with, OPTIONS, OF_TEXT),
-    ROW(encoded_len, SETTINGS), ROW(memory_free, MEMORY),
+    ROW(hash_over, OF_INPUTS, BLOCKS, OUT), ROW(verify_over, OF_INPUTS, BLOCKS, HASH, TAG_WRITTEN),
+    ROW(job_hash_over, JOB, BLOCKS, OUT), ROW(job_verify_over, JOB, BLOCKS, HASH, TAG_WRITTEN),
+    ROW(job_run, OPTIONS, JOB, TAG_OUT), ROW(job_run_verify, OPTIONS, JOB, HASH),
+    ROW(memory_new, SETTINGS, MEMORY, MEMORY_LEN), ROW(memory_free, MEMORY),
+    ROW(encoded_len, SETTINGS), ROW(memory_len, SETTINGS),
 };
 
 /* ---- null pointers */
@@ -107,13 +134,11 @@ static bool takes_none(const struct row *row, enum place place)
     give_what_fits();
     given[place].len = 0;
     const uint32_t code = row->call();
-    proved_argon2_memory_free(&written.memory);
     memcpy(&by_address, &written, sizeof written);
     give_what_fits();
     given[place].len = 0;
     given[place].at = NULL;
     const bool is_same = row->call() == code && code != PROVED_ARGON2_NULL_POINTER;
-    proved_argon2_memory_free(&written.memory);
     return is_same && memcmp(&by_address, &written, sizeof written) == 0;
 }
 

@@ -15,7 +15,6 @@ static const proved_argon2_settings long_tag = {PROVED_ARGON2_I, PROVED_ARGON2_V
 static char text[16384];
 static uint8_t tag[8192], salt[4096];
 static uint32_t answer;
-static proved_argon2_memory memory;
 
 static void *nothing(void *unused)
 {
@@ -50,17 +49,27 @@ static void *verify_encoded(void *unused)
     return unused;
 }
 
-static void *hash_raw_in(void *unused)
+static int tells(void *arg, uint64_t done, uint64_t all)
 {
-    answer = proved_argon2_hash_raw_in(&memory, salt, sizeof salt, salt, sizeof salt, salt, sizeof salt, salt, sizeof salt,
-                                       &long_tag, tag, sizeof tag);
+    (void)arg;
+    return done > all;
+}
+
+/* In steps, and by threads with stacks of their own. */
+static void *hash_raw_with(void *unused)
+{
+    proved_argon2_options with = PROVED_ARGON2_OPTIONS;
+    with.tell = tells;
+    answer = proved_argon2_hash_raw_with(&with, salt, sizeof salt, salt, sizeof salt, salt, sizeof salt, salt, sizeof salt,
+                                         &long_tag, tag, sizeof tag);
     return unused;
 }
 
-static void *verify_encoded_in(void *unused)
+static void *verify_encoded_with(void *unused)
 {
-    answer = proved_argon2_verify_encoded_in(&memory, bytes_of(text), strlen(text), salt, 32, NULL, 0, NULL, 0);
-    proved_argon2_memory_free(&memory);
+    proved_argon2_options with = PROVED_ARGON2_OPTIONS;
+    with.threads = 4;
+    answer = proved_argon2_verify_encoded_with(&with, bytes_of(text), strlen(text), salt, 32, NULL, 0, NULL, 0);
     return unused;
 }
 
@@ -125,8 +134,8 @@ int main(void)
     check_depth(hash_encoded, idle, "stack of hash_encoded");
     check_depth(verify_raw, idle, "stack of verify_raw");
     check_depth(verify_encoded, idle, "stack of verify_encoded");
-    check_depth(hash_raw_in, idle, "stack of hash_raw_in");
-    check_depth(verify_encoded_in, idle, "stack of verify_encoded_in");
+    check_depth(hash_raw_with, idle, "stack of hash_raw_with");
+    check_depth(verify_encoded_with, idle, "stack of verify_encoded_with");
     check_depth(read, idle, "stack of read");
     check_depth(needs_rehash, idle, "stack of needs_rehash");
     check_depth(small_calls, idle, "stack of the calls without memory");

@@ -1,19 +1,20 @@
 /*
  * The threads of the calls with options: as many as there are to be are started and joined for each slice, or a pool of
- * the caller's is asked to run as many tasks; what is refused, for good or for a while, and what is left out; eight
- * hashes at once. Tags are compared with libargon2's. It is linked with --wrap for what it counts and refuses.
+ * the caller's is asked to run as many tasks; a thread that is refused, whose lanes the caller's own fills; tasks that are
+ * left out; eight hashes at once. Tags are compared with libargon2's. It is linked with --wrap for what it counts and
+ * refuses.
  */
 #include "calls.h"
 #include "system.h"
 
-#include <time.h>
+enum { CALLS = 6, MOST_FOR_A_TEXT = 16, TEXT = 3, STEPS = 9, BESIDE = 3 };
 
-enum { CALLS = 4, MOST_FOR_A_TEXT = 16, TRIES = 100 };
-
-static const char *const names[CALLS] = {"hash_raw", "hash_encoded", "verify_raw", "verify_encoded"};
+static const char *const names[CALLS] = {
+    "hash_raw", "hash_encoded", "verify_raw", "verify_encoded", "job_run", "job_run_verify"};
 
 /* What the calls are given, and what they are to give: libargon2's tag, and the text of it. */
 static call it;
+static proved_argon2_job job;
 static uint8_t expected[LONGEST], text[512];
 
 /* Makes the call of some lanes and passes, and its text in the caller's own thread. */
@@ -22,7 +23,9 @@ static bool make(uint32_t lanes, uint32_t passes)
     const proved_argon2_options alone = by(1);
     it = (call){{PROVED_ARGON2_ID, PROVED_ARGON2_VERSION_13, 8 * lanes, passes, lanes, 32},
                 "password", "somesalt", "secret", "data", 8, 8, 6, 4};
-    return peer(&it, expected) && hash_encoded(&alone, &it, text, sizeof text) == PROVED_ARGON2_OK;
+    return peer(&it, expected) && hash_encoded(&alone, &it, text, sizeof text) == PROVED_ARGON2_OK
+        && proved_argon2_job_make(it.pwd, it.pwd_len, it.salt, it.salt_len, it.secret, it.secret_len, it.ad, it.ad_len,
+                                  &it.settings, &job) == PROVED_ARGON2_OK;
 }
 
 /* The answer of one of the calls. A tag or a text that is not the expected one is PROVED_ARGON2_UNKNOWN_NUMBER, and so
@@ -33,9 +36,11 @@ static uint32_t answer(size_t which, const proved_argon2_options *with)
     fill_bytes(before, sizeof before, 3);
     memcpy(out, before, sizeof out);
     const uint32_t code = which == 0 ? hash_raw(with, &it, out) : which == 1 ? hash_encoded(with, &it, out, sizeof out)
-        : which == 2 ? verify_raw(with, &it, expected) : verify_encoded(with, &it, text);
-    if (code == PROVED_ARGON2_OK && which < 2) {
-        memcpy(before, which == 0 ? expected : text, which == 0 ? 32 : sizeof text);
+        : which == 2 ? verify_raw(with, &it, expected) : which == TEXT ? verify_encoded(with, &it, text)
+        : which == 4 ? proved_argon2_job_run(with, &job, out, 32)
+        : proved_argon2_job_run_verify(with, &job, expected, 32);
+    if (code == PROVED_ARGON2_OK && (which < 2 || which == 4)) {
+        memcpy(before, which == 1 ? text : expected, which == 1 ? sizeof text : 32);
     }
     return memcmp(out, before, sizeof out) == 0 ? code : PROVED_ARGON2_UNKNOWN_NUMBER;
 }
@@ -43,7 +48,7 @@ static uint32_t answer(size_t which, const proved_argon2_options *with)
 /* How many tasks a slice has: one for each thread, and no more than lanes, or 16 for a stored text. */
 static uint32_t tasks_of(size_t which, uint32_t threads, uint32_t lanes)
 {
-    const uint32_t most = which == 3 && threads > MOST_FOR_A_TEXT ? MOST_FOR_A_TEXT : threads == 0 ? 1 : threads;
+    const uint32_t most = which == TEXT && threads > MOST_FOR_A_TEXT ? MOST_FOR_A_TEXT : threads == 0 ? 1 : threads;
     return most < lanes ? most : lanes;
 }
 
@@ -144,7 +149,7 @@ static bool starts_as_many(size_t which, uint32_t threads)
     const uint32_t code = answer(which, &with);
     const bool good = code == PROVED_ARGON2_OK && granted == beside * steps && starts == granted && joins == granted
         && running == 0 && most_running == beside && bursts == (beside == 0 ? 0 : steps) && open_to_signals == 0
-        && has_its_signals();
+        && large_stacks == 0 && has_its_signals();
     if (!good) {
         printf("%u: %zu starts and %zu joins, %zu at once, by %u threads for %u lanes\n", (unsigned)code, granted,
                joins, most_running, (unsigned)threads, (unsigned)it.settings.lanes);
@@ -192,50 +197,45 @@ static void check_numbers(size_t which)
 
 /* ---- what is refused */
 
-static double seconds(void)
+/* A start that is refused, and so many after it: in a step the caller's own thread does what is left, and asks for no more
+ * threads. The tag is the right one. */
+static bool goes_on_after(size_t which, size_t start, size_t count)
 {
-    struct timespec now;
-    clock_gettime(CLOCK_MONOTONIC, &now);
-    return (double)now.tv_sec + (double)now.tv_nsec / 1e9;
-}
-
-/* A start that is refused for good: it is tried for 0.1 seconds, those before it are joined, and none comes later. */
-static bool gives_up_at(size_t which, size_t start)
-{
-    const proved_argon2_options with = by(4);
-    refuse_starts(start, SIZE_MAX);
-    const double begun = seconds();
+    const proved_argon2_options with = by(BESIDE + 1);
+    size_t asked = 0, given = 0;
+    for (size_t step = 0; step < STEPS; step++) {
+        size_t in_step = 0;
+        bool is_refused = false;
+        while (in_step < BESIDE && !is_refused) {
+            asked++;
+            is_refused = asked >= start && asked - start < count;
+            in_step += is_refused ? 0 : 1;
+        }
+        given += in_step;
+    }
+    refuse_starts(start, count);
     const uint32_t code = answer(which, &with);
-    const bool good = code == PROVED_ARGON2_WORKER_REFUSED && seconds() - begun >= 0.1 && starts == start - 1 + TRIES
-        && granted == start - 1 && joins == granted && running == 0 && has_its_signals();
+    const bool good = code == PROVED_ARGON2_OK && starts == asked && granted == given && joins == granted && running == 0
+        && has_its_signals();
     if (!good) {
-        printf("%u: %zu starts, %zu granted and %zu joined, refused from %zu on\n", (unsigned)code, starts, granted,
-               joins, start);
+        printf("%u: %zu of %zu starts, %zu of %zu granted and %zu joined, refused from %zu on\n", (unsigned)code, starts,
+               asked, granted, given, joins, start);
     }
     return good;
 }
 
-/* One that is refused for a while is started then, and the tag is the right one. */
-static bool goes_on_after(size_t which, size_t start, size_t count)
-{
-    const proved_argon2_options with = by(4);
-    refuse_starts(start, count);
-    const uint32_t code = answer(which, &with);
-    return code == PROVED_ARGON2_OK && starts == 27 + count && granted == 27 && joins == 27 && running == 0;
-}
-
 static void check_refusals(size_t which)
 {
-    bool ends = make(4, 2), goes_on = true;
+    bool alone = make(4, 2), goes_on = true;
     char name[96];
-    for (size_t start = 1; start <= 27; start += which == 0 ? 1 : 13) {
-        ends &= gives_up_at(which, start);
-        goes_on &= goes_on_after(which, start, 1) && goes_on_after(which, start, 3) && goes_on_after(which, start, 20);
+    for (size_t start = 1; start <= STEPS * BESIDE; start++) {
+        alone &= goes_on_after(which, start, SIZE_MAX);
+        goes_on &= goes_on_after(which, start, 1) && goes_on_after(which, start, 2) && goes_on_after(which, start, 7);
     }
     refuse_nothing();
-    snprintf(name, sizeof name, "%s is refused where a start is, for good", names[which]);
-    check(ends, name);
-    snprintf(name, sizeof name, "%s goes on where a start is refused for a while", names[which]);
+    snprintf(name, sizeof name, "%s goes on alone where each start is refused from one on", names[which]);
+    check(alone, name);
+    snprintf(name, sizeof name, "%s goes on where some starts are refused", names[which]);
     check(goes_on, name);
 }
 

@@ -1,11 +1,12 @@
 /* What a program that is linked with --wrap gets in place of the system's own: starts of threads, requests for memory
- * and mappings are counted and refused, and what is given back is looked at first. */
+ * and mappings are counted and refused, what is held is counted, and what is given back is looked at first. */
 #ifndef SYSTEM_H
 #define SYSTEM_H
 
 #include "checks.h"
 
 #include <errno.h>
+#include <malloc.h>
 #include <pthread.h>
 #include <signal.h>
 #include <stdatomic.h>
@@ -18,12 +19,14 @@ int __real_pthread_join(pthread_t thread, void **result);
 int __wrap_pthread_join(pthread_t thread, void **result);
 void *__real_mmap(void *at, size_t len, int protection, int flags, int file, off_t offset);
 void *__wrap_mmap(void *at, size_t len, int protection, int flags, int file, off_t offset);
+int __real_munmap(void *at, size_t len);
+int __wrap_munmap(void *at, size_t len);
+void *__real_aligned_alloc(size_t alignment, size_t len);
+void *__wrap_aligned_alloc(size_t alignment, size_t len);
 void *__real_malloc(size_t len);
 void *__wrap_malloc(size_t len);
 void *__real_calloc(size_t count, size_t len);
 void *__wrap_calloc(size_t count, size_t len);
-void *__real_realloc(void *block, size_t len);
-void *__wrap_realloc(void *block, size_t len);
 void __real_free(void *block);
 void __wrap_free(void *block);
 void __real_explicit_bzero(void *bytes, size_t len);
@@ -33,16 +36,18 @@ void __wrap_explicit_bzero(void *bytes, size_t len);
  * often one was started while none ran. */
 static atomic_size_t starts, granted, joins, running, most_running, bursts;
 
-/* Starts at which some signal would have been the new thread's. */
-static atomic_size_t open_to_signals;
+/* Starts at which some signal would have been the new thread's, and those that asked for another stack than a small one. */
+static atomic_size_t open_to_signals, large_stacks;
 
 /* Which starts are refused, counted from 1; 0 for none. */
 static size_t first_refused, last_refused;
 
-/* Requests for memory and for mappings, which one of them is refused, counted from 1, and whether all mappings are. */
+/* Requests for memory and for mappings, and which one of them is refused, counted from 1. */
 static atomic_size_t requests;
 static size_t refused_request;
-static bool no_mappings;
+
+/* How many bytes are held, and were at most. */
+static atomic_size_t held, most_held;
 
 /* The last mapping that was given. */
 static void *last_mapped;
@@ -55,9 +60,8 @@ static void (*look_at)(const void *block);
 /* Counts from 0 and refuses nothing. */
 static inline void refuse_nothing(void)
 {
-    starts = granted = joins = most_running = bursts = open_to_signals = requests = 0;
+    starts = granted = joins = most_running = bursts = open_to_signals = large_stacks = requests = 0;
     first_refused = last_refused = refused_request = 0;
-    no_mappings = false;
 }
 
 /* Refuses so many starts from this one on. */
@@ -86,9 +90,16 @@ static inline bool has_blocked_signals(void)
     return all;
 }
 
+static inline bool has_small_stack(const pthread_attr_t *attributes)
+{
+    size_t size = 0;
+    return attributes != NULL && pthread_attr_getstacksize(attributes, &size) == 0 && size == 256 * 1024;
+}
+
 int __wrap_pthread_create(pthread_t *thread, const pthread_attr_t *attributes, void *(*run)(void *), void *arg)
 {
     const size_t number = ++starts;
+    large_stacks += has_small_stack(attributes) ? 0 : 1;
     if (first_refused != 0 && number >= first_refused && number <= last_refused) {
         return EAGAIN;
     }
@@ -115,36 +126,57 @@ static inline bool is_refused(void)
     return ++requests == refused_request;
 }
 
+static inline void hold(size_t more)
+{
+    const size_t now = held += more;
+    most_held = now > most_held ? now : most_held;
+}
+
+static inline void *hold_block(void *block)
+{
+    hold(block == NULL ? 0 : malloc_usable_size(block));
+    return block;
+}
+
+/* What a request that is refused answers. */
+static inline void *nothing(void)
+{
+    errno = ENOMEM;
+    return NULL;
+}
+
 void *__wrap_mmap(void *at, size_t len, int protection, int flags, int file, off_t offset)
 {
-    if (no_mappings || is_refused()) {
+    if (is_refused()) {
+        nothing();
         return MAP_FAILED;
     }
     last_mapped = __real_mmap(at, len, protection, flags, file, offset);
     last_mapped_len = len;
+    hold(last_mapped == MAP_FAILED ? 0 : len);
     return last_mapped;
+}
+
+int __wrap_munmap(void *at, size_t len)
+{
+    const int status = __real_munmap(at, len);
+    held -= status == 0 ? len : 0;
+    return status;
 }
 
 void *__wrap_malloc(size_t len)
 {
-    return is_refused() ? NULL : __real_malloc(len);
+    return is_refused() ? nothing() : hold_block(__real_malloc(len));
+}
+
+void *__wrap_aligned_alloc(size_t alignment, size_t len)
+{
+    return is_refused() ? nothing() : hold_block(__real_aligned_alloc(alignment, len));
 }
 
 void *__wrap_calloc(size_t count, size_t len)
 {
-    return is_refused() ? NULL : __real_calloc(count, len);
-}
-
-/* What is moved is given back at its old place. */
-void *__wrap_realloc(void *block, size_t len)
-{
-    if (is_refused()) {
-        return NULL;
-    }
-    if (look_at != NULL && block != NULL) {
-        look_at(block);
-    }
-    return __real_realloc(block, len);
+    return is_refused() ? nothing() : hold_block(__real_calloc(count, len));
 }
 
 void __wrap_free(void *block)
@@ -152,6 +184,7 @@ void __wrap_free(void *block)
     if (look_at != NULL && block != NULL) {
         look_at(block);
     }
+    held -= block == NULL ? 0 : malloc_usable_size(block);
     __real_free(block);
 }
 

@@ -1,9 +1,9 @@
 /*
  * The calls with options (bindings/c): tags by 1 to 33 threads beside libargon2's, a memory and a pool of the caller's,
- * options and limits, and memory that is refused. starts.c has the threads, left.c what is left in the process.
+ * options and limits. starts.c has the threads, memory.c the memory, left.c what is left in the process.
  *
  *     threads          all checks
- *     threads few      those that a tool looks at: a few tags, and eight hashes at once
+ *     threads few      those that a tool looks at: a few tags, and eight hashes at once over threads that stay
  */
 #include "calls.h"
 #include "system.h"
@@ -42,8 +42,13 @@ static void check_tags(uint32_t count, uint32_t most_lanes)
     check(good == count, "tags, verdicts and texts by threads");
 }
 
+/* ---- eight hashes at once */
+
+enum { LOGINS = 8, THREADS = 4 };
+
 typedef struct login {
     pthread_t thread;
+    proved_argon2_options with;
     call it;
     bool good;
 } login;
@@ -51,31 +56,129 @@ typedef struct login {
 static void *log_in(void *arg)
 {
     login *const self = arg;
-    const proved_argon2_options with = by(4);
     uint8_t tag[LONGEST], expected[LONGEST];
     self->good = peer(&self->it, expected);
     for (int i = 0; i < 4; i++) {
-        self->good &= hash_raw(&with, &self->it, tag) == PROVED_ARGON2_OK
+        self->good &= hash_raw(&self->with, &self->it, tag) == PROVED_ARGON2_OK
             && memcmp(tag, expected, self->it.settings.hash_length) == 0;
     }
     return NULL;
 }
 
-static void check_at_once(void)
+static bool log_in_at_once(login *logins)
 {
-    login logins[8];
     bool good = true;
-    for (size_t i = 0; i < 8; i++) {
-        logins[i].it = any_call(4);
+    for (size_t i = 0; i < LOGINS; i++) {
+        logins[i].it = any_call(THREADS);
         good &= pthread_create(&logins[i].thread, NULL, log_in, &logins[i]) == 0;
     }
-    for (size_t i = 0; good && i < 8; i++) {
+    for (size_t i = 0; good && i < LOGINS; i++) {
         good &= pthread_join(logins[i].thread, NULL) == 0 && logins[i].good;
     }
-    check(good, "eight hashes at once");
+    return good;
 }
 
-/* ---- options and shortages */
+/* Each by threads of its own. */
+static void check_at_once(void)
+{
+    login logins[LOGINS];
+    for (size_t i = 0; i < LOGINS; i++) {
+        logins[i].with = by(THREADS);
+    }
+    check(log_in_at_once(logins), "eight hashes at once");
+}
+
+/* A pool whose threads stay. Where several callers start and join threads at the same time, a tool takes a thread for an
+ * earlier one whose number it has, and so reports what is none: there each caller has threads that were there before. */
+typedef struct staying {
+    pthread_mutex_t mutex;
+    pthread_cond_t begun, ended;
+    pthread_t threads[THREADS];
+    void (*task)(void *, uint32_t);
+    void *arg;
+    uint32_t next, tasks, done;
+    bool is_over;
+} staying;
+
+/* Takes one task after another, until there are to be none any more. */
+static void *stay(void *arg)
+{
+    staying *const self = arg;
+    pthread_mutex_lock(&self->mutex);
+    while (!self->is_over) {
+        if (self->next == self->tasks) {
+            pthread_cond_wait(&self->begun, &self->mutex);
+            continue;
+        }
+        const uint32_t number = self->next++;
+        pthread_mutex_unlock(&self->mutex);
+        self->task(self->arg, number);
+        pthread_mutex_lock(&self->mutex);
+        self->done++;
+        pthread_cond_signal(&self->ended);
+    }
+    pthread_mutex_unlock(&self->mutex);
+    return NULL;
+}
+
+static int run_staying(void *pool, uint32_t tasks, void (*task)(void *, uint32_t), void *arg)
+{
+    staying *const self = pool;
+    pthread_mutex_lock(&self->mutex);
+    self->task = task;
+    self->arg = arg;
+    self->next = self->done = 0;
+    self->tasks = tasks;
+    pthread_cond_broadcast(&self->begun);
+    while (self->done < tasks) {
+        pthread_cond_wait(&self->ended, &self->mutex);
+    }
+    self->next = self->tasks = 0;
+    pthread_mutex_unlock(&self->mutex);
+    return 0;
+}
+
+static bool begin_staying(staying *self)
+{
+    bool good = true;
+    *self = (staying){.mutex = PTHREAD_MUTEX_INITIALIZER, .begun = PTHREAD_COND_INITIALIZER,
+                      .ended = PTHREAD_COND_INITIALIZER};
+    for (size_t i = 0; i < THREADS; i++) {
+        good &= pthread_create(&self->threads[i], NULL, stay, self) == 0;
+    }
+    return good;
+}
+
+static void end_staying(staying *self)
+{
+    pthread_mutex_lock(&self->mutex);
+    self->is_over = true;
+    pthread_cond_broadcast(&self->begun);
+    pthread_mutex_unlock(&self->mutex);
+    for (size_t i = 0; i < THREADS; i++) {
+        pthread_join(self->threads[i], NULL);
+    }
+}
+
+static void check_at_once_over_pools(void)
+{
+    static staying pools[LOGINS];
+    login logins[LOGINS];
+    bool good = true;
+    for (size_t i = 0; i < LOGINS; i++) {
+        good &= begin_staying(&pools[i]);
+        logins[i].with = by(THREADS);
+        logins[i].with.run = run_staying;
+        logins[i].with.pool = &pools[i];
+    }
+    good = good && log_in_at_once(logins);
+    for (size_t i = 0; i < LOGINS; i++) {
+        end_staying(&pools[i]);
+    }
+    check(good, "eight hashes at once, over pools");
+}
+
+/* ---- options */
 
 static const call sample = {
     {PROVED_ARGON2_ID, PROVED_ARGON2_VERSION_13, 256, 2, 4, 32}, "password", "somesalt", "", "", 8, 8, 0, 0};
@@ -118,16 +221,15 @@ static void check_options(void)
     with.memory = memory;
     with.memory_len = 256 * 1024 - 1;
     check_refused(&with, PROVED_ARGON2_OUT_OF_MEMORY, "a memory that is a byte short");
-    for (int run = 1; run <= 9; run++) {
-        for (int kind = 0; kind < 2; kind++) {
-            int left = run;
-            with.memory_len = 256 * 1024;
-            with.run = kind == 0 ? fails_at : forgets_at;
-            with.pool = &left;
-            memset(memory, 1, sizeof memory);
-            check_refused(&with, PROVED_ARGON2_WORKER_REFUSED, "a pool that refuses a run or leaves out a task");
-            check(is_clear(memory, 256 * 1024) && memory[256 * 1024] == 1, "its memory is cleared, and no more");
-        }
+    for (int n = 0; n < 9 * 4; n++) {
+        static proved_argon2_run *const pools[] = {fails_at, forgets_at, repeats_at, exceeds_at};
+        int left = n / 4 + 1;
+        with.memory_len = 256 * 1024;
+        with.run = pools[n % 4];
+        with.pool = &left;
+        memset(memory, 1, sizeof memory);
+        check_refused(&with, PROVED_ARGON2_WORKER_REFUSED, "a pool that refuses a run, or does not run each task once");
+        check(is_clear(memory, 256 * 1024) && memory[256 * 1024] == 1, "its memory is cleared, and no more");
     }
 }
 
@@ -149,33 +251,17 @@ static void check_limits(void)
     refuse_nothing();
 }
 
-static void check_shortages(void)
-{
-    const proved_argon2_options with = by(4);
-    uint8_t tag[LONGEST], expected[LONGEST];
-    refuse_nothing();
-    no_mappings = true;
-    const bool good = peer(&sample, expected) && hash_raw(&with, &sample, tag) == PROVED_ARGON2_OK;
-    check(good && memcmp(tag, expected, 32) == 0, "no mappings");
-    for (size_t number = 1; number <= 2; number++) {
-        refuse_request(number);
-        no_mappings = true;
-        check_refused(&with, PROVED_ARGON2_OUT_OF_MEMORY, "a request that is refused");
-    }
-    refuse_nothing();
-}
-
 int main(int argc, char **argv)
 {
     if (argc > 1 && strcmp(argv[1], "few") == 0) {
         check_tags(20, 4);
-        check_at_once();
+        check_at_once_over_pools();
         return checks_failed != 0;
     }
     check_tags(1000, 100);
     check_at_once();
+    check_at_once_over_pools();
     check_options();
     check_limits();
-    check_shortages();
     return checks_failed != 0;
 }

@@ -19,7 +19,6 @@ AT(proved_argon2_stored, salt_length, 24, 4);
 AT(proved_argon2_limits, mem_cost, 0, 4);
 AT(proved_argon2_limits, time_cost, 4, 4);
 AT(proved_argon2_limits, lanes, 8, 4);
-AT(proved_argon2_memory, kept, 0, 8);
 AT(proved_argon2_block, words, 0, 1024);
 AT(proved_argon2_job, prehash, 0, 64);
 AT(proved_argon2_job, variant, 64, 4);
@@ -28,79 +27,82 @@ AT(proved_argon2_job, lanes, 72, 4);
 AT(proved_argon2_job, segment_length, 76, 4);
 AT(proved_argon2_job, passes, 80, 4);
 AT(proved_argon2_job, hash_length, 84, 4);
+AT(proved_argon2_options, size, 0, 8);
+AT(proved_argon2_options, threads, 8, 4);
+AT(proved_argon2_options, memory, 16, 8);
+AT(proved_argon2_options, memory_len, 24, 8);
+AT(proved_argon2_options, run, 32, 8);
+AT(proved_argon2_options, pool, 40, 8);
+AT(proved_argon2_options, limits, 48, 8);
+AT(proved_argon2_options, tell, 56, 8);
+AT(proved_argon2_options, arg, 64, 8);
 _Static_assert(sizeof(proved_argon2_settings) == 24, "proved_argon2_settings");
 _Static_assert(sizeof(proved_argon2_stored) == 28, "proved_argon2_stored");
 _Static_assert(sizeof(proved_argon2_limits) == 12, "proved_argon2_limits");
-_Static_assert(sizeof(proved_argon2_memory) == 8, "proved_argon2_memory");
+_Static_assert(sizeof(proved_argon2_options) == 72, "proved_argon2_options");
 _Static_assert(sizeof(proved_argon2_block) == 1024, "proved_argon2_block");
 _Static_assert(sizeof(proved_argon2_job) == 88, "proved_argon2_job");
 
-/* What the functions take: bytes, settings, room to write to, and a memory. */
+/* What the functions take: bytes, settings, room to write to, blocks, a job and options. */
 #define BYTES const uint8_t *, size_t
 #define ROOM uint8_t *, size_t
 #define INPUTS BYTES, BYTES, BYTES, BYTES, const proved_argon2_settings *
-#define KEPT proved_argon2_memory *
+#define STORED BYTES, BYTES, BYTES, BYTES
 #define JOB const proved_argon2_job *
 #define BLOCKS const proved_argon2_block *, size_t
 #define OWN proved_argon2_block *, size_t
-#define MAKES BYTES, BYTES, BYTES, BYTES, const proved_argon2_settings *, proved_argon2_job *
+#define WITH const proved_argon2_options *
+#define LIMITS const proved_argon2_limits *
 
 #define IS(name, result, ...) \
     check(_Generic(&proved_argon2_##name, result (*)(__VA_ARGS__): true, default: false), "the type of " #name)
 
-static void check_functions(void)
+/* What is proved, and its inline form, which takes the same. */
+#define ARE(name, result, ...) \
+    IS(name, result, __VA_ARGS__); \
+    IS(nullable_##name, result, __VA_ARGS__)
+
+static void check_calls(void)
 {
     IS(hash_raw, uint32_t, INPUTS, ROOM);
     IS(hash_encoded, uint32_t, INPUTS, ROOM);
     IS(verify_raw, uint32_t, INPUTS, BYTES);
-    IS(verify_encoded, uint32_t, BYTES, BYTES, BYTES, BYTES);
-    IS(verify_encoded_within, uint32_t, BYTES, BYTES, BYTES, BYTES, const proved_argon2_limits *);
-    IS(default_limits, proved_argon2_limits, void);
-    IS(read, uint32_t, BYTES, proved_argon2_stored *);
-    IS(needs_rehash, uint32_t, BYTES, const proved_argon2_settings *);
-    IS(encoded_len, uint64_t, const proved_argon2_settings *, uint32_t);
-    IS(message, uint32_t, uint32_t, ROOM);
-    IS(library_version, uint32_t, void);
-    IS(memory_free, void, KEPT);
-    IS(hash_raw_in, uint32_t, KEPT, INPUTS, ROOM);
-    IS(hash_encoded_in, uint32_t, KEPT, INPUTS, ROOM);
-    IS(verify_raw_in, uint32_t, KEPT, INPUTS, BYTES);
-    IS(verify_encoded_in, uint32_t, KEPT, BYTES, BYTES, BYTES, BYTES);
-    IS(nullable_hash_raw, uint32_t, INPUTS, ROOM);
-    IS(nullable_hash_encoded, uint32_t, INPUTS, ROOM);
-    IS(nullable_verify_raw, uint32_t, INPUTS, BYTES);
-    IS(nullable_verify_encoded, uint32_t, BYTES, BYTES, BYTES, BYTES);
-    IS(nullable_verify_encoded_within, uint32_t, BYTES, BYTES, BYTES, BYTES, const proved_argon2_limits *);
-    IS(nullable_read, uint32_t, BYTES, proved_argon2_stored *);
-    IS(nullable_needs_rehash, uint32_t, BYTES, const proved_argon2_settings *);
-    IS(nullable_encoded_len, uint64_t, const proved_argon2_settings *, uint32_t);
-    IS(nullable_message, uint32_t, uint32_t, ROOM);
-    IS(nullable_memory_free, void, KEPT);
-    IS(nullable_hash_raw_in, uint32_t, KEPT, INPUTS, ROOM);
-    IS(nullable_hash_encoded_in, uint32_t, KEPT, INPUTS, ROOM);
-    IS(nullable_verify_raw_in, uint32_t, KEPT, INPUTS, BYTES);
-    IS(nullable_verify_encoded_in, uint32_t, KEPT, BYTES, BYTES, BYTES, BYTES);
+    IS(verify_encoded, uint32_t, STORED);
+    IS(verify_encoded_within, uint32_t, STORED, LIMITS);
+    IS(hash_raw_with, uint32_t, WITH, INPUTS, ROOM);
+    IS(hash_encoded_with, uint32_t, WITH, INPUTS, ROOM);
+    IS(verify_raw_with, uint32_t, WITH, INPUTS, BYTES);
+    IS(verify_encoded_with, uint32_t, WITH, STORED);
+    IS(job_run, uint32_t, WITH, JOB, ROOM);
+    IS(job_run_verify, uint32_t, WITH, JOB, BYTES);
+    IS(memory_new, uint32_t, const proved_argon2_settings *, void **, size_t *);
+    IS(memory_free, void, void *, size_t);
     IS(password_hash, uint32_t, char *, const char *, size_t);
     IS(password_verify, uint32_t, const char *, const char *, size_t);
-    IS(memory_new, proved_argon2_memory, void);
+    IS(default_limits, proved_argon2_limits, void);
+    IS(library_version, uint32_t, void);
 }
 
-static void check_steps(void)
+static void check_proved(void)
 {
-    IS(job_make, uint32_t, MAKES);
-    IS(job_read, uint32_t, BYTES, BYTES, BYTES, BYTES, proved_argon2_job *, ROOM);
-    IS(job_begin, uint32_t, JOB, uint32_t, OWN);
-    IS(job_fill, uint32_t, JOB, uint32_t, uint32_t, uint32_t, BLOCKS, BLOCKS, BLOCKS, OWN);
-    IS(job_finish, uint32_t, JOB, BLOCKS, ROOM);
-    IS(job_verify, uint32_t, JOB, BLOCKS, BYTES, ROOM);
-    IS(encode, uint32_t, BYTES, const proved_argon2_settings *, BYTES, ROOM);
-    IS(nullable_job_make, uint32_t, MAKES);
-    IS(nullable_job_read, uint32_t, BYTES, BYTES, BYTES, BYTES, proved_argon2_job *, ROOM);
-    IS(nullable_job_begin, uint32_t, JOB, uint32_t, OWN);
-    IS(nullable_job_fill, uint32_t, JOB, uint32_t, uint32_t, uint32_t, BLOCKS, BLOCKS, BLOCKS, OWN);
-    IS(nullable_job_finish, uint32_t, JOB, BLOCKS, ROOM);
-    IS(nullable_job_verify, uint32_t, JOB, BLOCKS, BYTES, ROOM);
-    IS(nullable_encode, uint32_t, BYTES, const proved_argon2_settings *, BYTES, ROOM);
+    ARE(read, uint32_t, BYTES, proved_argon2_stored *);
+    ARE(read_within, uint32_t, BYTES, LIMITS, proved_argon2_stored *);
+    ARE(read_bytes, uint32_t, BYTES, ROOM, ROOM);
+    ARE(needs_rehash, uint32_t, BYTES, const proved_argon2_settings *);
+    ARE(encoded_len, uint64_t, const proved_argon2_settings *, uint32_t);
+    ARE(memory_len, uint64_t, const proved_argon2_settings *);
+    ARE(message, uint32_t, uint32_t, ROOM);
+    ARE(hash_over, uint32_t, INPUTS, OWN, ROOM);
+    ARE(verify_over, uint32_t, INPUTS, OWN, BYTES, ROOM);
+    ARE(job_make, uint32_t, INPUTS, proved_argon2_job *);
+    ARE(job_read, uint32_t, STORED, proved_argon2_job *, ROOM, ROOM);
+    ARE(job_begin, uint32_t, JOB, uint32_t, OWN);
+    ARE(job_fill, uint32_t, JOB, uint32_t, uint32_t, uint32_t, BLOCKS, BLOCKS, BLOCKS, OWN);
+    ARE(job_finish, uint32_t, JOB, BLOCKS, ROOM);
+    ARE(job_verify, uint32_t, JOB, BLOCKS, BYTES, ROOM);
+    ARE(job_hash_over, uint32_t, JOB, OWN, ROOM);
+    ARE(job_verify_over, uint32_t, JOB, OWN, BYTES, ROOM);
+    ARE(encode, uint32_t, BYTES, const proved_argon2_settings *, BYTES, ROOM);
 }
 
 static void check_presets(void)
@@ -116,8 +118,8 @@ static void check_presets(void)
 
 int main(void)
 {
-    check_functions();
-    check_steps();
+    check_calls();
+    check_proved();
     check_presets();
     return checks_failed != 0;
 }

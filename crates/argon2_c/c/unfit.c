@@ -32,6 +32,7 @@ static size_t next_of(const size_t *values, size_t count, size_t *number)
 #define NEXT(values, number) next_of(values, sizeof values / sizeof *values, number)
 
 static const size_t of_slice[] = {SLICE, 0, 1, SLICE - 1, SLICE + 1}, of_segment[] = {LENGTH, 0, 1, LENGTH + 1},
+                    of_memory[] = {4 * SLICE, 0, 1, 4 * SLICE - 1, 4 * SLICE + 1},
                     of_tag[] = {TAG, 0, 1, TAG - 1, TAG + 1}, lanes[] = {0, LANES - 1, LANES, LANES + 1, UINT32_MAX};
 
 /* The order of the header. A job that is none comes before these. */
@@ -91,6 +92,38 @@ static void check_ends(void)
     check(good, "job_finish and job_verify with lengths");
 }
 
+/* What a whole hash is given: it writes its blocks too where it is done, and else nothing. */
+static bool answers_over(uint32_t (*call)(void), bool has_blocks, bool has_length, size_t from, size_t len)
+{
+    memcpy(&written, &written_before, sizeof written);
+    const uint32_t code = call();
+    if (code == PROVED_ARGON2_OK) {
+        memcpy(&written_before.blocks, &written.blocks, 4 * SLICE * sizeof *blocks);
+        memcpy((uint8_t *)&written_before + from, (const uint8_t *)&written + from, len);
+    }
+    return code == expected_of(true, has_blocks, has_length) && is_as_it_was();
+}
+
+static void check_over(void)
+{
+    bool good = true;
+    for (size_t n = 0; n < 5 * 5 * 5; n++) {
+        size_t number = n;
+        give_what_fits();
+        given[BLOCKS].len = NEXT(of_memory, &number);
+        given[TAG_WRITTEN].len = given[OUT].len = NEXT(of_tag, &number);
+        given[HASH].len = NEXT(of_tag, &number);
+        const bool has_blocks = given[BLOCKS].len == 4 * SLICE, has_room = given[OUT].len == TAG;
+        const bool has_hash = given[HASH].len == TAG;
+        good &= answers_over(job_hash_over, has_blocks, has_room, ITS(out, TAG));
+        good &= answers_over(hash_over, has_blocks, has_room, ITS(out, TAG));
+        good &= answers_over(job_verify_over, has_blocks, has_room && has_hash, ITS(tag, TAG));
+        /* (its hash has any length, of which each tag is another) */
+        good &= !has_hash || answers_over(verify_over, has_blocks, has_room, ITS(tag, TAG));
+    }
+    check(good, "hash_over, verify_over and those of a job with lengths");
+}
+
 /* A number that a job has, by the name of its field. */
 typedef struct number {
     const char *name;
@@ -118,6 +151,9 @@ static const number of_a_job[] = {
     {"passes", &job.passes, UINT32_MAX},
 };
 
+CALL(job_run, given[OPTIONS].at, given[JOB].at, BYTES(OUT))
+CALL(job_run_verify, given[OPTIONS].at, given[JOB].at, BYTES(HASH))
+
 static void give_place(uint32_t place)
 {
     pass = slice = lane = place;
@@ -126,19 +162,21 @@ static void give_place(uint32_t place)
 /* A job with a number that no accepted call has: no step takes it, whatever else is wrong. */
 static void check_no_job(const number *it)
 {
-    uint32_t (*const steps[])(void) = {job_begin, job_fill, job_finish, job_verify};
+    uint32_t (*const steps[])(void) = {job_begin, job_fill, job_finish, job_verify, job_hash_over, job_verify_over,
+                                       job_run, job_run_verify};
     bool good = true;
     char name[96];
-    for (size_t n = 0; n < 8; n++) {
+    for (size_t n = 0; n < 16; n++) {
         give_what_fits();
         give_place(0);
-        if (n >= 4) {
+        if (n >= 8) {
             spoil();
             give_place(UINT32_MAX);
         }
         job.lanes = LANES;
         *it->at = it->value;
-        good &= answers(steps[n % 4], PROVED_ARGON2_NO_JOB, 0, 0);
+        options = (proved_argon2_options)PROVED_ARGON2_OPTIONS;
+        good &= answers(steps[n % 8], PROVED_ARGON2_NO_JOB, 0, 0);
     }
     snprintf(name, sizeof name, "no job: %s %u", it->name, (unsigned)it->value);
     check(good, name);
@@ -182,7 +220,7 @@ static void check_alignment(uint32_t (*step)(void), enum place place, const char
             if (n == 1) {
                 spoil();
             } else if (n == 2) {
-                given[JOB].at = NULL;
+                given[JOB].at = given[SETTINGS].at = NULL;
             }
             const bool is_refused = step() == (n == 2 ? PROVED_ARGON2_NULL_POINTER : PROVED_ARGON2_WRONG_BLOCKS);
             good &= is_refused && memcmp(&written, &written_before, sizeof written) == 0;
@@ -201,6 +239,10 @@ static void check_addresses(void)
     check_alignment(job_fill, OWN, "job_fill");
     check_alignment(job_finish, LAST, "job_finish");
     check_alignment(job_verify, LAST, "job_verify");
+    check_alignment(hash_over, BLOCKS, "hash_over");
+    check_alignment(verify_over, BLOCKS, "verify_over");
+    check_alignment(job_hash_over, BLOCKS, "job_hash_over");
+    check_alignment(job_verify_over, BLOCKS, "job_verify_over");
 }
 
 int main(void)
@@ -209,6 +251,7 @@ int main(void)
     check_begin();
     check_fill();
     check_ends();
+    check_over();
     check_jobs();
     check_addresses();
     return checks_failed != 0;

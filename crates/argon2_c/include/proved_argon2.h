@@ -1,34 +1,32 @@
 /*
- * Argon2 password hashing (RFC 9106), proved: the C face of the Rattle crate `argon2`.
+ * Argon2 password hashing (RFC 9106) for C, over the proved Rattle crate `argon2_c`.
  *
- * Argon2d, Argon2i and Argon2id, versions 0x10 and 0x13, with a secret and associated data. Each call
- * is computed in the caller's thread, whatever the number of lanes.
+ * Argon2d, Argon2i and Argon2id, versions 0x10 and 0x13, with a secret and associated data. The calls here compute in
+ * the caller's thread, whatever the number of lanes; those of proved_argon2_threads.h by several threads, over a memory
+ * that is kept, or so that they can be stopped. Both are a driver in C around what is proved, which takes no memory and
+ * starts no thread: proved_argon2_jobs.h has those calls too. This header includes all.
  *
  * Passing bytes. A pointer and then a length pass bytes; a null pointer with the length 0 passes none. Any other
  * null pointer is PROVED_ARGON2_NULL_POINTER, before all other refusals.
  * The caller owns all memory that it passes; no call keeps a pointer to it. What a call writes to overlaps
- * nothing else that it is passed. Only a proved_argon2_memory leads to memory of the library's.
+ * nothing else that it is passed.
  *
  * Answers. A call that may be refused returns PROVED_ARGON2_OK (0) or the number of one refusal, and
  * on a refusal what it would have written to is as it was, byte for byte. What is refused first is the
  * only answer: the variant's number, the version's number, the settings in the order in which the limits
- * stand below, the length of the buffer, and only then memory. No call prints, waits, ends the process or
- * reads anything but what it is passed.
+ * stand below, the length of the buffer, and only then memory. No call prints, waits, ends the process,
+ * changes errno or reads anything but what it is passed.
  *
- * Memory. A call that hashes asks for at most the settings' mem_cost KiB for its blocks, and for a few
- * words a lane, the tag and the text; one that reads a text asks for less than its length. All of it is
- * given back before the call returns, after it was overwritten, or to the system, which clears it; only a call
- * over a memory that the caller keeps (.._in) leaves the blocks there. A call that hashes or verifies overwrites
- * the stack below.
+ * Memory. A call that hashes or verifies asks for at most the settings' mem_cost KiB for its blocks, in whole huge pages
+ * where that is 2 MiB or more, and for the tag and the hash and salt of a text; no other call asks for any. All of it is
+ * given back before the call returns, after it was overwritten, or to the system, which clears it. Such a call
+ * overwrites the stack below and the vector registers too.
  *
- * Threads. The library starts no thread and keeps no state; the calls of proved_argon2_threads.h start some. Calls may
- * run in several threads at once, as long as none writes to what another one is passed. No call may come from a signal
- * handler. In the forked child of a process with threads calls may be made where malloc may be called, as with the GNU
- * C library.
+ * Threads. The library keeps no state. Calls may run in several threads at once, as long as none writes to what another
+ * one is passed. A thread is not cancelled within a call. No call may come from a signal handler. In the forked child of
+ * a process with threads calls may be made where malloc may be called, as with the GNU C library.
  *
  * Symbols. Each of the library's begins with proved_argon2_, so that a program may link libargon2 too.
- * rattle_alloc, rattle_realloc and rattle_dealloc, by which the proved code takes memory, are the library's own: they
- * call the program's malloc and free, and mmap and munmap for 1 MiB and more.
  */
 #ifndef PROVED_ARGON2_H
 #define PROVED_ARGON2_H
@@ -110,19 +108,20 @@ enum proved_argon2_code {
     PROVED_ARGON2_INCORRECT_VERSION = 18, /* no version has this number */
     PROVED_ARGON2_DECODING_FAIL = 19,     /* the text spells no hash */
     PROVED_ARGON2_OUT_OF_MEMORY = 20,
-    PROVED_ARGON2_WORKER_REFUSED = 21,    /* only of proved_argon2_threads.h: a thread was refused */
+    PROVED_ARGON2_WORKER_REFUSED = 21,    /* only of proved_argon2_threads.h: a pool did not run its tasks */
     PROVED_ARGON2_MISMATCH = 64,       /* a verifying call: the password is not the hash's */
     PROVED_ARGON2_WRONG_LENGTH = 65,   /* the buffer does not fit */
     PROVED_ARGON2_NOT_UTF8 = 66,       /* the text is not UTF-8 */
     PROVED_ARGON2_UNKNOWN_NUMBER = 67, /* proved_argon2_message: no refusal has this number */
     PROVED_ARGON2_NEEDS_REHASH = 68,   /* proved_argon2_needs_rehash: the text has other settings */
-    PROVED_ARGON2_TOO_COSTLY = 69,     /* proved_argon2_verify_encoded_within: the text is above the limits */
+    PROVED_ARGON2_TOO_COSTLY = 69,     /* the text is above the limits */
     PROVED_ARGON2_NO_JOB = 70,         /* proved_argon2_jobs.h: no accepted call has a job of these numbers */
     PROVED_ARGON2_NO_PLACE = 71,       /* the job has no such pass, slice or lane */
-    PROVED_ARGON2_WRONG_BLOCKS = 72,   /* a slice or a segment has more or fewer blocks, or is at no multiple of 8 */
-    /* Answered by the inline functions of the header, and by no function of the library: */
-    PROVED_ARGON2_NULL_POINTER = 128,   /* a pointer is null, and its length is not 0 */
-    PROVED_ARGON2_NO_RANDOM_BYTES = 129 /* proved_argon2_password_hash: the system gave no salt */
+    PROVED_ARGON2_WRONG_BLOCKS = 72,   /* there are more or fewer blocks, or they are at no multiple of 8 */
+    /* Answered in C alone, and by nothing that is proved: */
+    PROVED_ARGON2_NULL_POINTER = 128,    /* a pointer is null, and its length is not 0 */
+    PROVED_ARGON2_NO_RANDOM_BYTES = 129, /* proved_argon2_password_hash: the system gave no salt */
+    PROVED_ARGON2_STOPPED = 130          /* proved_argon2_threads.h: what the call tells how far it is has stopped it */
 };
 
 /* The settings of a hash. A field that is left out of an initializer is 0, and no hash has version 0. */
@@ -152,14 +151,6 @@ typedef struct proved_argon2_stored {
 } proved_argon2_stored;
 
 /*
- * A memory for blocks, which the caller keeps from call to call. What kept points to is the library's: a
- * program sets it by proved_argon2_memory_new alone, and copies none to use both.
- */
-typedef struct proved_argon2_memory {
-    void *kept; /* null where nothing is kept */
-} proved_argon2_memory;
-
-/*
  * The recommended settings: Argon2id, version 0x13, one lane and a tag of 32 bytes. OWASP's Password
  * Storage Cheat Sheet holds its five to be equal in strength; proved_argon2_owasp2 is the one to begin
  * with. RFC 9106, section 4, recommends its memory and passes with four lanes: set lanes to 4 for those.
@@ -181,7 +172,7 @@ uint32_t proved_argon2_library_version(void);
  * out_len is settings->hash_length: any other length is PROVED_ARGON2_WRONG_LENGTH. The salt has at least
  * 8 bytes, which is this library's own limit; for a password RFC 9106, 3.1, recommends 16.
  */
-PROVED_ARGON2_CHECKED PROVED_ARGON2_NONNULL
+PROVED_ARGON2_CHECKED
 uint32_t proved_argon2_hash_raw(
     const uint8_t *pwd, size_t pwd_len,
     const uint8_t *salt, size_t salt_len,
@@ -198,7 +189,7 @@ uint32_t proved_argon2_hash_raw(
  * the text: any other length is PROVED_ARGON2_WRONG_LENGTH. The secret and the associated data are not in
  * the text.
  */
-PROVED_ARGON2_CHECKED PROVED_ARGON2_NONNULL
+PROVED_ARGON2_CHECKED
 uint32_t proved_argon2_hash_encoded(
     const uint8_t *pwd, size_t pwd_len,
     const uint8_t *salt, size_t salt_len,
@@ -215,7 +206,7 @@ uint32_t proved_argon2_hash_encoded(
  * settings->hash_length is not looked at, and a hash of fewer than 4 bytes is
  * PROVED_ARGON2_OUTPUT_TOO_SHORT.
  */
-PROVED_ARGON2_CHECKED PROVED_ARGON2_NONNULL
+PROVED_ARGON2_CHECKED
 uint32_t proved_argon2_verify_raw(
     const uint8_t *pwd, size_t pwd_len,
     const uint8_t *salt, size_t salt_len,
@@ -233,7 +224,7 @@ uint32_t proved_argon2_verify_raw(
  * are judged before any memory is taken. The memory and the passes are those that the text names, up to
  * 4 TiB and 2^32 - 1: verify a text from outside with proved_argon2_verify_encoded_within.
  */
-PROVED_ARGON2_CHECKED PROVED_ARGON2_NONNULL
+PROVED_ARGON2_CHECKED
 uint32_t proved_argon2_verify_encoded(
     const uint8_t *text, size_t text_len,
     const uint8_t *pwd, size_t pwd_len,
@@ -248,7 +239,7 @@ proved_argon2_limits proved_argon2_default_limits(void);
  * than its limit. What spells no hash is refused first, as above; then nothing is compared and no memory is taken
  * where the text is too costly; and any other text is answered as above.
  */
-PROVED_ARGON2_CHECKED PROVED_ARGON2_NONNULL
+PROVED_ARGON2_CHECKED
 uint32_t proved_argon2_verify_encoded_within(
     const uint8_t *text, size_t text_len,
     const uint8_t *pwd, size_t pwd_len,
@@ -263,6 +254,19 @@ uint32_t proved_argon2_verify_encoded_within(
 PROVED_ARGON2_CHECKED PROVED_ARGON2_NONNULL
 uint32_t proved_argon2_read(const uint8_t *text, size_t text_len, proved_argon2_stored *stored);
 
+/* The same within limits: a text that spells more is PROVED_ARGON2_TOO_COSTLY. */
+PROVED_ARGON2_CHECKED PROVED_ARGON2_NONNULL
+uint32_t proved_argon2_read_within(
+    const uint8_t *text, size_t text_len, const proved_argon2_limits *limits, proved_argon2_stored *stored);
+
+/*
+ * Writes the salt and the hash of a stored text, whose lengths proved_argon2_read tells: any other is
+ * PROVED_ARGON2_WRONG_LENGTH. What spells no hash is refused as above.
+ */
+PROVED_ARGON2_CHECKED PROVED_ARGON2_NONNULL
+uint32_t proved_argon2_read_bytes(
+    const uint8_t *text, size_t text_len, uint8_t *salt, size_t salt_len, uint8_t *hash, size_t hash_len);
+
 /*
  * Whether a stored text has these settings: PROVED_ARGON2_OK only where its variant, version, memory
  * cost, passes, lanes and length of the hash are the given ones, and PROVED_ARGON2_NEEDS_REHASH only
@@ -275,8 +279,7 @@ uint32_t proved_argon2_needs_rehash(
 
 /*
  * The length in bytes of the text that proved_argon2_hash_encoded writes for a salt of salt_len bytes,
- * without the zero behind it. 0 where no variant or no version has the given number, and for no settings. It takes
- * no memory.
+ * without the zero behind it. 0 where no variant or no version has the given number, and for no settings.
  */
 PROVED_ARGON2_CHECKED PROVED_ARGON2_NONNULL
 uint64_t proved_argon2_encoded_len(const proved_argon2_settings *settings, uint32_t salt_len);
@@ -284,79 +287,16 @@ uint64_t proved_argon2_encoded_len(const proved_argon2_settings *settings, uint3
 /*
  * Writes the text of the refusal with this number, and then zeros up to text_len. A buffer without room
  * for the text and one zero is PROVED_ARGON2_WRONG_LENGTH, and a number that no refusal has, such as
- * PROVED_ARGON2_OK, is PROVED_ARGON2_UNKNOWN_NUMBER. It takes no memory.
+ * PROVED_ARGON2_OK, is PROVED_ARGON2_UNKNOWN_NUMBER.
  */
 PROVED_ARGON2_CHECKED PROVED_ARGON2_NONNULL
 uint32_t proved_argon2_message(uint32_t number, uint8_t *text, size_t text_len);
-
-/* ---- over a memory that is kept */
-
-/*
- * The four calls below answer as those of the same name without _in. They compute over memory: blocks that
- * an earlier call left there are used again where the settings have as many blocks in as many lanes, and
- * the call asks for no blocks; others are given back first. It depends on nothing that stands there.
- *
- * After the call memory keeps the blocks, until proved_argon2_memory_free overwrites them and gives them
- * back. Where the library is refused the few bytes that lead to them, it keeps nothing.
- *
- * A memory is used by one call at a time, and by the thread that made its first call. After a fork the parent
- * and the child each have one of their own, with the same blocks, where malloc goes on in both, as with the GNU C
- * library.
- */
-
-/* A memory that keeps nothing yet. */
-static inline proved_argon2_memory proved_argon2_memory_new(void)
-{
-    const proved_argon2_memory memory = {NULL};
-    return memory;
-}
-
-/* Gives back what memory keeps. It keeps nothing then, and may be used or given back again. A null pointer is none. */
-PROVED_ARGON2_NONNULL
-void proved_argon2_memory_free(proved_argon2_memory *memory);
-
-PROVED_ARGON2_CHECKED PROVED_ARGON2_NONNULL
-uint32_t proved_argon2_hash_raw_in(
-    proved_argon2_memory *memory,
-    const uint8_t *pwd, size_t pwd_len,
-    const uint8_t *salt, size_t salt_len,
-    const uint8_t *secret, size_t secret_len,
-    const uint8_t *ad, size_t ad_len,
-    const proved_argon2_settings *settings,
-    uint8_t *out, size_t out_len);
-
-PROVED_ARGON2_CHECKED PROVED_ARGON2_NONNULL
-uint32_t proved_argon2_hash_encoded_in(
-    proved_argon2_memory *memory,
-    const uint8_t *pwd, size_t pwd_len,
-    const uint8_t *salt, size_t salt_len,
-    const uint8_t *secret, size_t secret_len,
-    const uint8_t *ad, size_t ad_len,
-    const proved_argon2_settings *settings,
-    uint8_t *text, size_t text_len);
-
-PROVED_ARGON2_CHECKED PROVED_ARGON2_NONNULL
-uint32_t proved_argon2_verify_raw_in(
-    proved_argon2_memory *memory,
-    const uint8_t *pwd, size_t pwd_len,
-    const uint8_t *salt, size_t salt_len,
-    const uint8_t *secret, size_t secret_len,
-    const uint8_t *ad, size_t ad_len,
-    const proved_argon2_settings *settings,
-    const uint8_t *hash, size_t hash_len);
-
-PROVED_ARGON2_CHECKED PROVED_ARGON2_NONNULL
-uint32_t proved_argon2_verify_encoded_in(
-    proved_argon2_memory *memory,
-    const uint8_t *text, size_t text_len,
-    const uint8_t *pwd, size_t pwd_len,
-    const uint8_t *secret, size_t secret_len,
-    const uint8_t *ad, size_t ad_len);
 
 #ifdef __cplusplus
 }
 #endif
 #include "proved_argon2_jobs.h"
+#include "proved_argon2_threads.h"
 #include "proved_argon2_null.h"
 #include "proved_argon2_password.h"
 #endif

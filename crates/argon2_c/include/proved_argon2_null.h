@@ -1,11 +1,11 @@
 /*
  * Null pointers, and blocks that are not aligned: a part of proved_argon2.h, which includes it.
  *
- * The functions of the library take no null pointer. Each call that takes a pointer goes through a function
- * below, which puts the address of a byte that nobody reads in place of a pointer with the length 0, and
- * answers PROVED_ARGON2_NULL_POINTER for any other null pointer, before the library is called. Blocks that are lent
- * at an address that is no multiple of 8 are PROVED_ARGON2_WRONG_BLOCKS next. A program that loads the library
- * without the header has to do the same.
+ * What is proved takes no null pointer. Each such call that takes a pointer goes through a function below, which
+ * puts the address of a byte that nobody reads in place of a pointer with the length 0, and answers
+ * PROVED_ARGON2_NULL_POINTER for any other null pointer, before the library is called. Blocks that are lent at an
+ * address that is no multiple of 8 are PROVED_ARGON2_WRONG_BLOCKS next. A program that loads the library without
+ * the header has to do the same. The calls that are C themselves see to both.
  */
 #ifndef PROVED_ARGON2_NULL_H
 #define PROVED_ARGON2_NULL_H
@@ -53,118 +53,11 @@ static inline uint64_t proved_argon2_nullable_encoded_len(const proved_argon2_se
     return settings == NULL ? 0 : proved_argon2_encoded_len(settings, salt_len);
 }
 
-/* As free, it takes a null pointer. */
-static inline void proved_argon2_nullable_memory_free(proved_argon2_memory *memory)
-{
-    if (memory != NULL) {
-        proved_argon2_memory_free(memory);
-    }
-}
-
+/* Nor are there blocks. */
 PROVED_ARGON2_CHECKED
-static inline uint32_t proved_argon2_nullable_hash_raw(
-    const uint8_t *pwd, size_t pwd_len,
-    const uint8_t *salt, size_t salt_len,
-    const uint8_t *secret, size_t secret_len,
-    const uint8_t *ad, size_t ad_len,
-    const proved_argon2_settings *settings,
-    uint8_t *out, size_t out_len)
+static inline uint64_t proved_argon2_nullable_memory_len(const proved_argon2_settings *settings)
 {
-    uint8_t spare;
-    if (proved_argon2_are_missing(pwd, pwd_len, salt, salt_len, secret, secret_len, ad, ad_len, settings)
-        || proved_argon2_is_missing(out, out_len)) {
-        return PROVED_ARGON2_NULL_POINTER;
-    }
-    return proved_argon2_hash_raw(
-        proved_argon2_readable(pwd, pwd_len), pwd_len,
-        proved_argon2_readable(salt, salt_len), salt_len,
-        proved_argon2_readable(secret, secret_len), secret_len,
-        proved_argon2_readable(ad, ad_len), ad_len,
-        settings,
-        proved_argon2_writable(out, out_len, &spare), out_len);
-}
-
-PROVED_ARGON2_CHECKED
-static inline uint32_t proved_argon2_nullable_hash_encoded(
-    const uint8_t *pwd, size_t pwd_len,
-    const uint8_t *salt, size_t salt_len,
-    const uint8_t *secret, size_t secret_len,
-    const uint8_t *ad, size_t ad_len,
-    const proved_argon2_settings *settings,
-    uint8_t *text, size_t text_len)
-{
-    uint8_t spare;
-    if (proved_argon2_are_missing(pwd, pwd_len, salt, salt_len, secret, secret_len, ad, ad_len, settings)
-        || proved_argon2_is_missing(text, text_len)) {
-        return PROVED_ARGON2_NULL_POINTER;
-    }
-    return proved_argon2_hash_encoded(
-        proved_argon2_readable(pwd, pwd_len), pwd_len,
-        proved_argon2_readable(salt, salt_len), salt_len,
-        proved_argon2_readable(secret, secret_len), secret_len,
-        proved_argon2_readable(ad, ad_len), ad_len,
-        settings,
-        proved_argon2_writable(text, text_len, &spare), text_len);
-}
-
-PROVED_ARGON2_CHECKED
-static inline uint32_t proved_argon2_nullable_verify_raw(
-    const uint8_t *pwd, size_t pwd_len,
-    const uint8_t *salt, size_t salt_len,
-    const uint8_t *secret, size_t secret_len,
-    const uint8_t *ad, size_t ad_len,
-    const proved_argon2_settings *settings,
-    const uint8_t *hash, size_t hash_len)
-{
-    if (proved_argon2_are_missing(pwd, pwd_len, salt, salt_len, secret, secret_len, ad, ad_len, settings)
-        || proved_argon2_is_missing(hash, hash_len)) {
-        return PROVED_ARGON2_NULL_POINTER;
-    }
-    return proved_argon2_verify_raw(
-        proved_argon2_readable(pwd, pwd_len), pwd_len,
-        proved_argon2_readable(salt, salt_len), salt_len,
-        proved_argon2_readable(secret, secret_len), secret_len,
-        proved_argon2_readable(ad, ad_len), ad_len,
-        settings,
-        proved_argon2_readable(hash, hash_len), hash_len);
-}
-
-PROVED_ARGON2_CHECKED
-static inline uint32_t proved_argon2_nullable_verify_encoded(
-    const uint8_t *text, size_t text_len,
-    const uint8_t *pwd, size_t pwd_len,
-    const uint8_t *secret, size_t secret_len,
-    const uint8_t *ad, size_t ad_len)
-{
-    if (proved_argon2_is_missing(text, text_len) || proved_argon2_is_missing(pwd, pwd_len)
-        || proved_argon2_is_missing(secret, secret_len) || proved_argon2_is_missing(ad, ad_len)) {
-        return PROVED_ARGON2_NULL_POINTER;
-    }
-    return proved_argon2_verify_encoded(
-        proved_argon2_readable(text, text_len), text_len,
-        proved_argon2_readable(pwd, pwd_len), pwd_len,
-        proved_argon2_readable(secret, secret_len), secret_len,
-        proved_argon2_readable(ad, ad_len), ad_len);
-}
-
-PROVED_ARGON2_CHECKED
-static inline uint32_t proved_argon2_nullable_verify_encoded_within(
-    const uint8_t *text, size_t text_len,
-    const uint8_t *pwd, size_t pwd_len,
-    const uint8_t *secret, size_t secret_len,
-    const uint8_t *ad, size_t ad_len,
-    const proved_argon2_limits *limits)
-{
-    if (proved_argon2_is_missing(text, text_len) || proved_argon2_is_missing(pwd, pwd_len)
-        || proved_argon2_is_missing(secret, secret_len) || proved_argon2_is_missing(ad, ad_len) || limits == NULL) {
-        return PROVED_ARGON2_NULL_POINTER;
-    }
-    return proved_argon2_verify_encoded_within(
-        proved_argon2_readable(text, text_len), text_len,
-        proved_argon2_readable(pwd, pwd_len), pwd_len,
-        proved_argon2_readable(secret, secret_len), secret_len,
-        proved_argon2_readable(ad, ad_len), ad_len,
-        limits);
+    return settings == NULL ? 0 : proved_argon2_memory_len(settings);
 }
 
 PROVED_ARGON2_CHECKED
@@ -178,6 +71,31 @@ static inline uint32_t proved_argon2_nullable_read(
 }
 
 PROVED_ARGON2_CHECKED
+static inline uint32_t proved_argon2_nullable_read_within(
+    const uint8_t *text, size_t text_len, const proved_argon2_limits *limits, proved_argon2_stored *stored)
+{
+    if (proved_argon2_is_missing(text, text_len) || limits == NULL || stored == NULL) {
+        return PROVED_ARGON2_NULL_POINTER;
+    }
+    return proved_argon2_read_within(proved_argon2_readable(text, text_len), text_len, limits, stored);
+}
+
+PROVED_ARGON2_CHECKED
+static inline uint32_t proved_argon2_nullable_read_bytes(
+    const uint8_t *text, size_t text_len, uint8_t *salt, size_t salt_len, uint8_t *hash, size_t hash_len)
+{
+    uint8_t spares[2];
+    if (proved_argon2_is_missing(text, text_len) || proved_argon2_is_missing(salt, salt_len)
+        || proved_argon2_is_missing(hash, hash_len)) {
+        return PROVED_ARGON2_NULL_POINTER;
+    }
+    return proved_argon2_read_bytes(
+        proved_argon2_readable(text, text_len), text_len,
+        proved_argon2_writable(salt, salt_len, spares), salt_len,
+        proved_argon2_writable(hash, hash_len, spares + 1), hash_len);
+}
+
+PROVED_ARGON2_CHECKED
 static inline uint32_t proved_argon2_nullable_needs_rehash(
     const uint8_t *text, size_t text_len, const proved_argon2_settings *settings)
 {
@@ -187,11 +105,12 @@ static inline uint32_t proved_argon2_nullable_needs_rehash(
     return proved_argon2_needs_rehash(proved_argon2_readable(text, text_len), text_len, settings);
 }
 
-/* The text of a number that the header alone answers, or null. */
+/* The text of a number that nothing proved answers, or null. */
 static inline const char *proved_argon2_header_message(uint32_t number)
 {
     return number == PROVED_ARGON2_NULL_POINTER ? "A pointer is null"
         : number == PROVED_ARGON2_NO_RANDOM_BYTES ? "There are no random bytes"
+        : number == PROVED_ARGON2_STOPPED ? "The hash was stopped"
         : NULL;
 }
 
@@ -212,103 +131,6 @@ static inline uint32_t proved_argon2_nullable_message(uint32_t number, uint8_t *
     memset(text, 0, text_len);
     memcpy(text, own, strlen(own));
     return PROVED_ARGON2_OK;
-}
-
-PROVED_ARGON2_CHECKED
-static inline uint32_t proved_argon2_nullable_hash_raw_in(
-    proved_argon2_memory *memory,
-    const uint8_t *pwd, size_t pwd_len,
-    const uint8_t *salt, size_t salt_len,
-    const uint8_t *secret, size_t secret_len,
-    const uint8_t *ad, size_t ad_len,
-    const proved_argon2_settings *settings,
-    uint8_t *out, size_t out_len)
-{
-    uint8_t spare;
-    if (memory == NULL
-        || proved_argon2_are_missing(pwd, pwd_len, salt, salt_len, secret, secret_len, ad, ad_len, settings)
-        || proved_argon2_is_missing(out, out_len)) {
-        return PROVED_ARGON2_NULL_POINTER;
-    }
-    return proved_argon2_hash_raw_in(
-        memory,
-        proved_argon2_readable(pwd, pwd_len), pwd_len,
-        proved_argon2_readable(salt, salt_len), salt_len,
-        proved_argon2_readable(secret, secret_len), secret_len,
-        proved_argon2_readable(ad, ad_len), ad_len,
-        settings,
-        proved_argon2_writable(out, out_len, &spare), out_len);
-}
-
-PROVED_ARGON2_CHECKED
-static inline uint32_t proved_argon2_nullable_hash_encoded_in(
-    proved_argon2_memory *memory,
-    const uint8_t *pwd, size_t pwd_len,
-    const uint8_t *salt, size_t salt_len,
-    const uint8_t *secret, size_t secret_len,
-    const uint8_t *ad, size_t ad_len,
-    const proved_argon2_settings *settings,
-    uint8_t *text, size_t text_len)
-{
-    uint8_t spare;
-    if (memory == NULL
-        || proved_argon2_are_missing(pwd, pwd_len, salt, salt_len, secret, secret_len, ad, ad_len, settings)
-        || proved_argon2_is_missing(text, text_len)) {
-        return PROVED_ARGON2_NULL_POINTER;
-    }
-    return proved_argon2_hash_encoded_in(
-        memory,
-        proved_argon2_readable(pwd, pwd_len), pwd_len,
-        proved_argon2_readable(salt, salt_len), salt_len,
-        proved_argon2_readable(secret, secret_len), secret_len,
-        proved_argon2_readable(ad, ad_len), ad_len,
-        settings,
-        proved_argon2_writable(text, text_len, &spare), text_len);
-}
-
-PROVED_ARGON2_CHECKED
-static inline uint32_t proved_argon2_nullable_verify_raw_in(
-    proved_argon2_memory *memory,
-    const uint8_t *pwd, size_t pwd_len,
-    const uint8_t *salt, size_t salt_len,
-    const uint8_t *secret, size_t secret_len,
-    const uint8_t *ad, size_t ad_len,
-    const proved_argon2_settings *settings,
-    const uint8_t *hash, size_t hash_len)
-{
-    if (memory == NULL
-        || proved_argon2_are_missing(pwd, pwd_len, salt, salt_len, secret, secret_len, ad, ad_len, settings)
-        || proved_argon2_is_missing(hash, hash_len)) {
-        return PROVED_ARGON2_NULL_POINTER;
-    }
-    return proved_argon2_verify_raw_in(
-        memory,
-        proved_argon2_readable(pwd, pwd_len), pwd_len,
-        proved_argon2_readable(salt, salt_len), salt_len,
-        proved_argon2_readable(secret, secret_len), secret_len,
-        proved_argon2_readable(ad, ad_len), ad_len,
-        settings,
-        proved_argon2_readable(hash, hash_len), hash_len);
-}
-
-PROVED_ARGON2_CHECKED
-static inline uint32_t proved_argon2_nullable_verify_encoded_in(
-    proved_argon2_memory *memory,
-    const uint8_t *text, size_t text_len,
-    const uint8_t *pwd, size_t pwd_len,
-    const uint8_t *secret, size_t secret_len,
-    const uint8_t *ad, size_t ad_len)
-{
-    if (memory == NULL || proved_argon2_is_missing(text, text_len) || proved_argon2_is_missing(pwd, pwd_len)
-        || proved_argon2_is_missing(secret, secret_len) || proved_argon2_is_missing(ad, ad_len)) {
-        return PROVED_ARGON2_NULL_POINTER;
-    }
-    return proved_argon2_verify_encoded_in(
-        memory,
-        proved_argon2_readable(text, text_len), text_len,
-        proved_argon2_readable(pwd, pwd_len), pwd_len,
-        proved_argon2_readable(secret, secret_len), secret_len,
-        proved_argon2_readable(ad, ad_len), ad_len);
 }
 
 /* Whether blocks are at an address that no block has. */
@@ -360,12 +182,13 @@ static inline uint32_t proved_argon2_nullable_job_read(
     const uint8_t *secret, size_t secret_len,
     const uint8_t *ad, size_t ad_len,
     proved_argon2_job *job,
+    uint8_t *salt, size_t salt_len,
     uint8_t *hash, size_t hash_len)
 {
-    uint8_t spare;
+    uint8_t spares[2];
     if (proved_argon2_is_missing(text, text_len) || proved_argon2_is_missing(pwd, pwd_len)
         || proved_argon2_is_missing(secret, secret_len) || proved_argon2_is_missing(ad, ad_len) || job == NULL
-        || proved_argon2_is_missing(hash, hash_len)) {
+        || proved_argon2_is_missing(salt, salt_len) || proved_argon2_is_missing(hash, hash_len)) {
         return PROVED_ARGON2_NULL_POINTER;
     }
     return proved_argon2_job_read(
@@ -373,14 +196,16 @@ static inline uint32_t proved_argon2_nullable_job_read(
         proved_argon2_readable(pwd, pwd_len), pwd_len,
         proved_argon2_readable(secret, secret_len), secret_len,
         proved_argon2_readable(ad, ad_len), ad_len,
-        job, proved_argon2_writable(hash, hash_len, &spare), hash_len);
+        job,
+        proved_argon2_writable(salt, salt_len, spares), salt_len,
+        proved_argon2_writable(hash, hash_len, spares + 1), hash_len);
 }
 
 PROVED_ARGON2_CHECKED
 static inline uint32_t proved_argon2_nullable_job_begin(
     const proved_argon2_job *job, uint32_t lane, proved_argon2_block *own, size_t own_len)
 {
-    proved_argon2_block spare;
+    static proved_argon2_block spare;
     if (job == NULL || proved_argon2_is_missing(own, own_len)) {
         return PROVED_ARGON2_NULL_POINTER;
     }
@@ -398,8 +223,7 @@ static inline uint32_t proved_argon2_nullable_job_fill(
     const proved_argon2_block *third, size_t third_len,
     proved_argon2_block *own, size_t own_len)
 {
-    static const proved_argon2_block none = {{0}};
-    proved_argon2_block spare;
+    static proved_argon2_block spare; /* (here and below static, so that no stack is left unwritten) */
     if (job == NULL || proved_argon2_is_missing(first, first_len) || proved_argon2_is_missing(second, second_len)
         || proved_argon2_is_missing(third, third_len) || proved_argon2_is_missing(own, own_len)) {
         return PROVED_ARGON2_NULL_POINTER;
@@ -410,9 +234,9 @@ static inline uint32_t proved_argon2_nullable_job_fill(
     }
     return proved_argon2_job_fill(
         job, pass, slice, lane,
-        proved_argon2_readable_blocks(first, first_len, &none), first_len,
-        proved_argon2_readable_blocks(second, second_len, &none), second_len,
-        proved_argon2_readable_blocks(third, third_len, &none), third_len,
+        proved_argon2_readable_blocks(first, first_len, &spare), first_len,
+        proved_argon2_readable_blocks(second, second_len, &spare), second_len,
+        proved_argon2_readable_blocks(third, third_len, &spare), third_len,
         proved_argon2_writable_blocks(own, own_len, &spare), own_len);
 }
 
@@ -453,6 +277,103 @@ static inline uint32_t proved_argon2_nullable_job_verify(
 }
 
 PROVED_ARGON2_CHECKED
+static inline uint32_t proved_argon2_nullable_job_hash_over(
+    const proved_argon2_job *job, proved_argon2_block *blocks, size_t blocks_len, uint8_t *out, size_t out_len)
+{
+    static proved_argon2_block none;
+    uint8_t spare;
+    if (job == NULL || proved_argon2_is_missing(blocks, blocks_len) || proved_argon2_is_missing(out, out_len)) {
+        return PROVED_ARGON2_NULL_POINTER;
+    }
+    if (proved_argon2_are_misaligned(blocks, blocks_len)) {
+        return PROVED_ARGON2_WRONG_BLOCKS;
+    }
+    return proved_argon2_job_hash_over(
+        job, proved_argon2_writable_blocks(blocks, blocks_len, &none), blocks_len,
+        proved_argon2_writable(out, out_len, &spare), out_len);
+}
+
+PROVED_ARGON2_CHECKED
+static inline uint32_t proved_argon2_nullable_job_verify_over(
+    const proved_argon2_job *job, proved_argon2_block *blocks, size_t blocks_len,
+    const uint8_t *hash, size_t hash_len, uint8_t *tag, size_t tag_len)
+{
+    static proved_argon2_block none;
+    uint8_t spare;
+    if (job == NULL || proved_argon2_is_missing(blocks, blocks_len) || proved_argon2_is_missing(hash, hash_len)
+        || proved_argon2_is_missing(tag, tag_len)) {
+        return PROVED_ARGON2_NULL_POINTER;
+    }
+    if (proved_argon2_are_misaligned(blocks, blocks_len)) {
+        return PROVED_ARGON2_WRONG_BLOCKS;
+    }
+    return proved_argon2_job_verify_over(
+        job, proved_argon2_writable_blocks(blocks, blocks_len, &none), blocks_len,
+        proved_argon2_readable(hash, hash_len), hash_len, proved_argon2_writable(tag, tag_len, &spare), tag_len);
+}
+
+PROVED_ARGON2_CHECKED
+static inline uint32_t proved_argon2_nullable_hash_over(
+    const uint8_t *pwd, size_t pwd_len,
+    const uint8_t *salt, size_t salt_len,
+    const uint8_t *secret, size_t secret_len,
+    const uint8_t *ad, size_t ad_len,
+    const proved_argon2_settings *settings,
+    proved_argon2_block *blocks, size_t blocks_len,
+    uint8_t *out, size_t out_len)
+{
+    static proved_argon2_block none;
+    uint8_t spare;
+    if (proved_argon2_are_missing(pwd, pwd_len, salt, salt_len, secret, secret_len, ad, ad_len, settings)
+        || proved_argon2_is_missing(blocks, blocks_len) || proved_argon2_is_missing(out, out_len)) {
+        return PROVED_ARGON2_NULL_POINTER;
+    }
+    if (proved_argon2_are_misaligned(blocks, blocks_len)) {
+        return PROVED_ARGON2_WRONG_BLOCKS;
+    }
+    return proved_argon2_hash_over(
+        proved_argon2_readable(pwd, pwd_len), pwd_len,
+        proved_argon2_readable(salt, salt_len), salt_len,
+        proved_argon2_readable(secret, secret_len), secret_len,
+        proved_argon2_readable(ad, ad_len), ad_len,
+        settings,
+        proved_argon2_writable_blocks(blocks, blocks_len, &none), blocks_len,
+        proved_argon2_writable(out, out_len, &spare), out_len);
+}
+
+PROVED_ARGON2_CHECKED
+static inline uint32_t proved_argon2_nullable_verify_over(
+    const uint8_t *pwd, size_t pwd_len,
+    const uint8_t *salt, size_t salt_len,
+    const uint8_t *secret, size_t secret_len,
+    const uint8_t *ad, size_t ad_len,
+    const proved_argon2_settings *settings,
+    proved_argon2_block *blocks, size_t blocks_len,
+    const uint8_t *hash, size_t hash_len,
+    uint8_t *tag, size_t tag_len)
+{
+    static proved_argon2_block none;
+    uint8_t spare;
+    if (proved_argon2_are_missing(pwd, pwd_len, salt, salt_len, secret, secret_len, ad, ad_len, settings)
+        || proved_argon2_is_missing(blocks, blocks_len) || proved_argon2_is_missing(hash, hash_len)
+        || proved_argon2_is_missing(tag, tag_len)) {
+        return PROVED_ARGON2_NULL_POINTER;
+    }
+    if (proved_argon2_are_misaligned(blocks, blocks_len)) {
+        return PROVED_ARGON2_WRONG_BLOCKS;
+    }
+    return proved_argon2_verify_over(
+        proved_argon2_readable(pwd, pwd_len), pwd_len,
+        proved_argon2_readable(salt, salt_len), salt_len,
+        proved_argon2_readable(secret, secret_len), secret_len,
+        proved_argon2_readable(ad, ad_len), ad_len,
+        settings,
+        proved_argon2_writable_blocks(blocks, blocks_len, &none), blocks_len,
+        proved_argon2_readable(hash, hash_len), hash_len,
+        proved_argon2_writable(tag, tag_len, &spare), tag_len);
+}
+
+PROVED_ARGON2_CHECKED
 static inline uint32_t proved_argon2_nullable_encode(
     const uint8_t *salt, size_t salt_len, const proved_argon2_settings *settings,
     const uint8_t *tag, size_t tag_len, uint8_t *text, size_t text_len)
@@ -467,26 +388,23 @@ static inline uint32_t proved_argon2_nullable_encode(
         proved_argon2_writable(text, text_len, &spare), text_len);
 }
 
-#define proved_argon2_hash_raw proved_argon2_nullable_hash_raw
-#define proved_argon2_hash_encoded proved_argon2_nullable_hash_encoded
-#define proved_argon2_verify_raw proved_argon2_nullable_verify_raw
-#define proved_argon2_verify_encoded proved_argon2_nullable_verify_encoded
-#define proved_argon2_verify_encoded_within proved_argon2_nullable_verify_encoded_within
 #define proved_argon2_read proved_argon2_nullable_read
+#define proved_argon2_read_within proved_argon2_nullable_read_within
+#define proved_argon2_read_bytes proved_argon2_nullable_read_bytes
 #define proved_argon2_needs_rehash proved_argon2_nullable_needs_rehash
 #define proved_argon2_encoded_len proved_argon2_nullable_encoded_len
+#define proved_argon2_memory_len proved_argon2_nullable_memory_len
 #define proved_argon2_message proved_argon2_nullable_message
-#define proved_argon2_memory_free proved_argon2_nullable_memory_free
-#define proved_argon2_hash_raw_in proved_argon2_nullable_hash_raw_in
-#define proved_argon2_hash_encoded_in proved_argon2_nullable_hash_encoded_in
-#define proved_argon2_verify_raw_in proved_argon2_nullable_verify_raw_in
-#define proved_argon2_verify_encoded_in proved_argon2_nullable_verify_encoded_in
 #define proved_argon2_job_make proved_argon2_nullable_job_make
 #define proved_argon2_job_read proved_argon2_nullable_job_read
 #define proved_argon2_job_begin proved_argon2_nullable_job_begin
 #define proved_argon2_job_fill proved_argon2_nullable_job_fill
 #define proved_argon2_job_finish proved_argon2_nullable_job_finish
 #define proved_argon2_job_verify proved_argon2_nullable_job_verify
+#define proved_argon2_job_hash_over proved_argon2_nullable_job_hash_over
+#define proved_argon2_job_verify_over proved_argon2_nullable_job_verify_over
+#define proved_argon2_hash_over proved_argon2_nullable_hash_over
+#define proved_argon2_verify_over proved_argon2_nullable_verify_over
 #define proved_argon2_encode proved_argon2_nullable_encode
 
 #endif

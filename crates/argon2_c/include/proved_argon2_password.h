@@ -10,6 +10,7 @@
 
 #include "proved_argon2.h"
 
+#include <errno.h>
 #include <string.h>
 #include <sys/random.h>
 
@@ -39,6 +40,18 @@ static inline uint8_t *proved_argon2_room(char *text)
 #endif
 }
 
+/* Whether the system gives a salt. */
+static inline int proved_argon2_has_salt(uint8_t *salt)
+{
+    const int error = errno;
+    ssize_t given;
+    do {
+        given = getrandom(salt, PROVED_ARGON2_SALT_SIZE, 0);
+    } while (given < 0 && errno == EINTR);
+    errno = error;
+    return given == PROVED_ARGON2_SALT_SIZE;
+}
+
 /*
  * Writes the text to keep of a password of length bytes, and zeros behind it, up to PROVED_ARGON2_TEXT_SIZE bytes:
  * the settings are proved_argon2_owasp2's, and the salt is 16 random bytes of the system. The password may hold
@@ -53,7 +66,7 @@ static inline uint32_t proved_argon2_password_hash(
     if (text == NULL || proved_argon2_is_missing(password, length)) {
         return PROVED_ARGON2_NULL_POINTER;
     }
-    if (getentropy(salt, sizeof salt) != 0) {
+    if (!proved_argon2_has_salt(salt)) {
         return PROVED_ARGON2_NO_RANDOM_BYTES;
     }
     return proved_argon2_hash_encoded(

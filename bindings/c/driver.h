@@ -1,0 +1,77 @@
+/* What the two parts of the driver share: proved_argon2_driver.c computes, and proved_argon2_calls.c has the calls of
+ * the headers. It is tested and not proved. */
+#ifndef DRIVER_H
+#define DRIVER_H
+
+#define _GNU_SOURCE
+#include "proved_argon2.h"
+
+#include <pthread.h>
+#include <stdatomic.h>
+
+#if __has_attribute(zero_call_used_regs)
+#define CLEARS_REGISTERS __attribute__((zero_call_used_regs("all")))
+#else
+#define CLEARS_REGISTERS
+#endif
+#define INPUTS const uint8_t *pwd, size_t pwd_len, const uint8_t *salt, size_t salt_len, const uint8_t *secret, \
+    size_t secret_len, const uint8_t *ad, size_t ad_len, const proved_argon2_settings *settings
+#define OF_BYTES pwd, pwd_len, salt, salt_len, secret, secret_len, ad, ad_len
+#define OF_INPUTS OF_BYTES, settings
+#define STORED const uint8_t *text, size_t text_len, const uint8_t *pwd, size_t pwd_len, const uint8_t *secret, \
+    size_t secret_len, const uint8_t *ad, size_t ad_len
+#define OF_STORED text, text_len, pwd, pwd_len, secret, secret_len, ad, ad_len
+#define IS_MISSING(name) proved_argon2_is_missing(name, name##_len)
+
+typedef proved_argon2_block block;
+typedef proved_argon2_options options;
+
+/* What has some lanes: worker i the lanes i, i + tasks, i + 2 tasks .. */
+typedef struct worker {
+    struct call *call;
+    pthread_t thread;
+    _Atomic uint64_t state; /* 2 n before it takes step n, 2 n + 1 meanwhile, 2 n + 2 behind it */
+    uint32_t code;
+} worker;
+
+/* A call, from its options to what is cleared. */
+typedef struct call {
+    options with;
+    proved_argon2_job job;
+    uint8_t *bytes;        /* malloc's, for a hash, a tag and a salt */
+    size_t len;
+    int error, cancel;     /* the caller's errno, and whether his thread can be cancelled */
+    block *blocks;
+    size_t slice;          /* how many blocks one of their four slices has */
+    worker *workers;
+    uint32_t tasks;        /* how many workers there are */
+    uint64_t step;         /* step 0 writes the first blocks, and step n + 1 fills slice number n, over all passes */
+    atomic_int is_astray;  /* a task was run that is not there, or once too often */
+} call;
+
+/* How many bytes the blocks of a job have. */
+static inline size_t bytes_of(const proved_argon2_job *job)
+{
+    return 4 * sizeof(block) * job->lanes * job->segment_length;
+}
+
+#pragma GCC visibility push(hidden)
+
+/* Begins a call with options, whose later fields are none. That a pointer is missing comes before all else. */
+uint32_t begin_call(call *it, const options *with, int is_missing);
+
+/* Memory of malloc for so many bytes, which the end of the call clears and frees. */
+uint32_t take_bytes(call *it, size_t len);
+
+/* Writes the tag of a job that the library has judged, or answers whether a hash is it; the tag is then there. */
+uint32_t compute(call *it, const uint8_t *hash, uint8_t *tag);
+
+/* Ends a call with its answer: clears its bytes, its job, the stack and the registers. */
+CLEARS_REGISTERS uint32_t end_call(call *it, uint32_t code);
+
+/* Memory for blocks, or null: malloc's, or a mapping, in huge pages where the system has them and in no core dump. */
+void *take_blocks(size_t bytes);
+
+#pragma GCC visibility pop
+
+#endif
