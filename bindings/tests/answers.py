@@ -210,7 +210,7 @@ class Answers(unittest.TestCase):
             yield lambda: hasher.hash("p", **named)
             yield lambda: hasher.verify(TEXT, "p", **named)
 
-    def test_a_call_tells_how_far_it_is_where_handlers_of_signals_run_and_where_it_is_asked(self):
+    def test_a_call_tells_how_far_it_is_where_handlers_of_signals_run_or_where_it_is_asked(self):
         def in_a_thread(call):
             with concurrent.futures.ThreadPoolExecutor(1) as pool:
                 pool.submit(call).result()

@@ -230,8 +230,8 @@ fn arguments_are_in_their_places() -> bool {
     told("each call passes what it is given, in its place", computing && judged && told_of)
 }
 
-/// A memory is made where the library answers that it is too small, of what the settings or the text say, and only then.
-/// It is given back once.
+/// A memory is made where the library answers that it is too small, of what the settings or the text say, and only
+/// then. It is given back once.
 fn memories_grow_where_they_are_too_small() -> bool {
     let there = || unsafe { memories_that_are_there() };
     let right = COMPUTING.iter().all(|(call, passes, _)| {

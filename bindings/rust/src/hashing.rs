@@ -38,8 +38,7 @@ pub fn encoded_len(
 ///
 /// # Errors
 ///
-/// The first of the settings that is out of its bounds, [`Error::OutOfMemory`], or [`Error::WorkerRefused`] where a
-/// thread cannot be started.
+/// The first of the settings that is out of its bounds, or [`Error::OutOfMemory`].
 ///
 /// # Examples
 ///
@@ -78,8 +77,7 @@ pub fn hash_encoded_in(memory: &mut Memory, pwd: &[u8], salt: &[u8], config: &Co
 ///
 /// # Errors
 ///
-/// The first of the settings that is out of its bounds, [`Error::OutOfMemory`], or [`Error::WorkerRefused`] where a
-/// thread cannot be started.
+/// The first of the settings that is out of its bounds, or [`Error::OutOfMemory`].
 ///
 /// # Examples
 ///

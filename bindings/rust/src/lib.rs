@@ -39,7 +39,7 @@
 //!
 //! With [`ThreadMode::Parallel`] or [`ThreadMode::AtMost`] the lanes are computed by threads, which are started and
 //! joined in each call; a stored text by as many as it has lanes, and at most 16. What fills a lane is proved; the
-//! driver in C that starts the threads is tested.
+//! driver in C that starts the threads is tested. By a [`Run`] a call tells how far it is, and can be stopped.
 //!
 //! # Limits
 //!

@@ -6,8 +6,7 @@ use crate::{Config, Error, Memory, Result, Run};
 /// # Errors
 ///
 /// [`Error::DecodingFail`] for a text that spells no hash; else the first of its settings that is out of its
-/// bounds, [`Error::OutOfMemory`], or [`Error::WorkerRefused`] where a thread cannot be started. There are as many
-/// threads as the text has lanes, and at most 16.
+/// bounds, or [`Error::OutOfMemory`]. There are as many threads as the text has lanes, and at most 16.
 ///
 /// # Examples
 ///
@@ -76,8 +75,7 @@ pub fn verify_encoded_in(
 ///
 /// # Errors
 ///
-/// The first of the settings that is out of its bounds, [`Error::OutOfMemory`], or [`Error::WorkerRefused`] where a
-/// thread cannot be started.
+/// The first of the settings that is out of its bounds, or [`Error::OutOfMemory`].
 ///
 /// # Examples
 ///

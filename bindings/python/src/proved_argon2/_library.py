@@ -271,8 +271,8 @@ def _compute(
 
 
 def _over_memory(call: "Callable[[Optional[Pages]], Any]", settings: Settings, memory: "Optional[Memory]") -> int:
-    """What a call answers. One that finds the pages of a memory too small is made again over what its settings want: only
-    then are they known to be accepted."""
+    """What a call answers. One that finds the pages of a memory too small is made again over what its settings want:
+    only then are they known to be accepted."""
     number: int
     if memory is None:
         number = call(None)

@@ -158,7 +158,8 @@ class PasswordHasher:
         salt: "Optional[bytes]" = None,
         progress: "Optional[Progress]" = None,
     ) -> str:
-        """Hash a password to a text to keep, with a random salt where none is given. `low_level` says what `progress` is.
+        """Hash a password to a text to keep, with a random salt where none is given. `low_level` says what `progress`
+        is.
 
         Raises `HashingError` where the settings are refused or there is no memory.
         """

@@ -5,9 +5,9 @@ RFC 9106 calls secret value and associated data, are `key` and `associated_data`
 many threads as it has lanes, of which one is the caller's; a stored text is verified by at most 16. With a `Memory`
 it is computed over that, and what it took is kept for the next call.
 
-A call that computes is told to stop by what is raised meanwhile: by the handler of a signal, as `KeyboardInterrupt` is at
-Ctrl-C, or by `progress`, which is called as `progress(done, all)` each time that one of all slices is filled, four in a
-pass. It comes out of the call once the slices at work are filled.
+A call is stopped by what is raised meanwhile: by the handler of a signal in the main thread, as `KeyboardInterrupt` is
+at Ctrl-C, or by `progress`, which is called as `progress(done, all)` each time that one of all slices is filled, four in
+a pass. It comes out of the call once the slice at work is filled.
 """
 from enum import Enum
 
@@ -106,7 +106,7 @@ def hash_secret(
 ) -> bytes:
     """Hash the password `secret` to a text, in `memory_cost` KiB.
 
-    Raises `HashingError` where the settings are refused, there is no memory or a thread cannot be started.
+    Raises `HashingError` where the settings are refused or there is no memory.
     """
     _require_bytes(secret=secret, salt=salt, key=key, associated_data=associated_data)
     settings = _settings(time_cost, memory_cost, parallelism, hash_len, type, version)
@@ -133,7 +133,7 @@ def hash_secret_raw(
 ) -> bytes:
     """Hash the password `secret` to `hash_len` bytes, in `memory_cost` KiB.
 
-    Raises `HashingError` where the settings are refused, there is no memory or a thread cannot be started.
+    Raises `HashingError` where the settings are refused or there is no memory.
     """
     _require_bytes(secret=secret, salt=salt, key=key, associated_data=associated_data)
     settings = _settings(time_cost, memory_cost, parallelism, hash_len, type, version)
