@@ -8,6 +8,7 @@
 #include <stdatomic.h>
 #include <stdbool.h>
 #include <stdio.h>
+#include <stdlib.h>
 #include <string.h>
 #include <unistd.h>
 
@@ -28,7 +29,7 @@ static const struct {
     NUMBER(MEMORY_TOO_LITTLE), NUMBER(MEMORY_TOO_MUCH), NUMBER(LANES_TOO_FEW), NUMBER(LANES_TOO_MANY),
     NUMBER(INCORRECT_TYPE), NUMBER(INCORRECT_VERSION), NUMBER(DECODING_FAIL), NUMBER(OUT_OF_MEMORY),
     NUMBER(WORKER_REFUSED), NUMBER(MISMATCH), NUMBER(WRONG_LENGTH), NUMBER(NOT_UTF8), NUMBER(NEEDS_REHASH),
-    NUMBER(TOO_COSTLY), NUMBER(D), NUMBER(I), NUMBER(ID), NUMBER(VERSION_10), NUMBER(VERSION_13),
+    NUMBER(TOO_COSTLY), NUMBER(STOPPED), NUMBER(D), NUMBER(I), NUMBER(ID), NUMBER(VERSION_10), NUMBER(VERSION_13),
 };
 
 uint32_t number_of(const char *name)
@@ -90,6 +91,9 @@ static void wait_while_held(void)
 static uint32_t threads;
 static int64_t lent;
 
+/* What the last call with options was answered that told that it had filled a slice, or -1 where nobody was to be told. */
+static int64_t told;
+
 uint32_t threads_of_the_last(void)
 {
     return threads;
@@ -100,9 +104,15 @@ int64_t bytes_lent_to_the_last(void)
     return lent;
 }
 
+int64_t told_to_the_last(void)
+{
+    return told;
+}
+
 static void take(const proved_argon2_options *with)
 {
     const int has_pool = with->run != NULL || with->pool != NULL;
+    told = with->tell == NULL ? -1 : with->tell(with->arg, 1, 12);
     threads = with->size != sizeof *with || has_pool ? UINT32_MAX : with->threads;
     lent = with->memory != NULL && (uintptr_t)with->memory % 8 == 0 ? (int64_t)with->memory_len
         : with->memory != NULL || with->memory_len != 0 ? INT64_MIN : -1;
@@ -179,6 +189,43 @@ uint32_t proved_argon2_verify_encoded_with(const proved_argon2_options *with, PI
     snprintf(passed[COMPUTING], sizeof *passed, "text %.*s %.*s %.*s %.*s %u %u %u", SHOWN(text), SHOWN(pwd),
              SHOWN(secret), SHOWN(ad), limits->mem_cost, limits->time_cost, limits->lanes);
     return answer;
+}
+
+/* What is asked for where memory is, how many are there, and the answer. */
+static uint32_t memories, shortage;
+
+void set_shortage(uint32_t number)
+{
+    shortage = number;
+}
+
+uint32_t memories_that_are_there(void)
+{
+    return memories;
+}
+
+uint64_t proved_argon2_memory_len(const proved_argon2_settings *settings)
+{
+    return (uint64_t)settings->mem_cost * 1024;
+}
+
+uint32_t proved_argon2_memory_new(const proved_argon2_settings *settings, void **memory, size_t *memory_len)
+{
+    snprintf(passed[TELLING], sizeof *passed, "memory " SETTINGS, EACH(settings));
+    if (shortage == PROVED_ARGON2_OK) {
+        *memory_len = (size_t)settings->mem_cost * 1024;
+        *memory = calloc(1, *memory_len);
+        memories++;
+    }
+    return shortage;
+}
+
+void proved_argon2_memory_free(void *memory, size_t memory_len)
+{
+    if (memory != NULL && memory_len != 0) {
+        free(memory);
+        memories--;
+    }
 }
 
 proved_argon2_limits proved_argon2_default_limits(void)

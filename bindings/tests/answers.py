@@ -1,5 +1,6 @@
 """Each number that the library may answer, to each call of the package for Python: over the library of answers.c,
 which PROVED_ARGON2_LIBRARY names."""
+import concurrent.futures
 import contextlib
 import threading
 import time
@@ -28,7 +29,7 @@ from proved_argon2.low_level import ARGON2_VERSION, Memory, error_to_str, hash_s
 
 STUB = _library._library
 STUB.passed_to.restype = _library.ctypes.c_char_p
-STUB.bytes_lent_to_the_last.restype = _library.ctypes.c_int64
+STUB.bytes_lent_to_the_last.restype = STUB.told_to_the_last.restype = _library.ctypes.c_int64
 
 
 def header(name):
@@ -40,7 +41,7 @@ def header(name):
 NUMBERS = [*range(23), 63, *range(64, 76), *range(127, 131), 255, 256, 999, 0x7FFFFFFF, 0x80000000, 0xFFFFFFFF]
 OK, DECODING_FAIL, OUT_OF_MEMORY = header("OK"), header("DECODING_FAIL"), header("OUT_OF_MEMORY")
 MISMATCH, WRONG_LENGTH, NOT_UTF8 = header("MISMATCH"), header("WRONG_LENGTH"), header("NOT_UTF8")
-TOO_COSTLY = header("TOO_COSTLY")
+TOO_COSTLY, STOPPED = header("TOO_COSTLY"), header("STOPPED")
 TEXT = "$argon2id$x"
 SETTINGS = (3, 64, 4, 5, Type.ID)
 # Pieces of which none is another one's.
@@ -181,6 +182,64 @@ class Answers(unittest.TestCase):
                     call(memory)
                 wanted = 64 << 10 if number == OUT_OF_MEMORY else 0
                 self.assertEqual((STUB.bytes_lent_to_the_last(), memory._free[0].length), (wanted, wanted), number)
+                self.assertEqual(STUB.memories_that_are_there(), int(wanted > 0))
+                if wanted:
+                    self.assertEqual(passed(TELLING), "memory 2 19 64 3 4 5")
+                del memory
+                self.assertEqual(STUB.memories_that_are_there(), 0)
+
+    def test_a_kept_memory_has_nothing_where_the_library_refuses_one(self):
+        self.addCleanup(STUB.set_shortage, OK)
+        for number in NUMBERS:
+            if number != OK:
+                STUB.set_shortage(_library.ctypes.c_uint32(number))
+                memory = Memory()
+                set_answers(then=OUT_OF_MEMORY)
+                with self.assertRaisesRegex(HashingError, said_of(OUT_OF_MEMORY)):
+                    hash_secret(b"p", b"somesalt", *SETTINGS, memory=memory)
+                self.assertEqual((STUB.bytes_lent_to_the_last(), memory._free[0].length), (0, 0), number)
+
+    def computing(self, **named):
+        """The calls that can be told how far they are."""
+        hashing, verifying = (b"p", b"somesalt", *SETTINGS), (TEXT.encode(), b"p", Type.ID)
+        for memory in (None, Memory()):
+            hasher = PasswordHasher(keep_memory=memory is not None)
+            yield lambda: hash_secret(*hashing, memory=memory, **named)
+            yield lambda: hash_secret_raw(*hashing, memory=memory, **named)
+            yield lambda: verify_secret(*verifying, memory=memory, **named)
+            yield lambda: hasher.hash("p", **named)
+            yield lambda: hasher.verify(TEXT, "p", **named)
+
+    def test_a_call_tells_how_far_it_is_where_handlers_of_signals_run_or_where_it_is_asked(self):
+        def in_a_thread(call):
+            with concurrent.futures.ThreadPoolExecutor(1) as pool:
+                pool.submit(call).result()
+            return STUB.told_to_the_last()
+
+        for call in self.computing():
+            call()
+            self.assertEqual(STUB.told_to_the_last(), 0)
+            self.assertEqual(in_a_thread(call), -1)
+        seen = []
+        for call in self.computing(progress=lambda *told: seen.append(told)):
+            call()
+            self.assertEqual((STUB.told_to_the_last(), seen), (0, [(1, 12)]))
+            seen.clear()
+            self.assertEqual((in_a_thread(call), seen), (0, [(1, 12)]))
+            seen.clear()
+
+    def test_what_progress_raises_stops_a_call_whatever_that_answers(self):
+        def progress(done, all):
+            raise error
+
+        for error in (ValueError("enough"), KeyboardInterrupt(), SystemExit(3), GeneratorExit()):
+            for number in (STOPPED, OK, MISMATCH):
+                set_answers(then=number)
+                for call in self.computing(progress=progress):
+                    with self.assertRaises(type(error)) as raised:
+                        call()
+                    self.assertIs(raised.exception, error)
+                    self.assertNotEqual(STUB.told_to_the_last(), 0)
 
     def test_there_are_as_many_threads_as_lanes_and_16_for_a_text(self):
         for call, wanted in (

@@ -1,7 +1,7 @@
 //! Each number that the library may answer, to each call of the crate for Rust: over the library of answers.c. A line
 //! for each check.
 
-use argon2::{Config, Error, Limits, Memory, Stored, ThreadMode, Unverified, Variant, Version};
+use argon2::{Config, Error, Limits, Memory, Run, Stored, ThreadMode, Unverified, Variant, Version};
 use std::ffi::{CStr, CString};
 use std::fmt::Debug;
 use std::os::raw::c_char;
@@ -11,6 +11,9 @@ extern "C" {
     fn set_answers(without_room: u32, then: u32, read: u32, message: u32);
     fn threads_of_the_last() -> u32;
     fn bytes_lent_to_the_last() -> i64;
+    fn told_to_the_last() -> i64;
+    fn set_shortage(number: u32);
+    fn memories_that_are_there() -> u32;
     fn passed_to(kind: u32) -> *const c_char;
     fn number_of(name: *const c_char) -> u32;
 }
@@ -26,8 +29,8 @@ fn passed(kind: u32) -> String {
     unsafe { CStr::from_ptr(passed_to(kind)) }.to_str().unwrap().to_owned()
 }
 
-/// The errors in the order of the numbers from 1 on.
-const ERRORS: [Error; 21] = [
+/// The errors in the order of the numbers from 1 on, and one of C alone.
+const ERRORS: [Error; 22] = [
     Error::OutputTooShort,
     Error::OutputTooLong,
     Error::PwdTooShort,
@@ -49,6 +52,7 @@ const ERRORS: [Error; 21] = [
     Error::DecodingFail,
     Error::OutOfMemory,
     Error::WorkerRefused,
+    Error::Stopped,
 ];
 
 /// The numbers of the header, those beside them, and some that no call answers.
@@ -115,7 +119,8 @@ fn spelled(error: &Error) -> String {
 
 /// Each error, variant and version has the number that the header gives to its name.
 fn numbers_are_the_header_s() -> bool {
-    let errors = ERRORS.iter().zip(1..).all(|(error, number)| header(&spelled(error)) == number);
+    let numbers = (1..=21).chain([130]);
+    let errors = ERRORS.iter().zip(numbers).all(|(error, number)| header(&spelled(error)) == number);
     let variants = [(Variant::Argon2d, "D"), (Variant::Argon2i, "I"), (Variant::Argon2id, "ID")]
         .into_iter()
         .all(|(it, name)| it.as_u32() == header(name) && Variant::from_u32(header(name)) == Ok(it));
@@ -225,23 +230,77 @@ fn arguments_are_in_their_places() -> bool {
     told("each call passes what it is given, in its place", computing && judged && told_of)
 }
 
-/// A memory grows where the library answers that it is too small, to what the settings or the text say, and only then.
+/// A memory is made where the library answers that it is too small, of what the settings or the text say, and only
+/// then. It is given back once.
 fn memories_grow_where_they_are_too_small() -> bool {
-    let right = COMPUTING.iter().all(|(call, _, _)| {
+    let there = || unsafe { memories_that_are_there() };
+    let right = COMPUTING.iter().all(|(call, passes, _)| {
+        let settings = if passes.starts_with("verify") { "2 19 64 3 4 4294967295" } else { "2 19 64 3 4 5" };
         numbers().all(|number| {
             let mut memory = Memory::new();
             then(number);
             let _ = catch_unwind(AssertUnwindSafe(|| call(Some(&mut memory))));
-            let lent = unsafe { bytes_lent_to_the_last() };
-            let has_grown = (64 << 10..72 << 10).contains(&memory.size()) && lent == memory.size() as i64;
-            if number == header("OUT_OF_MEMORY") {
-                has_grown
+            let found = (unsafe { bytes_lent_to_the_last() }, memory.size(), there());
+            let asked_for = passed(2);
+            drop(memory);
+            let wanted = if number == header("OUT_OF_MEMORY") {
+                (64 << 10, 64 << 10, 1)
             } else {
-                memory.size() == 0 && lent == 0
-            }
+                (0, 0, 0)
+            };
+            found == wanted && there() == 0 && (wanted.2 == 0 || asked_for == format!("memory {settings}"))
         })
     });
-    told("a kept memory grows where the library says that it is too small", right)
+    told("a kept memory is made where the library says that it is too small", right)
+}
+
+/// A memory has nothing where the library refuses one, and the call is out of memory.
+fn memories_may_be_refused() -> bool {
+    let right = numbers().filter(|number| *number != header("OK")).all(|number| {
+        unsafe { set_shortage(number) };
+        then(header("OUT_OF_MEMORY"));
+        COMPUTING.iter().all(|(call, _, _)| {
+            let mut memory = Memory::new();
+            !call(Some(&mut memory)) && memory.size() == 0 && raw(Some(&mut memory)) == Err(Error::OutOfMemory)
+        })
+    });
+    unsafe { set_shortage(0) };
+    told("a kept memory has nothing where the library refuses one", right)
+}
+
+/// The calls of a run, which are given each piece in its place.
+fn each_of_a_run(run: &mut Run<'_>) -> Vec<(bool, String)> {
+    let mut passes = Vec::new();
+    let mut note = |is_done: bool| passes.push((is_done, passed(0)));
+    note(run.hash_raw(b"word", b"somesalt", &CONFIG).is_ok());
+    note(run.hash_encoded(b"word", b"somesalt", &CONFIG).is_ok());
+    note(run.verify_raw(b"word", b"somesalt", b"hash", &CONFIG).is_ok());
+    note(run.verify_encoded("text", b"word", b"key", b"data").is_ok());
+    note(run.verify_encoded_within("text", b"word", b"key", b"data", &LIMITS).is_ok());
+    passes
+}
+
+/// A call tells how far it is where it is asked, and nobody else; what it is told stops it, and so does a panic, which
+/// comes out of it.
+fn calls_tell_how_far_they_are() -> bool {
+    use std::ops::ControlFlow::{Break, Continue};
+    let to_the_last = || unsafe { told_to_the_last() };
+    then(0);
+    let wanted: Vec<_> = COMPUTING.iter().map(|(_, passes, _)| (true, (*passes).to_owned())).collect();
+    let mut right = COMPUTING.iter().all(|(call, _, _)| call(None) && to_the_last() == -1);
+    right &= each_of_a_run(&mut Run::new()) == wanted && to_the_last() == -1;
+    let mut seen = Vec::new();
+    let given = each_of_a_run(&mut Run::new().telling(|done, all| {
+        seen.push((done, all));
+        Continue(())
+    }));
+    right &= given == wanted && seen == [(1, 12); 5] && to_the_last() == 0;
+    right &= each_of_a_run(&mut Run::new().over(&mut Memory::new()).telling(|_, _| Break(()))) == wanted;
+    right &= to_the_last() == 1;
+    let mut run = Run::new().telling(|_, _| panic!("on"));
+    let panicked = catch_unwind(AssertUnwindSafe(|| run.hash_raw(b"word", b"somesalt", &CONFIG)));
+    right &= panicked.is_err() && to_the_last() == 1;
+    told("a call tells how far it is where it is asked, and what it is told stops it", right)
 }
 
 /// Whether the default limits are those that the library answers.
@@ -329,6 +388,8 @@ fn main() {
         each_number_is_answered(", over a kept memory", || Some(Memory::new())),
         arguments_are_in_their_places(),
         memories_grow_where_they_are_too_small(),
+        memories_may_be_refused(),
+        calls_tell_how_far_they_are(),
         are_the_library_s(),
         are_as_many_threads_as_the_mode_says(),
         holds("a text without a secret verifies for OK alone", &verdicts, then, || {

@@ -1,50 +1,53 @@
-//! The memory that the crate for Rust keeps from call to call, over the library. A line for each check. The allocator of
-//! this program counts what is asked for and looks at what is given back.
+//! The memory that the crate for Rust keeps from call to call, over the library. A line for each check. The linker gives
+//! this program the library's two calls for a memory (`--wrap`), which it counts.
 
 use argon2::{Config, Error, Limits, Memory, ThreadMode, Unverified, Variant, Version};
-use std::alloc::{GlobalAlloc, Layout, System};
+use std::ffi::c_void;
 use std::sync::atomic::{AtomicUsize, Ordering::SeqCst};
 
-/// Blocks are asked for in pages, and nothing else here is.
-const PAGE: usize = 4096;
-
-/// The requests for pages, the bytes that are held and were held at most, those that may be asked for at once, how
-/// often a page was given back that was not clear, and where the last pages are.
+/// The requests for memory, the bytes that are held and were held at most, those that may be asked for at once, how
+/// often one was given back with another length, and where the last one is.
 static ASKED: AtomicUsize = AtomicUsize::new(0);
 static HELD: AtomicUsize = AtomicUsize::new(0);
 static MOST_HELD: AtomicUsize = AtomicUsize::new(0);
 static GRANTED: AtomicUsize = AtomicUsize::new(1 << 30);
-static LEFT: AtomicUsize = AtomicUsize::new(0);
+static WRONG: AtomicUsize = AtomicUsize::new(0);
 static PLACE: AtomicUsize = AtomicUsize::new(0);
 
-struct Looking;
+const OUT_OF_MEMORY: u32 = 20;
 
-#[global_allocator]
-static ALLOCATOR: Looking = Looking;
+extern "C" {
+    fn proved_argon2_memory_len(settings: *const c_void) -> u64;
+    fn __real_proved_argon2_memory_new(settings: *const c_void, memory: *mut usize, length: *mut usize) -> u32;
+    fn __real_proved_argon2_memory_free(memory: usize, length: usize);
+}
 
-unsafe impl GlobalAlloc for Looking {
-    unsafe fn alloc(&self, layout: Layout) -> *mut u8 {
-        if layout.align() != PAGE {
-            return System.alloc(layout);
-        }
-        ASKED.fetch_add(1, SeqCst);
-        if layout.size() > GRANTED.load(SeqCst) {
-            return std::ptr::null_mut();
-        }
-        MOST_HELD.fetch_max(HELD.fetch_add(layout.size(), SeqCst) + layout.size(), SeqCst);
-        let place = System.alloc(layout);
-        PLACE.store(place as usize, SeqCst);
-        place
+#[no_mangle]
+unsafe extern "C" fn __wrap_proved_argon2_memory_new(
+    settings: *const c_void,
+    memory: *mut usize,
+    length: *mut usize,
+) -> u32 {
+    ASKED.fetch_add(1, SeqCst);
+    if proved_argon2_memory_len(settings) > GRANTED.load(SeqCst) as u64 {
+        return OUT_OF_MEMORY;
     }
-
-    unsafe fn dealloc(&self, place: *mut u8, layout: Layout) {
-        if layout.align() == PAGE {
-            HELD.fetch_sub(layout.size(), SeqCst);
-            let bytes = std::slice::from_raw_parts(place, layout.size());
-            LEFT.fetch_add(bytes.iter().any(|it| *it != 0).into(), SeqCst);
-        }
-        System.dealloc(place, layout)
+    let number = __real_proved_argon2_memory_new(settings, memory, length);
+    if number == 0 {
+        MOST_HELD.fetch_max(HELD.fetch_add(*length, SeqCst) + *length, SeqCst);
+        PLACE.store(*memory, SeqCst);
     }
+    number
+}
+
+#[no_mangle]
+unsafe extern "C" fn __wrap_proved_argon2_memory_free(memory: usize, length: usize) {
+    // (the library gives back so what calls take that are lent nothing)
+    if memory == PLACE.load(SeqCst) {
+        PLACE.store(0, SeqCst);
+        WRONG.fetch_add((length != HELD.swap(0, SeqCst)).into(), SeqCst);
+    }
+    __real_proved_argon2_memory_free(memory, length)
 }
 
 /// The bytes that a memory keeps.
@@ -221,7 +224,7 @@ fn is_asked_for_once() -> bool {
     });
     let (is_done, mut memory) = moved.join().unwrap();
     let is_same = (memory.size(), kept(&mut memory).as_ptr() as usize) == (size, place);
-    right && is_done && is_same && asked() == before + 1 && (3000 << 10..3008 << 10).contains(&size)
+    right && is_done && is_same && asked() == before + 1 && size == 3000 << 10
 }
 
 /// One that is too small is given back before another one is asked for.
@@ -230,7 +233,7 @@ fn two_are_never_held() -> bool {
     [512, 1024, 4096, 16384].into_iter().all(|mem_cost| {
         MOST_HELD.store(0, SeqCst);
         Asked::of(settings(mem_cost, 1, MODES[0])).call(0, &mut memory);
-        MOST_HELD.load(SeqCst) == memory.size() && memory.size() < (mem_cost as usize + 8) << 10
+        MOST_HELD.load(SeqCst) == memory.size() && memory.size() == (mem_cost as usize) << 10
     })
 }
 
@@ -269,7 +272,7 @@ fn refusals_leave_it() -> bool {
 /// A request that is refused is `OutOfMemory`, and the next call asks anew.
 fn shortages_are_answered() -> bool {
     let mut memory = Memory::new();
-    GRANTED.store(1 << 20, SeqCst);
+    GRANTED.store((1 << 20) - 1, SeqCst);
     let right = [(1024, 1), (4096, 4), (u32::MAX, 1), (u32::MAX, 4)].into_iter().all(|(mem_cost, lanes)| {
         let asked = Asked::of(settings(mem_cost, lanes, ThreadMode::Parallel));
         asked.is_refused(&Error::OutOfMemory, &mut memory)
@@ -281,29 +284,21 @@ fn shortages_are_answered() -> bool {
     right
 }
 
-/// What is kept is clear when it is given back, whatever stood there: where another is asked for, and at the end.
-fn is_clear_when_it_is_given_back() -> bool {
-    let before = (asked(), LEFT.load(SeqCst));
+/// What is kept is given back once, as it was made: where another one is asked for, and at the end.
+fn is_given_back_once() -> bool {
+    let before = asked();
     for mem_cost in [64, 4096] {
         let mut memory = Memory::new();
         for times in [1, 2] {
             Asked::of(settings(times * mem_cost, 1, MODES[0])).call(0, &mut memory);
-            kept(&mut memory).fill(0xa5);
+        }
+        drop(memory);
+        if HELD.load(SeqCst) != 0 {
+            return false;
         }
     }
-    (asked(), LEFT.load(SeqCst)) == (before.0 + 4, before.1)
-}
-
-/// The allocator sees what is left: bytes of the same alignment that nobody clears.
-fn what_is_left_is_seen() -> bool {
-    let before = LEFT.load(SeqCst);
-    let layout = Layout::from_size_align(3 * PAGE, PAGE).unwrap();
-    unsafe {
-        let place = std::alloc::alloc_zeroed(layout);
-        place.add(2 * PAGE).write(1);
-        std::alloc::dealloc(place, layout);
-    }
-    LEFT.load(SeqCst) == before + 1 && HELD.load(SeqCst) == 0
+    drop(Memory::new());
+    asked() == before + 4 && WRONG.load(SeqCst) == 0
 }
 
 /// How many mappings of this process core dumps leave out, as Linux tells.
@@ -313,8 +308,7 @@ fn mappings_that_are_not_dumped() -> usize {
     flags.filter(|it| it.split(' ').any(|flag| flag == "dd")).count()
 }
 
-/// Core dumps leave out what is kept, from 2 MiB on, and have all that is given back: the second and third time it
-/// stands in the heap.
+/// Core dumps leave out what is kept, from 2 MiB on, and have all that is given back.
 fn is_not_dumped_while_it_is_kept() -> bool {
     let before = mappings_that_are_not_dumped();
     [4096, 4096, 4096, 20000, 20000].into_iter().all(|mem_cost| {
@@ -335,15 +329,14 @@ fn is_told_without_its_content() -> bool {
 }
 
 fn main() {
-    let checks: [(&str, fn() -> bool); 10] = [
+    let checks: [(&str, fn() -> bool); 9] = [
         ("a kept memory changes no answer, as it grows and shrinks", answers_do_not_depend_on_it),
         ("a kept memory is asked for once", is_asked_for_once),
         ("two kept memories are never held at once", two_are_never_held),
         ("each call clears what it used of a kept memory", calls_clear_what_they_used),
         ("what is refused leaves a kept memory as it is", refusals_leave_it),
         ("where memory is refused, a kept memory serves the next call", shortages_are_answered),
-        ("a kept memory is clear when it is given back", is_clear_when_it_is_given_back),
-        ("what is left in freed memory is seen", what_is_left_is_seen),
+        ("a kept memory is given back once, as it was made", is_given_back_once),
         ("core dumps leave out what is kept, and no more", is_not_dumped_while_it_is_kept),
         ("a kept memory tells its size alone", is_told_without_its_content),
     ];

@@ -2,50 +2,49 @@
 import base64
 import copy
 import ctypes
-import errno
-import mmap
 import os
 import pickle
 import threading
 import unittest
-import weakref
 from concurrent.futures import ThreadPoolExecutor
 from pathlib import Path
 from unittest import mock
 
-from proved_argon2 import Limits, PasswordHasher, Type
+from proved_argon2 import Limits, PasswordHasher, Type, _library
 from proved_argon2.exceptions import HashingError, TooCostlyError, VerificationError, VerifyMismatchError
 from proved_argon2.low_level import Memory, hash_secret, hash_secret_raw, verify_secret
 
 VECTORS = Path(__file__).resolve().parents[2] / "vectors"
-MMAP = mmap.mmap
+NEW, FREE = _library._library.proved_argon2_memory_new, _library._library.proved_argon2_memory_free
 TYPES = {"argon2d": Type.D, "argon2i": Type.I, "argon2id": Type.ID}
 LARGE = "$argon2id$v=19$m=1048576,t=1,p=1$c29tZXNhbHQ$AAAAAAAAAAAAAAAAAAAAAA"
 
 
-class Mappings:
-    """Counts the mappings that are asked for, and those that are there."""
+class Memories:
+    """Counts the memories that the library is asked for, and those that are there."""
 
     def __init__(self, granted=1 << 30):
-        self.granted, self.asked, self.refs, self.most = granted, 0, [], 0
+        self.granted, self.asked, self.there, self.most = granted, 0, 0, 0
 
-    def __call__(self, file, length, **named):
+    def new(self, settings, memory, length):
         self.asked += 1
-        if length > self.granted:
-            raise OSError(errno.ENOMEM, "Cannot allocate memory")
-        self.most = max(self.most, self.there + 1)
-        mapping = MMAP(file, length, **named)
-        self.refs.append(weakref.ref(mapping))
-        return mapping
+        if _library.memory_len(settings) > self.granted:
+            return _library.OUT_OF_MEMORY
+        number = NEW(settings, memory, length)
+        self.there += number == _library.OK
+        self.most = max(self.most, self.there)
+        return number
 
-    @property
-    def there(self):
-        return sum(it() is not None for it in self.refs)
+    def free(self, memory, length):
+        self.there -= 1
+        FREE(memory, length)
 
 
-def counted(mappings):
-    """Lets the package ask for mappings so."""
-    return mock.patch("mmap.mmap", mappings)
+def counted(memories):
+    """Lets the package ask for memories so."""
+    return mock.patch.multiple(
+        _library._library, proved_argon2_memory_new=memories.new, proved_argon2_memory_free=memories.free
+    )
 
 
 def free_pages(memory):
@@ -136,22 +135,22 @@ class KeptMemory(unittest.TestCase):
                 verify_secret(text, pwd + b"x", TYPES[variant], **named)
 
     def test_a_kept_memory_is_asked_for_once(self):
-        mappings, memory = Mappings(), Memory()
-        with counted(mappings):
+        memories, memory = Memories(), Memory()
+        with counted(memories):
             for memory_cost in (3000, 3000, 8, 2999, 1024, 3000):
                 for call, wanted in calls(memory_cost):
                     self.assertEqual(call(memory), wanted)
-                    self.assertEqual(mappings.asked, 1)
+                    self.assertEqual(memories.asked, 1)
         self.assertEqual(free_pages(memory).length, 3000 << 10)
 
     def test_two_kept_memories_are_never_held_at_once(self):
-        mappings, memory = Mappings(), Memory()
-        with counted(mappings):
+        memories, memory = Memories(), Memory()
+        with counted(memories):
             for memory_cost in (512, 1024, 4096):
                 hash_secret_raw(b"password", b"somesalt", 1, memory_cost, 1, 16, Type.ID, memory=memory)
-        self.assertEqual((mappings.asked, mappings.most, mappings.there), (3, 1, 1))
-        del memory
-        self.assertEqual(mappings.there, 0)
+            self.assertEqual((memories.asked, memories.most, memories.there), (3, 1, 1))
+            del memory
+            self.assertEqual(memories.there, 0)
 
     def test_each_call_clears_what_it_used_of_a_kept_memory(self):
         for memory_cost, lanes in ((256, 1), (4096, 4), (1003, 4)):
@@ -164,20 +163,20 @@ class KeptMemory(unittest.TestCase):
                 self.assertEqual(held(memory), bytes(used) + b"\xa5" * ((5000 << 10) - used))
 
     def test_what_is_refused_leaves_a_kept_memory_as_it_is(self):
-        mappings, memory = Mappings(), Memory()
+        memories, memory = Memories(), Memory()
         wanted = [is_refused(call, None) for call in REFUSED]
         self.assertNotIn(None, wanted)
-        with counted(mappings):
+        with counted(memories):
             self.assertEqual([is_refused(call, memory) for call in REFUSED], wanted)
-            self.assertEqual((mappings.asked, free_pages(memory).length), (0, 0))
+            self.assertEqual((memories.asked, free_pages(memory).length), (0, 0))
             hash_secret_raw(b"password", b"somesalt", 1, 100, 1, 16, Type.ID, memory=memory)
             fill(memory)
             self.assertEqual([is_refused(call, memory) for call in REFUSED], wanted)
-        self.assertEqual((mappings.asked, held(memory)), (1, b"\xa5" * (100 << 10)))
+        self.assertEqual((memories.asked, held(memory)), (1, b"\xa5" * (100 << 10)))
 
     def test_where_memory_is_refused_a_kept_memory_serves_the_next_call(self):
-        mappings, memory = Mappings(granted=1 << 20), Memory()
-        with counted(mappings):
+        memories, memory = Memories(granted=1 << 20), Memory()
+        with counted(memories):
             for memory_cost in (4096, 0xFFFFFFFF):
                 for call in (
                     lambda: hash_secret(b"password", b"somesalt", 1, memory_cost, 1, 16, Type.ID, memory=memory),
@@ -188,7 +187,7 @@ class KeptMemory(unittest.TestCase):
                 ):
                     with self.assertRaisesRegex((HashingError, VerificationError), "Out of memory"):
                         call()
-                    self.assertEqual((free_pages(memory).length, mappings.there), (0, 0))
+                    self.assertEqual((free_pages(memory).length, memories.there), (0, 0))
                 for call, wanted in calls(1024):
                     self.assertEqual(call(memory), wanted)
 
@@ -250,8 +249,8 @@ class KeepMemory(unittest.TestCase):
     settings = {"time_cost": 1, "memory_cost": 1024, "parallelism": 2}
 
     def test_a_hasher_keeps_memory_by_an_option_alone(self):
-        mappings = Mappings()
-        with counted(mappings):
+        memories = Memories()
+        with counted(memories):
             for keep_memory in (False, True):
                 hasher = PasswordHasher(**self.settings, keep_memory=keep_memory)
                 self.assertIs(hasher.keep_memory, keep_memory)
@@ -261,20 +260,20 @@ class KeepMemory(unittest.TestCase):
                     self.assertIs(hasher.verify(text, "password"), True)
                     with self.assertRaises(VerifyMismatchError):
                         hasher.verify(text, "Password")
-                self.assertEqual(mappings.asked, int(keep_memory))
-            self.assertEqual(mappings.there, 1)
+                self.assertEqual(memories.asked, int(keep_memory))
+            self.assertEqual(memories.there, 1)
             self.assertEqual(held(hasher._memory), bytes(1024 << 10))
             del hasher
-        self.assertEqual(mappings.there, 0)
+        self.assertEqual(memories.there, 0)
         self.assertIs(PasswordHasher().keep_memory, False)
 
     def test_a_hasher_that_keeps_memory_verifies_within_its_limits(self):
-        mappings = Mappings()
-        with counted(mappings):
+        memories = Memories()
+        with counted(memories):
             hasher = PasswordHasher(**self.settings, limits=Limits(memory_cost=2048), keep_memory=True)
             with self.assertRaises(TooCostlyError):
                 hasher.verify(LARGE, "password")
-        self.assertEqual(mappings.asked, 0)
+        self.assertEqual(memories.asked, 0)
 
     def test_a_hasher_that_keeps_memory_works_in_many_threads(self):
         hasher = PasswordHasher(**self.settings, keep_memory=True)

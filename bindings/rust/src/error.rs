@@ -1,3 +1,4 @@
+use crate::face::STOPPED;
 use std::fmt;
 
 /// Why a call was refused.
@@ -65,8 +66,11 @@ pub enum Error {
     /// Memory was refused.
     OutOfMemory,
 
-    /// A thread could not be started.
+    /// Never answered here: where a thread is refused, the caller's own does its work.
     WorkerRefused,
+
+    /// A [`Run`](crate::Run) was told to stop.
+    Stopped,
 }
 
 impl Error {
@@ -101,6 +105,9 @@ impl Error {
     ///
     /// Where the library answers a number that no refusal of it has, which it never does.
     pub(crate) fn of_number(number: u32) -> Error {
+        if number == STOPPED {
+            return Error::Stopped;
+        }
         let place = usize::try_from(number).ok().and_then(|number| number.checked_sub(1));
         match place.and_then(|place| Error::NUMBERED.get(place)) {
             Some(error) => error.clone(),
@@ -131,6 +138,7 @@ impl Error {
             Error::DecodingFail => "Decoding failed",
             Error::OutOfMemory => "Out of memory",
             Error::WorkerRefused => "A worker was refused",
+            Error::Stopped => "The call was stopped",
         }
     }
 }

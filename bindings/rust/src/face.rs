@@ -3,16 +3,16 @@
 //! The library is passed a pointer and a length of each slice. It reads what is passed as `*const`, writes
 //! what is passed as `*mut` within its length, and keeps no pointer. A slice's pointer is never null.
 
-mod errno;
-mod pages;
+mod kept;
+mod telling;
 
-pub use errno::Errno;
-pub use pages::{advise, clear, Lent, Page};
+pub use kept::Kept;
+pub use telling::Telling;
 
 use crate::{Config, Limits as LimitsOfCrate};
-use pages::address;
 use std::ffi::c_void;
-use std::mem::{size_of, size_of_val};
+use std::mem::size_of;
+use std::os::raw::c_int;
 use std::ptr::{null, null_mut};
 
 /// Done, or a match.
@@ -32,6 +32,9 @@ pub const NEEDS_REHASH: u32 = 68;
 
 /// The text is above the limits.
 pub const TOO_COSTLY: u32 = 69;
+
+/// What the call told how far it was has stopped it.
+pub const STOPPED: u32 = 130;
 
 /// A buffer of this many bytes has room for the text of each refusal.
 #[cfg(test)]
@@ -75,6 +78,14 @@ struct Options {
     run: *const c_void,
     pool: *mut c_void,
     limits: *const Limits,
+    tell: Option<unsafe extern "C" fn(*mut c_void, u64, u64) -> c_int>,
+    arg: *mut c_void,
+}
+
+/// What a call is lent: a memory, without which it takes one itself, and somebody who is told how far it is.
+pub struct Lent<'lent, 'a> {
+    pub kept: Option<&'lent mut Kept>,
+    pub telling: Option<&'lent mut Telling<'a>>,
 }
 
 /// As many threads as the library itself has at most for a stored text.
@@ -82,8 +93,8 @@ const MOST_FOR_A_TEXT: u32 = 16;
 
 impl Options {
     /// Options of so many threads. They point to what is lent, which has to outlive them.
-    fn by(threads: u32, lent: Lent<'_>) -> Options {
-        let (memory, memory_len) = lent.map_or((null_mut(), 0), |pages| (address(pages), size_of_val(pages)));
+    fn by(threads: u32, lent: Lent<'_, '_>) -> Options {
+        let (memory, memory_len) = lent.kept.map_or((null_mut(), 0), |kept| (kept.address(), kept.length()));
         Options {
             size: size_of::<Options>(),
             threads,
@@ -92,12 +103,14 @@ impl Options {
             run: null(),
             pool: null_mut(),
             limits: null(),
+            tell: lent.telling.as_ref().map(|_| telling::told as _),
+            arg: lent.telling.map_or(null_mut(), |it| (it as *mut Telling<'_>).cast()),
         }
     }
 }
 
 impl Settings {
-    fn of(config: &Config<'_>) -> Settings {
+    pub fn of(config: &Config<'_>) -> Settings {
         Settings {
             variant: config.variant.as_u32(),
             version: config.version.as_u32(),
@@ -165,6 +178,7 @@ extern "C" {
     fn proved_argon2_read(text: *const u8, text_len: usize, stored: *mut Stored) -> u32;
     fn proved_argon2_needs_rehash(text: *const u8, text_len: usize, settings: *const Settings) -> u32;
     fn proved_argon2_encoded_len(settings: *const Settings, salt_len: u32) -> u64;
+    fn proved_argon2_memory_len(settings: *const Settings) -> u64;
     #[cfg(test)]
     fn proved_argon2_message(number: u32, text: *mut u8, text_len: usize) -> u32;
     #[cfg(test)]
@@ -223,10 +237,9 @@ pub fn judge_encoded(pwd: &[u8], salt: &[u8], config: &Config<'_>) -> u32 {
 
 /// Writes the tag to `out`, which has `config.hash_length` bytes.
 #[rustfmt::skip]
-pub fn hash_raw(pwd: &[u8], salt: &[u8], config: &Config<'_>, lent: Lent<'_>, out: &mut [u8]) -> u32 {
+pub fn hash_raw(pwd: &[u8], salt: &[u8], config: &Config<'_>, lent: Lent<'_, '_>, out: &mut [u8]) -> u32 {
     let settings = Settings::of(config);
     let options = Options::by(config.workers(), lent);
-    let _kept = Errno::kept();
     // SAFETY: each pointer and length are those of a slice, and `out` is borrowed for this call alone. Threads that
     // the call starts end before it returns.
     unsafe {
@@ -244,10 +257,9 @@ pub fn hash_raw(pwd: &[u8], salt: &[u8], config: &Config<'_>, lent: Lent<'_>, ou
 
 /// Writes the text and then zeros to `text`, which has more bytes than the text.
 #[rustfmt::skip]
-pub fn hash_encoded(pwd: &[u8], salt: &[u8], config: &Config<'_>, lent: Lent<'_>, text: &mut [u8]) -> u32 {
+pub fn hash_encoded(pwd: &[u8], salt: &[u8], config: &Config<'_>, lent: Lent<'_, '_>, text: &mut [u8]) -> u32 {
     let settings = Settings::of(config);
     let options = Options::by(config.workers(), lent);
-    let _kept = Errno::kept();
     // SAFETY: each pointer and length are those of a slice, and `text` is borrowed for this call alone. Threads that
     // the call starts end before it returns.
     unsafe {
@@ -265,10 +277,9 @@ pub fn hash_encoded(pwd: &[u8], salt: &[u8], config: &Config<'_>, lent: Lent<'_>
 
 /// Compares a hash with the tag of its length.
 #[rustfmt::skip]
-pub fn verify_raw(pwd: &[u8], salt: &[u8], hash: &[u8], config: &Config<'_>, lent: Lent<'_>) -> u32 {
+pub fn verify_raw(pwd: &[u8], salt: &[u8], hash: &[u8], config: &Config<'_>, lent: Lent<'_, '_>) -> u32 {
     let settings = Settings::of(config);
     let options = Options::by(config.workers(), lent);
-    let _kept = Errno::kept();
     // SAFETY: each pointer and length are those of a slice, and nothing is written. Threads that the call starts end
     // before it returns.
     unsafe {
@@ -285,7 +296,7 @@ pub fn verify_raw(pwd: &[u8], salt: &[u8], hash: &[u8], config: &Config<'_>, len
 }
 
 /// Compares a text with a password.
-pub fn verify_encoded(text: &str, pwd: &[u8], secret: &[u8], ad: &[u8], lent: Lent<'_>) -> u32 {
+pub fn verify_encoded(text: &str, pwd: &[u8], secret: &[u8], ad: &[u8], lent: Lent<'_, '_>) -> u32 {
     verify_with(&Options::by(MOST_FOR_A_TEXT, lent), text, pwd, secret, ad)
 }
 
@@ -296,7 +307,7 @@ pub fn verify_encoded_within(
     secret: &[u8],
     ad: &[u8],
     limits: &LimitsOfCrate,
-    lent: Lent<'_>,
+    lent: Lent<'_, '_>,
 ) -> u32 {
     let limits = Limits { mem_cost: limits.mem_cost, time_cost: limits.time_cost, lanes: limits.lanes };
     verify_with(&Options { limits: &limits, ..Options::by(MOST_FOR_A_TEXT, lent) }, text, pwd, secret, ad)
@@ -304,7 +315,6 @@ pub fn verify_encoded_within(
 
 #[rustfmt::skip]
 fn verify_with(options: &Options, text: &str, pwd: &[u8], secret: &[u8], ad: &[u8]) -> u32 {
-    let _kept = Errno::kept();
     // SAFETY: each pointer and length are those of a slice, the limits outlive the call, and nothing is written.
     // Threads that the call starts end before it returns.
     unsafe {
@@ -332,9 +342,10 @@ pub fn read(text: &str) -> (u32, Stored) {
     (number, stored)
 }
 
-/// The memory in KiB that a text spells, or 0 for what spells none.
-pub fn mem_cost_of(text: &str) -> u32 {
-    read(text).1.settings.mem_cost
+/// The bytes that a call with these settings wants for its blocks.
+pub fn memory_len(settings: &Settings) -> u64 {
+    // SAFETY: the settings are read, and nothing is written.
+    unsafe { proved_argon2_memory_len(settings) }
 }
 
 /// Compares the settings of a text with others.

@@ -1,5 +1,5 @@
-use crate::face::{self, Errno, OK, WRONG_LENGTH};
-use crate::{Config, Error, Memory, Result, ThreadMode, Variant, Version};
+use crate::face::{self, OK, WRONG_LENGTH};
+use crate::{Config, Error, Memory, Result, Run, ThreadMode, Variant, Version};
 
 /// The length in bytes of the text of a hash.
 ///
@@ -38,8 +38,7 @@ pub fn encoded_len(
 ///
 /// # Errors
 ///
-/// The first of the settings that is out of its bounds, [`Error::OutOfMemory`], or [`Error::WorkerRefused`] where a
-/// thread cannot be started.
+/// The first of the settings that is out of its bounds, or [`Error::OutOfMemory`].
 ///
 /// # Examples
 ///
@@ -51,7 +50,7 @@ pub fn encoded_len(
 /// # Ok::<(), argon2::Error>(())
 /// ```
 pub fn hash_encoded(pwd: &[u8], salt: &[u8], config: &Config<'_>) -> Result<String> {
-    text_by(pwd, salt, config, |text| face::hash_encoded(pwd, salt, config, None, text))
+    Run::new().hash_encoded(pwd, salt, config)
 }
 
 /// Hashes a password to a text, as [`hash_encoded`] does, over a memory that is kept.
@@ -71,17 +70,14 @@ pub fn hash_encoded(pwd: &[u8], salt: &[u8], config: &Config<'_>) -> Result<Stri
 /// # Ok::<(), argon2::Error>(())
 /// ```
 pub fn hash_encoded_in(memory: &mut Memory, pwd: &[u8], salt: &[u8], config: &Config<'_>) -> Result<String> {
-    text_by(pwd, salt, config, |text| {
-        memory.lend(|| config.mem_cost, |lent| face::hash_encoded(pwd, salt, config, lent, text))
-    })
+    Run::new().over(memory).hash_encoded(pwd, salt, config)
 }
 
 /// Hashes a password, to a hash of `config.hash_length` bytes.
 ///
 /// # Errors
 ///
-/// The first of the settings that is out of its bounds, [`Error::OutOfMemory`], or [`Error::WorkerRefused`] where a
-/// thread cannot be started.
+/// The first of the settings that is out of its bounds, or [`Error::OutOfMemory`].
 ///
 /// # Examples
 ///
@@ -99,7 +95,7 @@ pub fn hash_encoded_in(memory: &mut Memory, pwd: &[u8], salt: &[u8], config: &Co
 /// # Ok::<(), argon2::Error>(())
 /// ```
 pub fn hash_raw(pwd: &[u8], salt: &[u8], config: &Config<'_>) -> Result<Vec<u8>> {
-    tag_by(pwd, salt, config, |tag| face::hash_raw(pwd, salt, config, None, tag))
+    Run::new().hash_raw(pwd, salt, config)
 }
 
 /// Hashes a password, as [`hash_raw`] does, over a memory that is kept.
@@ -120,13 +116,11 @@ pub fn hash_raw(pwd: &[u8], salt: &[u8], config: &Config<'_>) -> Result<Vec<u8>>
 /// # Ok::<(), argon2::Error>(())
 /// ```
 pub fn hash_raw_in(memory: &mut Memory, pwd: &[u8], salt: &[u8], config: &Config<'_>) -> Result<Vec<u8>> {
-    tag_by(pwd, salt, config, |tag| {
-        memory.lend(|| config.mem_cost, |lent| face::hash_raw(pwd, salt, config, lent, tag))
-    })
+    Run::new().over(memory).hash_raw(pwd, salt, config)
 }
 
 /// The text that a call writes to a buffer, where the settings are accepted.
-fn text_by(
+pub(crate) fn text_by(
     pwd: &[u8],
     salt: &[u8],
     config: &Config<'_>,
@@ -142,7 +136,7 @@ fn text_by(
 }
 
 /// The tag that a call writes to a buffer, where the settings are accepted.
-fn tag_by(
+pub(crate) fn tag_by(
     pwd: &[u8],
     salt: &[u8],
     config: &Config<'_>,
@@ -175,7 +169,6 @@ fn require_done(number: u32) -> Result<()> {
 
 /// So many zeros, where there is memory.
 fn zeros(length: usize) -> Result<Vec<u8>> {
-    let _kept = Errno::kept();
     let mut bytes = Vec::new();
     bytes.try_reserve_exact(length).map_err(|_| Error::OutOfMemory)?;
     bytes.resize(length, 0);

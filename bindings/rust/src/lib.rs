@@ -39,7 +39,7 @@
 //!
 //! With [`ThreadMode::Parallel`] or [`ThreadMode::AtMost`] the lanes are computed by threads, which are started and
 //! joined in each call; a stored text by as many as it has lanes, and at most 16. What fills a lane is proved; the
-//! driver in C that starts the threads is tested.
+//! driver in C that starts the threads is tested. By a [`Run`] a call tells how far it is, and can be stopped.
 //!
 //! # Limits
 //!
@@ -56,6 +56,7 @@ mod hashing;
 mod limits;
 mod memory;
 mod result;
+mod run;
 mod stored;
 mod thread_mode;
 mod variant;
@@ -68,6 +69,7 @@ pub use hashing::{encoded_len, hash_encoded, hash_encoded_in, hash_raw, hash_raw
 pub use limits::{verify_encoded_within, verify_encoded_within_in, Limits, Unverified};
 pub use memory::Memory;
 pub use result::Result;
+pub use run::Run;
 pub use stored::{read, Stored};
 pub use thread_mode::ThreadMode;
 pub use variant::Variant;

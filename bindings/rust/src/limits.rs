@@ -1,5 +1,5 @@
-use crate::face::{self, Lent, MISMATCH, OK, TOO_COSTLY};
-use crate::{Config, Error, Memory};
+use crate::face;
+use crate::{Config, Error, Memory, Run};
 use std::{error, fmt, result};
 
 /// The greatest numbers that a text may spell, for [`verify_encoded_within`].
@@ -111,7 +111,7 @@ pub fn verify_encoded_within(
     ad: &[u8],
     limits: &Limits,
 ) -> result::Result<bool, Unverified> {
-    verdict(face::verify_encoded_within(encoded, pwd, secret, ad, limits, None))
+    Run::new().verify_encoded_within(encoded, pwd, secret, ad, limits)
 }
 
 /// Whether a text is the hash of a password within limits, as [`verify_encoded_within`] says, over a memory that is
@@ -139,17 +139,7 @@ pub fn verify_encoded_within_in(
     ad: &[u8],
     limits: &Limits,
 ) -> result::Result<bool, Unverified> {
-    let call = |lent: Lent<'_>| face::verify_encoded_within(encoded, pwd, secret, ad, limits, lent);
-    verdict(memory.lend(|| face::mem_cost_of(encoded), call))
-}
-
-fn verdict(number: u32) -> result::Result<bool, Unverified> {
-    match number {
-        OK => Ok(true),
-        MISMATCH => Ok(false),
-        TOO_COSTLY => Err(Unverified::TooCostly),
-        number => Err(Unverified::Refused(Error::of_number(number))),
-    }
+    Run::new().over(memory).verify_encoded_within(encoded, pwd, secret, ad, limits)
 }
 
 #[cfg(test)]

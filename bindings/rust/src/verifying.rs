@@ -1,13 +1,12 @@
-use crate::face::{self, Lent, MISMATCH, NEEDS_REHASH, OK};
-use crate::{Config, Error, Memory, Result};
+use crate::face::{self, NEEDS_REHASH, OK};
+use crate::{Config, Error, Memory, Result, Run};
 
 /// Whether a text is the hash of a password, without a secret or associated data.
 ///
 /// # Errors
 ///
 /// [`Error::DecodingFail`] for a text that spells no hash; else the first of its settings that is out of its
-/// bounds, [`Error::OutOfMemory`], or [`Error::WorkerRefused`] where a thread cannot be started. There are as many
-/// threads as the text has lanes, and at most 16.
+/// bounds, or [`Error::OutOfMemory`]. There are as many threads as the text has lanes, and at most 16.
 ///
 /// # Examples
 ///
@@ -39,7 +38,7 @@ pub fn verify_encoded(encoded: &str, pwd: &[u8]) -> Result<bool> {
 /// # Ok::<(), argon2::Error>(())
 /// ```
 pub fn verify_encoded_ext(encoded: &str, pwd: &[u8], secret: &[u8], ad: &[u8]) -> Result<bool> {
-    verdict(face::verify_encoded(encoded, pwd, secret, ad, None), MISMATCH)
+    Run::new().verify_encoded(encoded, pwd, secret, ad)
 }
 
 /// Whether a text is the hash of a password with this secret and this associated data, over a memory that is kept.
@@ -69,16 +68,14 @@ pub fn verify_encoded_in(
     secret: &[u8],
     ad: &[u8],
 ) -> Result<bool> {
-    let call = |lent: Lent<'_>| face::verify_encoded(encoded, pwd, secret, ad, lent);
-    verdict(memory.lend(|| face::mem_cost_of(encoded), call), MISMATCH)
+    Run::new().over(memory).verify_encoded(encoded, pwd, secret, ad)
 }
 
 /// Whether a hash is that of a password. `config.hash_length` is not looked at.
 ///
 /// # Errors
 ///
-/// The first of the settings that is out of its bounds, [`Error::OutOfMemory`], or [`Error::WorkerRefused`] where a
-/// thread cannot be started.
+/// The first of the settings that is out of its bounds, or [`Error::OutOfMemory`].
 ///
 /// # Examples
 ///
@@ -90,7 +87,7 @@ pub fn verify_encoded_in(
 /// # Ok::<(), argon2::Error>(())
 /// ```
 pub fn verify_raw(pwd: &[u8], salt: &[u8], hash: &[u8], config: &Config<'_>) -> Result<bool> {
-    verdict(face::verify_raw(pwd, salt, hash, config, None), MISMATCH)
+    Run::new().verify_raw(pwd, salt, hash, config)
 }
 
 /// Whether a hash is that of a password, as [`verify_raw`] says, over a memory that is kept.
@@ -116,8 +113,7 @@ pub fn verify_raw_in(
     hash: &[u8],
     config: &Config<'_>,
 ) -> Result<bool> {
-    let call = |lent: Lent<'_>| face::verify_raw(pwd, salt, hash, config, lent);
-    verdict(memory.lend(|| config.mem_cost, call), MISMATCH)
+    Run::new().over(memory).verify_raw(pwd, salt, hash, config)
 }
 
 /// Whether a text was made with another variant, version, memory, passes, lanes or length of the hash.
@@ -139,16 +135,9 @@ pub fn verify_raw_in(
 /// # Ok::<(), argon2::Error>(())
 /// ```
 pub fn needs_rehash(encoded: &str, config: &Config<'_>) -> Result<bool> {
-    verdict(face::needs_rehash(encoded, config), NEEDS_REHASH).map(|agrees| !agrees)
-}
-
-/// Whether a call answered 0 and not this number; anything else is a refusal.
-fn verdict(number: u32, other: u32) -> Result<bool> {
-    if number == OK {
-        Ok(true)
-    } else if number == other {
-        Ok(false)
-    } else {
-        Err(Error::of_number(number))
+    match face::needs_rehash(encoded, config) {
+        OK => Ok(false),
+        NEEDS_REHASH => Ok(true),
+        number => Err(Error::of_number(number)),
     }
 }

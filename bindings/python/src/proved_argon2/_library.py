@@ -3,11 +3,13 @@ import ctypes
 import os
 import sys
 
-from ._memory import Memory, Pages
-
 TYPE_CHECKING = False
 if TYPE_CHECKING:
-    from typing import Any, Callable, Iterator, List, Optional, Tuple, Type, Union
+    from typing import Any, Callable, Generator, Iterator, List, Optional, Tuple, Type, Union
+
+    from ._memory import Memory, Pages
+
+    Progress = Callable[[int, int], object]
 
 SONAME = "libproved_argon2.so.1"
 VARIABLE = "PROVED_ARGON2_LIBRARY"
@@ -59,6 +61,10 @@ class NumberLimits(ctypes.Structure):
     _fields_ = [(name, ctypes.c_uint32) for name in ("mem_cost", "time_cost", "lanes")]
 
 
+# `proved_argon2_tell`, which is passed two numbers more: they are counted here.
+_Tell = ctypes.CFUNCTYPE(ctypes.c_int, ctypes.c_void_p)
+
+
 class Options(ctypes.Structure):
     """`proved_argon2_options` of the header. The threads are the call's own."""
 
@@ -70,6 +76,8 @@ class Options(ctypes.Structure):
         ("run", ctypes.c_void_p),
         ("pool", ctypes.c_void_p),
         ("limits", ctypes.POINTER(NumberLimits)),
+        ("tell", _Tell),
+        ("arg", ctypes.c_void_p),
     ]
 
 
@@ -124,6 +132,9 @@ _CALLS: "Tuple[Tuple[str, List[Any], Any], ...]" = (
     ("default_limits", [], NumberLimits),
     ("read", [*_BYTES, ctypes.POINTER(Stored)], ctypes.c_uint32),
     ("encoded_len", [*_SETTINGS, ctypes.c_uint32], ctypes.c_uint64),
+    ("memory_len", _SETTINGS, ctypes.c_uint64),
+    ("memory_new", [*_SETTINGS, ctypes.POINTER(ctypes.c_void_p), ctypes.POINTER(ctypes.c_size_t)], ctypes.c_uint32),
+    ("memory_free", [ctypes.c_void_p, ctypes.c_size_t], None),
     ("message", [ctypes.c_uint32, *_BYTES], ctypes.c_uint32),
     ("library_version", [], ctypes.c_uint32),
 )
@@ -183,37 +194,104 @@ def _room(length: int) -> "ctypes.Array[ctypes.c_char]":
         raise Refused(OUT_OF_MEMORY) from None
 
 
-def _options(threads: int, limits: "Optional[NumberLimits]", pages: "Optional[Pages]") -> Options:
-    """Options of at most so many threads. They keep the limits alive, and not the pages."""
+def _options(
+    threads: int, limits: "Optional[NumberLimits]", pages: "Optional[Pages]", telling: "Optional[Telling]"
+) -> Options:
+    """Options of at most so many threads. They keep the limits and what is told alive, and not the pages."""
     options = Options(ctypes.sizeof(Options), threads)
     if pages is not None:
         options.memory, options.memory_len = pages.address, pages.length
     if limits is not None:
         options.limits = ctypes.pointer(limits)
+    if telling is not None:
+        options.tell = _Tell(telling.send)
     return options
+
+
+def _runs_handlers() -> bool:
+    """Whether handlers of signals run in this thread: Python runs them in the main one alone."""
+    threading = sys.modules.get("threading")
+    return threading is None or threading.get_ident() == threading.main_thread().ident
+
+
+class Telling:
+    """What a call tells how far it is, where there is somebody to be told: `progress`, and handlers of signals. What
+    they raise stops it, and comes out of `with`.
+
+    It is told by a generator, since handlers run where that is resumed, which is within its `try`. In a function they
+    would run before its first line, and what they raise would be lost.
+    """
+
+    def __init__(self, progress: "Optional[Progress]", slices: int) -> None:
+        self._raised: "List[BaseException]" = []
+        self._is_over = False
+        generator = self._answers(progress, slices)
+        next(generator)
+        self.send = generator.send
+
+    def _answers(self, progress: "Optional[Progress]", slices: int) -> "Generator[int, object, None]":
+        """Yields whether to stop, once for each slice that is filled, and once before."""
+        try:
+            yield 0
+            for done in range(1, slices + 1):
+                if progress is not None:
+                    progress(done, slices)
+                yield 0
+        except BaseException as error:
+            if self._is_over:
+                raise
+            self._raised.append(error)
+        while True:
+            yield 1
+
+    def __enter__(self) -> "Telling":
+        return self
+
+    def __exit__(self, *_: object) -> None:
+        self._is_over = True
+        if self._raised:
+            raise self._raised.pop()
 
 
 def _compute(
     call: "Callable[[Options], Any]",
     threads: int,
+    settings: Settings,
     memory: "Optional[Memory]",
-    kib: "Callable[[], Any]",
+    progress: "Optional[Progress]",
     limits: "Optional[NumberLimits]" = None,
 ) -> None:
-    """Makes a call over pages of a memory, or over its own. One that finds them too small is made again over so many
-    KiB: only then are its settings known to be accepted."""
-    if memory is None:
-        _require(call(_options(threads, limits, None)))
+    """Makes a call over pages of a memory, or over its own, and tells whom there is to be told."""
+    if progress is None and not _runs_handlers():
+        _require(_over_memory(lambda pages: call(_options(threads, limits, pages, None)), settings, memory))
         return
-    with memory.lent() as pages:
-        number = call(_options(threads, limits, pages))
-        if number == OUT_OF_MEMORY and pages.grow(kib()):
-            number = call(_options(threads, limits, pages))
+    with Telling(progress, 4 * settings.time_cost) as telling:
+        number = _over_memory(lambda pages: call(_options(threads, limits, pages, telling)), settings, memory)
     _require(number)
 
 
+def _over_memory(call: "Callable[[Optional[Pages]], Any]", settings: Settings, memory: "Optional[Memory]") -> int:
+    """What a call answers. One that finds the pages of a memory too small is made again over what its settings want:
+    only then are they known to be accepted."""
+    number: int
+    if memory is None:
+        number = call(None)
+        return number
+    with memory.lent() as pages:
+        number = call(pages)
+        if number == OUT_OF_MEMORY and pages.grow(settings):
+            number = call(pages)
+    return number
+
+
 def hash_raw(
-    pwd: bytes, salt: bytes, secret: bytes, ad: bytes, settings: Settings, memory: "Optional[Memory]" = None
+    pwd: bytes,
+    salt: bytes,
+    secret: bytes,
+    ad: bytes,
+    settings: Settings,
+    memory: "Optional[Memory]" = None,
+    progress: "Optional[Progress]" = None,
 ) -> bytes:
     """The tag, by a thread for each lane. The settings are judged without room to write to first, before any memory is
     asked for."""
@@ -223,14 +301,21 @@ def hash_raw(
     _compute(
         lambda options: _library.proved_argon2_hash_raw_with(options, *given, tag, len(tag)),
         settings.lanes,
+        settings,
         memory,
-        lambda: settings.mem_cost,
+        progress,
     )
     return tag.raw
 
 
 def hash_encoded(
-    pwd: bytes, salt: bytes, secret: bytes, ad: bytes, settings: Settings, memory: "Optional[Memory]" = None
+    pwd: bytes,
+    salt: bytes,
+    secret: bytes,
+    ad: bytes,
+    settings: Settings,
+    memory: "Optional[Memory]" = None,
+    progress: "Optional[Progress]" = None,
 ) -> bytes:
     """The text, by a thread for each lane. The settings are judged without room to write to first, before any memory is
     asked for."""
@@ -240,30 +325,52 @@ def hash_encoded(
     _compute(
         lambda options: _library.proved_argon2_hash_encoded_with(options, *given, text, len(text)),
         settings.lanes,
+        settings,
         memory,
-        lambda: settings.mem_cost,
+        progress,
     )
     return text.value
 
 
 def verify_encoded(
     text: bytes,
+    settings: Settings,
     pwd: bytes,
     secret: bytes,
     ad: bytes,
     limits: "Optional[NumberLimits]" = None,
     memory: "Optional[Memory]" = None,
+    progress: "Optional[Progress]" = None,
 ) -> None:
-    """Returns where the text is the hash of the password and asks for no more than the limits, and else raises
-    `Refused`. There are as many threads as the text has lanes, and at most 16."""
+    """Returns where the text of these settings is the hash of the password and asks for no more than the limits, and
+    else raises `Refused`. There are as many threads as the text has lanes, and at most 16."""
     given = _slices(text, pwd, secret, ad)
     _compute(
         lambda options: _library.proved_argon2_verify_encoded_with(options, *given),
         MOST_FOR_A_TEXT,
+        settings,
         memory,
-        lambda: read(text).settings.mem_cost,
+        progress,
         limits,
     )
+
+
+def memory_len(settings: Settings) -> int:
+    """The bytes that a call with these settings wants for its blocks."""
+    length: int = _library.proved_argon2_memory_len(settings)
+    return length
+
+
+def memory_new(settings: Settings) -> "Tuple[int, int]":
+    """The address and the length of a memory for calls with these settings."""
+    address, length = ctypes.c_void_p(), ctypes.c_size_t()
+    _require(_library.proved_argon2_memory_new(settings, address, length))
+    return address.value or 0, length.value
+
+
+def memory_free(address: int, length: int, library: ctypes.CDLL = _library) -> None:
+    """Clears a memory and gives it back, also where Python ends and its modules have gone."""
+    library.proved_argon2_memory_free(address, length)
 
 
 def default_limits() -> NumberLimits:

@@ -1,47 +1,46 @@
 """The memory of hashes that is kept from call to call."""
 import ctypes
-import mmap
 from collections import deque
+
+from ._library import Refused, Settings, memory_free, memory_len, memory_new
 
 TYPE_CHECKING = False
 if TYPE_CHECKING:
-    from typing import Deque, Tuple, Type, Union
+    from typing import Callable, Deque, Tuple, Type
 
-# Of Linux: huge pages, as the library's driver has for its own memory, and pages that core dumps leave out.
-_ADVICE = [getattr(mmap, name) for name in ("MADV_HUGEPAGE", "MADV_DONTDUMP") if hasattr(mmap, name)]
+# Where a memory of no bytes is: a call without an address would take memory of its own.
+_NOTHING = ctypes.c_uint64()
+_NOWHERE = ctypes.addressof(_NOTHING)
 
 
 class Pages:
-    """A mapping, or none yet. The library clears what it uses of it, and the system what is given back."""
+    """A memory of the library's, or none yet. Each call clears what it uses of it."""
 
-    __slots__ = ("_first", "length")
+    __slots__ = ("address", "length")
 
     def __init__(self) -> None:
-        self._first: "Union[ctypes.c_uint64, ctypes.c_char]" = ctypes.c_uint64()
-        self.length = 0
+        self.address, self.length = _NOWHERE, 0
 
-    @property
-    def address(self) -> int:
-        """Where it is, which is never 0."""
-        return ctypes.addressof(self._first)
-
-    def grow(self, kib: int) -> bool:
-        """Whether it was smaller than so many KiB, and now has them. What it had is given back first."""
-        if self.length >= kib * 1024:
+    def grow(self, settings: Settings) -> bool:
+        """Whether it was too small for settings, and now has what they want. What it had is given back first."""
+        if self.length >= memory_len(settings):
             return False
-        self._first, self.length = ctypes.c_uint64(), 0
+        self.give_back()
         try:
-            mapping = mmap.mmap(-1, kib * 1024, flags=mmap.MAP_PRIVATE | mmap.MAP_ANONYMOUS)
-        except (OSError, MemoryError, OverflowError):
+            self.address, self.length = memory_new(settings)
+        except Refused:
             return False
-        for advice in _ADVICE:
-            try:
-                mapping.madvise(advice)
-            except OSError:  # a system that cannot do so
-                pass
-        # (it keeps the mapping)
-        self._first, self.length = ctypes.c_char.from_buffer(mapping), kib * 1024
         return True
+
+    def give_back(self, free: "Callable[[int, int], None]" = memory_free) -> None:
+        """Has none any more."""
+        if self.length:
+            address, length = self.address, self.length
+            self.address, self.length = _NOWHERE, 0
+            free(address, length)
+
+    def __del__(self) -> None:
+        self.give_back()
 
 
 class Memory:

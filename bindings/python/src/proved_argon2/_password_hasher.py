@@ -13,6 +13,8 @@ TYPE_CHECKING = False
 if TYPE_CHECKING:
     from typing import Any, Dict, Literal, Optional, Tuple, Union
 
+    from ._library import Progress
+
 DEFAULT_RANDOM_SALT_LENGTH = RFC_9106_LOW_MEMORY.salt_len
 DEFAULT_HASH_LENGTH = RFC_9106_LOW_MEMORY.hash_len
 DEFAULT_TIME_COST = RFC_9106_LOW_MEMORY.time_cost
@@ -149,8 +151,15 @@ class PasswordHasher:
         shown = ", ".join(f"{name}={getattr(self, name)!r}" for name in (*names, "keep_memory"))
         return f"{self.__class__.__name__}({shown})"
 
-    def hash(self, password: "Union[str, bytes]", *, salt: "Optional[bytes]" = None) -> str:
-        """Hash a password to a text to keep, with a random salt where none is given.
+    def hash(
+        self,
+        password: "Union[str, bytes]",
+        *,
+        salt: "Optional[bytes]" = None,
+        progress: "Optional[Progress]" = None,
+    ) -> str:
+        """Hash a password to a text to keep, with a random salt where none is given. `low_level` says what `progress`
+        is.
 
         Raises `HashingError` where the settings are refused or there is no memory.
         """
@@ -165,10 +174,14 @@ class PasswordHasher:
             hash_len=self.hash_len,
             type=self.type,
             memory=self._memory,
+            progress=progress,
         ).decode("ascii")
 
-    def verify(self, hash: "Union[str, bytes]", password: "Union[str, bytes]") -> "Literal[True]":
-        """Return `True` where a text is that of a password, and raise where it is not.
+    def verify(
+        self, hash: "Union[str, bytes]", password: "Union[str, bytes]", *, progress: "Optional[Progress]" = None
+    ) -> "Literal[True]":
+        """Return `True` where a text is that of a password, and raise where it is not. `low_level` says what `progress`
+        is.
 
         Raises `VerifyMismatchError` where it is that of another password, `TooCostlyError` where it asks for
         more than `limits`, `InvalidHashError` where it does not begin as a hash, and `VerificationError` where
@@ -176,7 +189,7 @@ class PasswordHasher:
         """
         text = self._text_bytes(hash)
         secret, variant = self._password_bytes(password), self._variant_of(text)
-        return verify_secret(text, secret, variant, limits=self.limits, memory=self._memory)
+        return verify_secret(text, secret, variant, limits=self.limits, memory=self._memory, progress=progress)
 
     def check_needs_rehash(self, hash: "Union[str, bytes]") -> bool:
         """Whether a text was made with other settings than these, also with another length of the salt.

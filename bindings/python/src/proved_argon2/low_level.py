@@ -4,6 +4,10 @@
 RFC 9106 calls secret value and associated data, are `key` and `associated_data`. A hash is computed by as
 many threads as it has lanes, of which one is the caller's; a stored text is verified by at most 16. With a `Memory`
 it is computed over that, and what it took is kept for the next call.
+
+A call is stopped by what is raised meanwhile: by the handler of a signal in the main thread, as `KeyboardInterrupt` is
+at Ctrl-C, or by `progress`, which is called as `progress(done, all)` each time that one of all slices is filled, four in
+a pass. It comes out of the call once the slice at work is filled.
 """
 from enum import Enum
 
@@ -37,6 +41,8 @@ from .exceptions import (
 TYPE_CHECKING = False
 if TYPE_CHECKING:
     from typing import Literal, Optional
+
+    from ._library import Progress
 
 ARGON2_VERSION = 19
 """The version of RFC 9106, 0x13."""
@@ -96,15 +102,16 @@ def hash_secret(
     key: bytes = b"",
     associated_data: bytes = b"",
     memory: "Optional[Memory]" = None,
+    progress: "Optional[Progress]" = None,
 ) -> bytes:
     """Hash the password `secret` to a text, in `memory_cost` KiB.
 
-    Raises `HashingError` where the settings are refused, there is no memory or a thread cannot be started.
+    Raises `HashingError` where the settings are refused or there is no memory.
     """
     _require_bytes(secret=secret, salt=salt, key=key, associated_data=associated_data)
     settings = _settings(time_cost, memory_cost, parallelism, hash_len, type, version)
     try:
-        return hash_encoded(secret, salt, key, associated_data, settings, memory)
+        return hash_encoded(secret, salt, key, associated_data, settings, memory, progress)
     except Refused as refused:
         raise HashingError(str(refused)) from None
 
@@ -122,15 +129,16 @@ def hash_secret_raw(
     key: bytes = b"",
     associated_data: bytes = b"",
     memory: "Optional[Memory]" = None,
+    progress: "Optional[Progress]" = None,
 ) -> bytes:
     """Hash the password `secret` to `hash_len` bytes, in `memory_cost` KiB.
 
-    Raises `HashingError` where the settings are refused, there is no memory or a thread cannot be started.
+    Raises `HashingError` where the settings are refused or there is no memory.
     """
     _require_bytes(secret=secret, salt=salt, key=key, associated_data=associated_data)
     settings = _settings(time_cost, memory_cost, parallelism, hash_len, type, version)
     try:
-        return hash_raw(secret, salt, key, associated_data, settings, memory)
+        return hash_raw(secret, salt, key, associated_data, settings, memory, progress)
     except Refused as refused:
         raise HashingError(str(refused)) from None
 
@@ -144,6 +152,7 @@ def verify_secret(
     associated_data: bytes = b"",
     limits: "Optional[Limits]" = None,
     memory: "Optional[Memory]" = None,
+    progress: "Optional[Progress]" = None,
 ) -> "Literal[True]":
     """Return `True` where the text `hash` is that of the password `secret`, and is of this type.
 
@@ -154,12 +163,13 @@ def verify_secret(
     _require_bytes(hash=hash, secret=secret, key=key, associated_data=associated_data)
     numbers = None if limits is None else _numbers(limits)
     try:
-        if read(hash).settings.variant != Type(type).value:
+        settings = read(hash).settings
+        if settings.variant != Type(type).value:
             raise Refused(DECODING_FAIL)
     except Refused as refused:
         raise VerificationError(str(refused)) from None
     try:
-        verify_encoded(hash, secret, key, associated_data, numbers, memory)
+        verify_encoded(hash, settings, secret, key, associated_data, numbers, memory, progress)
     except Refused as refused:
         errors = {MISMATCH: VerifyMismatchError, TOO_COSTLY: TooCostlyError}
         raise errors.get(refused.number, VerificationError)(str(refused)) from None

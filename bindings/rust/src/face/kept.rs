@@ -1,0 +1,63 @@
+use super::{Settings, OK};
+use std::ffi::c_void;
+use std::ptr::{null_mut, NonNull};
+
+extern "C" {
+    fn proved_argon2_memory_new(
+        settings: *const Settings,
+        memory: *mut *mut c_void,
+        memory_len: *mut usize,
+    ) -> u32;
+    fn proved_argon2_memory_free(memory: *mut c_void, memory_len: usize);
+}
+
+/// A memory of the library's, or none. What it holds is never looked at here: each call clears what it used.
+pub struct Kept {
+    /// That of nothing, where the length is 0: a call without an address would take memory of its own.
+    address: *mut c_void,
+    length: usize,
+}
+
+// SAFETY: nobody else has the address, and the library binds no memory to a thread.
+unsafe impl Send for Kept {}
+
+// SAFETY: what is shared can only be asked for its length.
+unsafe impl Sync for Kept {}
+
+impl Kept {
+    /// A memory that fits calls with these settings, or none where it is refused.
+    pub fn of(settings: &Settings) -> Kept {
+        let (mut address, mut length) = (null_mut(), 0);
+        // SAFETY: the settings are read, and what is written to is this function's own.
+        let number = unsafe { proved_argon2_memory_new(settings, &mut address, &mut length) };
+        if number == OK {
+            Kept { address, length }
+        } else {
+            Kept::default()
+        }
+    }
+
+    pub fn length(&self) -> usize {
+        self.length
+    }
+
+    /// Where it is, which is never null.
+    pub(super) fn address(&mut self) -> *mut c_void {
+        self.address
+    }
+}
+
+impl Default for Kept {
+    fn default() -> Kept {
+        Kept { address: NonNull::<u64>::dangling().as_ptr().cast(), length: 0 }
+    }
+}
+
+impl Drop for Kept {
+    fn drop(&mut self) {
+        if self.length > 0 {
+            // SAFETY: the library made it, of this length, and it is given back once.
+            unsafe { proved_argon2_memory_free(self.address, self.length) }
+        }
+    }
+}

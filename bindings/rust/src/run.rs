@@ -1,0 +1,147 @@
+use crate::face::{self, Lent, Settings, Telling, MISMATCH, OK, TOO_COSTLY};
+use crate::hashing::{tag_by, text_by};
+use crate::{Config, Error, Limits, Memory, Result, Unverified};
+use std::ops::ControlFlow;
+use std::{fmt, result};
+
+/// How calls run: over a memory that is kept, and telling how far they are, by which they can be stopped.
+///
+/// Each call answers what the one of the crate does, which has its name.
+///
+/// # Examples
+///
+/// ```
+/// use proved_argon2::{Config, Error, Memory, Run};
+/// use std::ops::ControlFlow;
+/// use std::time::{Duration, Instant};
+///
+/// let late = Instant::now() + Duration::from_millis(1);
+/// let mut memory = Memory::new();
+/// let mut run = Run::new().over(&mut memory).telling(|done, all| {
+///     println!("{done} of {all} slices");
+///     if Instant::now() < late { ControlFlow::Continue(()) } else { ControlFlow::Break(()) }
+/// });
+/// let endless = Config { time_cost: u32::MAX, ..Config::default() };
+/// assert_eq!(run.hash_raw(b"password", b"somesalt", &endless), Err(Error::Stopped));
+/// ```
+#[derive(Default)]
+pub struct Run<'a> {
+    memory: Option<&'a mut Memory>,
+    telling: Option<Telling<'a>>,
+}
+
+impl<'a> Run<'a> {
+    /// As the calls of the crate: over a memory of the call's own, and telling nobody.
+    pub fn new() -> Run<'a> {
+        Run::default()
+    }
+
+    /// The same over a memory that is kept.
+    pub fn over(self, memory: &'a mut Memory) -> Run<'a> {
+        Run { memory: Some(memory), ..self }
+    }
+
+    /// The same, telling how many slices of all are filled, four in a pass, each time that one is. The caller's thread
+    /// tells it. [`ControlFlow::Break`] stops the call, which clears all that it had and is [`Error::Stopped`].
+    pub fn telling(self, tell: impl FnMut(u64, u64) -> ControlFlow<()> + 'a) -> Run<'a> {
+        Run { telling: Some(Telling::to(tell)), ..self }
+    }
+
+    /// As [`hash_raw`](crate::hash_raw).
+    ///
+    /// # Errors
+    ///
+    /// As there, and [`Error::Stopped`].
+    pub fn hash_raw(&mut self, pwd: &[u8], salt: &[u8], config: &Config<'_>) -> Result<Vec<u8>> {
+        tag_by(pwd, salt, config, |tag| {
+            self.call(|| Settings::of(config), |lent| face::hash_raw(pwd, salt, config, lent, tag))
+        })
+    }
+
+    /// As [`hash_encoded`](crate::hash_encoded).
+    ///
+    /// # Errors
+    ///
+    /// As there, and [`Error::Stopped`].
+    pub fn hash_encoded(&mut self, pwd: &[u8], salt: &[u8], config: &Config<'_>) -> Result<String> {
+        text_by(pwd, salt, config, |text| {
+            self.call(|| Settings::of(config), |lent| face::hash_encoded(pwd, salt, config, lent, text))
+        })
+    }
+
+    /// As [`verify_raw`](crate::verify_raw).
+    ///
+    /// # Errors
+    ///
+    /// As there, and [`Error::Stopped`].
+    pub fn verify_raw(&mut self, pwd: &[u8], salt: &[u8], hash: &[u8], config: &Config<'_>) -> Result<bool> {
+        let settings = || Settings { hash_length: u32::MAX, ..Settings::of(config) };
+        verdict(self.call(settings, |lent| face::verify_raw(pwd, salt, hash, config, lent)))
+    }
+
+    /// As [`verify_encoded_ext`](crate::verify_encoded_ext).
+    ///
+    /// # Errors
+    ///
+    /// As there, and [`Error::Stopped`].
+    pub fn verify_encoded(&mut self, encoded: &str, pwd: &[u8], secret: &[u8], ad: &[u8]) -> Result<bool> {
+        let settings = || face::read(encoded).1.settings;
+        verdict(self.call(settings, |lent| face::verify_encoded(encoded, pwd, secret, ad, lent)))
+    }
+
+    /// As [`verify_encoded_within`](crate::verify_encoded_within).
+    ///
+    /// # Errors
+    ///
+    /// As there, and [`Unverified::Refused`] with [`Error::Stopped`].
+    pub fn verify_encoded_within(
+        &mut self,
+        encoded: &str,
+        pwd: &[u8],
+        secret: &[u8],
+        ad: &[u8],
+        limits: &Limits,
+    ) -> result::Result<bool, Unverified> {
+        let settings = || face::read(encoded).1.settings;
+        let number =
+            self.call(settings, |lent| face::verify_encoded_within(encoded, pwd, secret, ad, limits, lent));
+        if number == TOO_COSTLY {
+            return Err(Unverified::TooCostly);
+        }
+        Ok(verdict(number)?)
+    }
+
+    /// What a call answers that is lent what this has. The settings are asked for where the memory is too small.
+    fn call(
+        &mut self,
+        settings: impl FnOnce() -> Settings,
+        mut call: impl FnMut(Lent<'_, 'a>) -> u32,
+    ) -> u32 {
+        let Run { memory, telling } = self;
+        let number = match memory {
+            None => call(Lent { kept: None, telling: telling.as_mut() }),
+            Some(memory) => {
+                memory.lend(settings, |kept| call(Lent { kept: Some(kept), telling: telling.as_mut() }))
+            }
+        };
+        if let Some(telling) = telling {
+            telling.end();
+        }
+        number
+    }
+}
+
+impl fmt::Debug for Run<'_> {
+    fn fmt(&self, f: &mut fmt::Formatter<'_>) -> fmt::Result {
+        f.debug_struct("Run").field("memory", &self.memory).field("tells", &self.telling.is_some()).finish()
+    }
+}
+
+/// Whether a call that verifies answered that it is the password; anything but a verdict is a refusal.
+fn verdict(number: u32) -> Result<bool> {
+    match number {
+        OK => Ok(true),
+        MISMATCH => Ok(false),
+        number => Err(Error::of_number(number)),
+    }
+}
