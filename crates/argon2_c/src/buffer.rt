@@ -1,5 +1,6 @@
-//! Writing a text to a buffer of the caller's.
+//! Writing a text, or the words of a refusal, to a buffer of the caller's.
 
+ghost use Rattle.argon2_c.specs.Answers.{WritesMessage};
 ghost use Rattle.argon2_c.specs.Buffer.{WritesText};
 
 use crate::refusal::Refusal;
@@ -18,4 +19,14 @@ pub fn write_text(text: &str, buffer: &mut [u8]) -> Result<(), Refusal>
     written.copy_from_slice(text);
     rest.fill(0);
     Ok(())
+}
+
+/// Writes the text of the refusal of a number to a buffer.
+pub fn write_message(number: u32, text: &mut [u8]) -> Result<(), Refusal>
+    ensures { WritesMessage number text.old text.new result }
+{
+    match Refusal::from_number(number) {
+        Some(refusal) => write_text(refusal.message(), text),
+        None => Err(Refusal::UnknownNumber),
+    }
 }

@@ -154,7 +154,7 @@ pub extern "C" fn proved_argon2_memory_len(settings: &Settings) -> u64
 pub extern "C" fn proved_argon2_message(number: u32, text: &mut [u8]) -> u32
     ensures { IsCodeOf (WritesMessage number text.old text.new) result }
 {
-    code_of(&refusal::write_message(number, text))
+    code_of(&buffer::write_message(number, text))
 }
 
 /// The version of the library as a number: 1,000,000 times the major one, 1,000 times the minor one

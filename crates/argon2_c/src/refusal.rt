@@ -2,12 +2,11 @@
 
 ghost use Rattle.std.specs.Prelude.{◌≡◌, IfSome};
 ghost use Rattle.argon2.specs.ErrorType.{Error};
-ghost use Rattle.argon2_c.specs.Answers.{WritesMessage, judgement_of};
+ghost use Rattle.argon2_c.specs.Answers.{judgement_of};
 ghost use Rattle.argon2_c.specs.Refusal.{code_of, library_number, message_of, number_of};
 ghost use Rattle.argon2_c.specs.declared.refusal.Refusal.{Refusal};
 ghost use Rattle.argon2_c.specs.declared.refusal.Refusal.TheVariants.{Library};
 
-use crate::buffer::write_text;
 use argon2::Error;
 
 /// Why a C call was refused.
@@ -188,15 +187,5 @@ pub fn code_of_verdict(verdict: &Result<bool, Refusal>) -> u32
     match verdict {
         Ok(matches) => 64 - 64 * u32::from(*matches),
         Err(refused) => refused.number(),
-    }
-}
-
-/// Writes the text of the refusal of a number to a buffer.
-pub fn write_message(number: u32, text: &mut [u8]) -> Result<(), Refusal>
-    ensures { WritesMessage number text.old text.new result }
-{
-    match Refusal::from_number(number) {
-        Some(refusal) => write_text(refusal.message(), text),
-        None => Err(Refusal::UnknownNumber),
     }
 }
