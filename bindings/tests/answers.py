@@ -232,7 +232,7 @@ class Answers(unittest.TestCase):
         def progress(done, all):
             raise error
 
-        for error in (ValueError("enough"), KeyboardInterrupt(), SystemExit(3), GeneratorExit()):
+        for error in (ValueError("enough"), KeyboardInterrupt(), SystemExit(3)):
             for number in (STOPPED, OK, MISMATCH):
                 set_answers(then=number)
                 for call in self.computing(progress=progress):

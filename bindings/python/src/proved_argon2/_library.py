@@ -224,7 +224,6 @@ class Telling:
 
     def __init__(self, progress: "Optional[Progress]", slices: int) -> None:
         self._raised: "List[BaseException]" = []
-        self._is_over = False
         generator = self._answers(progress, slices)
         next(generator)
         self.send = generator.send
@@ -237,9 +236,9 @@ class Telling:
                 if progress is not None:
                     progress(done, slices)
                 yield 0
+        except GeneratorExit:  # the call is over
+            raise
         except BaseException as error:
-            if self._is_over:
-                raise
             self._raised.append(error)
         while True:
             yield 1
@@ -248,7 +247,6 @@ class Telling:
         return self
 
     def __exit__(self, *_: object) -> None:
-        self._is_over = True
         if self._raised:
             raise self._raised.pop()
 
