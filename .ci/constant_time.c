@@ -6,14 +6,14 @@
 
    usage: valgrind --tool=memcheck constant_time CASE MEMORY <QUESTIONS
 
-   MEMORY is `fresh`, or `kept` for the calls over a memory that is kept from question to question. For the
-   calls with options, all in this thread, it is `options` where they take a memory of their own, and `lent`
-   where they are lent one, and this program runs their tasks, one for each lane. A question is a line `VARIANT
-   VERSION T M P LEN PASSWORD SALT SECRET DATA TAG`, the last five in hexadecimal, or `-` where they are empty.
+   MEMORY is `fresh` for the plain calls, which compute a hash in one call of what is proved. For the calls with
+   options it is `kept` over a memory that is kept from question to question, `told` where they take their steps in
+   this thread and tell how far they are, `threads` by four threads, and `lent` over a memory of this program,
+   which runs their tasks, one for each lane. A question is a line `VARIANT VERSION T M P LEN PASSWORD SALT SECRET DATA TAG`, the last five in hexadecimal, or `-` where they are empty.
    For the case verify_text it is `TEXT VERDICT`, where the verdict is `true` if the text is of the password
    `password`. The last line of the output says how many there were, and the status is 0
    where each of them came out as the case has it. */
-#include "proved_argon2_threads.h"
+#include "proved_argon2.h"
 
 #include <stdbool.h>
 #include <stdio.h>
@@ -53,9 +53,6 @@ struct verdict {
   bool is_open;
   uint32_t code;
 };
-
-/* The memory that is kept, where one is. */
-static proved_argon2_memory memory;
 
 /* How many hashes were tried that differ in one byte alone, at each of their bytes. */
 static unsigned at_each_byte;
@@ -127,19 +124,20 @@ static void read_hidden(char *line, struct vector *it) {
   hide(it->secret.at, it->secret.length);
 }
 
-/* ---- the calls, over no memory and over one that is kept */
+/* ---- the calls */
 
-/* The four calls over a memory, and the options of those that have some. Such a call reads a text twice: before
-   its blocks are asked for, and for its job. */
+/* The four calls, and the options of those that have some. */
 struct calls {
   const char *memory;
   uint32_t (*hash_raw)(const struct vector *, struct bytes *);
   uint32_t (*hash_encoded)(const struct vector *, struct text *);
   uint32_t (*verify_raw)(const struct vector *, const struct bytes *);
   uint32_t (*verify_encoded)(const struct vector *, const struct text *);
-  unsigned readings;
-  const proved_argon2_options *options;
+  proved_argon2_options *options;
 };
+
+/* How often a text is read where it is accepted: its lengths, whether it is accepted, and its job. */
+enum { READINGS = 3 };
 
 /* Those that are looked at. */
 static const struct calls *calls;
@@ -150,22 +148,10 @@ static uint32_t hash_raw(const struct vector *it, struct bytes *tag) {
                                 &it->settings, tag->at, tag->length);
 }
 
-static uint32_t hash_raw_in(const struct vector *it, struct bytes *tag) {
-  return proved_argon2_hash_raw_in(&memory, it->password.at, it->password.length, it->salt.at,
-                                   it->salt.length, it->secret.at, it->secret.length, it->ad.at,
-                                   it->ad.length, &it->settings, tag->at, tag->length);
-}
-
 static uint32_t hash_encoded(const struct vector *it, struct text *text) {
   return proved_argon2_hash_encoded(it->password.at, it->password.length, it->salt.at,
                                     it->salt.length, it->secret.at, it->secret.length, it->ad.at,
                                     it->ad.length, &it->settings, text->at, sizeof text->at);
-}
-
-static uint32_t hash_encoded_in(const struct vector *it, struct text *text) {
-  return proved_argon2_hash_encoded_in(&memory, it->password.at, it->password.length, it->salt.at,
-                                       it->salt.length, it->secret.at, it->secret.length, it->ad.at,
-                                       it->ad.length, &it->settings, text->at, sizeof text->at);
 }
 
 static uint32_t verify_raw(const struct vector *it, const struct bytes *hash) {
@@ -174,33 +160,24 @@ static uint32_t verify_raw(const struct vector *it, const struct bytes *hash) {
                                   it->ad.length, &it->settings, hash->at, hash->length);
 }
 
-static uint32_t verify_raw_in(const struct vector *it, const struct bytes *hash) {
-  return proved_argon2_verify_raw_in(&memory, it->password.at, it->password.length, it->salt.at,
-                                     it->salt.length, it->secret.at, it->secret.length, it->ad.at,
-                                     it->ad.length, &it->settings, hash->at, hash->length);
-}
-
 static uint32_t verify_encoded(const struct vector *it, const struct text *text) {
   return proved_argon2_verify_encoded(text->at, text->length, it->password.at, it->password.length,
                                       it->secret.at, it->secret.length, it->ad.at, it->ad.length);
 }
 
-static uint32_t verify_encoded_in(const struct vector *it, const struct text *text) {
-  return proved_argon2_verify_encoded_in(&memory, text->at, text->length, it->password.at,
-                                         it->password.length, it->secret.at, it->secret.length,
-                                         it->ad.at, it->ad.length);
-}
-
-/* ---- the calls with options, all of them in this thread */
+/* ---- the calls with options */
 
 /* The memory that is lent. */
 static proved_argon2_block lent[MAX_BLOCKS];
 
+/* The settings of the largest memory that is kept. */
+static const proved_argon2_settings LARGEST = {PROVED_ARGON2_ID, PROVED_ARGON2_VERSION_13, MAX_BLOCKS, 1, 1, 4};
+
 /* No text is above these, but a call has to compare them. */
 static const proved_argon2_limits WIDEST = {UINT32_MAX, UINT32_MAX, UINT32_MAX};
 
-/* How often the tasks of a slice were run by run_here. */
-static unsigned runs;
+/* How often the tasks of a slice were run by run_here, and how often told here how far a call is. */
+static unsigned runs, tellings;
 
 static int run_here(void *pool, uint32_t tasks, void (*task)(void *, uint32_t), void *arg) {
   for (uint32_t i = 0; i < tasks; i++) {
@@ -210,15 +187,26 @@ static int run_here(void *pool, uint32_t tasks, void (*task)(void *, uint32_t), 
   return 0;
 }
 
-static const proved_argon2_options OF_ITS_OWN = {
-    .size = sizeof(proved_argon2_options), .threads = 1, .limits = &WIDEST};
-static const proved_argon2_options OF_THE_CALLER = {.size = sizeof(proved_argon2_options),
-                                                    .threads = UINT32_MAX,
-                                                    .memory = lent,
-                                                    .memory_len = sizeof lent,
-                                                    .run = run_here,
-                                                    .pool = &runs,
-                                                    .limits = &WIDEST};
+static int tell_here(void *arg, uint64_t done, uint64_t all) {
+  ++*(unsigned *)arg;
+  return done > all;
+}
+
+static proved_argon2_options OF_ITS_OWN = {.size = sizeof(proved_argon2_options), .limits = &WIDEST};
+static proved_argon2_options TOLD = {.size = sizeof(proved_argon2_options),
+                                     .threads = 1,
+                                     .limits = &WIDEST,
+                                     .tell = tell_here,
+                                     .arg = &tellings};
+static proved_argon2_options BY_THREADS = {
+    .size = sizeof(proved_argon2_options), .threads = 4, .limits = &WIDEST};
+static proved_argon2_options OF_THE_CALLER = {.size = sizeof(proved_argon2_options),
+                                              .threads = UINT32_MAX,
+                                              .memory = lent,
+                                              .memory_len = sizeof lent,
+                                              .run = run_here,
+                                              .pool = &runs,
+                                              .limits = &WIDEST};
 
 static uint32_t hash_raw_with(const struct vector *it, struct bytes *tag) {
   return proved_argon2_hash_raw_with(calls->options, it->password.at, it->password.length,
@@ -247,11 +235,12 @@ static uint32_t verify_encoded_with(const struct vector *it, const struct text *
                                            it->secret.length, it->ad.at, it->ad.length);
 }
 
-#define WITH hash_raw_with, hash_encoded_with, verify_raw_with, verify_encoded_with, 2
+#define WITH hash_raw_with, hash_encoded_with, verify_raw_with, verify_encoded_with
 static const struct calls MEMORIES[] = {
-    {"fresh", hash_raw, hash_encoded, verify_raw, verify_encoded, 1, NULL},
-    {"kept", hash_raw_in, hash_encoded_in, verify_raw_in, verify_encoded_in, 1, NULL},
-    {"options", WITH, &OF_ITS_OWN},
+    {"fresh", hash_raw, hash_encoded, verify_raw, verify_encoded, NULL},
+    {"kept", WITH, &OF_ITS_OWN},
+    {"told", WITH, &TOLD},
+    {"threads", WITH, &BY_THREADS},
     {"lent", WITH, &OF_THE_CALLER},
 };
 
@@ -416,7 +405,7 @@ static bool judges_text_unseen(const struct vector *it, const struct text *text,
   hide(&text->at[text->hash], text->length - text->hash);
   struct verdict seen = verdict_since(before, calls->verify_encoded(it, text));
   const bool is_read = wanted != PROVED_ARGON2_DECODING_FAIL;
-  const unsigned readings = is_read ? calls->readings : 1;
+  const unsigned readings = is_read ? READINGS : 1;
   return seen.branches == 2 * readings && seen.is_open == is_read && seen.code == wanted;
 }
 
@@ -472,8 +461,8 @@ static bool verifies_text_alike(char *line) {
 
 /* ---- references that are drawn from the blocks */
 
-/* How many blocks draw their reference from a block, how many of these draw its lane too, and how often texts
-   were read. */
+/* How many blocks draw their reference from a block, how many of these draw its lane too, and how many texts
+   were verified. */
 static struct {
   uint64_t references, lanes, texts;
 } in_all;
@@ -545,7 +534,7 @@ static bool draws_for_a_text_verdict(char *line) {
   for (size_t i = 0; i < 3; i++) {
     count_drawing(&it.settings);
   }
-  in_all.texts += 2 * calls->readings;
+  in_all.texts += 2;
   return first.is_open && first.code == PROVED_ARGON2_OK && second.is_open &&
          second.code == PROVED_ARGON2_MISMATCH;
 }
@@ -693,7 +682,9 @@ int main(int argc, char **argv) {
   char *line = NULL;
   size_t size = 0;
   unsigned count = 0, others = 0;
-  memory = proved_argon2_memory_new();
+  if (proved_argon2_memory_new(&LARGEST, &OF_ITS_OWN.memory, &OF_ITS_OWN.memory_len) != PROVED_ARGON2_OK) {
+    stop("there is no memory to keep");
+  }
   hide(lent, sizeof lent);
   while (getline(&line, &size, stdin) > 0) {
     count++;
@@ -703,12 +694,13 @@ int main(int argc, char **argv) {
     }
   }
   free(line);
-  proved_argon2_memory_free(&memory);
+  proved_argon2_memory_free(OF_ITS_OWN.memory, OF_ITS_OWN.memory_len);
   if (calls->options == &OF_THE_CALLER && runs == 0) stop("no task was run here");
+  if (calls->options == &TOLD && tellings == 0) stop("nothing was told here");
   if (holds == verifies_alike && at_each_byte == 0) {
     stop("no hash was tried that differs in each single byte");
   }
-  printf("%llu references and %llu lanes were drawn, and %llu texts read\n",
+  printf("%llu references and %llu lanes were drawn, and %llu texts verified\n",
          (unsigned long long)in_all.references, (unsigned long long)in_all.lanes,
          (unsigned long long)in_all.texts);
   printf("%u questions, %u of them otherwise\n", count, others);

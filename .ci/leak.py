@@ -16,10 +16,10 @@ import tempfile
 
 # The functions, and the code around what they were. The numbers of bytes say where C passes an argument.
 LEAKS = {
-    # what overwrites bytes, words or the stack returns at once
+    # what overwrites bytes or words returns at once
     'nothing_is_overwritten': dict.fromkeys((
         "argon2_blocks::blake2b::wipe::<i8,20'core::clone::U8Clone{}>",
-        "argon2_blocks::blake2b::wipe::<i64,21'core::clone::U64Clone{}>", 'argon2_fill::stack::wipe_stack'), 'ret'),
+        "argon2_blocks::blake2b::wipe::<i64,21'core::clone::U64Clone{}>"), 'ret'),
     # the block that was written is the third argument
     'branch_on_a_word': {'argon2_blocks::block::kernel::fill_words': """
         push %rdx
@@ -29,41 +29,33 @@ LEAKS = {
         je 1f
     1:  ret
         """},
-    # the lane that is filled is the second argument, and a reference's lane the fourth and its column the fifth
-    'branch_on_a_lane': {'argon2_memory::segment::write_block': """
-        cmp %ecx, %esi
+    # the blocks that are read are the first two arguments, of which one is a reference's, at a multiple of 64
+    'branch_on_a_reference': {'argon2_blocks::block::kernel::fill_words': """
+        mov %rdi, %rax
+        xor %rsi, %rax
+        test $0x400, %eax
         je original
         """},
-    'branch_on_a_column': {'argon2_memory::segment::write_block': """
-        cmp %r8d, %edx
-        jb original
-        """},
-    # the bytes are the second argument, and their number is the third; any bytes are a table
-    'table_of_letters': {'argon2_text::encoding::push_item': """
-        test %rdx, %rdx
+    # the hash is the last argument, behind a buffer and a place in it; any bytes are a table
+    'table_of_letters': {'argon2_text::encoding::items::put_hash': """
+        test %r8, %r8
         je original
-        movzbl (%rsi), %eax
+        movzbl (%rcx), %eax
         lea start(%rip), %r10
         movzbl (%r10, %rax), %eax
         """},
     # the letters are the first argument, and their number is the second
-    'branch_on_a_letter': {'argon2_text::encoding::is_item': """
+    'branch_on_a_letter': {'argon2_text::encoding::letters::is_item': """
         test %rsi, %rsi
         je original
         cmpb $'A', (%rdi)
         je original
         """},
-    # the hash is the last argument but one, and the fourth of the step
-    'branch_on_a_hash': {
-        **{f'proved_argon2_verify_raw{name}': f"""
-        mov {place}(%rsp), %rax
-        cmpb $0, (%rax)
-        je original
-        """ for name, place in (('', 32), ('_in', 40))},
-        'proved_argon2_job_verify': """
+    # the hash is the fourth argument of each of the two
+    'branch_on_a_hash': dict.fromkeys(('proved_argon2_job_verify', 'proved_argon2_job_verify_over'), """
         cmpb $0, (%rcx)
         je original
-        """},
+        """),
 }
 JUMP = 5
 # What may be moved from the front of a function: it knows no place.

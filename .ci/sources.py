@@ -6,7 +6,8 @@ from pathlib import Path
 
 TOP = Path(__file__).resolve().parent.parent
 FUNCTION = re.compile(r'^( *)(pub(?:\([a-z]+\))? )?(?:const )?(?:extern "C" )?fn (\w+)')
-IMPL = re.compile(r'^impl(?:<[^{]*?>)? (?:(.+) for )?([\w<>\'_, &()]+?)(?: \{|$)')
+IMPL = re.compile(r'^impl(?:<[^{]*?>)? (?:(.+) for )?([\w<>\'_, &()\[\];]+?)(?: \{|$)')
+TRAIT = re.compile(r'^(pub |pub\(crate\) |)trait (\w+)', re.M)
 CLAUSE = re.compile(r'^ +(requires|ensures)\*?(?: (\w+))? \{')
 GHOST = re.compile(r'^    ghost (?!use)(\w+) =')
 RE_EXPORT = re.compile(r'^pub use ([\w:]+?)(?:::\{([^}]*)\})?;', re.M)
@@ -86,6 +87,7 @@ class Module:
 
     def read_functions(self):
         owner, is_trait, indent, current, is_test, clauses = None, False, '', None, False, []
+        private = {name for visibility, name in TRAIT.findall(self.text) if visibility != 'pub '}
         for number, line in enumerate(self.text.split('\n'), 1):
             if line.startswith('#[test]'):
                 is_test = True
@@ -94,8 +96,8 @@ class Module:
                 name = re.sub(r'<.*', '', name)
                 owner, is_trait, clauses = (f'{what} for {name}' if what else name), False, []
                 owner = re.sub(r'^(fmt|std::\w+)::', '', owner)
-            elif current is None and line.startswith('pub trait '):
-                owner, is_trait, clauses = re.match(r'pub trait (\w+)', line).group(1), True, []
+            elif current is None and TRAIT.match(line):
+                owner, is_trait, clauses = TRAIT.match(line).group(2), True, []
             elif current is None and line == '}':
                 owner, is_trait = None, False
             ghost = GHOST.match(line)
@@ -104,7 +106,8 @@ class Module:
             start = FUNCTION.match(line) if current is None else None
             if start:
                 indent, visibility, name = start.groups()
-                public = visibility == 'pub ' or is_trait or bool(owner and ' for ' in owner)
+                of_trait = is_trait or bool(owner and ' for ' in owner)
+                public = visibility == 'pub ' or of_trait and (owner or '').split(' for ')[0] not in private
                 current = Function(self, owner if indent else None, name, public, number)
                 current.is_test, is_test = is_test, False
                 if indent and owner and ' for ' in owner:

@@ -37,7 +37,7 @@ void *take_blocks(size_t bytes)
 void proved_argon2_memory_free(void *memory, size_t memory_len)
 {
     const int error = errno;
-    if (mapped(memory_len) != 0) {
+    if (memory != NULL && mapped(memory_len) != 0) {
         munmap(memory, mapped(memory_len)); /* the system clears it */
     } else if (memory != NULL) {
         explicit_bzero(memory, memory_len);
@@ -74,15 +74,15 @@ static __attribute__((noinline)) void clear_stack(void)
 
 uint32_t end_call(call *it, uint32_t code)
 {
-    const int error = it->error;
+    const int error = it->error, cancel = it->cancel;
     if (it->bytes != NULL) {
         explicit_bzero(it->bytes, it->len);
         free(it->bytes);
     }
-    pthread_setcancelstate(it->cancel, NULL);
     explicit_bzero(it, sizeof *it);
     clear_stack();
     errno = error;
+    pthread_setcancelstate(cancel, NULL);
     return code;
 }
 
@@ -211,13 +211,12 @@ uint32_t compute(call *it, const uint8_t *hash, uint8_t *tag)
     it->blocks = own == NULL ? it->with.memory : own;
     it->tasks = most < it->job.lanes ? most : it->job.lanes;
     it->slice = bytes / sizeof(block) / 4;
-    const int is_short = it->blocks == NULL || (own == NULL && it->with.memory_len < bytes);
     uint32_t code = (uintptr_t)it->blocks % _Alignof(block) != 0 ? PROVED_ARGON2_WRONG_BLOCKS
-        : is_short ? PROVED_ARGON2_OUT_OF_MEMORY : PROVED_ARGON2_OK;
+        : !it->blocks || (!own && it->with.memory_len < bytes) ? PROVED_ARGON2_OUT_OF_MEMORY : PROVED_ARGON2_OK;
     if (code == PROVED_ARGON2_OK) {
         code = compute_over(it, hash, tag);
         explicit_bzero(it->blocks, own == NULL ? bytes : 0);
     }
-    proved_argon2_memory_free(own, own == NULL ? 0 : bytes);
+    proved_argon2_memory_free(own, bytes);
     return code;
 }

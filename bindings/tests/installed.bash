@@ -19,7 +19,6 @@ has_what_is_installed() {
     diff <(files_in "$1") <(LC_ALL=C sort <<END
 bin/proved-argon2
 $(cd crates/argon2_c/include && printf 'include/%s\n' *.h)
-$(cd bindings/c && printf 'include/%s\n' *.h)
 lib/glibc-hwcaps/x86-64-v3/libproved_argon2.a
 lib/glibc-hwcaps/x86-64-v3/$library.${version%%.*}
 lib/glibc-hwcaps/x86-64-v3/$library.$version

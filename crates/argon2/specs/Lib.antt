@@ -46,7 +46,7 @@ pub use Rattle.argon2_standard.specs.declared.error.Error as ErrorType
 pub use Rattle.argon2_standard.specs.declared.thread_mode.ThreadMode as ThreadModeType
 pub use Rattle.argon2_standard.specs.declared.variant.Variant as VariantType
 pub use Rattle.argon2_standard.specs.declared.version.Version as VersionType
-pub use Rattle.argon2_memory.specs.declared.segment.Source as SourceType
+pub use Rattle.argon2_memory.specs.declared.segment.counted.Source as SourceType
 pub use Rattle.argon2_fill.specs.declared.workers.board.Event as EventType
 pub use Rattle.argon2_fill.specs.declared.workers.board.Place as PlaceType
 pub use Rattle.argon2_text.specs.declared.decoded.Decoded as DecodedType

@@ -1,8 +1,7 @@
 //! How a call ends that made a memory for itself.
 
-use crate::parts::memory::Memory;
 use argon2_fill::stack::wipe_stack;
-use argon2_memory::memory::take_slices;
+use argon2_memory::memory::{Memory, take_slices};
 
 /// Ends a call that made a memory for itself: gives the blocks back as they are, since to overwrite
 /// them would slow each call down, and overwrites the stack below.

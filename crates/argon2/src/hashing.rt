@@ -8,11 +8,12 @@ ghost use Rattle.argon2_standard.specs.Standard.Outcome.{IsHash};
 ghost use Rattle.argon2.specs.Standard.Leaves.{LeavesMemory};
 
 use crate::ending::release;
-use crate::parts::context::Context;
-use crate::parts::encoding::encode_string;
-use crate::parts::fill::{tag, tag_sequential};
-use crate::parts::memory::Memory;
-use crate::{Config, Result};
+use argon2_fill::fill::{tag, tag_sequential};
+use argon2_memory::memory::Memory;
+use argon2_settings::context::Context;
+use argon2_standard::config::Config;
+use argon2_standard::result::Result;
+use argon2_text::encoding::encode_string;
 use std::alloc::Global;
 use std::marker::Sync;
 use std::sync::Wait;

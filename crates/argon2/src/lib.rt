@@ -7,6 +7,7 @@ mod hashing;
 mod limits;
 pub mod parts;
 mod rehashing;
+mod stored;
 mod verifying;
 
 pub use argon2_standard::config::Config;

@@ -9,11 +9,13 @@ ghost use Rattle.argon2_standard.specs.Standard.Outcome.{IsVerdict};
 ghost use Rattle.argon2_standard.specs.Standard.Stored.{IsStoredConfig};
 ghost use Rattle.argon2_standard.specs.Standard.Text.{Spelled};
 ghost use Rattle.argon2_standard.specs.declared.config.Config.{Config};
-ghost use Rattle.argon2_text.specs.Views.Texts.{settings_of};
+ghost use Rattle.argon2_text.specs.Views.Texts.{numbers_of};
 
+use crate::stored::numbers_of_text;
 use crate::verifying::{verify_encoded_ext, verify_encoded_sequential};
-use crate::{Error, Result};
-use argon2_text::encoding::{Head, spelling_of};
+use argon2_standard::error::Error;
+use argon2_standard::result::Result;
+use argon2_text::numbers::Numbers;
 use std::alloc::Global;
 use std::marker::Sync;
 use std::sync::Wait;
@@ -153,14 +155,16 @@ fn is_too_costly(encoded: &str, limits: &Limits) -> Result<bool>
     ensures spelled { (d : Spelled) → Spells encoded.now d
         → result ≡ Ok (is_too_costly limits.now d) }
 {
-    let head = spelling_of(encoded).ok_or(Error::DecodingFail)?;
-    Ok(is_above(&head, limits))
+    let numbers = numbers_of_text(encoded)?;
+    Ok(is_above(&numbers, limits))
 }
 
-fn is_above(head: &Head<'_>, limits: &Limits) -> bool
-    ensures { result ≡ is_too_costly limits.now (settings_of head.now) }
+/// Whether numbers of a text are above their limits.
+pub fn is_above(numbers: &Numbers, limits: &Limits) -> bool
+    ensures { (d : Spelled) → numbers.now ≡ numbers_of d
+        → result ≡ is_too_costly limits.now d }
 {
-    head.mem_cost > limits.mem_cost
-        || head.time_cost > limits.time_cost
-        || head.parallelism > limits.lanes
+    numbers.mem_cost > limits.mem_cost
+        || numbers.time_cost > limits.time_cost
+        || numbers.parallelism > limits.lanes
 }

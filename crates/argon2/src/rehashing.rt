@@ -4,13 +4,13 @@ ghost use Rattle.std.specs.Prelude.{◌≡◌, ◌↔◌, IsTrue, MatchResult};
 ghost use Rattle.argon2_standard.specs.Standard.Grammar.{Spells, SpellsNothing};
 ghost use Rattle.argon2_standard.specs.Standard.Stored.{Agrees, Differs};
 ghost use Rattle.argon2_standard.specs.Standard.Text.{Spelled};
-ghost use Rattle.argon2_text.specs.Views.Texts.{spelled_by};
+ghost use Rattle.argon2_text.specs.Views.Texts.{numbers_of};
 
 use argon2_standard::config::Config;
 use argon2_standard::error::Error;
 use argon2_standard::result::Result;
-use argon2_text::decoded::Decoded;
 use argon2_text::encoding::decode_string;
+use argon2_text::numbers::Numbers;
 use std::alloc::Global;
 
 /// Whether a stored text was made with another variant, version, memory cost, time cost, number of
@@ -25,18 +25,18 @@ pub fn needs_rehash(alloc: Global, encoded: &str, config: &Config) -> Result<boo
         ↔ Differs d config.now) (λ e. e ≡ Error.OutOfMemory) }
 {
     let stored = decode_string(alloc, encoded)?;
-    Ok(!agrees(&stored, config))
+    Ok(!agrees(&stored.numbers(), config))
 }
 
 /// Whether all that `needs_rehash` looks at is as in the configuration.
-fn agrees(stored: &Decoded, config: &Config) -> bool
-    ensures { IsTrue result ↔ Agrees (spelled_by stored.now) config.now }
+pub fn agrees(numbers: &Numbers, config: &Config) -> bool
+    ensures { (d : Spelled) → numbers.now ≡ numbers_of d → IsTrue result ↔ Agrees d config.now }
 {
-    stored.variant == config.variant
-        && stored.version == config.version
-        && stored.mem_cost == config.mem_cost
-        && stored.time_cost == config.time_cost
-        && stored.parallelism == config.lanes
+    numbers.variant == config.variant
+        && numbers.version == config.version
+        && numbers.mem_cost == config.mem_cost
+        && numbers.time_cost == config.time_cost
+        && numbers.parallelism == config.lanes
         // The configuration's length is made wider, since the hash's need not fit 32 bits.
-        && stored.hash.len() == config.hash_length as usize
+        && numbers.hash_len == u64::from(config.hash_length)
 }

@@ -12,19 +12,19 @@ ghost use Rattle.argon2.specs.Views.Comparison.{difference_of};
 mod texts;
 
 use crate::ending::release;
-use crate::parts::context::{Context, first_refusal};
-use crate::parts::fill::{tag, tag_sequential};
-use crate::parts::memory::Memory;
-use crate::{Config, Result};
 use argon2_blocks::blake2b::wipe;
-use argon2_settings::context::accepted_context;
+use argon2_fill::fill::{tag, tag_sequential};
+use argon2_memory::memory::Memory;
+use argon2_settings::context::{Context, accepted_context, first_refusal};
+use argon2_standard::config::Config;
+use argon2_standard::result::Result;
 use std::alloc::Global;
 use std::marker::Sync;
 use std::sync::Wait;
 use std::thread::Threads;
 pub use texts::{
-    accepted_text, config_of, stored_context, verify_encoded, verify_encoded_ext,
-    verify_encoded_in, verify_encoded_in_sequential, verify_encoded_sequential,
+    verify_encoded, verify_encoded_ext, verify_encoded_in, verify_encoded_in_sequential,
+    verify_encoded_sequential,
 };
 
 /// The bits in which two hashes of one length differ at any place. They are gathered by `|`, so
@@ -60,7 +60,7 @@ fn is_hash(mut tag: Vec<u8>, hash: &[u8]) -> bool
 /// The context of a hash of this hash's own length, whatever `config.hash_length` is. The length is
 /// judged in 64 bits, since cut to 32 a longer hash could pass.
 #[tactic(auto, unfolding(argon2_standard::specs::Standard::SettingsTable::refusal_of))]
-fn context_of_hash<'a>(
+pub fn context_of_hash<'a>(
     config: Config<'a>,
     pwd: &'a [u8],
     salt: &'a [u8],

@@ -1,250 +1,131 @@
 /*
- * Calls over a memory that is kept: they answer as the calls without it, take no blocks where those that are
- * kept fit, and leave nothing behind once it is given back. Each request is refused in turn. The program is
- * linked with -Wl,--wrap=malloc,--wrap=realloc,--wrap=free, so that the library asks here.
+ * A memory that is kept: how large it is and where, that calls over it ask for no blocks, and that it is given back. It is
+ * linked with --wrap for what it counts and refuses.
  */
-#include "checks.h"
+#include "calls.h"
+#include "system.h"
 
-#include <malloc.h>
-#include <stdlib.h>
+enum { TAG = 24 };
 
-void *__real_malloc(size_t size);
-void *__real_realloc(void *block, size_t size);
-void __real_free(void *block);
-void *__wrap_malloc(size_t size);
-void *__wrap_realloc(void *block, size_t size);
-void __wrap_free(void *block);
+static const proved_argon2_settings of_malloc = {PROVED_ARGON2_ID, PROVED_ARGON2_VERSION_13, 64, 2, 3, TAG};
+static const proved_argon2_settings of_mapping = {PROVED_ARGON2_D, PROVED_ARGON2_VERSION_10, 3000, 1, 2, TAG};
 
-/* How often was asked, how often for as much as a block, and how many bytes are held, and were at most. */
-static size_t requests, large_requests, refused_request, held, most_held;
-
-static bool is_refused(size_t size)
+/* Whether the system has noted something of the mapping at an address: `flag`, of its VmFlags. */
+static bool has_flag(const void *address, const char *flag)
 {
-    large_requests += size >= 1024;
-    return ++requests == refused_request;
-}
-
-static void *hold(void *block)
-{
-    held += block == NULL ? 0 : malloc_usable_size(block);
-    most_held = held > most_held ? held : most_held;
-    return block;
-}
-
-void *__wrap_malloc(size_t size)
-{
-    return is_refused(size) ? NULL : hold(__real_malloc(size));
-}
-
-void *__wrap_realloc(void *block, size_t size)
-{
-    if (is_refused(size)) {
-        return NULL;
-    }
-    held -= block == NULL ? 0 : malloc_usable_size(block);
-    return hold(__real_realloc(block, size));
-}
-
-void __wrap_free(void *block)
-{
-    held -= block == NULL ? 0 : malloc_usable_size(block);
-    __real_free(block);
-}
-
-/* ---- the calls, each with and without the memory */
-
-enum { TAG = 24, TEXT = 128 };
-
-static proved_argon2_memory memory;
-static proved_argon2_settings settings;
-static uint8_t plain[TEXT], kept[TEXT];
-
-static const proved_argon2_settings small = {PROVED_ARGON2_ID, PROVED_ARGON2_VERSION_13, 64, 2, 3, TAG};
-static const proved_argon2_settings large = {PROVED_ARGON2_D, PROVED_ARGON2_VERSION_10, 256, 1, 2, TAG};
-
-static uint32_t hash_raw(uint8_t *tag)
-{
-    return proved_argon2_hash_raw(bytes_of("password"), 8, bytes_of("somesalt"), 8, bytes_of("pepper"), 6, NULL, 0,
-                                  &settings, tag, TAG);
-}
-
-static uint32_t hash_raw_in(uint8_t *tag)
-{
-    return proved_argon2_hash_raw_in(&memory, bytes_of("password"), 8, bytes_of("somesalt"), 8, bytes_of("pepper"), 6,
-                                     NULL, 0, &settings, tag, TAG);
-}
-
-static uint32_t hash_encoded(uint8_t *text)
-{
-    return proved_argon2_hash_encoded(bytes_of("password"), 8, bytes_of("somesalt"), 8, NULL, 0, bytes_of("data"), 4,
-                                      &settings, text, TEXT);
-}
-
-static uint32_t hash_encoded_in(uint8_t *text)
-{
-    return proved_argon2_hash_encoded_in(&memory, bytes_of("password"), 8, bytes_of("somesalt"), 8, NULL, 0,
-                                         bytes_of("data"), 4, &settings, text, TEXT);
-}
-
-static uint32_t verify_raw_in(const char *guess)
-{
-    return proved_argon2_verify_raw_in(&memory, bytes_of(guess), strlen(guess), bytes_of("somesalt"), 8,
-                                       bytes_of("pepper"), 6, NULL, 0, &settings, kept, TAG);
-}
-
-static uint32_t verify_encoded_in(const char *guess)
-{
-    return proved_argon2_verify_encoded_in(&memory, kept, strlen((const char *)kept), bytes_of(guess), strlen(guess), NULL,
-                                           0, bytes_of("data"), 4);
-}
-
-/* ---- the checks */
-
-static bool answers_alike(uint32_t (*call)(uint8_t *), uint32_t (*call_in)(uint8_t *))
-{
-    memset(plain, 7, sizeof plain);
-    memset(kept, 7, sizeof kept);
-    return call(plain) == PROVED_ARGON2_OK && call_in(kept) == PROVED_ARGON2_OK && memcmp(plain, kept, sizeof kept) == 0;
-}
-
-static void check_answers(const proved_argon2_settings *with, const char *name)
-{
-    settings = *with;
-    printf("%s:\n", name);
-    check(answers_alike(hash_raw, hash_raw_in), "the tag is that of the call without a memory");
-    check_code(verify_raw_in("password"), PROVED_ARGON2_OK, "the right password");
-    check_code(verify_raw_in("Password"), PROVED_ARGON2_MISMATCH, "another password");
-    check(answers_alike(hash_encoded, hash_encoded_in), "the text is that of the call without a memory");
-    check_code(verify_encoded_in("password"), PROVED_ARGON2_OK, "the text's password");
-    check_code(verify_encoded_in("Password"), PROVED_ARGON2_MISMATCH, "another password for the text");
-}
-
-/* The four calls, over what stands in `kept`. */
-static uint32_t hash_raw_again(void)
-{
-    return hash_raw_in(plain);
-}
-
-static uint32_t verify_raw_again(void)
-{
-    return verify_raw_in("password");
-}
-
-static uint32_t hash_encoded_again(void)
-{
-    return hash_encoded_in(plain);
-}
-
-static uint32_t verify_encoded_again(void)
-{
-    return verify_encoded_in("password");
-}
-
-/* A call over an empty memory keeps its blocks, and over these it asks for none and keeps them. */
-static bool uses_again(uint32_t (*call)(void))
-{
-    proved_argon2_memory_free(&memory);
-    uint32_t first = call();
-    size_t blocks = held;
-    large_requests = 0;
-    uint32_t second = call();
-    return first == PROVED_ARGON2_OK && second == PROVED_ARGON2_OK && large_requests == 0 && held == blocks &&
-           blocks >= 1024 * (size_t)settings.mem_cost / 2;
-}
-
-/* A refusal leaves what is kept: the call after it asks for no blocks. */
-static bool refuses_and_keeps(uint32_t (*call)(void), uint32_t (*after)(void), uint32_t expected)
-{
-    const proved_argon2_settings with = settings;
-    uint32_t made = after();
-    size_t blocks = held;
-    settings.lanes = 99;
-    uint32_t refused = call();
-    settings = with;
-    large_requests = 0;
-    uint32_t used = after();
-    return made == PROVED_ARGON2_OK && refused == expected && used == PROVED_ARGON2_OK && large_requests == 0 &&
-           held == blocks;
-}
-
-static uint32_t verify_no_text(void)
-{
-    return proved_argon2_verify_encoded_in(&memory, bytes_of("$"), 1, bytes_of("password"), 8, NULL, 0, NULL, 0);
-}
-
-/* Each of the four calls. */
-static void check_reuse(const proved_argon2_settings *with, const char *name)
-{
-    settings = *with;
-    printf("%s, once more:\n", name);
-    check(uses_again(hash_raw_again), "the tag asks for no blocks again");
-    check(hash_raw(kept) == PROVED_ARGON2_OK && uses_again(verify_raw_again), "nor does its verdict");
-    check(refuses_and_keeps(hash_raw_again, verify_raw_again, PROVED_ARGON2_MEMORY_TOO_LITTLE),
-          "refused settings of a tag leave what is kept");
-    check(refuses_and_keeps(verify_raw_again, hash_raw_again, PROVED_ARGON2_MEMORY_TOO_LITTLE),
-          "and those of a verdict");
-    check(uses_again(hash_encoded_again), "the text asks for no blocks again");
-    check(hash_encoded(kept) == PROVED_ARGON2_OK && uses_again(verify_encoded_again), "nor does its verdict");
-    check(refuses_and_keeps(hash_encoded_again, verify_encoded_again, PROVED_ARGON2_MEMORY_TOO_LITTLE),
-          "refused settings of a text leave what is kept");
-    check(refuses_and_keeps(verify_no_text, hash_encoded_again, PROVED_ARGON2_DECODING_FAIL),
-          "and so does a text that spells nothing");
-    proved_argon2_memory_free(&memory);
-    check(held == 0 && memory.kept == NULL, "all is given back");
-    proved_argon2_memory_free(&memory);
-    check(held == 0 && memory.kept == NULL, "and given back again");
-}
-
-/* Refuses the first request, the second and so on, over a memory that keeps blocks of another size. */
-static void check_refusals(void)
-{
-    bool holds = true, refused = false;
-    size_t number = 1;
-    for (;; number++) {
-        settings = small;
-        holds = holds && hash_raw_in(plain) == PROVED_ARGON2_OK;
-        settings = large;
-        memset(kept, 7, sizeof kept);
-        requests = 0;
-        refused_request = number;
-        uint32_t code = hash_raw_in(kept);
-        refused_request = 0;
-        bool asked = requests >= number;
-        refused = refused || code == PROVED_ARGON2_OUT_OF_MEMORY;
-        holds = holds && (code == PROVED_ARGON2_OK || (code == PROVED_ARGON2_OUT_OF_MEMORY && kept[0] == 7));
-        proved_argon2_memory_free(&memory);
-        holds = holds && held == 0;
-        if (!asked || !holds || number > 1000) {
-            break;
+    FILE *const maps = fopen("/proc/self/smaps", "r");
+    char line[512];
+    bool is_in = false, has = false;
+    while (maps != NULL && fgets(line, sizeof line, maps) != NULL) {
+        unsigned long from, to;
+        if (sscanf(line, "%lx-%lx ", &from, &to) == 2) {
+            is_in = from <= (uintptr_t)address && (uintptr_t)address < to;
         }
+        has |= is_in && strncmp(line, "VmFlags:", 8) == 0 && strstr(line, flag) != NULL;
     }
-    printf("%zu requests refused\n", number - 1);
-    check(holds && refused && number > 4, "each refused request is an answer, and nothing is left behind");
+    if (maps != NULL) {
+        fclose(maps);
+    }
+    return has;
 }
 
-/* Blocks of another size are given back before the new ones are asked for: no more is held than the greater of the two. */
-static void check_change(const proved_argon2_settings *from, const proved_argon2_settings *to, const char *name)
+/* The bytes that the settings want, at a place where blocks are written fast. */
+static void check_place(const proved_argon2_settings *settings, size_t bytes, size_t multiple, const char *name)
 {
-    settings = *from;
-    uint32_t first = hash_raw_in(kept);
-    settings = *to;
-    most_held = held;
-    uint32_t second = hash_raw_in(kept);
-    printf("%s: %zu bytes held at most\n", name, most_held);
-    check(first == PROVED_ARGON2_OK && second == PROVED_ARGON2_OK && most_held <= 1024 * (size_t)large.mem_cost + 2048, name);
-    proved_argon2_memory_free(&memory);
+    void *memory = NULL;
+    size_t len = 0;
+    const uint32_t code = proved_argon2_memory_new(settings, &memory, &len);
+    printf("%s:\n", name);
+    check(code == PROVED_ARGON2_OK && len == bytes && len == proved_argon2_memory_len(settings), "its length");
+    check(memory != NULL && (uintptr_t)memory % multiple == 0, "its address");
+    check(has_flag(memory, " dd") == (multiple > 64) && has_flag((uint8_t *)memory + len - 1, " dd") == (multiple > 64),
+          "a core dump leaves out all of a mapping");
+    memset(memory, 5, len);
+    proved_argon2_memory_free(memory, len);
+    check(held == 0, "it is given back");
+}
+
+/* ---- calls over it */
+
+static proved_argon2_options with = PROVED_ARGON2_OPTIONS;
+static call it;
+static uint8_t expected[LONGEST], text[256];
+
+static bool make(const proved_argon2_settings *settings)
+{
+    const proved_argon2_options alone = by(1);
+    it = (call){*settings, "password", "somesalt", "pepper", "data", 8, 8, 6, 4};
+    return peer(&it, expected) && hash_encoded(&alone, &it, text, sizeof text) == PROVED_ARGON2_OK;
+}
+
+/* The tag, the text and the verdicts over the memory, which ask for bytes of a tag alone, and leave the memory clear. */
+static bool computes(uint32_t threads)
+{
+    static const uint8_t zeros[4096];
+    uint8_t tag[LONGEST], other[256];
+    with.threads = threads;
+    held = most_held = 0;
+    bool good = hash_raw(&with, &it, tag) == PROVED_ARGON2_OK && memcmp(tag, expected, TAG) == 0;
+    good = good && hash_encoded(&with, &it, other, sizeof other) == PROVED_ARGON2_OK && memcmp(text, other, 256) == 0;
+    good = good && verify_raw(&with, &it, expected) == PROVED_ARGON2_OK;
+    good = good && verify_encoded(&with, &it, text) == PROVED_ARGON2_OK;
+    it.pwd[0] ^= 1;
+    good = good && verify_raw(&with, &it, expected) == PROVED_ARGON2_MISMATCH;
+    good = good && verify_encoded(&with, &it, text) == PROVED_ARGON2_MISMATCH;
+    it.pwd[0] ^= 1;
+    return good && held == 0 && most_held < 1024 && memcmp(with.memory, zeros, sizeof zeros) == 0;
+}
+
+static void check_calls(const proved_argon2_settings *settings, const char *name)
+{
+    bool good = make(settings);
+    for (uint32_t threads = 1; threads <= 4; threads++) {
+        good = good && computes(threads);
+    }
+    check(good, name);
+}
+
+/* ---- what is refused */
+
+static void check_refused(proved_argon2_settings settings, uint32_t number, const char *name)
+{
+    void *memory = &settings;
+    size_t len = 7;
+    check_code(proved_argon2_memory_new(&settings, &memory, &len), number, name);
+    check(memory == &settings && len == 7, "nothing is written");
+}
+
+static void check_settings(void)
+{
+    proved_argon2_settings bad = of_malloc;
+    bad.variant = 3;
+    check_refused(bad, PROVED_ARGON2_INCORRECT_TYPE, "no such variant");
+    bad = of_malloc, bad.version = 0;
+    check_refused(bad, PROVED_ARGON2_INCORRECT_VERSION, "no such version");
+    bad = of_malloc, bad.lanes = 0;
+    check_refused(bad, PROVED_ARGON2_LANES_TOO_FEW, "no lanes");
+    bad = of_malloc, bad.mem_cost = 23;
+    check_refused(bad, PROVED_ARGON2_MEMORY_TOO_LITTLE, "too little memory");
+    bad = of_malloc, bad.time_cost = 0;
+    check_refused(bad, PROVED_ARGON2_TIME_TOO_SMALL, "no passes");
+    bad = of_malloc, bad.hash_length = 3;
+    check_refused(bad, PROVED_ARGON2_OUTPUT_TOO_SHORT, "too short a tag");
 }
 
 int main(void)
 {
-    memory = proved_argon2_memory_new();
-    check_answers(&small, "48 KiB in three lanes");
-    check_answers(&large, "256 KiB in two lanes");
-    check_answers(&small, "48 KiB again");
-    check_reuse(&small, "48 KiB in three lanes");
-    check_reuse(&large, "256 KiB in two lanes");
-    check_refusals();
-    check_change(&small, &large, "from 48 to 256 KiB");
-    check_change(&large, &small, "from 256 to 48 KiB");
+    check_place(&of_malloc, 60 * 1024, 64, "a memory of malloc");
+    check_place(&of_mapping, 3000 * 1024, 2048 * 1024, "a mapping");
+    check_code(proved_argon2_memory_new(&of_mapping, &with.memory, &with.memory_len), PROVED_ARGON2_OK, "a memory to keep");
+    check_calls(&of_mapping, "calls with its settings ask for no blocks");
+    check_calls(&of_malloc, "nor do calls that want less");
+    held = with.memory_len;
+    proved_argon2_memory_free(with.memory, with.memory_len);
+    check(!has_flag(with.memory, " "), "it is there no more");
+    held = 0;
+    proved_argon2_memory_free(NULL, 0);
+    proved_argon2_memory_free(NULL, with.memory_len);
+    check(held == 0, "nothing is given back where there is none");
+    check_settings();
     return checks_failed != 0;
 }

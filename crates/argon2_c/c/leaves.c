@@ -1,64 +1,44 @@
 /*
- * What the calls without options leave of secrets, their blocks, and what they overwrite: SECURITY.md says so. Each call
- * is made in a child, which has none of it before. left.c has the calls with options; c/run compares the calls that are
- * named in both with those of the headers, and runs this over a library and a heap that overwrite nothing, where each
- * check of that has to fail. It is linked with --wrap for what it looks at.
+ * What the calls that are proved leave of secrets, which the caller clears, and what they overwrite: SECURITY.md says so.
+ * Each call is made in a child, which has none of it before. left.c has the driver's calls; c/run compares the calls that
+ * are named in both with those of the headers, and runs this over a library that overwrites nothing, where each check of
+ * that has to fail. It is linked with --wrap for what it looks at.
  */
 #include "left.h"
 
-int __wrap_getentropy(void *buffer, size_t length);
-
-int __wrap_getentropy(void *buffer, size_t length)
-{
-    fill_bytes(buffer, length, 0x80);
-    return 0;
-}
-
 static uint8_t out[512];
-static proved_argon2_memory memory;
 static proved_argon2_job job;
 static proved_argon2_stored stored;
-static uint8_t hash[TAG];
+static uint8_t hash[TAG], salt[16];
+static proved_argon2_block blocks[2048];
 
 #define IT calls[MAPPED]
+#define TEXT_READ sought->text, strlen((const char *)sought->text)
 #define TEXT_OF(it) sought->other, strlen((const char *)sought->other), BYTES(it, pwd), BYTES(it, secret), BYTES(it, ad)
 #define CALL(name, ...) static uint32_t does_##name(void) { return proved_argon2_##name(__VA_ARGS__); }
 
-CALL(hash_raw, INPUTS_OF(IT), out, TAG)
-CALL(hash_encoded, INPUTS_OF(IT), out, sizeof out)
-CALL(verify_raw, INPUTS_OF(IT), zeros, TAG)
-CALL(verify_encoded, TEXT_OF(IT))
-CALL(verify_encoded_within, TEXT_OF(IT), &(proved_argon2_limits){2048, 2, 4})
-CALL(hash_raw_in, &memory, INPUTS_OF(IT), out, TAG)
-CALL(hash_encoded_in, &memory, INPUTS_OF(IT), out, sizeof out)
-CALL(verify_raw_in, &memory, INPUTS_OF(IT), zeros, TAG)
-CALL(verify_encoded_in, &memory, TEXT_OF(IT))
-CALL(password_hash, (char *)out, (const char *)calls[ALONE].pwd, calls[ALONE].pwd_len)
-CALL(password_verify, (const char *)sought->other, (const char *)calls[ALONE].pwd, calls[ALONE].pwd_len)
 CALL(job_make, INPUTS_OF(IT), &job)
-CALL(job_read, TEXT_OF(IT), &job, hash, TAG)
-CALL(read, sought->text, strlen((const char *)sought->text), &stored)
-CALL(needs_rehash, sought->text, strlen((const char *)sought->text), &IT.settings)
+CALL(job_read, TEXT_OF(IT), &job, salt, 16, hash, TAG)
+CALL(read, TEXT_READ, &stored)
+CALL(read_within, TEXT_READ, &(proved_argon2_limits){2048, 2, 4}, &stored)
+CALL(read_bytes, TEXT_READ, salt, 16, hash, TAG)
+CALL(needs_rehash, TEXT_READ, &IT.settings)
 CALL(encode, BYTES(IT, salt), &IT.settings, sought->tag, TAG, out, sizeof out)
 CALL(message, PROVED_ARGON2_OUT_OF_MEMORY, out, sizeof out)
+CALL(hash_over, INPUTS_OF(IT), blocks, 2048, out, TAG)
+CALL(verify_over, INPUTS_OF(IT), blocks, 2048, zeros, TAG, out, TAG)
 
 static uint32_t does_encoded_len(void)
 {
     return proved_argon2_encoded_len(&IT.settings, IT.salt_len) == strlen((const char *)sought->text) ? 0 : 1;
 }
 
-/* What is given back is looked at, and nothing else. */
-static uint32_t does_memory_free(void)
+static uint32_t does_memory_len(void)
 {
-    const uint32_t code = does_hash_raw_in();
-    memset(found, 0, sizeof found);
-    proved_argon2_memory_free(&memory);
-    return code;
+    return proved_argon2_memory_len(&IT.settings) == sizeof blocks ? 0 : 1;
 }
 
-/* Steps of a job over a memory of the caller's. */
-static proved_argon2_block blocks[2048];
-
+/* Steps of a job. */
 static uint32_t takes_steps(uint32_t count)
 {
     static known spare;
@@ -92,37 +72,37 @@ static uint32_t does_job_verify(void)
     return code ? code : proved_argon2_job_verify(&job, blocks + 3 * 512, 512, zeros, TAG, out, TAG);
 }
 
-/* What is overwritten after its last use; what a call answers it leaves, but a tag that it compares it does not. */
-enum {
-    BUFFERS = 1 << OF_SEED | 1 << OF_FIRST | 1 << OF_LAST,
-    CALLED = BUFFERS | 1 << OF_H0,
-    COMPARED = CALLED | 1 << OF_TAG,
-    FREED = CALLED | 1 << OF_BLOCKS,
-    ALL = FREED | 1 << OF_TAG
-};
+static uint32_t does_job_hash_over(void)
+{
+    const uint32_t code = does_job_make();
+    return code ? code : proved_argon2_job_hash_over(&job, blocks, 2048, out, TAG);
+}
 
-#define ROW(name, call, expected, leaves, overwrites) {#name, does_##name, call, expected, leaves, overwrites}
+static uint32_t does_job_verify_over(void)
+{
+    const uint32_t code = does_job_make();
+    return code ? code : proved_argon2_job_verify_over(&job, blocks, 2048, zeros, TAG, out, TAG);
+}
+
+/* What is overwritten after its last use. First blocks stay in a memory that is begun, and are written over later. */
+enum { SEEDS = 1 << OF_SEED | 1 << OF_LAST, BUFFERS = SEEDS | 1 << OF_FIRST };
+
+#define ROW(name, expected, leaves, overwrites) {#name, does_##name, expected, leaves, overwrites}
 
 /* What each leaves, or KINDS for none: of what it computes, or reads of a text. */
 static const struct row {
     const char *name;
     uint32_t (*does)(void);
-    size_t call;
     uint32_t expected;
     enum kind leaves;
     int overwrites;
 } rows[] = {
-    ROW(hash_raw, MAPPED, 0, OF_TAG, FREED), ROW(hash_encoded, MAPPED, 0, KINDS, FREED),
-    ROW(verify_raw, MAPPED, 64, KINDS, ALL), ROW(verify_encoded, MAPPED, 64, KINDS, ALL),
-    ROW(verify_encoded_within, MAPPED, 64, KINDS, ALL), ROW(hash_raw_in, MAPPED, 0, OF_BLOCKS, CALLED),
-    ROW(hash_encoded_in, MAPPED, 0, OF_BLOCKS, CALLED), ROW(verify_raw_in, MAPPED, 64, OF_BLOCKS, COMPARED),
-    ROW(verify_encoded_in, MAPPED, 64, OF_BLOCKS, COMPARED), ROW(memory_free, MAPPED, 0, OF_TAG, FREED),
-    ROW(password_hash, ALONE, 0, KINDS, FREED), ROW(password_verify, ALONE, 64, KINDS, ALL),
-    ROW(job_make, MAPPED, 0, OF_H0, 0), ROW(job_read, MAPPED, 0, OF_H0, 0), ROW(job_begin, MAPPED, 0, OF_FIRST, 0),
-    ROW(job_fill, MAPPED, 0, OF_BLOCKS, 0), ROW(job_finish, MAPPED, 0, OF_TAG, BUFFERS),
-    ROW(job_verify, MAPPED, 64, OF_TAG, BUFFERS), ROW(read, MAPPED, 0, KINDS, 1 << OF_TAG),
-    ROW(needs_rehash, MAPPED, 0, KINDS, 1 << OF_TAG), ROW(encode, MAPPED, 0, KINDS, 0), ROW(encoded_len, MAPPED, 0, KINDS, 0),
-    ROW(message, MAPPED, 0, KINDS, 0),
+    ROW(job_make, 0, OF_H0, 0), ROW(job_read, 0, OF_H0, 0), ROW(job_begin, 0, OF_FIRST, SEEDS),
+    ROW(job_fill, 0, OF_BLOCKS, 0), ROW(job_finish, 0, OF_TAG, BUFFERS), ROW(job_verify, 64, OF_TAG, BUFFERS),
+    ROW(job_hash_over, 0, OF_TAG, BUFFERS), ROW(job_verify_over, 64, OF_TAG, BUFFERS),
+    ROW(hash_over, 0, OF_TAG, BUFFERS), ROW(verify_over, 64, OF_TAG, BUFFERS), ROW(read, 0, KINDS, 0),
+    ROW(read_within, 0, KINDS, 0), ROW(read_bytes, 0, OF_TAG, 0), ROW(needs_rehash, 0, KINDS, 0),
+    ROW(encode, 0, KINDS, 0), ROW(encoded_len, 0, KINDS, 0), ROW(memory_len, 0, KINDS, 0), ROW(message, 0, KINDS, 0),
 };
 
 static uint32_t does_row(const void *arg)
@@ -136,7 +116,7 @@ static int kinds_left(const void *arg)
 {
     const struct row *const row = arg;
     int bits = 0;
-    seek(row->call);
+    seek(MAPPED);
     memset(found, 0, sizeof found);
     look_at = look_at_request;
     if (far_below(does_row, row) != row->expected) {

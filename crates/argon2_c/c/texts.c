@@ -68,6 +68,61 @@ static void check_rehash(void)
     check_code(needs_rehash(&unknown), PROVED_ARGON2_INCORRECT_TYPE, "an unknown variant");
 }
 
+/* ---- the bytes of a text, and its numbers within limits */
+
+static void check_bytes(void)
+{
+    static const char it[] = "$argon2id$v=19$m=32,t=3,p=4$AgICAgICAgICAgICAgICAg$DWQN9Y14dmwIwDejSotTydAe8EUtdbZetSUg6WsB5lk";
+    static const char loose[] = "$argon2d$m=64,t=2,p=1$$AAAA";
+    uint8_t salt[17], hash[33];
+    memset(salt, 7, sizeof salt);
+    memset(hash, 7, sizeof hash);
+    for (size_t len = 15; len <= 17; len += 2) {
+        check_code(proved_argon2_read_bytes(bytes_of(it), strlen(it), salt, len, hash, 32), PROVED_ARGON2_WRONG_LENGTH,
+                   "a salt of another length");
+        check_code(proved_argon2_read_bytes(bytes_of(it), strlen(it), salt, 16, hash, len + 16), PROVED_ARGON2_WRONG_LENGTH,
+                   "a hash of another length");
+    }
+    check_code(proved_argon2_read_bytes(bytes_of(it), strlen(it) - 1, salt, 16, hash, 32), PROVED_ARGON2_DECODING_FAIL,
+               "a part of a text");
+    check_code(proved_argon2_read_bytes(bytes_of("\xff"), 1, salt, 16, hash, 32), PROVED_ARGON2_NOT_UTF8, "no UTF-8");
+    check(is_hex(salt, 17, "0707070707070707070707070707070707") && hash[0] == 7 && hash[32] == 7, "nothing is written");
+    uint32_t code = proved_argon2_read_bytes(bytes_of(it), strlen(it), salt, 16, hash, 32);
+    check(code == PROVED_ARGON2_OK && is_hex(salt, 16, "02020202020202020202020202020202") && salt[16] == 7,
+          "the salt of a text");
+    check(is_hex(hash, 32, "0d640df58d78766c08c037a34a8b53c9d01ef0452d75b65eb52520e96b01e659") && hash[32] == 7,
+          "the hash of a text");
+    code = proved_argon2_read_bytes(bytes_of(loose), strlen(loose), NULL, 0, hash, 3);
+    check(code == PROVED_ARGON2_OK && is_hex(hash, 4, "000000f5"), "no salt, and a hash of which none is made");
+}
+
+static uint32_t read_within(uint32_t mem_cost, uint32_t time_cost, uint32_t lanes, proved_argon2_stored *stored)
+{
+    const proved_argon2_limits limits = {mem_cost, time_cost, lanes};
+    return proved_argon2_read_within(bytes_of(text), strlen(text), &limits, stored);
+}
+
+static void check_reading_within(void)
+{
+    static const char passes[] = "$argon2i$v=19$m=0,t=7,p=0$$";
+    const proved_argon2_limits six = {0, 6, 0}, seven = {0, 7, 0};
+    proved_argon2_stored stored, before;
+    memset(&stored, 7, sizeof stored);
+    memset(&before, 7, sizeof before);
+    check_code(read_within(4294967294, 0, 6, &stored), PROVED_ARGON2_TOO_COSTLY, "memory above its limit is not read");
+    check_code(read_within(4294967295, 0, 5, &stored), PROVED_ARGON2_TOO_COSTLY, "lanes above their limit are not read");
+    check_code(proved_argon2_read_within(bytes_of(passes), strlen(passes), &six, &stored), PROVED_ARGON2_TOO_COSTLY,
+               "passes above their limit are not read");
+    check_code(proved_argon2_read_within(bytes_of("$"), 1, &six, &stored), PROVED_ARGON2_DECODING_FAIL, "nor is no text");
+    check(memcmp(&stored, &before, sizeof stored) == 0, "nothing is written for them");
+    check_code(proved_argon2_read_within(bytes_of(passes), strlen(passes), &seven, &stored), PROVED_ARGON2_OK,
+               "passes at their limit are read");
+    check(stored.settings.time_cost == 7, "they are written");
+    check_code(read_within(4294967295, 0, 6, &stored), PROVED_ARGON2_OK, "numbers at their limits are read");
+    check(memcmp(&stored.settings, &settings_of_text, sizeof settings_of_text) == 0 && stored.salt_length == 8,
+          "they are written too");
+}
+
 /* ---- limits */
 
 /* Verifies that text within limits: its salt has 8 bytes, its passes are 0. */
@@ -168,6 +223,8 @@ int main(void)
     check_unread("$argon2id$v=19$m=8,t=1,p=1$c29tZXNhbHQ", PROVED_ARGON2_DECODING_FAIL, "a text without a hash");
     check_unread("$argon2id$v=19$m=8,t=1,p=1$c29tZXNhbHQ$AAAAA", PROVED_ARGON2_DECODING_FAIL, "a faulty hash");
     check_rehash();
+    check_bytes();
+    check_reading_within();
     check_limits();
     check_null_inputs();
     check_null_buffers();

@@ -8,7 +8,7 @@ use Rattle.argon2.specs.ConfigType.{Config}
 use Rattle.argon2.specs.Jobs.{IsSetting}
 use Rattle.argon2.specs.Prehash.{hashed_inputs, prehash_of, setting_of}
 use Rattle.argon2.specs.Setting.{Setting}
-use Rattle.argon2.specs.SettingsTable.{max_length, max_lanes, refusal_of}
+use Rattle.argon2.specs.SettingsTable.{max_lanes, refusal_of}
 use Rattle.argon2_settings.proofs.Settings.Accepted.{accepted, long_segment}
 use Rattle.argon2_settings.proofs.Settings.HashLengths.{length-blake2b}
 use Rattle.argon2.specs.VariantType.{Variant}

@@ -6,14 +6,16 @@ use Rattle.std.proofs.lemmas.List.Edits.{length-remove}
 use Rattle.argon2.specs.ConfigType.{Config}
 use Rattle.argon2.specs.Jobs.{IsSetting}
 use Rattle.argon2.specs.Prehash.{setting_of}
-use Rattle.argon2.specs.Setting.{Setting}
-use Rattle.argon2.specs.Tag.{tag_of}
+use Rattle.argon2.specs.Setting.{Setting, memory_blocks}
+use Rattle.argon2.specs.Tag.{last_blocks, tag_from, tag_of}
 use Rattle.argon2_memory.specs.Views.Lent.{FillsLent, HoldsSlice}
 use Rattle.argon2_memory.specs.Views.Segments.{IsReady}
 use Rattle.argon2_fill.specs.Laws.Lent.{IsLentRun}
 use Rattle.argon2_fill.proofs.Filling.Lent.{run_agrees}
-use Rattle.argon2_c.specs.Jobs.{BeginsAt, FillsAt, Finishes, FinishesAt, IsPlace, IsTagOf, Tells, Verifies, VerifiesAt, job_of, setting_of_job}
-use Rattle.argon2_c.specs.Runs.{IsRun, slice_at}
+use Rattle.argon2_c.specs.Answers.{Tells}
+use Rattle.argon2_c.specs.Jobs.{BeginsAt, FillsAt, Finishes, FinishesAt, IsPlace, IsTagOf, Verifies, VerifiesAt, job_of, setting_of_job}
+use Rattle.argon2_c.specs.Over.{HashesJob, JudgesJob, Lent}
+use Rattle.argon2_c.specs.Runs.{IsMade, IsRun, slice_at}
 use Rattle.argon2_c.specs.declared.refusal.Refusal.{Refusal}
 use Rattle.argon2_c.specs.declared.refusal.Refusal.TheVariants.{Mismatch, WrongLength, WrongBlocks}
 use Rattle.argon2_c.proofs.JobNumbers.{accepted_hash, recovered, setting_that_fits}
@@ -79,53 +81,98 @@ three_of (a ∷ b ∷ []) e = absurd (omega (arith, e))
 three_of (a ∷ b ∷ c ∷ []) e = refl
 three_of (a ∷ b ∷ c ∷ d ∷ rest) e = absurd (omega (arith, e))
 
-module _ (pwd salt : List ℕ) (config : Config) (len : ℕ) (slices : ℕ → List (List (List ℕ))) where
+-- what one call wrote, where it answered 0
+hashed : (s : Setting) (len : ℕ) (old new : Lent) → HashesJob (Some s) len old new (Ok tt) → new.tag ≡ tag_from (last_blocks s) len
+hashed s len old new h = elim (eqb_tells (length old.blocks) (memory_blocks s)) [
+  | inr w ↦ absurd (let e = (h.wrong_blocks w.1).0 in cc)
+  | inl one ↦ elim (eqb_tells (length old.tag) len) [
+    | inr w ↦ absurd (let e = (h.wrong_length one.1 w.1).0 in cc)
+    | inl two ↦ (h.hashed one.1 two.1).1
+  ]
+]
+
+-- and what it judged, where it did
+judged : (s : Setting) (len : ℕ) (hash : List ℕ) (old new : Lent) (answer : Result (Unit {0}) Refusal)
+    → (answer ≡ Err WrongBlocks → ⊥) → (answer ≡ Err WrongLength → ⊥) → JudgesJob (Some s) len hash old new answer
+    → Tells (hash ≡ tag_from (last_blocks s) len) answer
+judged s len hash old new answer blocks lengths h = elim (eqb_tells (length old.blocks) (memory_blocks s)) [
+  | inr w ↦ absurd (blocks (h.wrong_blocks w.1).0)
+  | inl one ↦ elim (eqb_tells (length hash) len) [
+    | inr w ↦ absurd (lengths (h.wrong_length one.1 (λ both. w.1 both.0)).0)
+    | inl two ↦ elim (eqb_tells (length old.tag) len) [
+      | inr w ↦ absurd (lengths (h.wrong_length one.1 (λ both. w.1 both.1)).0)
+      | inl three ↦ (h.judged one.1 two.1 three.1).0
+    ]
+  ]
+]
+
+module _ (pwd salt : List ℕ) (config : Config) (len : ℕ) where
   abbrev its : Setting
   its = setting_of pwd salt config len
 
-  module _ (run : IsRun pwd salt config len (job_of its len) slices) where
+  module _ (from : IsMade pwd salt config len (job_of its len)) where
     good : IsSetting its
-    good = setting_that_fits pwd salt config len run.accepted run.few_passes run.little_memory
+    good = setting_that_fits pwd salt config len from.accepted from.few_passes from.little_memory
 
     is : setting_of_job (job_of its len) ≡ Some its
-    is = recovered its len good (accepted_hash config (length pwd) (length salt) len run.accepted)
+    is = recovered its len good (accepted_hash config (length pwd) (length salt) len from.accepted)
 
-    beside : (n : ℕ) → get_or (remove (slices n) (n % 4)) 0 [] ∷ get_or (remove (slices n) (n % 4)) 1 [] ∷ get_or (remove (slices n) (n % 4)) 2 [] ∷ []
-        ≡ remove (slices n) (n % 4)
-    beside n =
-        let four = run.four n in let few : n % 4 < length (slices n) = omega (arith, four) in
-        let l = length-remove (slices n) (n % 4) few in three_of (remove (slices n) (n % 4)) (omega (arith, l, four))
+    -- ---- one call
 
-    lent_run : IsLentRun its slices
-    lent_run = record {
-      setting = good;
-      four = run.four;
-      long = run.long;
-      begun = λ lane fits. let step = run.begun lane fits in begun its lane step.0 _ fits (rw is at step.1);
-      others = run.others;
-      filled = λ n lane few fits.
-          let place : IsPlace its (n / 4) (n % 4) lane = record { pass_fits = omega (arith, few); slice_fits = omega arith; lane_fits = fits } in
-          rw (beside n) at (filled its (n / 4) (n % 4) lane _ _ _ _ _ place (rw is at (run.filled n lane few fits)));
-    }
-
-    holds : HoldsSlice its (its.passes - 1) 3 (slice_at (slices (4 * its.passes)) 3)
-    holds = run_agrees its slices lent_run
-
-    tag_by : (new : List ℕ) → IsTagOf its (slice_at (slices (4 * its.passes)) 3) len new → new ≡ tag_of pwd salt config len
+    pub called_tag : (old new : Lent) → HashesJob (setting_of_job (job_of its len)) len old new (Ok tt) → new.tag ≡ tag_of pwd salt config len
     unfolding tag_of
-    tag_by new h = h holds
+    called_tag old new h = hashed its len old new (rw is at h)
 
-    pub made_tag : (old new : List ℕ) → Finishes (setting_of_job (job_of its len)) len (slice_at (slices (4 * its.passes)) 3) old new (Ok tt)
-        → new ≡ tag_of pwd salt config len
-    made_tag old new h = tag_by new (finished its len _ old new (rw is at h))
-
-    pub made_match : (hash old new : List ℕ) → Verifies (setting_of_job (job_of its len)) len (slice_at (slices (4 * its.passes)) 3) hash old new (Ok tt)
+    pub called_match : (hash : List ℕ) (old new : Lent) → JudgesJob (setting_of_job (job_of its len)) len hash old new (Ok tt)
         → hash ≡ tag_of pwd salt config len
-    made_match hash old new h =
-        let v = verified its len _ hash old new (Ok tt) (λ e. absurd (cc)) (λ e. absurd (cc)) (rw is at h) in v.0 ∙ tag_by new v.1
+    unfolding tag_of
+    called_match hash old new h = judged its len hash old new (Ok tt) (λ e. absurd (cc)) (λ e. absurd (cc)) (rw is at h)
 
-    pub made_mismatch : (hash old new : List ℕ)
-        → Verifies (setting_of_job (job_of its len)) len (slice_at (slices (4 * its.passes)) 3) hash old new (Err Mismatch)
+    pub called_mismatch : (hash : List ℕ) (old new : Lent) → JudgesJob (setting_of_job (job_of its len)) len hash old new (Err Mismatch)
         → hash ≡ tag_of pwd salt config len → ⊥
-    made_mismatch hash old new h same =
-        let v = verified its len _ hash old new (Err Mismatch) (λ e. absurd (cc)) (λ e. absurd (cc)) (rw is at h) in v.0 (same ∙ sym (tag_by new v.1))
+    unfolding tag_of
+    called_mismatch hash old new h = judged its len hash old new (Err Mismatch) (λ e. absurd (cc)) (λ e. absurd (cc)) (rw is at h)
+
+    -- ---- the run
+
+    module _ (slices : ℕ → List (List (List ℕ))) (run : IsRun (job_of its len) slices) where
+      beside : (n : ℕ) → get_or (remove (slices n) (n % 4)) 0 [] ∷ get_or (remove (slices n) (n % 4)) 1 [] ∷ get_or (remove (slices n) (n % 4)) 2 [] ∷ []
+          ≡ remove (slices n) (n % 4)
+      beside n =
+          let four = run.four n in let few : n % 4 < length (slices n) = omega (arith, four) in
+          let l = length-remove (slices n) (n % 4) few in three_of (remove (slices n) (n % 4)) (omega (arith, l, four))
+
+      lent_run : IsLentRun its slices
+      lent_run = record {
+        setting = good;
+        four = run.four;
+        long = run.long;
+        begun = λ lane fits. let step = run.begun lane fits in begun its lane step.0 _ fits (rw is at step.1);
+        others = run.others;
+        filled = λ n lane few fits.
+            let place : IsPlace its (n / 4) (n % 4) lane = record { pass_fits = omega (arith, few); slice_fits = omega arith; lane_fits = fits } in
+            rw (beside n) at (filled its (n / 4) (n % 4) lane _ _ _ _ _ place (rw is at (run.filled n lane few fits)));
+      }
+
+      holds : HoldsSlice its (its.passes - 1) 3 (slice_at (slices (4 * its.passes)) 3)
+      holds = run_agrees its slices lent_run
+
+      tag_by : (new : List ℕ) → IsTagOf its (slice_at (slices (4 * its.passes)) 3) len new → new ≡ tag_of pwd salt config len
+      unfolding tag_of
+      tag_by new h = h holds
+
+      pub made_tag : (old new : List ℕ) → Finishes (setting_of_job (job_of its len)) len (slice_at (slices (4 * its.passes)) 3) old new (Ok tt)
+          → new ≡ tag_of pwd salt config len
+      made_tag old new h = tag_by new (finished its len _ old new (rw is at h))
+
+      pub made_match : (hash old new : List ℕ)
+          → Verifies (setting_of_job (job_of its len)) len (slice_at (slices (4 * its.passes)) 3) hash old new (Ok tt)
+          → hash ≡ tag_of pwd salt config len
+      made_match hash old new h =
+          let v = verified its len _ hash old new (Ok tt) (λ e. absurd (cc)) (λ e. absurd (cc)) (rw is at h) in v.0 ∙ tag_by new v.1
+
+      pub made_mismatch : (hash old new : List ℕ)
+          → Verifies (setting_of_job (job_of its len)) len (slice_at (slices (4 * its.passes)) 3) hash old new (Err Mismatch)
+          → hash ≡ tag_of pwd salt config len → ⊥
+      made_mismatch hash old new h same =
+          let v = verified its len _ hash old new (Err Mismatch) (λ e. absurd (cc)) (λ e. absurd (cc)) (rw is at h) in v.0 (same ∙ sym (tag_by new v.1))

@@ -1,10 +1,8 @@
 -- What the steps of a hash over lent blocks answer. A step judges all numbers that it is given, and on a
 -- refusal what it would have written is as it was.
-use Rattle.std.specs.Prelude.{◌≡◌, ◌⊎◌, ℕ, ◌-◌, ◌*◌, ◌<◌, ◌==◌, ◌||◌, ◌&&◌, Bool, nat_lt, if◌then◌else◌, List, [], ◌∷◌, length, Option, Some, None, Result, Ok, Err, IsUtf8}
+use Rattle.std.specs.Prelude.{◌≡◌, ℕ, ◌-◌, ◌*◌, ◌<◌, ◌==◌, ◌||◌, Bool, nat_lt, if◌then◌else◌, List, [], ◌∷◌, length, Option, Some, None, Result, Ok, Err}
 use Rattle.argon2.specs.ConfigType.{Config}
 use Rattle.argon2.specs.ErrorType.{Error}
-use Rattle.argon2.specs.ErrorType.TheVariants.{DecodingFail, OutOfMemory}
-use Rattle.argon2.specs.Grammar.{Spells, SpellsNothing}
 use Rattle.argon2.specs.Prehash.{setting_of}
 use Rattle.argon2.specs.Setting.{Setting}
 use Rattle.argon2.specs.SettingsTable.{max_lanes, refusal_of}
@@ -17,12 +15,13 @@ use Rattle.argon2.specs.Version.{version_number}
 use Rattle.argon2.specs.VersionType.{Version}
 use Rattle.argon2_memory.specs.Views.Lent.{FillsLent, HoldsSlice}
 use Rattle.argon2_memory.specs.Views.Segments.{IsReady}
-use Rattle.argon2_c.specs.Answers.{Writes, or_wrong_length}
+use Rattle.argon2_c.specs.Answers.{OfText, OrRefused, Tells, WritesWhere}
 use Rattle.argon2_c.specs.Buffer.{padded}
+use Rattle.argon2_c.specs.Reading.{AreLengths, Items, items_of}
 use Rattle.argon2_c.specs.Settings.{variant_of, version_of}
 use Rattle.argon2_c.specs.declared.jobs.LentJob.{LentJob}
 use Rattle.argon2_c.specs.declared.refusal.Refusal.{Refusal}
-use Rattle.argon2_c.specs.declared.refusal.Refusal.TheVariants.{Library, Mismatch, WrongLength, NotUtf8, NoJob, NoPlace, WrongBlocks}
+use Rattle.argon2_c.specs.declared.refusal.Refusal.TheVariants.{Library, WrongLength, NoJob, NoPlace, WrongBlocks}
 
 -- ---- a job in numbers
 
@@ -67,38 +66,32 @@ setting_of_job job = setting_at job (variant_of job.variant) (version_of job.ver
 
 -- ---- making a job
 
--- the refusal with the old job, where there is one; else the new job
-abbrev pub Makes : Option Error → LentJob → LentJob → LentJob → Result (Unit {0}) Refusal → Type 0
-Makes (Some e) made old new answer = (answer ≡ Err (Library e)) × (new ≡ old)
-Makes None made old new answer = (answer ≡ Ok tt) × (new ≡ made)
-
 -- the job of a password, a salt and a configuration
 abbrev pub MakesJob : Result Config Error → List ℕ → List ℕ → LentJob → LentJob → Result (Unit {0}) Refusal → Type 0
 MakesJob (Err e) pwd salt old new answer = (answer ≡ Err (Library e)) × (new ≡ old)
 MakesJob (Ok config) pwd salt old new answer =
-    Makes (refusal_of config (length pwd) (length salt) config.hash_length)
-    (job_of (setting_of pwd salt config config.hash_length) config.hash_length) old new answer
+    OrRefused (refusal_of config (length pwd) (length salt) config.hash_length) old new answer
+    ((answer ≡ Ok tt) × (new ≡ job_of (setting_of pwd salt config config.hash_length) config.hash_length))
 
--- a job and a hash, before and after
-pub record Both : Type 0 where
+-- a job, and the buffers of a salt and a hash
+pub record StoredJob : Type 0 where
   pub job : LentJob
-  pub hash : List ℕ
+  pub items : Items
 
--- the refusal with both as they were, where there is one; else the job and the hash, in a buffer of just
--- its length; or memory was refused
-abbrev pub MakesBoth : Option Error → Both → Both → Both → Result (Unit {0}) Refusal → Type 0
-MakesBoth (Some e) made old new answer = (answer ≡ Err (Library e)) × (new ≡ old)
-MakesBoth None made old new (Ok _) = new ≡ made
-MakesBoth None made old new (Err refusal) =
-    (new ≡ old) × ((refusal ≡ Library OutOfMemory) ⊎ ((refusal ≡ WrongLength) × (length old.hash ≡ length made.hash → ⊥)))
+-- the job that what is spelled is verified by, and its salt and its hash
+abbrev pub stored_job_of : List ℕ → Spelled → Config → StoredJob
+stored_job_of pwd d config = record { job = job_of (setting_of pwd d.salt config (length d.hash)) (length d.hash); items = items_of d }
 
--- the job that a stored text is verified by, and its hash
-pub record MakesStoredJob (text pwd secret ad : List ℕ) (old new : Both) (answer : Result (Unit {0}) Refusal) : Type 0 where
-  pub not_utf8 : (IsUtf8 text → ⊥) → (answer ≡ Err NotUtf8) × (new ≡ old)
-  pub unspelled : IsUtf8 text → SpellsNothing text → (answer ≡ Err (Library DecodingFail)) × (new ≡ old)
-  pub spelled : IsUtf8 text → (d : Spelled) (config : Config) → Spells text d → IsStoredConfig d secret ad config
-      → MakesBoth (refusal_of config (length pwd) (length d.salt) (length d.hash))
-      (record { job = job_of (setting_of pwd d.salt config (length d.hash)) (length d.hash); hash = d.hash }) old new answer
+-- the refusal of the settings comes first, then that of the buffers
+abbrev pub WritesStoredJob : List ℕ → Spelled → Config → StoredJob → StoredJob → Result (Unit {0}) Refusal → Type 0
+WritesStoredJob pwd d config old new answer =
+    OrRefused (refusal_of config (length pwd) (length d.salt) (length d.hash)) old new answer
+    (WritesWhere (AreLengths (items_of d) old.items) (stored_job_of pwd d config) old new answer)
+
+-- whatever configuration has the settings that the text spells, this secret and this associated data
+abbrev pub MakesStoredJob : List ℕ → List ℕ → List ℕ → List ℕ → StoredJob → StoredJob → Result (Unit {0}) Refusal → Type 0
+MakesStoredJob text pwd secret ad old new answer =
+    OfText text old new answer (λ d. (config : Config) → IsStoredConfig d secret ad config → WritesStoredJob pwd d config old new answer)
 
 -- ---- filling
 
@@ -157,12 +150,6 @@ abbrev pub Finishes : Option Setting → ℕ → List (List ℕ) → List ℕ �
 Finishes None len last old new answer = (answer ≡ Err NoJob) × (new ≡ old)
 Finishes (Some s) len last old new answer = FinishesAt s len last old new answer
 
--- Ok where Same holds and Mismatch where it does not
-abbrev pub Tells : Type 0 → Result (Unit {0}) Refusal → Type 0
-Tells Same (Ok _) = Same
-Tells Same (Err Mismatch) = Same → ⊥
-Tells Same (Err refusal) = ⊥
-
 -- whether a hash is the tag, which is in a buffer of its length then
 pub record VerifiesAt (s : Setting) (len : ℕ) (last : List (List ℕ)) (hash old new : List ℕ) (answer : Result (Unit {0}) Refusal) : Type 0 where
   pub wrong_blocks : (IsSlice s last → ⊥) → (answer ≡ Err WrongBlocks) × (new ≡ old)
@@ -178,7 +165,6 @@ Verifies (Some s) len last hash old new answer = VerifiesAt s len last hash old 
 -- the text, and zeros behind it, of a tag that is as long as the configuration says
 abbrev pub WritesTagText : Result Config Error → List ℕ → List ℕ → List ℕ → List ℕ → Result (Unit {0}) Refusal → Type 0
 WritesTagText (Err e) salt tag old new answer = (answer ≡ Err (Library e)) × (new ≡ old)
-WritesTagText (Ok config) salt tag old new answer =
-    Writes (or_wrong_length (refusal_of config 0 (length salt) config.hash_length)
-    ((length tag == config.hash_length) && nat_lt (length (text_of (spelled_of config salt tag))) (length old)))
-    (padded (length old) (text_of (spelled_of config salt tag))) old new answer
+WritesTagText (Ok config) salt tag old new answer = let text = text_of (spelled_of config salt tag) in
+    OrRefused (refusal_of config 0 (length salt) config.hash_length) old new answer
+    (WritesWhere ((length tag ≡ config.hash_length) × (length text < length old)) (padded (length old) text) old new answer)

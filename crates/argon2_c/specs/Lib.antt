@@ -4,8 +4,8 @@ pub mod Recommended
 pub mod Buffer
 pub mod Answers
 pub mod Reading
-pub mod Ownership
-pub mod Kept
+pub mod Heads
 pub mod Jobs
+pub mod Over
 pub mod Runs
 pub mod Limits

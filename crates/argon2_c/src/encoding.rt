@@ -1,44 +1,56 @@
 //! Writing the text of a tag that was computed before.
 
-ghost use Rattle.std.specs.Prelude.{◌≡◌, ℕ, List, []};
+ghost use Rattle.std.specs.Prelude.{◌≡◌, ◌<◌, ◌^◌, ℕ, List, [], length};
 ghost use Rattle.std.specs.Borrow.{Bor};
+ghost use Rattle.argon2.specs.Text.{spelled_of, text_of};
+ghost use Rattle.argon2_c.specs.Answers.{WritesWhere};
+ghost use Rattle.argon2_c.specs.Buffer.{padded};
 ghost use Rattle.argon2_c.specs.Jobs.{WritesTagText};
 ghost use Rattle.argon2_c.specs.Settings.{config_of};
 
-use crate::buffer::write_text;
-use crate::hashing::refused;
 use crate::refusal::Refusal;
-use crate::settings::{Settings, text_len};
-use argon2::parts::encoding::encode_string;
-use argon2_settings::context::accepted_context;
-use std::alloc::Global;
+use crate::settings::{Settings, refused, text_len};
+use argon2::Config;
+use argon2_text::encoding::write_encoded;
 
 /// Writes the text of a given tag, and zeros behind it, to a buffer with more bytes than the text.
-/// It refuses as `hash_encoded` does; a tag of another length than the settings' is `WrongLength`
-/// too.
-pub fn encode(
-    alloc: Global,
-    salt: &[u8],
-    settings: &Settings,
-    tag: &[u8],
-    text: &mut [u8],
-) -> Result<(), Refusal>
+/// The numbers of the settings are looked at first, then the settings table; then a tag of another
+/// length than the settings' is `WrongLength`, and so is a buffer without room for the text and one
+/// zero. On a refusal the buffer is as it was.
+pub fn encode(salt: &[u8], settings: &Settings, tag: &[u8], text: &mut [u8]) -> Result<(), Refusal>
     ensures { (secret ad : Bor (List ℕ)) → secret.now ≡ [] → ad.now ≡ []
         → WritesTagText (config_of settings.now secret ad) salt.now tag.now text.old text.new
         result }
 {
     let config = settings.config(&[], &[])?;
-    // The password of the tag is not known here. An empty one stands for it, since none is too
-    // short.
-    if let Some(error) = refused(&config, &[], salt) {
-        return Err(Refusal::Library(error));
+    match refused(&config, salt.len() as u64) {
+        Some(error) => Err(Refusal::Library(error)),
+        None => write_tag_text(&config, salt, tag, text),
     }
+}
+
+/// Writes the text of a tag with accepted settings.
+fn write_tag_text(
+    config: &Config<'_>,
+    salt: &[u8],
+    tag: &[u8],
+    text: &mut [u8],
+) -> Result<(), Refusal>
+    requires { length salt.now < 2 ^ 32 }
+    ensures { let written = text_of (spelled_of config.now salt.now tag.now) in
+        WritesWhere ((length tag.now ≡ config.now.hash_length) × (length written < length text.old))
+        (padded (length text.old) written) text.old text.new result }
+{
     if tag.len() != config.hash_length as usize {
         return Err(Refusal::WrongLength);
     }
-    if text.len() as u64 <= text_len(&config, salt.len() as u32) {
+    let len = text_len(config, salt.len() as u32);
+    // `<=`, since a zero has to fit behind the text.
+    if text.len() as u64 <= len {
         return Err(Refusal::WrongLength);
     }
-    let encoded = encode_string(alloc, &accepted_context(config, &[], salt), tag)?;
-    write_text(encoded.as_str(), text)
+    let (written, rest) = text.split_at_mut(len as usize);
+    write_encoded(config, salt, tag, written);
+    rest.fill(0);
+    Ok(())
 }

@@ -1,21 +1,27 @@
 //! A job as C keeps it: H0 and the numbers that the blocks and the tag depend on.
 
-ghost use Rattle.std.specs.Prelude.{◌≡◌, ◌*◌, MatchResult, None, Some};
+ghost use Rattle.std.specs.Prelude.{◌≡◌, ◌*◌, ℕ, List, MatchResult, None, Some};
+ghost use Rattle.argon2.specs.ConfigType.{Config};
+ghost use Rattle.argon2.specs.Faults.{IsSomeItem};
+ghost use Rattle.argon2.specs.Grammar.{IsItem};
 ghost use Rattle.argon2.specs.Jobs.{IsJob, setting_of_context};
-ghost use Rattle.argon2_c.specs.Jobs.{MakesJob, MakesStoredJob, is_out_of_bounds, job_of, setting_at, setting_of_job};
+ghost use Rattle.argon2.specs.Stored.{IsStoredConfig};
+ghost use Rattle.argon2.specs.Texts.{spelled_with};
+ghost use Rattle.argon2_c.specs.Jobs.{MakesJob, MakesStoredJob, WritesStoredJob, is_out_of_bounds, job_of, setting_at, setting_of_job};
 ghost use Rattle.argon2_c.specs.Settings.{config_of, version_of};
 ghost use Rattle.argon2_c.specs.declared.refusal.Refusal.TheVariants.{NoJob};
 
+use crate::reading::read_items;
 use crate::refusal::Refusal;
 use crate::settings::Settings;
-use crate::stored_text::text_of;
+use crate::stored_text::head_of;
 use argon2::parts::common::{MAX_LANES, MIN_HASH_LENGTH, MIN_TIME};
 use argon2::parts::context::{Context, Job};
-use argon2::parts::stored::{accepted_text, config_of, stored_context};
+use argon2::parts::encoding::Head;
+use argon2::parts::stored::{config_of_numbers, refusal};
 use argon2::{Variant, Version};
 use argon2_memory::job::job_of_setting;
-use argon2_settings::context::prehash_of_context;
-use std::alloc::Global;
+use argon2_settings::context::{accepted_context, prehash_of_context};
 
 /// The most blocks that one of the four slices has, since a memory cost fits 32 bits.
 const MAX_BLOCKS_IN_SLICE: u64 = 0x3FFF_FFFF;
@@ -146,30 +152,53 @@ pub fn make(
     }
 }
 
-/// Writes the job that a stored text is verified by, and its hash, to a buffer of the hash's
-/// length. A text that is not UTF-8 is `NotUtf8`, one that spells nothing `DecodingFail`; then what
-/// it spells is judged, and last the buffer. On a refusal both are as they were.
+/// Writes the job that a stored text is verified by, and its salt and its hash, to buffers of their
+/// lengths. It refuses as `read` does; then what the text spells is judged, and last the buffers. On
+/// a refusal all are as they were.
 pub fn make_stored(
-    alloc: Global,
     text: &[u8],
     pwd: &[u8],
     secret: &[u8],
     ad: &[u8],
     job: &mut LentJob,
+    salt: &mut [u8],
     hash: &mut [u8],
 ) -> Result<(), Refusal>
     ensures { MakesStoredJob text.now pwd.now secret.now ad.now
-        (record { job = job.old; hash = hash.old }) (record { job = job.new; hash = hash.new })
-        result }
+        (record { job = job.old; items = record { salt = salt.old; hash = hash.old } })
+        (record { job = job.new; items = record { salt = salt.new; hash = hash.new } }) result }
 {
-    let text = text_of(text)?;
-    let stored = accepted_text(alloc, text, pwd.len() as u64, secret, ad)?;
-    if hash.len() != stored.hash.len() {
-        return Err(Refusal::WrongLength);
+    match head_of(text) {
+        Ok(head) => make_of_head(&head, pwd, secret, ad, job, salt, hash),
+        Err(refusal) => Err(refusal),
     }
-    // Nothing is written before all was judged, so that a refusal leaves both as they were.
-    let config = config_of(&stored, secret, ad);
-    *job = LentJob::of(&stored_context(&stored, &config, pwd));
-    hash.copy_from_slice(&stored.hash);
+}
+
+/// Writes the job that a text with this head is verified by, and its salt and its hash.
+fn make_of_head(
+    head: &Head<'_>,
+    pwd: &[u8],
+    secret: &[u8],
+    ad: &[u8],
+    job: &mut LentJob,
+    salt: &mut [u8],
+    hash: &mut [u8],
+) -> Result<(), Refusal>
+    requires salt_item { IsSomeItem head.now.salt.now }
+    requires hash_item { IsSomeItem head.now.hash.now }
+    ensures { (s h : List ℕ) (config : Config) → IsItem head.now.salt.now s
+        → IsItem head.now.hash.now h → let d = spelled_with head.now s h in
+        IsStoredConfig d secret.now ad.now config
+        → WritesStoredJob pwd.now d config
+        (record { job = job.old; items = record { salt = salt.old; hash = hash.old } })
+        (record { job = job.new; items = record { salt = salt.new; hash = hash.new } }) result }
+{
+    if let Some(error) = refusal(head, pwd.len() as u64, secret, ad) {
+        return Err(Refusal::Library(error));
+    }
+    // Nothing is written before all was judged, so that a refusal leaves all as it was.
+    read_items(head, salt, hash)?;
+    let config = config_of_numbers(&head.numbers(), secret, ad);
+    *job = LentJob::of(&accepted_context(config, pwd, salt));
     Ok(())
 }

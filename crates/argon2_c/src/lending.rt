@@ -4,16 +4,16 @@
 ghost use Rattle.std.specs.Prelude.{◌≡◌, ℕ, List, []};
 ghost use Rattle.std.specs.Borrow.{Bor};
 ghost use Rattle.argon2_c.specs.Jobs.{Begins, Fills, Finishes, MakesJob, MakesStoredJob, Verifies, WritesTagText, setting_of_job};
+ghost use Rattle.argon2_c.specs.Over.{HashesJob, JudgesJob};
 ghost use Rattle.argon2_c.specs.Refusal.{IsCodeOf};
-ghost use Rattle.argon2_c.specs.Runs.{EveryRunGivesTheTag, EveryRunGivesTheVerdict};
+ghost use Rattle.argon2_c.specs.Runs.{EveryRunGivesTheTag, EveryRunGivesTheVerdict, OneCallGivesTheTag, OneCallGivesTheVerdict};
 ghost use Rattle.argon2_c.specs.Settings.{config_of};
 
 use crate::jobs::LentJob;
 use crate::refusal::{code_of, code_of_verdict};
 use crate::settings::Settings;
-use crate::{encoding, jobs, steps};
+use crate::{encoding, jobs, over, steps};
 use argon2::parts::block::Block;
-use std::alloc::Global;
 
 /// Judges the settings and writes the job of a password: H0 and the numbers of its blocks. On a
 /// refusal `job` is as it was.
@@ -32,23 +32,23 @@ pub extern "C" fn proved_argon2_job_make(
     code_of(&jobs::make(pwd, salt, secret, ad, settings, job))
 }
 
-/// Writes the job that a stored text is verified by, and the text's hash, to a buffer of its
-/// length. On a refusal both are as they were.
+/// Writes the job that a stored text is verified by, and the text's salt and hash, to buffers of
+/// their lengths. On a refusal all are as they were.
 #[unsafe(no_mangle)]
 pub extern "C" fn proved_argon2_job_read(
-    alloc: Global,
     text: &[u8],
     pwd: &[u8],
     secret: &[u8],
     ad: &[u8],
     job: &mut LentJob,
+    salt: &mut [u8],
     hash: &mut [u8],
 ) -> u32
     ensures { IsCodeOf (MakesStoredJob text.now pwd.now secret.now ad.now
-        (record { job = job.old; hash = hash.old }) (record { job = job.new; hash = hash.new }))
-        result }
+        (record { job = job.old; items = record { salt = salt.old; hash = hash.old } })
+        (record { job = job.new; items = record { salt = salt.new; hash = hash.new } })) result }
 {
-    code_of(&jobs::make_stored(alloc, text, pwd, secret, ad, job, hash))
+    code_of(&jobs::make_stored(text, pwd, secret, ad, job, salt, hash))
 }
 
 /// Writes a lane's first two blocks into its segment of slice 0, whatever stands there.
@@ -101,11 +101,41 @@ pub extern "C" fn proved_argon2_job_verify(
     code_of_verdict(&steps::verify(job, last, hash, tag))
 }
 
+/// Writes the tag of a job to a buffer of its length, computed over just the job's blocks, whatever
+/// stands in them: all steps in one call. On a refusal both are as they were.
+#[unsafe(no_mangle)]
+pub extern "C" fn proved_argon2_job_hash_over(
+    job: &LentJob,
+    blocks: &mut [Block],
+    out: &mut [u8],
+) -> u32
+    ensures { IsCodeOf (HashesJob (setting_of_job job.now) job.now.hash_length
+        (record { blocks = blocks.old; tag = out.old })
+        (record { blocks = blocks.new; tag = out.new })) result }
+{
+    code_of(&over::hash_job(job, blocks, out))
+}
+
+/// Returns 0 only where a hash is the tag of a job, and 64 only where it is not. The tag is then in
+/// `tag`.
+#[unsafe(no_mangle)]
+pub extern "C" fn proved_argon2_job_verify_over(
+    job: &LentJob,
+    blocks: &mut [Block],
+    hash: &[u8],
+    tag: &mut [u8],
+) -> u32
+    ensures { IsCodeOf (JudgesJob (setting_of_job job.now) job.now.hash_length hash.now
+        (record { blocks = blocks.old; tag = tag.old })
+        (record { blocks = blocks.new; tag = tag.new })) result }
+{
+    code_of_verdict(&over::verify_job(job, blocks, hash, tag))
+}
+
 /// Writes the text of a given tag and then zeros to `text`, which has more bytes than the text. On
 /// a refusal `text` is as it was.
 #[unsafe(no_mangle)]
 pub extern "C" fn proved_argon2_encode(
-    alloc: Global,
     salt: &[u8],
     settings: &Settings,
     tag: &[u8],
@@ -115,13 +145,15 @@ pub extern "C" fn proved_argon2_encode(
         → IsCodeOf (WritesTagText (config_of settings.now secret ad) salt.now tag.now text.old
         text.new) result }
 {
-    code_of(&encoding::encode(alloc, salt, settings, tag, text))
+    code_of(&encoding::encode(salt, settings, tag, text))
 }
 
 /// Whatever the order of the lanes within each slice, and also at the same time: where each step of
 /// a hash answered 0, what is finished then is the tag, and what is verified is whether a hash is
-/// it. It does nothing when it runs.
+/// it. The calls that take all steps in one order answer the same. It does nothing when it runs.
 pub fn any_order_of_steps()
     ensures tag { EveryRunGivesTheTag }
     ensures verdict { EveryRunGivesTheVerdict }
+    ensures one_call { OneCallGivesTheTag }
+    ensures one_call_verdict { OneCallGivesTheVerdict }
 {}

@@ -1,46 +1,41 @@
-//! A C face of `argon2`: the calls that hash and verify in the caller's thread, for C.
+//! A C face of `argon2`: what is proved for C. It takes no memory, keeps no state and starts no
+//! thread; the caller lends all that is written to.
 //!
 //! A call that may refuse returns one number: 0, or that of the refusal. `include/proved_argon2.h`
 //! is the header, and docs/C.md says how to build and link. In C a slice is a pointer and then a
-//! length, and `alloc` is no argument.
+//! length.
 #![tactic(auto)]
 
-ghost use Rattle.std.specs.Prelude.{◌≡◌, ℕ, List};
+ghost use Rattle.std.specs.Prelude.{◌≡◌, ℕ, List, []};
 ghost use Rattle.std.specs.Borrow.{Bor};
-ghost use Rattle.argon2_c.specs.Answers.{IsTextLength, JudgesRaw, JudgesText, WritesHashText, WritesMessage, WritesTag};
-ghost use Rattle.argon2_c.specs.Reading.{ComparesSettings, ReadsText};
+ghost use Rattle.argon2_c.specs.Answers.{IsTextLength, WritesMessage};
+ghost use Rattle.argon2_c.specs.Limits.{limits_of};
+ghost use Rattle.argon2_c.specs.Over.{HashesOver, JudgesOver, memory_len_of};
+ghost use Rattle.argon2_c.specs.Reading.{ComparesSettings, ReadsBytes, ReadsText, ReadsTextWithin};
 ghost use Rattle.argon2_c.specs.Refusal.{IsCodeOf};
 ghost use Rattle.argon2_c.specs.Settings.{config_of};
 
 mod buffer;
 mod encoding;
-mod hashing;
 mod jobs;
-mod keeping;
-mod kept;
 mod lending;
 mod limits;
+mod over;
 mod reading;
 mod recommended;
 mod refusal;
 mod settings;
 mod steps;
 mod stored_text;
-mod verifying;
 
-use argon2::parts::memory::{Memory, release};
+use argon2::parts::block::Block;
 pub use jobs::LentJob;
-pub use keeping::{
-    proved_argon2_hash_encoded_in, proved_argon2_hash_raw_in, proved_argon2_memory_free,
-    proved_argon2_verify_encoded_in, proved_argon2_verify_raw_in,
-};
-pub use kept::KeptMemory;
 pub use lending::{
     any_order_of_steps, proved_argon2_encode, proved_argon2_job_begin, proved_argon2_job_fill,
-    proved_argon2_job_finish, proved_argon2_job_make, proved_argon2_job_read,
-    proved_argon2_job_verify,
+    proved_argon2_job_finish, proved_argon2_job_hash_over, proved_argon2_job_make,
+    proved_argon2_job_read, proved_argon2_job_verify, proved_argon2_job_verify_over,
 };
-pub use limits::{Limits, proved_argon2_default_limits, proved_argon2_verify_encoded_within};
+pub use limits::{Limits, proved_argon2_default_limits};
 pub use reading::Stored;
 pub use recommended::{
     proved_argon2_owasp1, proved_argon2_owasp2, proved_argon2_owasp3, proved_argon2_owasp4,
@@ -48,109 +43,92 @@ pub use recommended::{
 };
 use refusal::{code_of, code_of_verdict};
 pub use settings::Settings;
-use std::alloc::Global;
 
-/// Writes the tag of a password (RFC 9106, 3.2) to `out`, which has `settings.hash_length` bytes.
-/// On a refusal `out` is as it was.
+/// Writes the tag of a password (RFC 9106, 3.2) to `out`, which has `settings.hash_length` bytes,
+/// computed over just the blocks of the settings, whatever stands in them. On a refusal both are as
+/// they were.
 #[unsafe(no_mangle)]
-pub extern "C" fn proved_argon2_hash_raw(
-    alloc: Global,
+pub extern "C" fn proved_argon2_hash_over(
     pwd: &[u8],
     salt: &[u8],
     secret: &[u8],
     ad: &[u8],
     settings: &Settings,
+    blocks: &mut [Block],
     out: &mut [u8],
 ) -> u32
-    ensures { IsCodeOf (WritesTag (config_of settings.now secret.entry ad.entry) pwd.now salt.now
-        out.old out.new) result }
+    ensures { IsCodeOf (HashesOver (config_of settings.now secret.entry ad.entry) pwd.now salt.now
+        (record { blocks = blocks.old; tag = out.old })
+        (record { blocks = blocks.new; tag = out.new })) result }
 {
-    let mut memory = Memory::empty(alloc);
-    let answer = hashing::hash_raw(alloc, &mut memory, pwd, salt, secret, ad, settings, out);
-    release(memory);
-    code_of(&answer)
-}
-
-/// Writes the text of a password's hash and then zeros to `text`, which has more bytes than the
-/// text. On a refusal `text` is as it was.
-#[unsafe(no_mangle)]
-pub extern "C" fn proved_argon2_hash_encoded(
-    alloc: Global,
-    pwd: &[u8],
-    salt: &[u8],
-    secret: &[u8],
-    ad: &[u8],
-    settings: &Settings,
-    text: &mut [u8],
-) -> u32
-    ensures { IsCodeOf (WritesHashText (config_of settings.now secret.entry ad.entry) pwd.now
-        salt.now text.old text.new) result }
-{
-    let mut memory = Memory::empty(alloc);
-    let answer = hashing::hash_encoded(alloc, &mut memory, pwd, salt, secret, ad, settings, text);
-    release(memory);
-    code_of(&answer)
+    code_of(&over::hash(pwd, salt, secret, ad, settings, blocks, out))
 }
 
 /// Returns 0 only where `hash` is the tag of a password, and 64 only where it is not;
-/// `settings.hash_length` is not looked at.
+/// `settings.hash_length` is not looked at. The tag is then in `tag`, which has the length of
+/// `hash`.
 #[unsafe(no_mangle)]
-pub extern "C" fn proved_argon2_verify_raw(
-    alloc: Global,
+pub extern "C" fn proved_argon2_verify_over(
     pwd: &[u8],
     salt: &[u8],
     secret: &[u8],
     ad: &[u8],
     settings: &Settings,
+    blocks: &mut [Block],
     hash: &[u8],
+    tag: &mut [u8],
 ) -> u32
-    ensures { IsCodeOf (JudgesRaw (config_of settings.now secret.entry ad.entry) pwd.now salt.now
-        hash.now) result }
+    ensures { IsCodeOf (JudgesOver (config_of settings.now secret.entry ad.entry) pwd.now salt.now
+        hash.now (record { blocks = blocks.old; tag = tag.old })
+        (record { blocks = blocks.new; tag = tag.new })) result }
 {
-    let mut memory = Memory::empty(alloc);
-    let verdict = verifying::verify_raw(alloc, &mut memory, pwd, salt, secret, ad, settings, hash);
-    release(memory);
-    code_of_verdict(&verdict)
-}
-
-/// Returns 0 only where a stored text is the hash of a password with this secret and this
-/// associated data, and 64 only where it is not.
-#[unsafe(no_mangle)]
-pub extern "C" fn proved_argon2_verify_encoded(
-    alloc: Global,
-    text: &[u8],
-    pwd: &[u8],
-    secret: &[u8],
-    ad: &[u8],
-) -> u32
-    ensures { IsCodeOf (JudgesText text.now pwd.now secret.now ad.now) result }
-{
-    let mut memory = Memory::empty(alloc);
-    let verdict = verifying::verify_encoded(alloc, &mut memory, text, pwd, secret, ad);
-    release(memory);
-    code_of_verdict(&verdict)
+    code_of_verdict(&over::verify(pwd, salt, secret, ad, settings, blocks, hash, tag))
 }
 
 /// Writes what a stored text spells to `stored`, and verifies nothing. On a refusal `stored` is as
 /// it was.
 #[unsafe(no_mangle)]
-pub extern "C" fn proved_argon2_read(alloc: Global, text: &[u8], stored: &mut Stored) -> u32
+pub extern "C" fn proved_argon2_read(text: &[u8], stored: &mut Stored) -> u32
     ensures { IsCodeOf (ReadsText text.now stored.old stored.new) result }
 {
-    code_of(&reading::read(alloc, text, stored))
+    code_of(&reading::read(text, stored))
+}
+
+/// `proved_argon2_read` for a text that asks for no more than the limits. Returns 69 only where the
+/// text spells a number above its limit.
+#[unsafe(no_mangle)]
+pub extern "C" fn proved_argon2_read_within(
+    text: &[u8],
+    limits: &Limits,
+    stored: &mut Stored,
+) -> u32
+    ensures { IsCodeOf (ReadsTextWithin (limits_of limits.now) text.now stored.old stored.new)
+        result }
+{
+    code_of(&reading::read_within(text, limits, stored))
+}
+
+/// Writes the salt and the hash of a stored text to buffers of their lengths. On a refusal both are
+/// as they were.
+#[unsafe(no_mangle)]
+pub extern "C" fn proved_argon2_read_bytes(text: &[u8], salt: &mut [u8], hash: &mut [u8]) -> u32
+    ensures { IsCodeOf (ReadsBytes text.now (record { salt = salt.old; hash = hash.old })
+        (record { salt = salt.new; hash = hash.new })) result }
+{
+    code_of(&reading::read_bytes(text, salt, hash))
 }
 
 /// Returns 0 only where a stored text was made with these settings, whatever its salt is, and 68
 /// only where it was made with others.
 #[unsafe(no_mangle)]
-pub extern "C" fn proved_argon2_needs_rehash(alloc: Global, text: &[u8], settings: &Settings) -> u32
+pub extern "C" fn proved_argon2_needs_rehash(text: &[u8], settings: &Settings) -> u32
     ensures { (secret ad : Bor (List ℕ))
         → IsCodeOf (ComparesSettings (config_of settings.now secret ad) text.now) result }
 {
-    code_of(&reading::needs_rehash(alloc, text, settings))
+    code_of(&reading::needs_rehash(text, settings))
 }
 
-/// The length of the text that `proved_argon2_hash_encoded` writes, without the zero behind it, or
+/// The length of the text that `proved_argon2_encode` writes, without the zero behind it, or
 /// 0 where no variant or no version has the given number, since no text has that length.
 #[unsafe(no_mangle)]
 pub extern "C" fn proved_argon2_encoded_len(settings: &Settings, salt_len: u32) -> u64
@@ -158,6 +136,16 @@ pub extern "C" fn proved_argon2_encoded_len(settings: &Settings, salt_len: u32) 
         (config_of settings.now secret ad) salt_len result }
 {
     settings.encoded_len(salt_len)
+}
+
+/// How many bytes the blocks of these settings have, 1,024 each, or 0 where no call with these
+/// settings is accepted. No length of an input is judged.
+#[unsafe(no_mangle)]
+pub extern "C" fn proved_argon2_memory_len(settings: &Settings) -> u64
+    ensures { (secret ad : Bor (List ℕ)) → secret.now ≡ [] → ad.now ≡ []
+        → result ≡ memory_len_of (config_of settings.now secret ad) }
+{
+    settings.memory_len()
 }
 
 /// Writes the text of the refusal of a number and then zeros to `text`, which has more bytes than

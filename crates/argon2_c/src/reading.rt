@@ -1,17 +1,22 @@
 //! Looking at a stored text without verifying it.
 
-ghost use Rattle.std.specs.Prelude.{◌≡◌, ℕ, List, length};
+ghost use Rattle.std.specs.Prelude.{◌≡◌, ℕ, List, OnOk};
 ghost use Rattle.std.specs.Borrow.{Bor};
-ghost use Rattle.argon2.specs.Texts.{spelled_by};
-ghost use Rattle.argon2_c.specs.Reading.{ComparesSettings, ReadsText, comparison_of, held, stored_of};
+ghost use Rattle.argon2.specs.Grammar.{IsItem};
+ghost use Rattle.argon2.specs.Text.{Spelled};
+ghost use Rattle.argon2.specs.Texts.{numbers_of};
+ghost use Rattle.argon2_text.specs.Views.Faults.{IsSomeItem};
+ghost use Rattle.argon2_c.specs.Answers.{WritesWhere};
+ghost use Rattle.argon2_c.specs.Limits.{limits_of};
+ghost use Rattle.argon2_c.specs.Reading.{AreLengths, ComparesSettings, Items, ReadsBytes, ReadsText, ReadsTextWithin, held, stored_of};
 ghost use Rattle.argon2_c.specs.Settings.{config_of};
 
+use crate::limits::Limits;
 use crate::refusal::Refusal;
 use crate::settings::Settings;
-use crate::stored_text::text_of;
-use argon2::parts::decoded::Decoded;
-use argon2::parts::encoding::decode_string;
-use std::alloc::Global;
+use crate::stored_text::head_of;
+use argon2::parts::stored::{Numbers, agrees, is_above};
+use argon2_text::encoding::{Head, item_len, read_hash, read_salt};
 
 /// What a stored text spells, in numbers.
 #[repr(C)]
@@ -25,66 +30,111 @@ pub struct Stored {
 }
 
 impl Stored {
-    /// The numbers of what a text spells.
-    fn of(decoded: &Decoded) -> Stored
-        ensures { result ≡ stored_of (spelled_by decoded.now) }
+    /// What a text with these numbers spells.
+    fn of(numbers: &Numbers) -> Stored
+        ensures { (d : Spelled) → numbers.now ≡ numbers_of d → result ≡ stored_of d }
     {
         Stored {
             settings: Settings {
-                variant: decoded.variant.as_u32(),
-                version: decoded.version.as_u32(),
-                mem_cost: decoded.mem_cost,
-                time_cost: decoded.time_cost,
-                lanes: decoded.parallelism,
-                hash_length: held_len(&decoded.hash),
+                variant: numbers.variant.as_u32(),
+                version: numbers.version.as_u32(),
+                mem_cost: numbers.mem_cost,
+                time_cost: numbers.time_cost,
+                lanes: numbers.parallelism,
+                hash_length: held_len(numbers.hash_len),
             },
-            salt_length: held_len(&decoded.salt),
+            salt_length: held_len(numbers.salt_len),
         }
     }
 }
 
 /// A length as far as a field of 32 bits holds it. A longer one is told as the greatest, since only
 /// a text of 5 GiB has one, which verifying refuses.
-fn held_len(bytes: &[u8]) -> u32
-    ensures { result ≡ held (length bytes.now) }
+fn held_len(len: u64) -> u32
+    ensures { result ≡ held len }
 {
-    bytes.len().min(u32::MAX as usize) as u32
+    len.min(u64::from(u32::MAX)) as u32
 }
 
 /// Writes what a stored text spells. A text that is not UTF-8 is `NotUtf8`, one that spells nothing
-/// `DecodingFail`; where memory is refused: `OutOfMemory`. On a refusal `stored` is as it was.
-pub fn read(alloc: Global, text: &[u8], stored: &mut Stored) -> Result<(), Refusal>
+/// `DecodingFail`. On a refusal `stored` is as it was.
+pub fn read(text: &[u8], stored: &mut Stored) -> Result<(), Refusal>
     ensures { ReadsText text.now stored.old stored.new result }
 {
-    match text_of(text) {
-        Ok(text) => {
-            *stored = Stored::of(&decode_string(alloc, text)?);
+    match head_of(text) {
+        Ok(head) => {
+            *stored = Stored::of(&head.numbers());
             Ok(())
         }
         Err(refusal) => Err(refusal),
     }
 }
 
-/// Whether a stored text was made with these settings: `Ok` where it was, `NeedsRehash` where it
-/// was not. The numbers of the settings are looked at first; then it refuses as `read` does.
-pub fn needs_rehash(alloc: Global, text: &[u8], settings: &Settings) -> Result<(), Refusal>
-    ensures { (secret ad : Bor (List ℕ))
-        → ComparesSettings (config_of settings.now secret ad) text.now result }
+/// Writes what a stored text spells, where it spells no number above its limit; else it is
+/// `TooCostly`. It refuses as `read` does before.
+pub fn read_within(text: &[u8], limits: &Limits, stored: &mut Stored) -> Result<(), Refusal>
+    ensures { ReadsTextWithin (limits_of limits.now) text.now stored.old stored.new result }
 {
-    let config = settings.config(&[], &[])?;
-    match text_of(text) {
-        Ok(text) => comparison(argon2::needs_rehash(alloc, text, &config)),
+    match head_of(text) {
+        Ok(head) => {
+            let numbers = head.numbers();
+            if is_above(&numbers, &limits.of_library()) {
+                return Err(Refusal::TooCostly);
+            }
+            *stored = Stored::of(&numbers);
+            Ok(())
+        }
         Err(refusal) => Err(refusal),
     }
 }
 
-/// Whether settings differ, as one answer with no truth value beside it, since C gets one number.
-fn comparison(differs: argon2::Result<bool>) -> Result<(), Refusal>
-    ensures { result ≡ comparison_of differs }
+/// Writes the salt and the hash of a stored text to buffers of their lengths. It refuses as `read`
+/// does; another length of a buffer is `WrongLength`. On a refusal both are as they were.
+pub fn read_bytes(text: &[u8], salt: &mut [u8], hash: &mut [u8]) -> Result<(), Refusal>
+    ensures { ReadsBytes text.now (record { salt = salt.old; hash = hash.old })
+        (record { salt = salt.new; hash = hash.new }) result }
 {
-    if differs? {
-        Err(Refusal::NeedsRehash)
-    } else {
-        Ok(())
+    match head_of(text) {
+        Ok(head) => read_items(&head, salt, hash),
+        Err(refusal) => Err(refusal),
+    }
+}
+
+/// Writes the salt and the hash of a text with this head to buffers of their lengths.
+pub fn read_items(head: &Head<'_>, salt: &mut [u8], hash: &mut [u8]) -> Result<(), Refusal>
+    requires salt_item { IsSomeItem head.now.salt.now }
+    requires hash_item { IsSomeItem head.now.hash.now }
+    ensures items { OnOk result (IsItem head.now.salt.now salt.new
+        × IsItem head.now.hash.now hash.new) }
+    ensures answer { (s h : List ℕ) → IsItem head.now.salt.now s → IsItem head.now.hash.now h
+        → let items : Items = record { salt = s; hash = h } in
+        let old : Items = record { salt = salt.old; hash = hash.old } in
+        WritesWhere (AreLengths items old) items old (record { salt = salt.new; hash = hash.new })
+        result }
+{
+    if salt.len() as u64 != item_len(head.salt) || hash.len() as u64 != item_len(head.hash) {
+        return Err(Refusal::WrongLength);
+    }
+    read_salt(head.salt, salt);
+    read_hash(head.hash, hash);
+    Ok(())
+}
+
+/// Whether a stored text was made with these settings: `Ok` where it was, `NeedsRehash` where it
+/// was not. The numbers of the settings are looked at first; then it refuses as `read` does.
+pub fn needs_rehash(text: &[u8], settings: &Settings) -> Result<(), Refusal>
+    ensures { (secret ad : Bor (List ℕ))
+        → ComparesSettings (config_of settings.now secret ad) text.now result }
+{
+    let config = settings.config(&[], &[])?;
+    match head_of(text) {
+        Ok(head) => {
+            if agrees(&head.numbers(), &config) {
+                Ok(())
+            } else {
+                Err(Refusal::NeedsRehash)
+            }
+        }
+        Err(refusal) => Err(refusal),
     }
 }

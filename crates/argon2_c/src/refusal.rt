@@ -3,13 +3,12 @@
 ghost use Rattle.std.specs.Prelude.{◌≡◌, IfSome};
 ghost use Rattle.argon2.specs.ErrorType.{Error};
 ghost use Rattle.argon2_c.specs.Answers.{WritesMessage, judgement_of};
-ghost use Rattle.argon2_c.specs.Limits.{refusal_from};
 ghost use Rattle.argon2_c.specs.Refusal.{code_of, library_number, message_of, number_of};
 ghost use Rattle.argon2_c.specs.declared.refusal.Refusal.{Refusal};
 ghost use Rattle.argon2_c.specs.declared.refusal.Refusal.TheVariants.{Library};
 
 use crate::buffer::write_text;
-use argon2::{Error, Unverified};
+use argon2::Error;
 
 /// Why a C call was refused.
 #[derive(Debug, Drop, PartialEq)]
@@ -50,17 +49,6 @@ impl From<Error> for Refusal {
 
     fn from(error: Error) -> Refusal {
         Refusal::Library(error)
-    }
-}
-
-impl From<Unverified> for Refusal {
-    ghost from_gives = { λ unverified refusal. refusal ≡ refusal_from unverified };
-
-    fn from(unverified: Unverified) -> Refusal {
-        match unverified {
-            Unverified::TooCostly => Refusal::TooCostly,
-            Unverified::Refused(error) => Refusal::Library(error),
-        }
     }
 }
 

@@ -1,11 +1,15 @@
 //! The settings of a hash in numbers, as C passes them.
 
-ghost use Rattle.std.specs.Prelude.{◌≡◌, ℕ, List, Ok};
+ghost use Rattle.std.specs.Prelude.{◌≡◌, ℕ, List, [], Ok};
 ghost use Rattle.std.specs.Borrow.{Bor};
+ghost use Rattle.argon2.specs.SettingsTable.{refusal_of};
 ghost use Rattle.argon2_c.specs.Answers.{IsTextLength};
+ghost use Rattle.argon2_c.specs.Over.{memory_len_of};
 ghost use Rattle.argon2_c.specs.Settings.{config_of};
 
-use argon2::{Config, ThreadMode, Variant, Version};
+use argon2::parts::common::{MIN_SALT_LENGTH, SYNC_POINTS};
+use argon2::parts::context::first_refusal;
+use argon2::{Config, Error, ThreadMode, Variant, Version};
 
 /// The settings of a hash: all that a tag depends on except the password, the salt, the secret and
 /// the associated data.
@@ -53,6 +57,18 @@ impl Settings {
         })
     }
 
+    /// How many bytes the blocks of a hash with these settings have, or 0 where no call with them is
+    /// accepted. No length of an input is judged.
+    pub fn memory_len(&self) -> u64
+        ensures { (secret ad : Bor (List ℕ)) → secret.now ≡ [] → ad.now ≡ []
+            → result ≡ memory_len_of (config_of self.now secret ad) }
+    {
+        match self.config(&[], &[]) {
+            Ok(config) => memory_len(&config),
+            Err(_) => 0,
+        }
+    }
+
     /// The length of the text of a hash with a salt of this length, or 0 where the settings have no
     /// configuration.
     pub fn encoded_len(&self, salt_len: u32) -> u64
@@ -64,6 +80,27 @@ impl Settings {
             Err(_) => 0,
         }
     }
+}
+
+/// The bytes of the blocks of a configuration, or 0 where the settings table refuses it.
+fn memory_len(config: &Config<'_>) -> u64
+    ensures { result ≡ memory_len_of (Ok config.now) }
+{
+    match refused(config, u64::from(MIN_SALT_LENGTH)) {
+        Some(_) => 0,
+        None => {
+            let segments = SYNC_POINTS * config.lanes;
+            1024 * u64::from(segments * (config.mem_cost / segments))
+        }
+    }
+}
+
+/// The first refusal of the settings table for a salt of this length and a hash of the settings'
+/// own. An empty password stands for any, since none is too short.
+pub fn refused(config: &Config<'_>, salt_len: u64) -> Option<Error>
+    ensures { result ≡ refusal_of config.now 0 salt_len config.now.hash_length }
+{
+    first_refusal(config, 0, salt_len, u64::from(config.hash_length))
 }
 
 /// The length of the text of a hash by a configuration, with a salt of this length.

@@ -2,9 +2,26 @@
 
 ghost use Rattle.std.specs.Prelude.{◌≡◌, IsUtf8, MatchResult, bit_or};
 ghost use Rattle.std.specs.List.{fold};
+ghost use Rattle.argon2_c.specs.Heads.{HasHead, HasNone};
 ghost use Rattle.argon2_c.specs.declared.refusal.Refusal.TheVariants.{NotUtf8};
 
 use crate::refusal::Refusal;
+use argon2::Error;
+use argon2_text::encoding::{Head, spelling_of};
+
+/// The head of a stored text. Bytes that are not UTF-8 are `NotUtf8`, a text that spells nothing is
+/// `DecodingFail`.
+pub fn head_of(bytes: &[u8]) -> Result<Head<'_>, Refusal>
+    ensures { MatchResult result (HasHead bytes.now) (HasNone bytes.now) }
+{
+    match text_of(bytes) {
+        Ok(text) => match spelling_of(text) {
+            Some(head) => Ok(head),
+            None => Err(Refusal::Library(Error::DecodingFail)),
+        },
+        Err(refusal) => Err(refusal),
+    }
+}
 
 /// The text of some bytes. Bytes that are not UTF-8 are `NotUtf8`.
 ///

@@ -26,8 +26,10 @@ use argon2_blocks::common::{BLOCK_SIZE, PREHASH_DIGEST_LENGTH, PREHASH_SEED_LENG
 use argon2_memory::job::{
     Job, numbered_job, prehash_of_job, recall_context, recall_job, slice_count,
 };
-use argon2_memory::memory::{Memory, Slices, memory_of_slices, recall_memory, take_slices};
-use argon2_memory::segment::{Segment, Snapshot, fill_segment, others, take_slice};
+use argon2_memory::memory::{
+    Memory, Slices, memory_of_slices, others, recall_memory, take_slice, take_slices,
+};
+use argon2_memory::segment::{Segment, Snapshot, fill_segment};
 use argon2_settings::context::Context;
 use argon2_standard::error::Error;
 use argon2_standard::result::Result;

@@ -9,6 +9,7 @@ ghost use Rattle.argon2_memory.specs.Views.Beside.{lent_blocks};
 ghost use Rattle.argon2_memory.specs.Views.Lent.{AreLent, FillsLent, HoldsSlice};
 ghost use Rattle.argon2_memory.specs.Views.Segments.{IsReady};
 ghost use Rattle.argon2_fill.specs.Laws.Lent.{EveryLentRunAgrees};
+ghost use Rattle.argon2_standard.specs.Standard.Setting.{memory_blocks};
 ghost use Rattle.argon2_standard.specs.Standard.Tag.{last_blocks, tag_from, tag_of};
 
 use crate::fill::{write_first_blocks, write_tag};
@@ -185,13 +186,14 @@ fn combine_last_lent(job: &Job, slice: &[Block], out: &mut Block)
     }
 }
 
-/// Writes the tag, where slice 3 holds the blocks of the last pass: the hash of the last blocks of
-/// all lanes, combined (RFC 9106, 3.2, steps 7 and 8).
+/// Writes the hash of the last blocks of all lanes, combined (RFC 9106, 3.2, steps 7 and 8): the
+/// tag, where slice 3 holds the blocks of the last pass.
 pub fn finalize_lent(job: &Job, slice: &[Block], out: &mut [u8])
     requires slice_fits { length slice.now ≡ job.now.setting.lanes * job.now.setting.segment_length }
     requires some { 0 < length out.old }
     requires few { length out.old < 2 ^ 32 }
-    ensures { let s = job.now.setting in HoldsSlice s (s.passes - 1) 3 slice.now
+    ensures hash { out.new ≡ tag_from (last_lent job.now.setting slice.now) (length out.old) }
+    ensures tag { let s = job.now.setting in HoldsSlice s (s.passes - 1) 3 slice.now
         → out.new ≡ tag_from (last_blocks s) (length out.old) }
 {
     recall_job(job);
@@ -200,8 +202,26 @@ pub fn finalize_lent(job: &Job, slice: &[Block], out: &mut [u8])
     write_tag(&mut block, out);
 }
 
-/// The tag of an accepted call, computed in the caller's thread over a memory that is lent whole,
-/// slice after slice. It takes no memory and always succeeds.
+/// The hash of a job, computed in the caller's thread over a memory that is lent whole, slice after
+/// slice: the tag of the length of `out`. The job's pass and slice are not looked at. It takes no
+/// memory and always succeeds.
+pub fn hash_lent_job(job: &Job, blocks: &mut [Block], out: &mut [u8])
+    requires blocks_fit { length blocks.old ≡ memory_blocks job.now.setting }
+    requires some { 0 < length out.old }
+    requires few { length out.old < 2 ^ 32 }
+    ensures { out.new ≡ tag_from (last_blocks job.now.setting) (length out.old) }
+{
+    recall_job(job);
+    let length = blocks.len() / SYNC_POINTS as usize;
+    let (first, rest) = blocks.split_at_mut(length);
+    let (second, rest) = rest.split_at_mut(length);
+    let (third, fourth) = rest.split_at_mut(length);
+    initialize_lent(job, first);
+    fill_lent(job, first, second, third, fourth);
+    finalize_lent(job, fourth, out);
+}
+
+/// The tag of an accepted call, as `hash_lent_job` computes it.
 #[tactic(auto, unfolding(argon2_standard::specs::Standard::SettingsTable::refusal_of))]
 pub fn hash_lent(context: &Context<'_>, blocks: &mut [Block], out: &mut [u8])
     requires blocks_fit { length blocks.old ≡ context.now.memory_blocks }
@@ -213,14 +233,7 @@ pub fn hash_lent(context: &Context<'_>, blocks: &mut [Block], out: &mut [u8])
     recall_context(context);
     // Read for its range, since the prover knows it only where it is read.
     let _hash_length = context.config.hash_length;
-    let job = Job::new(context);
-    let length = blocks.len() / SYNC_POINTS as usize;
-    let (first, rest) = blocks.split_at_mut(length);
-    let (second, rest) = rest.split_at_mut(length);
-    let (third, fourth) = rest.split_at_mut(length);
-    initialize_lent(&job, first);
-    fill_lent(&job, first, second, third, fourth);
-    finalize_lent(&job, fourth, out);
+    hash_lent_job(&Job::new(context), blocks, out);
 }
 
 /// Whatever the order of the fills of lanes within each slice, and also at the same time: where the

@@ -17,8 +17,8 @@ mod board;
 mod crew;
 
 use argon2_memory::job::{Job, numbered_job, recall_context, recall_job, slice_count};
-use argon2_memory::memory::{Memory, Slices, memory_of_slices, take_slices};
-use argon2_memory::segment::{Snapshot, others, take_slice};
+use argon2_memory::memory::{Memory, Slices, memory_of_slices, others, take_slice, take_slices};
+use argon2_memory::segment::Snapshot;
 use argon2_settings::context::{Context, recall_workers};
 use argon2_standard::error::Error;
 use argon2_standard::result::Result;

@@ -1,4 +1,5 @@
--- How the types and the steps of the code look to contracts. No clause of a root call uses them.
+-- How the types and the steps of the code look to contracts. No clause of a root call in Rattle uses them; those of the
+-- calls that C makes over lent blocks do.
 pub mod Jobs
 pub mod Positions
 pub mod Segments

@@ -1,6 +1,7 @@
 //! The matrix of blocks, as four slices of segments.
 
-ghost use Rattle.std.specs.Prelude.{◌≡◌, ◌*◌, ◌%◌, ◌^◌, ◌<◌, [], IfOk, map, replicate, slice_index_or, ◌+◌, ◌/◌, ◌≤◌, IfErr, length};
+ghost use Rattle.std.specs.Prelude.{◌≡◌, ◌*◌, ◌%◌, ◌^◌, ◌<◌, [], IfOk, map, replicate, slice_index_or, slice_set, ◌+◌, ◌/◌, ◌≤◌, IfErr, length};
+ghost use Rattle.std.specs.List.{remove};
 ghost use Rattle.argon2_memory.specs.Views.Memories.{wiped_memory, wiped_segment, slice_writes, writes_in, zero_segment, AreSlices, IsMemory, MemoryValue, block_of, no_memory, segment_in, set_in, writes, zero_memory};
 ghost use Rattle.argon2_memory.specs.Views.SliceLists.{segments_of};
 
@@ -17,6 +18,32 @@ use std::{fmt, mem};
 /// Four slices, each with a segment for each lane. They are apart, so that one can be moved out and
 /// written while the others are read, in one thread or in many.
 pub type Slices = [Vec<Segment>; 4];
+
+/// Moves a slice out, and leaves an empty one in its place. No block is copied.
+pub fn take_slice(slices: &mut Slices, slice: u32) -> Vec<Segment>
+    requires { slice < 4 }
+    ensures taken { result.items ≡ slice_index_or (segments_of slices.old) slice [] }
+    ensures left { segments_of slices.new ≡ slice_set (segments_of slices.old) slice [] }
+{
+    let slice = slice as usize;
+    // An empty vector takes no memory, so nothing can be refused.
+    let alloc = *slices[slice].allocator();
+    mem::replace(&mut slices[slice], Vec::new(alloc))
+}
+
+/// The slices beside one, in rising order.
+pub fn others(slices: &Slices, slice: u32) -> [&[Segment]; 3]
+    requires { slice < 4 }
+    ensures { map (λ s. s.now) result ≡ remove (segments_of slices.now) slice }
+{
+    let all = &slices[..];
+    match slice {
+        0 => [all[1].as_slice(), all[2].as_slice(), all[3].as_slice()],
+        1 => [all[0].as_slice(), all[2].as_slice(), all[3].as_slice()],
+        2 => [all[0].as_slice(), all[1].as_slice(), all[3].as_slice()],
+        _ => [all[0].as_slice(), all[1].as_slice(), all[2].as_slice()],
+    }
+}
 
 /// Asks for the room of a whole matrix at once, and gives it back. A system that grants more memory
 /// than it has refuses one request that it can never meet. In parts it may grant the same amount,

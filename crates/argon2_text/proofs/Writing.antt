@@ -1,2 +1,4 @@
--- How long a written text is.
+-- How a text is written, and how long it is.
+pub mod Placing
+pub mod TextBytes
 pub mod TextLengths

@@ -1,5 +1,8 @@
 //! What an encoded text spells.
 
+ghost use Rattle.std.specs.Prelude.{◌≡◌};
+
+use crate::numbers::Numbers;
 use argon2_standard::variant::Variant;
 use argon2_standard::version::Version;
 
@@ -27,4 +30,23 @@ pub struct Decoded {
 
     /// The bytes of the hash.
     pub hash: Vec<u8>,
+}
+
+impl Decoded {
+    ghost use Rattle.argon2_text.specs.Views.Texts.{numbers_of, spelled_by};
+
+    /// The value with the lengths of its salt and its hash in place of their bytes.
+    pub fn numbers(&self) -> Numbers
+        ensures { result ≡ numbers_of (spelled_by self.now) }
+    {
+        Numbers {
+            variant: self.variant,
+            version: self.version,
+            mem_cost: self.mem_cost,
+            time_cost: self.time_cost,
+            parallelism: self.parallelism,
+            salt_len: self.salt.len() as u64,
+            hash_len: self.hash.len() as u64,
+        }
+    }
 }

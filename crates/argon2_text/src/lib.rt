@@ -3,3 +3,4 @@
 
 pub mod decoded;
 pub mod encoding;
+pub mod numbers;

@@ -18,11 +18,11 @@ use Rattle.argon2_text.specs.Views.Faults.{Refuses}
 use Rattle.argon2_standard.specs.Standard.Prehash.{prehash_of, setting_of}
 use Rattle.argon2_standard.specs.Standard.Stored.{Agrees, Differs}
 use Rattle.argon2_standard.specs.Standard.SettingsTable.{refusal_of}
-use Rattle.argon2.specs.Views.StoredTexts.{IsAccepted, IsConfigOf, max_workers}
+use Rattle.argon2.specs.Views.StoredTexts.{IsAccepted, IsAccepting, IsConfigOf, max_workers}
 use Rattle.argon2_standard.specs.Standard.Stored.{IsStoredConfig}
 use Rattle.argon2_standard.specs.Standard.Tag.{tag_of}
 use Rattle.argon2_standard.specs.Standard.Text.{Spelled}
-use Rattle.argon2_text.specs.Views.Texts.{IsSpellingOf, spelled_by, spelled_with}
+use Rattle.argon2_text.specs.Views.Texts.{IsSpelledBy, IsSpellingOf, spelled_by, spelled_with}
 use Rattle.argon2_standard.specs.Standard.Outcome.{IsVerdict}
 use Rattle.argon2_settings.proofs.Settings.Accepted as settings
 use Rattle.argon2_text.proofs.Reading.TextItems.{item_unique}
@@ -122,12 +122,30 @@ refusal_told text h pwd_len secret ad refusal d config told s spells stored =
     let here = told config s.0 s.1 s.2.salt_item s.2.hash_item (subst (λ (v : Spelled). IsStoredConfig v secret ad config) same stored) in
     subst (λ (v : Spelled). refusal ≡ refusal_of config pwd_len (length v.salt) (length v.hash)) (sym same) here
 
--- where a text's head is refused, that refusal is the outcome for each value it spells
-pub text_refused : (text : List ℕ) (h : Head) (pwd_len : ℕ) (secret ad : List ℕ) (refusal : Option Error) (d : Spelled) (config : Config) (e : Error)
+-- the head of a spelling is that of any value of the text
+spelled_again : (text : List ℕ) (h : Head) (d : Spelled) → IsSpellingOf text h → Spells text d → IsSpelledBy text h d.salt d.hash
+spelled_again text h d s spells =
+    subst (λ (v : Spelled). IsSpelledBy text h v.salt v.hash) (sym (spelled_at text h d s spells)) s.2
+
+-- where a text's head is refused, that refusal is the answer for each value it spells
+pub head_refused : (text : List ℕ) (h : Head) (pwd_len : ℕ) (secret ad : List ℕ) (refusal : Option Error) (d : Spelled) (config : Config) (e : Error)
     → RefusesHead h pwd_len secret ad refusal → IsSpellingOf text h → refusal ≡ Some e → Spells text d → IsStoredConfig d secret ad config
-    → IsOutcome (refusal_of config pwd_len (length d.salt) (length d.hash)) false (λ (stored : Decoded). spelled_by stored ≡ d) (Err e)
-text_refused text h pwd_len secret ad refusal d config e told s some spells stored =
+    → IsAccepting (refusal_of config pwd_len (length d.salt) (length d.hash)) (λ (head : Head). IsSpelledBy text head d.salt d.hash) (Err e)
+head_refused text h pwd_len secret ad refusal d config e told s some spells stored =
     rw (sym (refusal_told text h pwd_len secret ad refusal d config told s spells stored), some) refl
+
+-- where it is not, the head is the answer
+pub head_accepted : (text : List ℕ) (h : Head) (pwd_len : ℕ) (secret ad : List ℕ) (refusal : Option Error) (d : Spelled) (config : Config)
+    → RefusesHead h pwd_len secret ad refusal → IsSpellingOf text h → refusal ≡ None → Spells text d → IsStoredConfig d secret ad config
+    → IsAccepting (refusal_of config pwd_len (length d.salt) (length d.hash)) (λ (head : Head). IsSpelledBy text head d.salt d.hash) (Ok h)
+head_accepted text h pwd_len secret ad refusal d config told s none spells stored =
+    rw (sym (refusal_told text h pwd_len secret ad refusal d config told s spells stored), none) (spelled_again text h d s spells)
+
+-- what is refused without memory is refused with memory
+pub refused_too : {A B : Type 0} (refusal : Option Error) (P : A → Type 0) (Q : B → Type 0) (e : Error) → IsAccepting refusal P (Err e)
+    → IsOutcome refusal false Q (Err e)
+refused_too None P Q e h = absurd h
+refused_too (Some r) P Q e h = cc h
 
 -- what is decoded of a head and its items is the value that they spell, or memory was refused
 decoded_value : (h : Head) (salt hash : List ℕ) (d : Spelled) (r : Result Decoded Error) → IsItem h.salt.now salt → IsItem h.hash.now hash
@@ -140,25 +158,14 @@ decoded_value h salt hash d (Ok x) a b is settings items memory =
     settings ∙ ap (λ s. spelled_with h s x.hash.items) same_salt ∙ ap (λ s. spelled_with h salt s) same_hash ∙ sym is
 decoded_value h salt hash d (Err e) a b is settings items memory = memory
 
--- where a text's head is not refused, its value is decoded or memory was refused
-pub text_decoded : (text : List ℕ) (h : Head) (pwd_len : ℕ) (secret ad : List ℕ) (refusal : Option Error) (d : Spelled) (config : Config)
-    (r : Result Decoded Error)
-    → RefusesHead h pwd_len secret ad refusal → IsSpellingOf text h → refusal ≡ None → Spells text d → IsStoredConfig d secret ad config
+-- where a text's head is accepted, its value is decoded or memory was refused
+pub text_decoded : (text : List ℕ) (h : Head) (refusal : Option Error) (d : Spelled) (r : Result Decoded Error)
+    → IsAccepting refusal (λ (head : Head). IsSpelledBy text head d.salt d.hash) (Ok h) → Spells text d
     → IfOk r (λ x. spelled_by x ≡ spelled_with h x.salt.items x.hash.items) → IfOk r (λ x. IsItem h.salt.now x.salt.items × IsItem h.hash.now x.hash.items)
-    → IfErr r (λ e. e ≡ OutOfMemory) → IsOutcome (refusal_of config pwd_len (length d.salt) (length d.hash)) false (λ
-    (stored : Decoded). spelled_by stored ≡ d) r
-text_decoded text h pwd_len secret ad refusal d config r told s none spells stored settings items memory =
-    rw (sym (refusal_told text h pwd_len secret ad refusal d config told s spells stored), none)
-    (decoded_value h s.0 s.1 d r s.2.salt_item s.2.hash_item (spelled_at text h d s spells) settings items memory)
-
--- what was decoded behind a head that is not refused is accepted
-pub head_accepted : (h : Head) (pwd_len : ℕ) (secret ad : List ℕ) (refusal : Option Error) (r : Result Decoded Error)
-    → RefusesHead h pwd_len secret ad refusal → refusal ≡ None
-    → IfOk r (λ x. spelled_by x ≡ spelled_with h x.salt.items x.hash.items) → IfOk r (λ x. IsItem h.salt.now x.salt.items × IsItem h.hash.now x.hash.items)
-    → IfOk r (λ stored. IsAccepted (spelled_by stored) pwd_len secret ad)
-head_accepted h pwd_len secret ad refusal (Ok x) told none settings items = λ config is.
-    sym (told config x.salt.items x.hash.items items.0 items.1 (subst (λ (v : Spelled). IsStoredConfig v secret ad config) settings is)) ∙ none
-head_accepted h pwd_len secret ad refusal (Err e) told none settings items = tt
+    → IfErr r (λ e. e ≡ OutOfMemory) → IsOutcome refusal false (λ (stored : Decoded). spelled_by stored ≡ d) r
+text_decoded text h None d r is spells settings items memory =
+    decoded_value h d.salt d.hash d r is.salt_item is.hash_item (spells_one text d (spelled_with h d.salt d.hash) spells is.spells) settings items memory
+text_decoded text h (Some e) d r is spells settings items memory = absurd (cc is)
 
 -- the configuration of an accepted value has the hash's own length, and is accepted
 pub own_length : (d : Spelled) (pwd_len : ℕ) (secret ad : List ℕ) (used : Config) → IsAccepted d pwd_len secret ad → IsConfigOf d secret ad used

@@ -1,5 +1,6 @@
 -- The configuration that a stored text is verified with.
-use Rattle.std.specs.Prelude.{◌≡◌, ℕ, List, None, length, min, nat_lt, if◌then◌else◌}
+use Rattle.std.specs.Prelude.{◌≡◌, ℕ, List, Option, None, Some, Result, Ok, Err, length, min, nat_lt, if◌then◌else◌}
+use Rattle.argon2_standard.specs.declared.error.Error.{Error}
 use Rattle.argon2_standard.specs.declared.config.Config.{Config}
 use Rattle.argon2_standard.specs.declared.thread_mode.ThreadMode.TheVariants.{AtMost, Sequential}
 use Rattle.argon2_standard.specs.Standard.SettingsTable.{max_length, refusal_of}
@@ -10,6 +11,12 @@ use Rattle.argon2_standard.specs.Standard.Stored.{IsStoredConfig}
 abbrev pub IsAccepted : Spelled → ℕ → List ℕ → List ℕ → Type 0
 IsAccepted d pwd_len secret ad = (config : Config) → IsStoredConfig d secret ad config
     → refusal_of config pwd_len (length d.salt) (length d.hash) ≡ None
+
+-- the refusal, where there is one; else a value for which P holds
+abbrev pub IsAccepting : {A : Type 0} → Option Error → (A → Type 0) → Result A Error → Type 0
+IsAccepting (Some refusal) P result = result ≡ Err refusal
+IsAccepting None P (Ok value) = P value
+IsAccepting None P (Err e) = ⊥
 
 -- how many workers a stored text may ask for
 abbrev pub max_workers : ℕ

@@ -18,8 +18,8 @@ use argon2_fill::workers::{
     Board, Claim, Event, Filled, NoGate, Permit, Place, board_of, fill_slice, fill_slice_with,
 };
 use argon2_memory::job::{Job, recall_context, recall_job};
-use argon2_memory::memory::{Memory, Slices, take_slices};
-use argon2_memory::segment::{Segment, Snapshot, others};
+use argon2_memory::memory::{Memory, Slices, others, take_slices};
+use argon2_memory::segment::{Segment, Snapshot};
 use argon2_settings::context::Context;
 use argon2_standard::config::Config;
 use argon2_standard::error::Error;

@@ -1,7 +1,7 @@
 -- Blocks that are made, with zeros behind them.
 use Rattle.std.proofs.Common.{◌≡◌, ℕ, zero, suc, ◌<◌, Bool, List, [], ◌∷◌, ◌++◌, length, set, get_or, refl, ap, ◌∙◌, arith}
-use Rattle.argon2_memory.specs.declared.segment.Source.{Source}
-use Rattle.argon2_memory.specs.declared.segment.Source.TheVariants.{Own, Other}
+use Rattle.argon2_memory.specs.declared.segment.counted.Source.{Source}
+use Rattle.argon2_memory.specs.declared.segment.counted.Source.TheVariants.{Own, Other}
 use Rattle.argon2_standard.specs.Standard.Recurrence.{made_block}
 use Rattle.argon2_memory.specs.Views.Sources.{source_block, IsBefore}
 

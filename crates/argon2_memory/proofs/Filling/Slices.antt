@@ -10,7 +10,7 @@ use Rattle.std.proofs.Math.Nat.{div-lt_iff_lt-mul}
 use Rattle.std.proofs.lemmas.List.Edits.{get_or-remove_above, get_or-remove_below, length-remove}
 use Rattle.std.specs.List.{remove}
 use Rattle.std.proofs.lemmas.List.{map-set}
-use Rattle.argon2_memory.specs.declared.segment.Segment.{Segment}
+use Rattle.argon2_memory.specs.declared.segment.counted.Segment.{Segment}
 use Rattle.argon2_memory.specs.Views.SliceLists.{segments_of}
 use Rattle.argon2_memory.specs.Views.Jobs.{Job, IsJob}
 use Rattle.argon2_memory.specs.Views.Segments.{SegmentValue, segment_at, segment_block}

@@ -1,5 +1,5 @@
 -- The slices beside the one that is filled, whatever their blocks hold, and a fill over them.
-use Rattle.std.specs.Prelude.{◌≡◌, ◌≢◌, ℕ, ◌*◌, ◌<◌, ◌≤◌, Bool, true, false, List, [], ◌++◌, length, map, slice_index_or, take, drop}
+use Rattle.std.specs.Prelude.{◌≡◌, ◌≢◌, ℕ, ◌*◌, ◌<◌, List, [], length, map, slice_index_or, take, drop}
 use Rattle.std.specs.Borrow.{Bor}
 use Rattle.std.specs.List.{range_with_len, remove}
 use Rattle.argon2_standard.specs.Standard.Setting.{Setting}
@@ -20,14 +20,9 @@ abbrev pub IsPicked : Job → ℕ → ℕ → ℕ × ℕ → Type 0
 IsPicked j lane index reference = (word : ℕ) × (reference ≡ pick_of j lane index word)
 
 -- where the other slices hold their blocks, a segment that was filled up to the first index is filled up
--- to the end; `rest` is what stands behind the blocks that are made
-abbrev pub FillsOn : SnapshotValue → ℕ → ℕ → ℕ → List (List ℕ) → List (List ℕ) → Type 0
-FillsOn v lane first end old new =
-    (rest : List (List ℕ)) → IsSnapshot v → IsFilledTo v.job lane first (old ++ rest) → IsFilledTo v.job lane end (new ++ rest)
-
--- from an index on the blocks are as they were
-abbrev pub IsSameFrom : ℕ → List (List ℕ) → List (List ℕ) → Type 0
-IsSameFrom end old new = (k : ℕ) → end ≤ k → slice_index_or new k [] ≡ slice_index_or old k []
+-- to the end
+abbrev pub FillsOn : SnapshotValue → ℕ → ℕ → ℕ → SegmentValue → SegmentValue → Type 0
+FillsOn v lane first end old new = IsSnapshot v → IsFilledTo v.job lane first old.blocks → IsFilledTo v.job lane end new.blocks
 
 -- the blocks of a lane in a slice that is lent, lane after lane
 abbrev pub lent_blocks : Setting → List (List ℕ) → ℕ → List (List ℕ)
@@ -41,11 +36,6 @@ lent_slice s blocks = map (lent_segment s blocks) (range_with_len 0 s.lanes)
 
 abbrev pub lent_slices : Setting → List (Bor (List (List ℕ))) → List (List SegmentValue)
 lent_slices s others = map (λ (o : Bor (List (List ℕ))). lent_slice s o.now) others
-
--- the segments of four slices, wherever they are
-abbrev pub slices_of : Bool → Setting → List (Bor (List SegmentValue)) → List (Bor (List (List ℕ))) → List (List SegmentValue)
-slices_of true s segments blocks = lent_slices s blocks
-slices_of false s segments blocks = map (λ (o : Bor (List SegmentValue)). o.now) segments
 
 -- the slices by their numbers, where the first of the others stands in for the job's own
 pub record IsAround (j : Job) (slices : List (List SegmentValue)) : Type 0 where

@@ -1,7 +1,7 @@
 -- The block that a source names.
 use Rattle.std.specs.Prelude.{ℕ, ◌+◌, ◌%◌, ◌^◌, ◌<◌, List, [], slice_index_or, slice_set}
-use Rattle.argon2_memory.specs.declared.segment.Source.{Source}
-use Rattle.argon2_memory.specs.declared.segment.Source.TheVariants.{Own, Other}
+use Rattle.argon2_memory.specs.declared.segment.counted.Source.{Source}
+use Rattle.argon2_memory.specs.declared.segment.counted.Source.TheVariants.{Own, Other}
 use Rattle.argon2_memory.specs.Views.Segments.{SegmentValue}
 
 -- one of the segment's own blocks, or the one that is lent

@@ -8,6 +8,7 @@ use argon2::parts::context::Context;
 use argon2::parts::encoding::decode_string;
 use argon2::parts::fill::{fill_parallel_with, finalize, initialize, prepare_memory};
 use argon2::parts::memory::Memory;
+use argon2::parts::stored::config_of;
 use argon2::{
     Config, Error, ThreadMode, Variant, Version, hash_encoded_sequential, verify_encoded,
 };
@@ -118,13 +119,12 @@ fn refuses_a_fill_with_any_start_missing(rt: HostRuntime) -> std::result::Result
 #[test]
 fn starts_sixteen_workers_for_twenty_lanes(rt: HostRuntime) -> std::result::Result<(), Fail> {
     let alloc = rt.alloc();
-    let config = Config {
-        thread_mode: ThreadMode::AtMost(16),
-        ..small(Variant::Argon2id, Version::Version13, 20)
-    };
+    let config = small(Variant::Argon2id, Version::Version13, 20);
     let text = hash_encoded_sequential(alloc, b"password", b"somesalt", &config)?;
     let stored = decode_string(alloc, text.as_str())?;
-    let Ok(context) = Context::new(config, b"password", b"somesalt") else {
+    let verified_with = config_of(&stored, &[], &[]);
+    assert_eq!(rt; verified_with.thread_mode, ThreadMode::AtMost(16));
+    let Ok(context) = Context::new(verified_with, b"password", b"somesalt") else {
         return Err(Fail::from("the settings are accepted"));
     };
     let permit = Asked {

@@ -1,12 +1,11 @@
 -- The sums of letters are those of base64, and a text without faults is the base64 of the bytes that are read of it.
-use Rattle.std.proofs.Common.{◌≡◌, ℕ, zero, suc, ◌+◌, ◌*◌, ◌/◌, ◌%◌, ◌<◌, ◌==◌, Bool, true, false, not, ◌||◌, ◌&&◌, ◌≤◌, nat_lt, List, [], ◌∷◌, ◌++◌, length, get_or, slice_index, refl, sym, ap, ◌∙◌, arith, inl, inr}
+use Rattle.std.proofs.Common.{◌≡◌, ℕ, zero, suc, ◌+◌, ◌*◌, ◌/◌, ◌%◌, ◌<◌, ◌==◌, not, ◌||◌, ◌&&◌, ◌≤◌, nat_lt, List, [], ◌∷◌, ◌++◌, length, get_or, slice_index, refl, sym, ap, ◌∙◌, arith, inl, inr}
 use Rattle.std.specs.Prelude.{◌↔◌, if◌then◌else◌}
 use Rattle.std.proofs.Common.{Result, Ok, Err}
 use Rattle.std.specs.Result.{OnOk, is_ok}
 use Rattle.std.proofs.lemmas.Bool.{and_parts, eqb-true, eq-eqb, ltb-true, or_cases, not-true}
 use Rattle.std.proofs.lemmas.List.{append-nil}
 use Rattle.base64.specs.Rfc4648.{encode_symbols}
-use Rattle.base64.specs.Tables.{all_below}
 use Rattle.base64.specs.Engines.{standard_no_pad}
 use Rattle.base64.specs.GeneralPurpose.{IsBytes, engine_symbols}
 use Rattle.base64.proofs.EngineFacts.{IsAscii-encode_of, encode_of-append}
@@ -16,7 +15,7 @@ use Rattle.std.specs.Str.{IsAscii}
 use Rattle.argon2_standard.specs.Standard.Grammar.{IsItem}
 use Rattle.argon2_standard.specs.Standard.Text.{base64}
 use Rattle.argon2_text.specs.Views.Faults.{IsSomeItem}
-use Rattle.argon2_text.specs.Views.Letters.{bits_of, bytes_read, fault_of, faults_of, first_byte, letter_of, reaches, second_byte, third_byte}
+use Rattle.argon2_text.specs.Views.Letters.{bits_of, bytes_read, fault_of, faults_of, first_byte, letter_of, second_byte, third_byte}
 
 -- the 64 letters
 abbrev pub alphabet : List ℕ

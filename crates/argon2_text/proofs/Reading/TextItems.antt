@@ -1,12 +1,20 @@
 -- base64 of bytes: no `$`, one text for each, and its length.
 use Rattle.std.proofs.Common.{◌≡◌, ◌≢◌, Bool, false, ℕ, zero, suc, List, [], ◌∷◌, ◌++◌, length, get_or, take, drop}
-use Rattle.std.proofs.Common.{refl, sym, ap, ◌∙◌, arith}
+use Rattle.std.proofs.Common.{refl, sym, ap, ◌∙◌, arith, subst, Option, None, Some, Result, Ok, ◌*◌, ◌≤◌, ◌/◌, nat_lt}
+use Rattle.base64.specs.Decode.{IsWrittenOver, or_else, groups_before_last, groups_error, lone_error, suffix_error, decode_error, decoded_bytes, decode_slice_result}
+use Rattle.base64.specs.declared.decode.DecodeError.{DecodeError}
+use Rattle.base64.specs.declared.decode.DecodeSliceError.{DecodeSliceError}
+use Rattle.base64.specs.declared.engine.general_purpose.GeneralPurpose.{GeneralPurpose}
+use Rattle.base64.specs.declared.engine.DecodePaddingMode.{DecodePaddingMode}
+use Rattle.base64.proofs.RoundTrip.{decode-encode}
+use Rattle.std.proofs.lemmas.Bool.{le-ltb}
 use Rattle.std.proofs.lemmas.List.{append-nil, take-append-drop}
+use Rattle.std.proofs.Math.ListN.{drop_of_length-le}
 use Rattle.base64.specs.Rfc4648.{encode_symbols, unpadded_len}
 use Rattle.base64.specs.Engines.{standard_no_pad}
-use Rattle.base64.specs.GeneralPurpose.{IsBytes, engine_symbols, decode_of}
+use Rattle.base64.specs.GeneralPurpose.{IsBytes, engine_symbols, decode_of, decode_slice_of, decoded_bytes_of}
 use Rattle.base64.proofs.EngineFacts.{decode_of-encode_of, front_bytes}
-use Rattle.std.specs.Prelude.{◌↔◌, IsTrue}
+use Rattle.std.specs.Prelude.{◌↔◌, IsTrue, OnOk}
 use Rattle.argon2_standard.specs.Standard.Text.{base64}
 use Rattle.argon2_standard.specs.Standard.Grammar.{Lacks, IsItem}
 use Rattle.argon2_text.specs.Views.Faults.{IsSomeItem}
@@ -70,3 +78,42 @@ take_bytes n bytes h = front_bytes (take n bytes) (drop n bytes) (rw (take-appen
 -- a text that is told to be no item is none
 pub no_item : (text : List ℕ) (told : Bool) → IsTrue told ↔ IsSomeItem text → told ≡ false → IsSomeItem text → ⊥
 no_item text told tells fails item = let t = sym fails ∙ tells.1 item in cc
+
+-- ---- the crate's decoding of an item
+
+-- two errors of which the first that there is counts are none where there is none
+no_errors : (x y : Option DecodeError) → or_else x y ≡ None → (x ≡ None) × (y ≡ None)
+no_errors None y e = (refl, e)
+no_errors (Some e) y none = absurd cc
+
+-- what decodes without an error fills a buffer of just its length
+slice_decoded : (dec s bytes : List ℕ) (pad : ℕ) (allow : Bool) (mode : DecodePaddingMode) (len : ℕ) → decode_error dec pad allow mode s ≡ None
+    → decoded_bytes dec pad s ≡ bytes → length bytes ≡ len → groups_before_last (length s) ≤ len / 3
+    → decode_slice_result dec pad allow mode s len ≡ Ok len
+slice_decoded dec s bytes pad allow mode len none is fits groups =
+    let groups_and_last = or_else (groups_error dec s (groups_before_last (length s)))
+    (suffix_error dec pad allow mode (4 * groups_before_last (length s)) s) in
+    let both = no_errors (lone_error dec pad s) groups_and_last none in
+    let room : nat_lt (len / 3) (groups_before_last (length s)) ≡ false = le-ltb (len / 3) (groups_before_last (length s)) groups in
+    let end : nat_lt len len ≡ false = le-ltb len len (omega arith) in
+    rw (both.0, room, both.1, is, fits, end) refl
+
+-- what the crate writes of an item to a buffer of just its length is its bytes
+pub item_filled : (text old new : List ℕ) (r : Result ℕ DecodeSliceError) → IsSomeItem text → length old ≡ 3 * length text / 4
+    → r ≡ decode_slice_of standard_no_pad text (length old) → OnOk r (IsWrittenOver (decoded_bytes_of standard_no_pad text) old new)
+    → (r ≡ Ok (length old)) × IsItem text new
+item_filled text old new r (bytes, item) fits value written =
+    let e : GeneralPurpose = standard_no_pad in
+    let letters : length text ≡ length (base64 bytes) = ap length item.encoded in
+    let len : length bytes ≡ length old = omega (arith, length-base64 bytes, letters, fits) in
+    let both = decode-encode e.encode_table e.decode_table bytes e.padding.value e.config.decode_allow_trailing_bits e.config.decode_padding_mode
+    e.config.encode_padding e.tables item.bytes_fit refl in
+    let none : decode_error e.decode_table e.padding.value e.config.decode_allow_trailing_bits e.config.decode_padding_mode text ≡ None =
+    rw item.encoded both.0 in
+    let is : decoded_bytes e.decode_table e.padding.value text ≡ bytes = rw item.encoded both.1 in
+    let ok : r ≡ Ok (length old) = value ∙ slice_decoded e.decode_table text bytes e.padding.value e.config.decode_allow_trailing_bits
+    e.config.decode_padding_mode (length old) none is len (omega (arith, letters, length-base64 bytes, len)) in
+    let put : new ≡ decoded_bytes_of e text ++ drop (length (decoded_bytes_of e text)) old = rw ok at written in
+    let rest : drop (length bytes) old ≡ [] = drop_of_length-le old (omega (arith, len)) in
+    let all : new ≡ bytes = rw (put, is, rest) (append-nil bytes) in
+    (ok, subst (λ (x : List ℕ). IsItem text x) (sym all) item)

@@ -21,7 +21,7 @@ length-name Argon2i = omega arith
 length-name Argon2id = omega arith
 
 -- the text of a version has two bytes
-length-version : (version : Version) → length (version_text version) ≡ 2
+pub length-version : (version : Version) → length (version_text version) ≡ 2
 length-version Version10 = refl
 length-version Version13 = refl
 

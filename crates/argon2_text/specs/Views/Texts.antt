@@ -1,9 +1,14 @@
 -- What the contracts of the text see of the code's values.
-use Rattle.std.specs.Prelude.{◌≡◌, ℕ, List, [], Option, option_map}
+use Rattle.std.specs.Prelude.{◌≡◌, ℕ, List, [], ◌++◌, Option, codes, length, option_map}
+use Rattle.std.specs.Fmt.{decimal}
 use Rattle.std.specs.Borrow.{Bor}
 use Rattle.argon2_text.specs.declared.encoding.reading.Pieces.{Pieces as PiecesInText}
 use Rattle.argon2_text.specs.declared.encoding.reading.Head.{Head}
 use Rattle.argon2_text.specs.declared.decoded.Decoded.{Decoded}
+use Rattle.argon2_text.specs.declared.numbers.Numbers.{Numbers}
+use Rattle.argon2_standard.specs.declared.config.Config.{Config}
+use Rattle.argon2_standard.specs.Standard.Variant.{lowercase_name}
+use Rattle.argon2_standard.specs.Standard.Version.{version_text}
 use Rattle.argon2_standard.specs.Standard.Grammar.{Pieces, IsHead, IsItem, Spells}
 use Rattle.argon2_text.specs.Views.Faults.{IsSplit}
 use Rattle.argon2_standard.specs.Standard.Text.{Spelled}
@@ -19,6 +24,24 @@ spelled_by d = record {
   salt = d.salt.items;
   hash = d.hash.items;
 }
+
+-- a value with the lengths of its salt and its hash in place of their bytes
+abbrev pub numbers_of : Spelled → Numbers
+numbers_of d = record {
+  variant = d.variant;
+  version = d.version;
+  mem_cost = d.mem_cost;
+  time_cost = d.time_cost;
+  parallelism = d.parallelism;
+  salt_len = length d.salt;
+  hash_len = length d.hash;
+}
+
+-- the written text up to the salt
+abbrev pub front_of : Config → List ℕ
+front_of c =
+    codes "$" ++ lowercase_name c.variant ++ codes "$v=" ++ version_text c.version ++ codes "$m=" ++ decimal c.mem_cost
+    ++ codes ",t=" ++ decimal c.time_cost ++ codes ",p=" ++ decimal c.lanes ++ codes "$"
 
 -- two parts of a text
 abbrev pub two_texts : Bor (List ℕ) × Bor (List ℕ) → List ℕ × List ℕ

@@ -1,6 +1,6 @@
 //! The length of an encoded text and of its pieces, in bytes.
 
-ghost use Rattle.std.specs.Prelude.{◌≡◌, ℕ, List, length};
+ghost use Rattle.std.specs.Prelude.{◌≡◌, ◌<◌, ◌^◌, ℕ, List, length};
 ghost use Rattle.std.specs.Fmt.{decimal};
 ghost use Rattle.base64.specs.Rfc4648.{unpadded_len};
 ghost use Rattle.argon2_standard.specs.Standard.Text.{base64, text_of};
@@ -12,13 +12,22 @@ use argon2_standard::variant::Variant;
 /// in both versions, so that no length depends on it.
 const FIXED_LEN: u64 = "$$v=19$m=,t=,p=$$".len() as u64;
 
+/// The length of the unpadded base64 of `len` bytes, by parts, since four times a length of a slice
+/// may not fit 64 bits.
+fn characters(len: u64) -> u64
+    requires { len < 2 ^ 63 }
+    ensures { result ≡ unpadded_len len }
+{
+    4 * (len / 3) + (4 * (len % 3) + 2) / 3
+}
+
 /// The length of the unpadded base64 (RFC 4648) of `len` bytes. It is in 64 bits, since four times
 /// a length may not fit 32.
 pub fn base64_len(len: u32) -> u64
     ensures value { result ≡ unpadded_len len }
     ensures exact { (bytes : List ℕ) → length bytes ≡ len → result ≡ length (base64 bytes) }
 {
-    (4 * u64::from(len) + 2) / 3
+    characters(u64::from(len))
 }
 
 /// The number of digits of the plain decimal of `number`.
@@ -56,9 +65,42 @@ pub fn encoded_len(
           hash = hash;
         })) }
 {
+    text_len(
+        variant,
+        mem_cost,
+        time_cost,
+        parallelism,
+        u64::from(salt_len),
+        u64::from(hash_len),
+    )
+}
+
+/// The length of a text whose hash may be longer than any that the settings table accepts.
+pub fn text_len(
+    variant: Variant,
+    mem_cost: u32,
+    time_cost: u32,
+    parallelism: u32,
+    salt_len: u64,
+    hash_len: u64,
+) -> u64
+    requires salt { salt_len < 2 ^ 32 }
+    requires hash { hash_len < 2 ^ 63 }
+    ensures { (version : Version) (salt hash : List ℕ) → length salt ≡ salt_len
+        → length hash ≡ hash_len
+        → result ≡ length (text_of (record {
+          variant = variant;
+          version = version;
+          mem_cost = mem_cost;
+          time_cost = time_cost;
+          parallelism = parallelism;
+          salt = salt;
+          hash = hash;
+        })) }
+{
     let name = variant.as_lowercase_str().len() as u64;
     let costs = u64::from(num_len(mem_cost))
         + u64::from(num_len(time_cost))
         + u64::from(num_len(parallelism));
-    FIXED_LEN + name + costs + base64_len(salt_len) + base64_len(hash_len)
+    FIXED_LEN + name + costs + characters(salt_len) + characters(hash_len)
 }

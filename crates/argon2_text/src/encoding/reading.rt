@@ -1,6 +1,6 @@
 //! The pieces of an encoded text, cut and read from left to right. Nothing here takes memory.
 
-ghost use Rattle.std.specs.Prelude.{◌≡◌, ◌≢◌, ◌<◌, ℕ, MatchOption, length, option_map, slice_index};
+ghost use Rattle.std.specs.Prelude.{◌≡◌, ◌≢◌, ◌<◌, ℕ, List, MatchOption, length, option_map, slice_index};
 ghost use Rattle.argon2_text.specs.Views.Cutting.{cut, piece, pieces_of, strip, version_piece};
 ghost use Rattle.argon2_text.specs.Views.Faults.{HasSplit, IsNoNumber, IsNoVersion};
 ghost use Rattle.argon2_standard.specs.Standard.Grammar.{IsNumber, IsVersion, SpellsNothing};
@@ -8,7 +8,8 @@ ghost use Rattle.argon2_text.specs.Views.Texts.{IsHeadOf, IsSpellingOf, pieces_v
 ghost use Rattle.argon2_standard.specs.Standard.Variant.{IsName};
 ghost use Rattle.argon2_standard.specs.Views.Names.{IsNoName};
 
-use crate::encoding::is_item;
+use crate::encoding::letters::{is_item, item_len};
+use crate::numbers::Numbers;
 use argon2_standard::variant::Variant;
 use argon2_standard::version::Version;
 
@@ -34,6 +35,28 @@ pub struct Head<'a> {
     pub parallelism: u32,
     pub salt: &'a str,
     pub hash: &'a str,
+}
+
+impl Head<'_> {
+    ghost use Rattle.argon2_standard.specs.Standard.Grammar.{IsItem};
+    ghost use Rattle.argon2_text.specs.Views.Texts.{numbers_of, spelled_with};
+
+    /// The head with the lengths of its salt and its hash, where these are items. It decodes none.
+    pub fn numbers(&self) -> Numbers
+        ensures { (salt hash : List ℕ) → IsItem self.now.salt.now salt
+            → IsItem self.now.hash.now hash
+            → result ≡ numbers_of (spelled_with self.now salt hash) }
+    {
+        Numbers {
+            variant: self.variant,
+            version: self.version,
+            mem_cost: self.mem_cost,
+            time_cost: self.time_cost,
+            parallelism: self.parallelism,
+            salt_len: item_len(self.salt),
+            hash_len: item_len(self.hash),
+        }
+    }
 }
 
 /// The head of a text that spells a value. It takes no memory.

@@ -1,22 +1,15 @@
--- The head of a text has the numbers of each value that the text spells.
-use Rattle.std.proofs.Common.{refl}
-use Rattle.std.proofs.lemmas.Option.{MatchOption-at_none, MatchOption-at_some}
-use Rattle.argon2_text.specs.Views.Texts.{IsSpellingOf}
-use Rattle.argon2.proofs.Verification.StoredTexts.{spelled_at, spells_some}
+use Rattle.std.proofs.Common.{◌≡◌, Ok, ap}
+use Rattle.argon2_text.specs.Views.Texts.{numbers_of}
 use Rattle.argon2.proofs.limits.is_too_costly.Goals as goal
 
-pub returns-in_err-head-clause-spelled : goal.returns-in_err-head-clause-spelled
-returns-in_err-head-clause-spelled c d spells =
-    let none = MatchOption-at_none _ (IsSpellingOf c.args.encoded.now) c.in_err-head.ensures.ok_part c.spelling_of.ensures in
-    absurd (none d spells)
+pub returns-in_err-numbers-clause-spelled : goal.returns-in_err-numbers-clause-spelled
+returns-in_err-numbers-clause-spelled c d spells = let no = c.in_err-numbers.ensures.spelled d spells in absurd cc
 
 pub returns-clause-unspelled : goal.returns-clause-unspelled
-returns-clause-unspelled c none =
-    let s = MatchOption-at_some _ (IsSpellingOf c.args.encoded.now) c.in_ok-head.head c.in_ok-head.ensures.ok_part c.spelling_of.ensures in
-    absurd (spells_some c.args.encoded.now c.in_ok-head.head s none)
+returns-clause-unspelled c none = let no = c.in_ok-numbers.ensures.unspelled none in absurd cc
 
 pub returns-clause-spelled : goal.returns-clause-spelled
 returns-clause-spelled c d spells =
-    let s = MatchOption-at_some _ (IsSpellingOf c.args.encoded.now) c.in_ok-head.head c.in_ok-head.ensures.ok_part c.spelling_of.ensures in
-    let same = spelled_at c.args.encoded.now c.in_ok-head.head d s spells in
-    rw (same, c.is_above.ensures) refl
+    let told = c.in_ok-numbers.ensures.spelled d spells in
+    let same : c.in_ok-numbers.numbers ≡ numbers_of d = cc in
+    ap Ok (c.is_above.ensures d same)

@@ -19,4 +19,5 @@ returns-in_err-stored-clause-spelled c d s =
 pub returns-clause-spelled : goal.returns-clause-spelled
 returns-clause-spelled c d s =
     let same = spells_one c.args.encoded.now (spelled_by c.in_ok-stored.stored) d c.in_ok-stored.ensures.spelled s in
-    not_agreeing (spelled_by c.in_ok-stored.stored) d c.args.config.now c.agrees.result same c.agrees.ensures
+    not_agreeing (spelled_by c.in_ok-stored.stored) d c.args.config.now c.agrees.result same
+    (c.agrees.ensures (spelled_by c.in_ok-stored.stored) c.numbers.ensures)

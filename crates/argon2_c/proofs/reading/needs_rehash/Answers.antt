@@ -1,16 +1,34 @@
--- The text that is compared is the one that was passed.
-use Rattle.std.proofs.Common.{sym, refl}
-use Rattle.argon2_c.proofs.Comparisons.{compared, compared_settings}
+-- What agrees with the configuration of no secret and no data agrees with that of any.
+use Rattle.std.proofs.Common.{Err, ap, ◌∙◌}
+use Rattle.std.proofs.lemmas.Result.{err_from_is_err_and}
+use Rattle.argon2.specs.Texts.{spelled_with}
+use Rattle.argon2_c.proofs.Heads.{by_head, no_head}
+use Rattle.argon2_c.proofs.Inputs.{agrees_with, agrees_without, no_inputs, other_inputs}
 use Rattle.argon2_c.proofs.reading.needs_rehash.Goals as goal
 
-pub returns-in-Ok : goal.returns-in-Ok
-returns-in-Ok c secret ad =
-    let text = c.in-Ok.ensures.cases in
+pub returns-in_err-config : goal.returns-in_err-config
+returns-in_err-config c secret ad =
+    let p = err_from_is_err_and c.from_residual.result c.from_residual.ensures.1 in
+    rw (no_inputs c.args.settings.now _ _ secret ad _ c.in_err-config.ensures) (p.1 ∙ ap Err p.2)
+
+pub returns-in-Err : goal.returns-in-Err
+returns-in-Err c secret ad =
+    rw (other_inputs c.args.settings.now _ _ secret ad c.in_ok-config.config c.in_ok-config.ensures)
+    (no_head c.args.text.now c.in-Err.refusal _ _ c.in-Err.ensures)
+
+pub returns-then-agrees : goal.returns-then-agrees
+returns-then-agrees c secret ad =
     let config = c.in_ok-config.config in
-    let unspelled = rw text.0 at c.needs_rehash.ensures.unspelled in
-    let spelled = rw text.0 at c.needs_rehash.ensures.spelled in
-    compared_settings c.args.settings.now _ _ secret ad config c.args.text.now c.comparison.result (sym c.in_ok-config.ensures) (record {
-      not_utf8 = λ no. absurd (no text.1);
-      unspelled = λ _ none. rw (c.comparison.ensures, unspelled none) refl;
-      spelled = λ _ d spells. rw c.comparison.ensures (compared d config c.needs_rehash.result (spelled d spells));
-    })
+    rw (other_inputs c.args.settings.now _ _ secret ad config c.in_ok-config.ensures)
+    (by_head c.args.text.now c.in-Ok.head _ _ _ _ c.in-Ok.ensures (λ salt hash s h.
+    let d = spelled_with c.in-Ok.head salt hash in
+    agrees_with d config secret ad ((c.agrees.ensures d (c.numbers.ensures salt hash s h)).0 c.if-agrees.true)))
+
+pub returns-else-agrees : goal.returns-else-agrees
+returns-else-agrees c secret ad =
+    let config = c.in_ok-config.config in
+    rw (other_inputs c.args.settings.now _ _ secret ad config c.in_ok-config.ensures)
+    (by_head c.args.text.now c.in-Ok.head _ _ _ _ c.in-Ok.ensures (λ salt hash s h same.
+    let d = spelled_with c.in-Ok.head salt hash in
+    let yes = (c.agrees.ensures d (c.numbers.ensures salt hash s h)).1 (agrees_without d config secret ad same) in
+    absurd (let no = c.if-agrees.false in cc)))

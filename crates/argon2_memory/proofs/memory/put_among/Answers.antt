@@ -1,6 +1,6 @@
 use Rattle.std.proofs.Common.{◌≡◌, List, [], map, length, get_or, set, arith, ap, sym, ◌∙◌, Vec, Global}
 use Rattle.std.proofs.lemmas.List.{map-set, get_or-map, get_or_default}
-use Rattle.argon2_memory.specs.declared.segment.Segment.{Segment}
+use Rattle.argon2_memory.specs.declared.segment.counted.Segment.{Segment}
 use Rattle.argon2_memory.specs.Views.Filling.{no_segment}
 use Rattle.argon2_memory.specs.Views.Memories.{segment_in}
 use Rattle.argon2_memory.specs.Views.Segments.{SegmentValue}

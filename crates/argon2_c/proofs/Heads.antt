@@ -1,0 +1,33 @@
+-- From the head of a text to what is said of the text.
+use Rattle.std.proofs.Common.{List, ℕ, Result, Err, ap, inl, inr, refl, subst, sym}
+use Rattle.argon2.specs.Grammar.{IsItem}
+use Rattle.argon2.specs.Text.{Spelled}
+use Rattle.argon2.specs.Texts.{spelled_with}
+use Rattle.argon2.proofs.Verification.StoredTexts.{spelled_at}
+use Rattle.argon2_text.specs.declared.encoding.reading.Head.{Head}
+use Rattle.argon2_c.specs.Answers.{OfText}
+use Rattle.argon2_c.specs.Heads.{HasHead, HasNone}
+use Rattle.argon2_c.specs.declared.refusal.Refusal.{Refusal}
+
+-- a text without a head is refused
+pub no_head : {A : Type 0} (text : List ℕ) (refusal : Refusal) (old : A) (Done : Spelled → Type 0) → HasNone text refusal
+    → OfText text old old (Err refusal) Done
+no_head text refusal old Done (inl (is, other)) = record {
+  not_utf8 = λ no. (ap Err is, refl);
+  unspelled = λ utf8 none. absurd (other utf8);
+  spelled = λ utf8 d s. absurd (other utf8);
+}
+no_head text refusal old Done (inr (is, utf8, none)) = record {
+  not_utf8 = λ no. absurd (no utf8);
+  unspelled = λ _ _. (ap Err is, refl);
+  spelled = λ _ d s. absurd (none d s);
+}
+
+-- what is done with any salt and hash behind a head is done with what the text spells
+pub by_head : {A : Type 0} (text : List ℕ) (h : Head) (old new : A) (answer : Result (Unit {0}) Refusal) (Done : Spelled → Type 0) → HasHead text h
+    → ((salt hash : List ℕ) → IsItem h.salt.now salt → IsItem h.hash.now hash → Done (spelled_with h salt hash)) → OfText text old new answer Done
+by_head text h old new answer Done (utf8, s) done = record {
+  not_utf8 = λ no. absurd (no utf8);
+  unspelled = λ _ none. absurd (none (spelled_with h s.0 s.1) s.2.spells);
+  spelled = λ _ d spells. subst Done (sym (spelled_at text h d s spells)) (done s.0 s.1 s.2.salt_item s.2.hash_item);
+}

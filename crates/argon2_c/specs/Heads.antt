@@ -1,0 +1,16 @@
+-- The head of a stored text: all that it spells before its salt and its hash, and these two as they are written there.
+use Rattle.std.specs.Prelude.{◌≡◌, ◌⊎◌, ℕ, List, IsUtf8}
+use Rattle.argon2.specs.ErrorType.TheVariants.{DecodingFail}
+use Rattle.argon2.specs.Grammar.{SpellsNothing}
+use Rattle.argon2.specs.Texts.{IsSpellingOf}
+use Rattle.argon2_text.specs.declared.encoding.reading.Head.{Head}
+use Rattle.argon2_c.specs.declared.refusal.Refusal.{Refusal}
+use Rattle.argon2_c.specs.declared.refusal.Refusal.TheVariants.{Library, NotUtf8}
+
+-- the text spells a value with this head
+abbrev pub HasHead : List ℕ → Head → Type 0
+HasHead text h = IsUtf8 text × IsSpellingOf text h
+
+-- why the text has no head
+abbrev pub HasNone : List ℕ → Refusal → Type 0
+HasNone text refusal = ((refusal ≡ NotUtf8) × (IsUtf8 text → ⊥)) ⊎ ((refusal ≡ Library DecodingFail) × IsUtf8 text × SpellsNothing text)

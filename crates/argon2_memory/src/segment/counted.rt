@@ -1,0 +1,280 @@
+//! The two kinds of segment: the blocks of one lane in one slice, in a memory or lent. Their fields
+//! are private to this file, so that no block of theirs is written uncounted.
+
+ghost use Rattle.std.specs.Prelude.{◌≡◌, ◌+◌, ◌%◌, ◌^◌, ◌<◌, ◌≤◌, [], IfOk, length, replicate, slice_index_or, slice_set, vec_capacity, vec_len};
+ghost use Rattle.argon2_blocks.specs.Standard.Block.{zero_block};
+ghost use Rattle.argon2_memory.specs.Views.Memories.{wiped_segment, zero_segment};
+ghost use Rattle.argon2_standard.specs.Standard.Recurrence.{made_block};
+ghost use Rattle.argon2_memory.specs.Views.Sources.{IsBefore, source_block, with_block};
+ghost use Rattle.argon2_memory.specs.Views.Made.{IsMadeInPart, with_zeros};
+
+use argon2_blocks::block::{Block, fill_block};
+use std::alloc::{AllocError, Global};
+use std::marker::Model;
+
+/// The blocks of one lane in one slice, and how many were written, modulo 2^64.
+///
+/// Blocks of zeros are made late, one ahead of those that are to be written, so that the thread
+/// that fills a segment is the first to touch most of its memory. That one is read in place of all
+/// later zeros.
+#[derive(Drop)]
+pub struct Segment {
+    blocks: Vec<Block>,
+    zeros: usize,
+    tally: u64,
+}
+
+impl Model for Segment {
+    ghost use Rattle.std.specs.Prelude.{vec_capacity, vec_len};
+    ghost use Rattle.argon2_memory.specs.Views.Segments.{SegmentValue};
+    ghost use Rattle.argon2_memory.specs.Views.Made.{IsMadeInPart, with_zeros};
+
+    ghost Value = { SegmentValue };
+
+    ghost view = { λ s. record { blocks = with_zeros s.blocks.items s.zeros; tally = s.tally } };
+
+    ghost invariant = { λ s. IsMadeInPart s.blocks.items (vec_len s.blocks)
+        (vec_capacity s.blocks) s.zeros };
+}
+
+/// A block that another is made from: one of the same segment, by its index, or any other.
+#[derive(Clone, Copy)]
+pub enum Source<'a> {
+    /// The block at this index of the segment that is written.
+    Own(usize),
+
+    /// Another block.
+    Other(&'a Block),
+}
+
+/// Makes blocks of zeros up to an index and, where there is one, the next, which is read in place
+/// of all zeros behind it.
+fn make_up_to(blocks: &mut Vec<Block>, zeros: &mut usize, index: usize)
+    requires in_part { IsMadeInPart blocks.old.items (vec_len blocks.old)
+        (vec_capacity blocks.old) zeros.old }
+    requires fits { index < vec_len blocks.old + zeros.old }
+    ensures same { with_zeros blocks.new.items zeros.new ≡ with_zeros blocks.old.items zeros.old }
+    ensures in_part { IsMadeInPart blocks.new.items (vec_len blocks.new)
+        (vec_capacity blocks.new) zeros.new }
+    ensures made { index < vec_len blocks.new }
+    ensures next { 0 < zeros.new → index + 1 < vec_len blocks.new }
+{
+    while *zeros > 0 && blocks.len() < index + 2 {
+        // Into room that `Segment::new` asked for: a fill asks for no memory.
+        blocks.push_reserved(Block::zero());
+        *zeros -= 1;
+    }
+}
+
+/// The block that a source names, where it is one of these or another.
+fn named_among<'a>(before: &'a [Block], source: Source<'a>) -> &'a Block
+    requires { IsBefore (length before.now) source }
+    ensures { result.now ≡ source_block before.now source.entry }
+{
+    match source {
+        Source::Own(index) => &before[index],
+        Source::Other(block) => block,
+    }
+}
+
+/// Writes one of these blocks from two sources, in place, and counts the write. It is the one
+/// function that makes a block from others.
+fn write_among(
+    blocks: &mut [Block],
+    tally: &mut u64,
+    index: usize,
+    prev: Source<'_>,
+    reference: Source<'_>,
+    with_xor: bool,
+)
+    requires index_fits { index < length blocks.old }
+    requires prev_before { IsBefore index prev }
+    requires reference_before { IsBefore index reference }
+    ensures written { blocks.new ≡ slice_set blocks.old index (made_block
+        (source_block blocks.old prev.entry) (source_block blocks.old reference.entry)
+        (slice_index_or blocks.old index []) with_xor) }
+    ensures counted { tally.new ≡ (tally.old + 1) % 2 ^ 64 }
+{
+    // The sources come before the index, so they can be read while it is written, without a copy.
+    let (before, rest) = blocks.split_at_mut(index);
+    fill_block(
+        named_among(before, prev),
+        named_among(before, reference),
+        &mut rest[0],
+        with_xor,
+    );
+    *tally = tally.wrapping_add(1);
+}
+
+fn wipe_blocks(blocks: &mut [Block])
+    ensures { blocks.new ≡ replicate (length blocks.old) zero_block }
+{
+    for block in blocks.iter_mut() {
+        block.wipe();
+    }
+}
+
+impl Segment {
+    /// A segment of `length` blocks of zeros.
+    pub(crate) fn new(alloc: Global, length: u32) -> Result<Segment, AllocError>
+        ensures { IfOk result (λ s. s ≡ zero_segment length) }
+    {
+        let mut blocks = Vec::with_capacity(alloc, length as usize)?;
+        let mut zeros = length as usize;
+        // One block is made, since `block` reads the last one for all that are not.
+        if zeros > 0 {
+            blocks.push_reserved(Block::zero());
+            zeros -= 1;
+        }
+        Ok(Segment {
+            blocks,
+            zeros,
+            tally: 0,
+        })
+    }
+
+    /// Overwrites all blocks with zeros and counts from 0 again, as `new` does.
+    pub(crate) fn wipe(&mut self)
+        ensures { self.new ≡ wiped_segment self.old }
+    {
+        // Blocks that are not made were never written.
+        wipe_blocks(&mut self.blocks);
+        self.tally = 0;
+    }
+
+    /// Writes a block at the index, and counts the write.
+    pub(crate) fn put(&mut self, index: usize, block: &Block)
+        requires { index < length self.old.blocks }
+        ensures { self.new ≡ with_block self.old index block.now }
+    {
+        make_up_to(&mut self.blocks, &mut self.zeros, index);
+        block.copy_to(&mut self.blocks[index]);
+        self.tally = self.tally.wrapping_add(1);
+    }
+
+    /// How many blocks were written, modulo 2^64.
+    pub fn tally(&self) -> u64
+        ensures { result ≡ self.now.tally }
+    {
+        self.tally
+    }
+
+    /// The block at an index.
+    pub fn block(&self, index: usize) -> &Block
+        requires { index < length self.now.blocks }
+        ensures { result.now ≡ slice_index_or self.now.blocks index [] }
+    {
+        // A `min` and no branch, since the index may be drawn from blocks.
+        &self.blocks[usize::min(index, self.blocks.len() - 1)]
+    }
+
+    /// Writes the block at the index from two sources, in place, and counts the write: their
+    /// compression or, with `with_xor`, that combined with the old block (RFC 9106, 3.2). A source
+    /// of the same segment comes before the index.
+    pub fn write(&mut self, index: usize, prev: Source<'_>, reference: Source<'_>, with_xor: bool)
+        requires index_fits { index < length self.old.blocks }
+        requires prev_before { IsBefore index prev }
+        requires reference_before { IsBefore index reference }
+        ensures { let old = self.old.blocks in
+            self.new ≡ with_block self.old index (made_block
+            (source_block old prev.entry) (source_block old reference.entry)
+            (slice_index_or old index []) with_xor) }
+    {
+        make_up_to(&mut self.blocks, &mut self.zeros, index);
+        write_among(
+            &mut self.blocks,
+            &mut self.tally,
+            index,
+            prev,
+            reference,
+            with_xor,
+        );
+    }
+}
+
+/// The blocks of a lane's segment while it is filled, and how often one of them was written.
+pub(crate) trait OwnBlocks {
+    ghost use Rattle.std.specs.Prelude.{ℕ};
+    ghost use Rattle.argon2_memory.specs.Views.Segments.{SegmentValue};
+
+    ghost seen: { Self → SegmentValue };
+
+    // which loan the blocks come from
+    ghost loan: { Self → ℕ };
+
+    /// How many blocks were written, modulo 2^64.
+    fn tally(&self) -> u64
+        ensures { result ≡ (seen self.now).tally };
+
+    /// The block at an index.
+    fn block(&self, index: usize) -> &Block
+        requires { index < length (seen self.now).blocks }
+        ensures { result.now ≡ slice_index_or (seen self.now).blocks index [] };
+
+    /// Writes the block at the index from two sources, as `Segment::write` does.
+    fn write(&mut self, index: usize, prev: Source<'_>, reference: Source<'_>, with_xor: bool)
+        requires index_fits { index < length (seen self.old).blocks }
+        requires prev_before { IsBefore index prev }
+        requires reference_before { IsBefore index reference }
+        ensures written { let old = (seen self.old).blocks in
+            seen self.new ≡ with_block (seen self.old) index (made_block
+            (source_block old prev.entry) (source_block old reference.entry)
+            (slice_index_or old index []) with_xor) }
+        ensures same { loan self.new ≡ loan self.old };
+}
+
+impl OwnBlocks for Segment {
+    ghost seen = { λ s. s };
+
+    ghost loan = { λ _. 0 };
+
+    fn tally(&self) -> u64 {
+        Segment::tally(self)
+    }
+
+    fn block(&self, index: usize) -> &Block {
+        Segment::block(self, index)
+    }
+
+    fn write(&mut self, index: usize, prev: Source<'_>, reference: Source<'_>, with_xor: bool) {
+        Segment::write(self, index, prev, reference, with_xor);
+    }
+}
+
+/// A segment whose blocks are lent, and how many were written, modulo 2^64.
+#[derive(Drop)]
+pub(crate) struct LentSegment<'a> {
+    blocks: &'a mut [Block],
+    tally: u64,
+}
+
+impl<'a> LentSegment<'a> {
+    /// The blocks, whatever they hold, of which none was written yet.
+    pub(super) fn new(blocks: &'a mut [Block]) -> LentSegment<'a>
+        ensures same { result.blocks.ghost_name ≡ blocks.entry.ghost_name }
+        ensures blocks { result.blocks.now ≡ blocks.old }
+        ensures tally { result.tally ≡ 0 }
+    {
+        LentSegment { blocks, tally: 0 }
+    }
+}
+
+impl<'a> OwnBlocks for LentSegment<'a> {
+    ghost seen = { λ s. record { blocks = s.blocks.now; tally = s.tally } };
+
+    ghost loan = { λ s. s.blocks.ghost_name };
+
+    fn tally(&self) -> u64 {
+        self.tally
+    }
+
+    fn block(&self, index: usize) -> &Block {
+        let blocks = &*self.blocks;
+        &blocks[index]
+    }
+
+    fn write(&mut self, index: usize, prev: Source<'_>, reference: Source<'_>, with_xor: bool) {
+        let blocks = &mut *self.blocks;
+        write_among(blocks, &mut self.tally, index, prev, reference, with_xor);
+    }
+}

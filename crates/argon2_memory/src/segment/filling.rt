@@ -1,0 +1,258 @@
+//! The fill of one segment, block after block, whether it is a memory's or lent.
+
+ghost use Rattle.std.specs.Prelude.{◌≡◌, ℕ, ◌+◌, ◌-◌, ◌*◌, ◌%◌, ◌^◌, ◌<◌, ◌≤◌, [], ◌∷◌, length, slice_index_or, true, false};
+ghost use Rattle.argon2_memory.specs.Laws.Schedule.{blocks_in_slice};
+ghost use Rattle.argon2_memory.specs.Views.Beside.{FillsOn, IsPicked};
+ghost use Rattle.argon2_memory.specs.Views.Filling.{IsFilledTo, IsSnapshot, position_of, reference_of};
+ghost use Rattle.argon2_memory.specs.Views.Jobs.{first_index};
+ghost use Rattle.argon2_memory.specs.Views.Lent.{FillsLent};
+ghost use Rattle.argon2_memory.specs.Views.Segments.{IsReady, segment_at};
+ghost use Rattle.argon2_memory.specs.Views.Sources.{IsBefore, source_block};
+ghost use Rattle.argon2_standard.specs.Standard.Recurrence.{block_at, drawn_word};
+ghost use Rattle.argon2_standard.specs.Standard.Reference.{is_data_independent};
+
+use super::beside::{Beside, OtherBlocks, beside_blocks, source_before};
+use super::counted::{LentSegment, OwnBlocks, Segment, Source};
+use super::positions::{pick, reference_positions};
+use super::snapshot::Snapshot;
+use crate::job::{Job, recall_job, stretch};
+use argon2_blocks::block::Block;
+use argon2_blocks::common::QWORDS_IN_BLOCK;
+
+/// Writes the block at an index, from the one before it and the one that it refers to.
+fn write_block<S: OtherBlocks, O: OwnBlocks>(
+    beside: &Beside<S>,
+    lane: u32,
+    index: u32,
+    reference: (u32, u32),
+    own: &mut O,
+)
+    requires lane_fits { lane < beside.now.job.setting.lanes }
+    requires index_fits { index < beside.now.job.setting.segment_length }
+    requires later { first_index beside.now.job ≤ index }
+    requires picked { IsPicked beside.now.job lane index reference }
+    requires long { length (O.seen own.old).blocks ≡ beside.now.job.setting.segment_length }
+    ensures filled { reference ≡ reference_of beside.now.job lane index
+        → FillsOn beside.now lane index (index + 1) (O.seen own.old) (O.seen own.new) }
+    ensures long { length (O.seen own.new).blocks ≡ beside.now.job.setting.segment_length }
+    ensures tally { (O.seen own.new).tally ≡ ((O.seen own.old).tally + 1) % 2 ^ 64 }
+    ensures same { O.loan own.new ≡ O.loan own.old }
+{
+    let with_xor = beside.job().combines();
+    let prev = source_before(beside, lane, index);
+    let reference = beside.source(reference.0, reference.1, index);
+    own.write(index as usize, prev, reference, with_xor);
+}
+
+/// The block that a source names, where it is one of the segment's or another.
+fn named<'a, O: OwnBlocks>(own: &'a O, source: Source<'a>) -> &'a Block
+    requires { IsBefore (length (O.seen own.now).blocks) source }
+    ensures { result.now ≡ source_block (O.seen own.now).blocks source.entry }
+{
+    match source {
+        Source::Own(index) => own.block(index),
+        Source::Other(block) => block,
+    }
+}
+
+/// The word that the block at an index draws, in a segment whose references depend on the blocks.
+fn dependent_word<S: OtherBlocks, O: OwnBlocks>(
+    beside: &Beside<S>,
+    lane: u32,
+    index: u32,
+    own: &O,
+) -> u64
+    requires dependent { is_data_independent beside.now.job.setting.variant beside.now.job.pass
+        beside.now.job.slice ≡ false }
+    requires lane_fits { lane < beside.now.job.setting.lanes }
+    requires index_fits { index < beside.now.job.setting.segment_length }
+    requires later { first_index beside.now.job ≤ index }
+    requires long { length (O.seen own.now).blocks ≡ beside.now.job.setting.segment_length }
+    ensures { let s = beside.now.job.setting in IsSnapshot beside.now
+        → IsFilledTo beside.now.job lane index (O.seen own.now).blocks
+        → result ≡ drawn_word s (block_at s) (position_of beside.now.job lane index) }
+{
+    named(own, source_before(beside, lane, index))[0]
+}
+
+/// Fills some blocks from an index on whose references depend on the blocks, block after block.
+fn fill_dependent<S: OtherBlocks, O: OwnBlocks>(
+    beside: &Beside<S>,
+    lane: u32,
+    first: u32,
+    count: u32,
+    own: &mut O,
+)
+    requires dependent { is_data_independent beside.now.job.setting.variant beside.now.job.pass
+        beside.now.job.slice ≡ false }
+    requires lane_fits { lane < beside.now.job.setting.lanes }
+    requires later { first_index beside.now.job ≤ first }
+    requires indexes_fit { first + count ≤ beside.now.job.setting.segment_length }
+    requires long { length (O.seen own.old).blocks ≡ beside.now.job.setting.segment_length }
+    ensures filled { FillsOn beside.now lane first (first + count) (O.seen own.old)
+        (O.seen own.new) }
+    ensures long { length (O.seen own.new).blocks ≡ beside.now.job.setting.segment_length }
+    ensures tally { (O.seen own.new).tally ≡ ((O.seen own.old).tally + count) % 2 ^ 64 }
+    ensures same { O.loan own.new ≡ O.loan own.old }
+{
+    // A copy, whose numbers need not be read anew for each block.
+    let job = *beside.job();
+    // The prover knows a number's range only where it is read.
+    let _tally = own.tally();
+    for k in 0..count {
+        let index = first + k;
+        let word = dependent_word(beside, lane, index, own);
+        let reference = pick(&job, lane, index, word);
+        write_block(beside, lane, index, reference, own);
+    }
+}
+
+/// Writes the blocks from an index on, whose references are known.
+fn write_blocks<S: OtherBlocks, O: OwnBlocks>(
+    beside: &Beside<S>,
+    lane: u32,
+    first: u32,
+    references: &[(u32, u32)],
+    own: &mut O,
+)
+    requires lane_fits { lane < beside.now.job.setting.lanes }
+    requires indexes_fit { first + length references.now ≤ beside.now.job.setting.segment_length }
+    requires later { first_index beside.now.job ≤ first }
+    requires chosen { (k : ℕ) → k < length references.now
+        → slice_index_or references.now k (0, 0) ≡ reference_of beside.now.job lane (first + k) }
+    requires long { length (O.seen own.old).blocks ≡ beside.now.job.setting.segment_length }
+    ensures filled { FillsOn beside.now lane first (first + length references.now)
+        (O.seen own.old) (O.seen own.new) }
+    ensures long { length (O.seen own.new).blocks ≡ beside.now.job.setting.segment_length }
+    ensures tally { (O.seen own.new).tally
+        ≡ ((O.seen own.old).tally + length references.now) % 2 ^ 64 }
+    ensures same { O.loan own.new ≡ O.loan own.old }
+{
+    recall_job(beside.job());
+    // Read for its range, as in `fill_dependent`.
+    let _tally = own.tally();
+    for (k, reference) in references.iter().enumerate() {
+        write_block(beside, lane, first + k as u32, *reference, own);
+    }
+}
+
+/// Fills at most 128 blocks from an index on whose references depend on no block.
+fn fill_independent<S: OtherBlocks, O: OwnBlocks>(
+    beside: &Beside<S>,
+    lane: u32,
+    first: u32,
+    count: u32,
+    own: &mut O,
+)
+    requires independent { is_data_independent beside.now.job.setting.variant beside.now.job.pass
+        beside.now.job.slice ≡ true }
+    requires lane_fits { lane < beside.now.job.setting.lanes }
+    requires later { first_index beside.now.job ≤ first }
+    requires few { count ≤ 128 }
+    requires indexes_fit { first + count ≤ beside.now.job.setting.segment_length }
+    requires long { length (O.seen own.old).blocks ≡ beside.now.job.setting.segment_length }
+    ensures filled { FillsOn beside.now lane first (first + count) (O.seen own.old)
+        (O.seen own.new) }
+    ensures long { length (O.seen own.new).blocks ≡ beside.now.job.setting.segment_length }
+    ensures tally { (O.seen own.new).tally ≡ ((O.seen own.old).tally + count) % 2 ^ 64 }
+    ensures same { O.loan own.new ≡ O.loan own.old }
+{
+    // On the stack, since a fill asks for no memory. All are drawn before the first write, so that
+    // one block of addresses serves them.
+    let mut references = [(0, 0); QWORDS_IN_BLOCK];
+    let some = &mut references[..count as usize];
+    reference_positions(beside.job(), lane, first, some);
+    write_blocks(beside, lane, first, some, own);
+}
+
+/// Fills at most 128 blocks of a lane's segment of the job's slice, from an index on, where those
+/// below the index are there.
+fn fill_blocks<S: OtherBlocks, O: OwnBlocks>(
+    beside: &Beside<S>,
+    lane: u32,
+    first: u32,
+    count: u32,
+    own: &mut O,
+)
+    requires lane_fits { lane < beside.now.job.setting.lanes }
+    requires later { first_index beside.now.job ≤ first }
+    requires few { count ≤ 128 }
+    requires indexes_fit { first + count ≤ beside.now.job.setting.segment_length }
+    requires long { length (O.seen own.old).blocks ≡ beside.now.job.setting.segment_length }
+    ensures filled { FillsOn beside.now lane first (first + count) (O.seen own.old)
+        (O.seen own.new) }
+    ensures long { length (O.seen own.new).blocks ≡ beside.now.job.setting.segment_length }
+    ensures tally { (O.seen own.new).tally ≡ ((O.seen own.old).tally + count) % 2 ^ 64 }
+    ensures same { O.loan own.new ≡ O.loan own.old }
+{
+    if beside.job().is_independent() {
+        fill_independent(beside, lane, first, count, own);
+    } else {
+        fill_dependent(beside, lane, first, count, own);
+    }
+}
+
+/// Fills a lane's segment of the job's slice.
+fn fill_own<S: OtherBlocks, O: OwnBlocks>(beside: &Beside<S>, lane: u32, own: &mut O)
+    requires lane_fits { lane < beside.now.job.setting.lanes }
+    requires long { length (O.seen own.old).blocks ≡ beside.now.job.setting.segment_length }
+    ensures filled { let j = beside.now.job in IsSnapshot beside.now
+        → IsReady j.setting j.pass j.slice lane (O.seen own.old).blocks
+        → (O.seen own.new).blocks ≡ segment_at j.setting j.pass j.slice lane }
+    ensures tally { let j = beside.now.job in (O.seen own.new).tally
+        ≡ ((O.seen own.old).tally + blocks_in_slice j.setting j.pass j.slice) % 2 ^ 64 }
+    ensures same { O.loan own.new ≡ O.loan own.old }
+{
+    let job = beside.job();
+    // Read for its range, as in `fill_dependent`.
+    let _tally = own.tally();
+    let mut index = job.first_index();
+    while index < job.segment_length() {
+        let count = stretch(job, index);
+        fill_blocks(beside, lane, index, count, own);
+        index += count;
+    }
+}
+
+/// Fills a lane's segment of the job's slice.
+pub fn fill_segment(snapshot: &Snapshot<'_>, lane: u32, segment: &mut Segment)
+    requires lane_fits { lane < snapshot.now.job.setting.lanes }
+    requires ready { IsReady snapshot.now.job.setting snapshot.now.job.pass snapshot.now.job.slice
+        lane segment.old.blocks }
+    ensures filled { segment.new.blocks ≡ segment_at snapshot.now.job.setting snapshot.now.job.pass
+        snapshot.now.job.slice lane }
+    ensures tally { segment.new.tally
+        ≡ (segment.old.tally
+        + blocks_in_slice snapshot.now.job.setting snapshot.now.job.pass snapshot.now.job.slice) % 2
+        ^ 64 }
+{
+    fill_own(snapshot.beside(), lane, segment);
+}
+
+/// Fills a lane's segment of the job's slice. The other three slices are lent in rising order, each
+/// lane after lane, and so is the segment, whatever they hold.
+///
+/// Where the slices below the job's hold the blocks of its pass and those above it the blocks of
+/// the pass before, and the segment is as a fill of the job asks for it, the segment then holds the
+/// blocks of the job's pass.
+pub fn fill_lent_segment(
+    job: &Job,
+    lane: u32,
+    first: &[Block],
+    second: &[Block],
+    third: &[Block],
+    own: &mut [Block],
+)
+    requires lane_fits { lane < job.now.setting.lanes }
+    requires first_fits { length first.now ≡ job.now.setting.lanes * job.now.setting.segment_length }
+    requires second_fits { length second.now
+        ≡ job.now.setting.lanes * job.now.setting.segment_length }
+    requires third_fits { length third.now ≡ job.now.setting.lanes * job.now.setting.segment_length }
+    requires own_fits { length own.old ≡ job.now.setting.segment_length }
+    ensures { FillsLent job.now lane (first.now ∷ second.now ∷ third.now ∷ []) own.old own.new }
+{
+    recall_job(job);
+    let beside = beside_blocks(*job, [first, second, third]);
+    let mut lent = LentSegment::new(own);
+    fill_own(&beside, lane, &mut lent);
+}

@@ -1,0 +1,139 @@
+//! Base64 by sums, character by character.
+//!
+//! Caches show which place of a table was looked into, and times which way a branch went. So no
+//! branch looks at a character or a byte here. Whether all characters are right is gathered to the
+//! end and answered once.
+
+ghost use Rattle.std.specs.Prelude.{◌≡◌, ◌<◌, ◌↔◌, ◌*◌, ◌/◌, ℕ, IsTrue, List, length, ◌≤◌};
+ghost use Rattle.argon2_standard.specs.Standard.Grammar.{IsItem};
+ghost use Rattle.argon2_standard.specs.Standard.Text.{base64};
+ghost use Rattle.argon2_text.specs.Views.Faults.{IsSomeItem};
+ghost use Rattle.argon2_text.specs.Views.Letters.{bits_of, bytes_read, fault_of, faults_of, letter_of, reaches};
+
+/// Whether a text is the unpadded base64 of some bytes. It goes on to the last letter, and takes no
+/// memory, so that what is no item is found even where memory is refused.
+pub fn is_item(text: &str) -> bool
+    ensures { IsTrue result ↔ IsSomeItem text.now }
+{
+    // As wide as a length, since each letter may have a fault.
+    let mut faults: usize = 0;
+    let mut rest = text.as_bytes();
+    while rest.len() >= 4 {
+        let (group, behind) = rest.split_at(4);
+        faults += group_faults(group) as usize;
+        rest = behind;
+    }
+    // `&` and not `&&`, so that one branch answers for all letters.
+    (faults == 0) & (tail_faults(rest) == 0)
+}
+
+/// The faults of the letters behind the last group of four. Bits that are left over have to be 0,
+/// so that bytes have one text alone (RFC 4648, 3.5).
+fn tail_faults(tail: &[u8]) -> u32
+    requires { length tail.now < 4 }
+    ensures { result ≡ faults_of tail.now }
+{
+    match *tail {
+        [] => 0,
+        [_] => 1,
+        [a, b] => fault(a) + fault(b) + bits(b) % 16,
+        [a, b, c, ..] => fault(a) + fault(b) + fault(c) + bits(c) % 4,
+    }
+}
+
+/// How many bytes an unpadded base64 text encodes. It decodes none, so that lengths can be judged
+/// before memory is taken.
+pub fn item_len(text: &str) -> u64
+    ensures value { result ≡ 3 * length text.now / 4 }
+    ensures exact { (bytes : List ℕ) → IsItem text.now bytes → result ≡ length bytes }
+{
+    let len = text.len() as u64;
+    // By parts, since three times a length may not fit 64 bits.
+    3 * (len / 4) + 3 * (len % 4) / 4
+}
+
+/// 1 where a byte is not below a bound, else 0. It is a sum, since compilers make jumps of
+/// comparisons.
+fn reaches(byte: u32, bound: u32) -> u32
+    requires { (byte < 256) × (bound ≤ 256) }
+    ensures { result ≡ reaches byte bound }
+{
+    (byte + 256 - bound) / 256
+}
+
+/// The letter of six bits, without a table, whose places the cache would show.
+pub fn letter(bits: u32) -> u8
+    requires { bits < 64 }
+    ensures { result ≡ letter_of bits }
+{
+    // `A` from 0 on, `a` from 26, `0` from 52, `+` at 62 and `/` at 63. What is added comes first,
+    // so that no difference is below 0.
+    let ahead = 65 + bits + 6 * reaches(bits, 26) + 3 * reaches(bits, 63);
+    (ahead - 75 * reaches(bits, 52) - 15 * reaches(bits, 62)) as u8
+}
+
+/// The six bits of a letter, and some number for what is no letter. `fault` tells them apart, since
+/// a branch here would look at a letter.
+pub fn bits(letter: u8) -> u32
+    ensures { result ≡ bits_of letter }
+{
+    let letter = u32::from(letter);
+    // The same stretches in the order of bytes: `+`, `/`, digits, capitals, small letters.
+    let ahead = letter + 19 - 3 * reaches(letter, 47) - 12 * reaches(letter, 48);
+    ahead - 69 * reaches(letter, 65) - 6 * reaches(letter, 97)
+}
+
+/// 0 for a letter, and 1 for any other byte.
+fn fault(letter: u8) -> u32
+    ensures { result ≡ fault_of letter }
+{
+    let letter = u32::from(letter);
+    // In a stretch of letters, one more has begun than lies behind.
+    let behind = reaches(letter, 44)
+        + reaches(letter, 58)
+        + reaches(letter, 91)
+        + reaches(letter, 123);
+    let begun = reaches(letter, 43)
+        + reaches(letter, 47)
+        + reaches(letter, 65)
+        + reaches(letter, 97);
+    1 + behind - begun
+}
+
+/// How many of four letters are none, gathered to the end.
+fn group_faults(group: &[u8]) -> u32
+    requires { length group.now ≡ 4 }
+    ensures value { result ≡ faults_of group.now }
+    ensures few { result ≤ 4 }
+{
+    fault(group[0]) + fault(group[1]) + fault(group[2]) + fault(group[3])
+}
+
+/// The three bytes of four letters.
+pub fn three_bytes(group: &[u8]) -> [u8; 3]
+    requires { length group.now ≡ 4 }
+    ensures { result ≡ bytes_read group.now }
+{
+    let (a, b) = (bits(group[0]), bits(group[1]));
+    let (c, d) = (bits(group[2]), bits(group[3]));
+    [
+        ((a * 4 + b / 16) % 256) as u8,
+        ((b * 16 + c / 4) % 256) as u8,
+        ((c * 64 + d) % 256) as u8,
+    ]
+}
+
+/// The four letters of three bytes.
+pub fn four_letters(group: &[u8]) -> [u8; 4]
+    requires { length group.now ≡ 3 }
+    ensures { result ≡ base64 group.now }
+{
+    let (a, b) = (u32::from(group[0]), u32::from(group[1]));
+    let c = u32::from(group[2]);
+    [
+        letter(a / 4),
+        letter(a % 4 * 16 + b / 16),
+        letter(b % 16 * 4 + c / 64),
+        letter(c % 64),
+    ]
+}
