@@ -191,12 +191,17 @@ uint32_t proved_argon2_verify_encoded_with(const proved_argon2_options *with, PI
     return answer;
 }
 
-/* What is asked for where memory is, how many are there, and the answer. */
-static uint32_t memories, shortage;
+/* How many memories were asked for and how many are there, and what is answered to who asks for one. */
+static uint32_t asked, memories, shortage;
 
 void set_shortage(uint32_t number)
 {
     shortage = number;
+}
+
+uint32_t memories_that_were_asked_for(void)
+{
+    return asked;
 }
 
 uint32_t memories_that_are_there(void)
@@ -212,6 +217,7 @@ uint64_t proved_argon2_memory_len(const proved_argon2_settings *settings)
 uint32_t proved_argon2_memory_new(const proved_argon2_settings *settings, void **memory, size_t *memory_len)
 {
     snprintf(passed[TELLING], sizeof *passed, "memory " SETTINGS, EACH(settings));
+    asked++;
     if (shortage == PROVED_ARGON2_OK) {
         *memory_len = (size_t)settings->mem_cost * 1024;
         *memory = calloc(1, *memory_len);

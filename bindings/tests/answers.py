@@ -185,6 +185,9 @@ class Answers(unittest.TestCase):
                 self.assertEqual(STUB.memories_that_are_there(), int(wanted > 0))
                 if wanted:
                     self.assertEqual(passed(TELLING), "memory 2 19 64 3 4 5")
+                    before = STUB.memories_that_were_asked_for()
+                    self.assertRaises(Argon2Error, call, memory)
+                    self.assertEqual(STUB.memories_that_were_asked_for(), before)
                 del memory
                 self.assertEqual(STUB.memories_that_are_there(), 0)
 
@@ -232,7 +235,7 @@ class Answers(unittest.TestCase):
         def progress(done, all):
             raise error
 
-        for error in (ValueError("enough"), KeyboardInterrupt(), SystemExit(3), GeneratorExit()):
+        for error in (ValueError("enough"), KeyboardInterrupt(), SystemExit(3)):
             for number in (STOPPED, OK, MISMATCH):
                 set_answers(then=number)
                 for call in self.computing(progress=progress):

@@ -13,6 +13,7 @@ extern "C" {
     fn bytes_lent_to_the_last() -> i64;
     fn told_to_the_last() -> i64;
     fn set_shortage(number: u32);
+    fn memories_that_were_asked_for() -> u32;
     fn memories_that_are_there() -> u32;
     fn passed_to(kind: u32) -> *const c_char;
     fn number_of(name: *const c_char) -> u32;
@@ -242,13 +243,15 @@ fn memories_grow_where_they_are_too_small() -> bool {
             let _ = catch_unwind(AssertUnwindSafe(|| call(Some(&mut memory))));
             let found = (unsafe { bytes_lent_to_the_last() }, memory.size(), there());
             let asked_for = passed(2);
+            let before = unsafe { memories_that_were_asked_for() };
+            let _ = catch_unwind(AssertUnwindSafe(|| call(Some(&mut memory))));
+            let is_kept = found.1 == 0 || unsafe { memories_that_were_asked_for() } == before;
             drop(memory);
-            let wanted = if number == header("OUT_OF_MEMORY") {
-                (64 << 10, 64 << 10, 1)
-            } else {
-                (0, 0, 0)
-            };
-            found == wanted && there() == 0 && (wanted.2 == 0 || asked_for == format!("memory {settings}"))
+            let wanted = if number == header("OUT_OF_MEMORY") { (64 << 10, 64 << 10, 1) } else { (0, 0, 0) };
+            found == wanted
+                && is_kept
+                && there() == 0
+                && (wanted.2 == 0 || asked_for == format!("memory {settings}"))
         })
     });
     told("a kept memory is made where the library says that it is too small", right)
@@ -261,7 +264,9 @@ fn memories_may_be_refused() -> bool {
         then(header("OUT_OF_MEMORY"));
         COMPUTING.iter().all(|(call, _, _)| {
             let mut memory = Memory::new();
-            !call(Some(&mut memory)) && memory.size() == 0 && raw(Some(&mut memory)) == Err(Error::OutOfMemory)
+            !call(Some(&mut memory))
+                && memory.size() == 0
+                && raw(Some(&mut memory)) == Err(Error::OutOfMemory)
         })
     });
     unsafe { set_shortage(0) };

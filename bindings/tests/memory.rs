@@ -18,7 +18,11 @@ const OUT_OF_MEMORY: u32 = 20;
 
 extern "C" {
     fn proved_argon2_memory_len(settings: *const c_void) -> u64;
-    fn __real_proved_argon2_memory_new(settings: *const c_void, memory: *mut usize, length: *mut usize) -> u32;
+    fn __real_proved_argon2_memory_new(
+        settings: *const c_void,
+        memory: *mut usize,
+        length: *mut usize,
+    ) -> u32;
     fn __real_proved_argon2_memory_free(memory: usize, length: usize);
 }
 

@@ -12,11 +12,11 @@ from concurrent.futures import ThreadPoolExecutor
 from proved_argon2 import PasswordHasher, Type
 from proved_argon2.low_level import Memory, hash_secret, hash_secret_raw, verify_secret
 
-# A hash that takes months, in slices of milliseconds.
-ENDLESS = {"time_cost": 0xFFFFFFFF, "memory_cost": 8192}
-# So long may a call take to stop on a machine with other work: a pass over its memory takes a thousandth of it.
+# A hash that takes more than a minute, in slices of a millisecond.
+LONG = {"time_cost": 20000, "memory_cost": 8192}
+# So many seconds may a call take to stop on a machine with other work.
 PATIENCE = 20
-TEXT = "$argon2id$v=19$m=8192,t=4294967295,p=2$c29tZXNhbHQ$AAAAAAAAAAAAAAAAAAAAAA"
+TEXT = "$argon2id$v=19$m=8192,t=20000,p=2$c29tZXNhbHQ$AAAAAAAAAAAAAAAAAAAAAA"
 
 
 def calls(time_cost, memory_cost, lanes, **named):
@@ -33,13 +33,13 @@ def calls(time_cost, memory_cost, lanes, **named):
     ]
 
 
-def endless(**named):
-    """The calls, with settings that end in no time that a test has."""
+def long_calls(**named):
+    """The calls, with settings that take longer than a test has."""
     for lanes in (1, 2):
-        given = (b"password", b"somesalt", *ENDLESS.values(), lanes, 24, Type.ID)
+        given = (b"password", b"somesalt", *LONG.values(), lanes, 24, Type.ID)
         yield lambda: hash_secret(*given, **named)
         yield lambda: hash_secret_raw(*given, memory=Memory(), **named)
-        hasher = PasswordHasher(**ENDLESS, parallelism=lanes, keep_memory=True)
+        hasher = PasswordHasher(**LONG, parallelism=lanes, keep_memory=True)
         yield lambda: hasher.hash("password", **named)
         yield lambda: hasher.verify(TEXT, "password", **named)
     yield lambda: verify_secret(TEXT.encode(), b"password", Type.ID, **named)
@@ -74,7 +74,7 @@ class Progress(unittest.TestCase):
                 raise error
 
         seen, error, memory = [], Enough(), Memory()
-        for call in endless(progress=third):
+        for call in long_calls(progress=third):
             with self.assertRaises(Enough) as raised:
                 call()
             self.assertIs(raised.exception, error)
@@ -88,7 +88,7 @@ class Progress(unittest.TestCase):
             self.assertEqual(call(), wanted)
 
     def test_a_wrong_progress_stops_the_call(self):
-        for call in endless(progress=lambda done: None):
+        for call in long_calls(progress=lambda done: None):
             self.assertRaises(TypeError, call)
 
 
@@ -110,9 +110,9 @@ class Signals(unittest.TestCase):
             raise TimeoutError("late")
 
         signal.signal(signal.SIGALRM, handler)
-        for call in endless():
+        for call in long_calls():
             self.stops(call, TimeoutError)
-        for call in endless(progress=lambda *_: None):
+        for call in long_calls(progress=lambda *_: None):
             self.stops(call, TimeoutError)
 
     def test_a_handler_that_raises_nothing_stops_nothing(self):
@@ -129,7 +129,7 @@ class Signals(unittest.TestCase):
             "import threading, time\n"
             "from proved_argon2 import PasswordHasher\n"
             "threading.Thread(target=time.sleep, args=(100,), daemon=True).start()\n"
-            "hasher = PasswordHasher(time_cost=0xFFFFFFFF, memory_cost=8192)\n"
+            "hasher = PasswordHasher(time_cost=20000, memory_cost=8192)\n"
             "print('begun', flush=True)\n"
             "try:\n    hasher.hash('password')\n"
             "except KeyboardInterrupt:\n    print('stopped', PasswordHasher().verify("

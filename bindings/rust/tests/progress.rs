@@ -8,8 +8,9 @@ use std::ops::ControlFlow::{self, Break, Continue};
 use std::panic::{catch_unwind, AssertUnwindSafe};
 use std::thread;
 
-/// A hash that takes months, in slices of milliseconds.
-const ENDLESS: &str = "$argon2id$v=19$m=8192,t=4294967295,p=2$c29tZXNhbHQ$AAAAAAAAAAAAAAAAAAAAAA";
+/// A hash that takes seconds, in slices of a millisecond.
+const PASSES: u32 = 1000;
+const LONG: &str = "$argon2id$v=19$m=8192,t=1000,p=2$c29tZXNhbHQ$AAAAAAAAAAAAAAAAAAAAAA";
 
 fn settings(mem_cost: u32, time_cost: u32, lanes: u32, thread_mode: ThreadMode) -> Config<'static> {
     Config { mem_cost, time_cost, lanes, thread_mode, ..Config::default() }
@@ -93,13 +94,12 @@ fn a_call_is_stopped_and_the_next_one_is_right() {
     let small = settings(8192, 1, 2, ThreadMode::Parallel);
     let right = hash_raw(b"password", b"somesalt", &small);
     for thread_mode in [ThreadMode::Sequential, ThreadMode::Parallel] {
-        let endless = settings(8192, u32::MAX, 2, thread_mode);
+        let long = settings(8192, PASSES, 2, thread_mode);
         let mut memory = Memory::new();
-        for answer in each_call(&mut Run::new().telling(third), &endless, &[0; 16], ENDLESS) {
+        for answer in each_call(&mut Run::new().telling(third), &long, &[0; 16], LONG) {
             assert_eq!(answer, Err(Error::Stopped));
         }
-        for answer in each_call(&mut Run::new().over(&mut memory).telling(third), &endless, &[0; 16], ENDLESS)
-        {
+        for answer in each_call(&mut Run::new().over(&mut memory).telling(third), &long, &[0; 16], LONG) {
             assert_eq!(answer, Err(Error::Stopped));
         }
         assert_eq!(memory.size(), 8192 << 10);
@@ -110,14 +110,14 @@ fn a_call_is_stopped_and_the_next_one_is_right() {
 
 #[test]
 fn a_panic_of_what_is_told_stops_the_call_and_comes_out_of_it() {
-    let endless = settings(8192, u32::MAX, 2, ThreadMode::Parallel);
+    let long = settings(8192, PASSES, 2, ThreadMode::Parallel);
     let mut memory = Memory::new();
     let mut run = Run::new().over(&mut memory).telling(|done, _| {
         assert!(done < 3, "it is the third");
         Continue(())
     });
     for _ in 0..2 {
-        let payload = catch_unwind(AssertUnwindSafe(|| run.hash_raw(b"password", b"somesalt", &endless)));
+        let payload = catch_unwind(AssertUnwindSafe(|| run.hash_raw(b"password", b"somesalt", &long)));
         assert_eq!(payload.unwrap_err().downcast_ref(), Some(&"it is the third"));
     }
     drop(run);

@@ -3,13 +3,14 @@ import ctypes
 import os
 import sys
 
+from ._telling import Telling, runs_handlers
+
 TYPE_CHECKING = False
 if TYPE_CHECKING:
-    from typing import Any, Callable, Generator, Iterator, List, Optional, Tuple, Type, Union
+    from typing import Any, Callable, Iterator, List, Optional, Tuple, Type, Union
 
     from ._memory import Memory, Pages
-
-    Progress = Callable[[int, int], object]
+    from ._telling import Progress
 
 SONAME = "libproved_argon2.so.1"
 VARIABLE = "PROVED_ARGON2_LIBRARY"
@@ -208,51 +209,6 @@ def _options(
     return options
 
 
-def _runs_handlers() -> bool:
-    """Whether handlers of signals run in this thread: Python runs them in the main one alone."""
-    threading = sys.modules.get("threading")
-    return threading is None or threading.get_ident() == threading.main_thread().ident
-
-
-class Telling:
-    """What a call tells how far it is, where there is somebody to be told: `progress`, and handlers of signals. What
-    they raise stops it, and comes out of `with`.
-
-    It is told by a generator, since handlers run where that is resumed, which is within its `try`. In a function they
-    would run before its first line, and what they raise would be lost.
-    """
-
-    def __init__(self, progress: "Optional[Progress]", slices: int) -> None:
-        self._raised: "List[BaseException]" = []
-        self._is_over = False
-        generator = self._answers(progress, slices)
-        next(generator)
-        self.send = generator.send
-
-    def _answers(self, progress: "Optional[Progress]", slices: int) -> "Generator[int, object, None]":
-        """Yields whether to stop, once for each slice that is filled, and once before."""
-        try:
-            yield 0
-            for done in range(1, slices + 1):
-                if progress is not None:
-                    progress(done, slices)
-                yield 0
-        except BaseException as error:
-            if self._is_over:
-                raise
-            self._raised.append(error)
-        while True:
-            yield 1
-
-    def __enter__(self) -> "Telling":
-        return self
-
-    def __exit__(self, *_: object) -> None:
-        self._is_over = True
-        if self._raised:
-            raise self._raised.pop()
-
-
 def _compute(
     call: "Callable[[Options], Any]",
     threads: int,
@@ -262,7 +218,7 @@ def _compute(
     limits: "Optional[NumberLimits]" = None,
 ) -> None:
     """Makes a call over pages of a memory, or over its own, and tells whom there is to be told."""
-    if progress is None and not _runs_handlers():
+    if progress is None and not runs_handlers():
         _require(_over_memory(lambda pages: call(_options(threads, limits, pages, None)), settings, memory))
         return
     with Telling(progress, 4 * settings.time_cost) as telling:

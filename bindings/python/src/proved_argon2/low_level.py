@@ -42,7 +42,7 @@ TYPE_CHECKING = False
 if TYPE_CHECKING:
     from typing import Literal, Optional
 
-    from ._library import Progress
+    from ._telling import Progress
 
 ARGON2_VERSION = 19
 """The version of RFC 9106, 0x13."""
