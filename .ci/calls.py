@@ -27,6 +27,8 @@ USE = re.compile(r'^(?:pub(?:\([a-z]+\))? )?use ([\w:]+?)(?:::\{([^}]*)\})?;', r
 OF_STD = {'new', 'fmt', 'clone', 'eq', 'cmp', 'partial_cmp', 'index', 'index_mut', 'default', 'from', 'take', 'lines',
           'keep', 'message', 'finish', 'write', 'block', 'status', 'lock', 'flush', 'arg'}
 CALLS_OF_STD = {('finish', 'fill'), ('write_text', 'fill'), ('join', 'join')}
+# Where several types have a trait, the one whose bodies are followed: a segment of a memory, and not one that is lent.
+FOLLOWED = {'OwnBlocks': 'Segment'}
 
 
 def closing(text, start):
@@ -145,6 +147,8 @@ class Calls:
     def method(self, kind, name):
         """A type's method, or the one body of a trait's."""
         bodies = self.traits.get((kind, name), [])
+        if kind in FOLLOWED:
+            bodies = [body for body in bodies if owner_of(body) == FOLLOWED[kind]]
         if len(bodies) > 1:
             self.faults.append(f'{kind}::{name} has {len(bodies)} bodies')
         return self.methods.get((kind, name)) or next(iter(bodies), None)
