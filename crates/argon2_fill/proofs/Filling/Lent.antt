@@ -15,7 +15,7 @@ use Rattle.argon2_memory.specs.Views.Beside.{lent_blocks}
 use Rattle.argon2_memory.specs.Views.Filling.{rank_among}
 use Rattle.argon2_memory.specs.Views.Lent.{AreLent, HoldsSlice, lent_places}
 use Rattle.argon2_memory.specs.Views.Places.{AreFilledBelow}
-use Rattle.argon2_memory.specs.Views.Segments.{IsReady, segment_at, segment_block}
+use Rattle.argon2_memory.specs.Views.Segments.{IsReady, segment_block}
 use Rattle.argon2_memory.proofs.Filling.Lent.{length-lent}
 use Rattle.argon2_memory.proofs.Filling.Places.{others_hold, filled_further}
 use Rattle.argon2_fill.specs.Laws.Lent.{IsLentRun, numbered}

@@ -2,7 +2,6 @@ use Rattle.std.proofs.Common.{ℕ, List, length, ap, ◌∙◌}
 use Rattle.argon2_blocks.specs.Standard.Block.{block_bytes}
 use Rattle.argon2_blocks.specs.Standard.Hprime.{hprime}
 use Rattle.argon2_standard.specs.Standard.Tag.{tag_from}
-use Rattle.argon2_fill.specs.Views.Lent.{last_lent}
 use Rattle.argon2_fill.proofs.Filling.Lent.{last_blocks-lent}
 use Rattle.argon2_fill.proofs.lent.finalize_lent.Goals as goal
 
