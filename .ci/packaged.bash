@@ -89,7 +89,8 @@ works_with() {
     /usr/sbin/cryptsetup open --test-passphrase --key-file /tmp/key /tmp/image
     flags=$(pkg-config --cflags --libs libargon2)
     printf '%s\n' '#include <argon2.h>' '#include <stdio.h>' 'int main(void) { char text[200];' \
-        'return argon2id_hash_encoded(1, 64, 1, "pw", 2, "somesalt", 8, 32, text, 200) || argon2id_verify(text, "pw", 2); }' \
+        'return argon2id_hash_encoded(1, 64, 1, "pw", 2, "somesalt", 8, 32, text, 200)' \
+        '|| argon2id_verify(text, "pw", 2); }' \
         >/tmp/built.c
     eval "cc /tmp/built.c $flags -o /tmp/built" && /tmp/built
     eval "cc /tmp/built.c $flags -o /tmp/built-static -Wl,-Bstatic -largon2 -Wl,-Bdynamic -pthread" && /tmp/built-static
@@ -105,8 +106,7 @@ libargon2() {
     apt-get check -qq
     if dpkg-query -W -f '${Status}\n' libargon2-1 libargon2-dev 2>/dev/null | grep ' installed'; then return 1; fi
     works_with proved-libargon2-1
-    dpkg -i debian/*.deb
-    dpkg --purge proved-libargon2-dev proved-libargon2-1 2>/dev/null || true
+    apt-get install -qq -y -o APT::Sandbox::User=root ./debian/*.deb
     [[ -z $(dpkg-query -W -f '${Package}\n' '*proved-libargon2*' 2>/dev/null) && -z $(dpkg --audit) ]]
     apt-get check -qq
     works_with libargon2-1
