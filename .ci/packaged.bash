@@ -65,7 +65,8 @@ tarball() {
 
 debian() {
     local names
-    dpkg -i ./*.deb
+    # (what is in libargon2's place is tried below)
+    find . -maxdepth 1 -name '*.deb' ! -name 'proved-libargon2-*' -print0 | xargs -0 dpkg -i
     dpkg --verify libproved-argon2-1 libproved-argon2-dev proved-argon2 python3-proved-argon2
     first_lines_of_the_shell
     first_lines_of_c
@@ -75,6 +76,40 @@ debian() {
     # shellcheck disable=SC2086
     dpkg --purge $names
     [[ -z $(dpkg-query -W -f '${Package}\n' '*proved-argon2*' 2>/dev/null) ]]
+    leaves_nothing
+}
+
+# What needs libargon2: a hash and a verdict of PHP, a header of cryptsetup, and a program that is built with it.
+works_with() {
+    local owner=$1 flags
+    [[ $(php -r 'echo json_encode(password_verify("pw", password_hash("pw", PASSWORD_ARGON2ID)));') == true ]]
+    printf secret >/tmp/key && truncate -s 20M /tmp/image
+    /usr/sbin/cryptsetup luksFormat -q --type luks2 --pbkdf argon2id --pbkdf-force-iterations 4 --pbkdf-memory 4096 \
+        /tmp/image --key-file /tmp/key
+    /usr/sbin/cryptsetup open --test-passphrase --key-file /tmp/key /tmp/image
+    flags=$(pkg-config --cflags --libs libargon2)
+    printf '%s\n' '#include <argon2.h>' '#include <stdio.h>' 'int main(void) { char text[200];' \
+        'return argon2id_hash_encoded(1, 64, 1, "pw", 2, "somesalt", 8, 32, text, 200)' \
+        '|| argon2id_verify(text, "pw", 2); }' \
+        >/tmp/built.c
+    eval "cc /tmp/built.c $flags -o /tmp/built" && /tmp/built
+    eval "cc /tmp/built.c $flags -o /tmp/built-static -Wl,-Bstatic -largon2 -Wl,-Bdynamic -pthread" && /tmp/built-static
+    [[ $(dpkg -S "$(readlink -f "/usr/lib/$(cc -dumpmachine)/libargon2.so.1")") == "$owner"* ]]
+}
+
+# In the place of Debian's libargon2 and of its development files, and back; nothing that needs it is left without.
+libargon2() {
+    works_with libargon2-1
+    dpkg -i ./proved-libargon2-*.deb
+    dpkg --verify proved-libargon2-1 proved-libargon2-dev
+    [[ -z $(dpkg --audit) ]]
+    apt-get check -qq
+    if dpkg-query -W -f '${Status}\n' libargon2-1 libargon2-dev 2>/dev/null | grep ' installed'; then return 1; fi
+    works_with proved-libargon2-1
+    apt-get install -qq -y -o APT::Sandbox::User=root ./debian/*.deb
+    [[ -z $(dpkg-query -W -f '${Package}\n' '*proved-libargon2*' 2>/dev/null) && -z $(dpkg --audit) ]]
+    apt-get check -qq
+    works_with libargon2-1
     leaves_nothing
 }
 

@@ -200,7 +200,8 @@ static void run(const settings *s, const char *salt, size_t length)
 
 int main(int count, char **words)
 {
-    settings s = {.passes = 3, .memory = 4096, .lanes = 1, .length = 32, .version = ARGON2_VERSION_13, .type = Argon2_i};
+    settings s = {
+        .passes = 3, .memory = 4096, .lanes = 1, .length = 32, .version = ARGON2_VERSION_13, .type = Argon2_i};
     if (count < 2 || strcmp(words[1], "-h") == 0) {
         print_usage(words[0]);
         return count < 2 ? ARGON2_MISSING_ARGS : 1;

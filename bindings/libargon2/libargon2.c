@@ -202,7 +202,7 @@ static int is_spelled(const char *text, const proved_argon2_settings *its, argon
     if (strstr(text, "$v=") != NULL) snprintf(version, sizeof version, "$v=%" PRIu32, its->version);
     const int len = snprintf(begin, sizeof begin, "$%s%s$m=%" PRIu32 ",t=%" PRIu32 ",p=%" PRIu32 "$",
         argon2_type2string(type, 0), version, its->mem_cost, its->time_cost, its->lanes);
-    return its->variant == (uint32_t)type && strncmp(text, begin, (size_t)len) == 0;
+    return strncmp(text, begin, (size_t)len) == 0;
 }
 
 int argon2_verify(const char *encoded, const void *pwd, const size_t pwdlen, argon2_type type)
