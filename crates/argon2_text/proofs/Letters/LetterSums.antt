@@ -1,17 +1,13 @@
 -- The sums of letters are those of base64, and a text without faults is the base64 of the bytes that are read of it.
 use Rattle.std.proofs.Common.{◌≡◌, ℕ, zero, suc, ◌+◌, ◌*◌, ◌/◌, ◌%◌, ◌<◌, ◌==◌, not, ◌||◌, ◌&&◌, ◌≤◌, nat_lt, List, [], ◌∷◌, ◌++◌, length, get_or, slice_index, refl, sym, ap, ◌∙◌, arith, inl, inr}
-use Rattle.std.specs.Prelude.{◌↔◌, if◌then◌else◌}
-use Rattle.std.proofs.Common.{Result, Ok, Err}
-use Rattle.std.specs.Result.{OnOk, is_ok}
+use Rattle.std.specs.Prelude.{◌↔◌}
 use Rattle.std.proofs.lemmas.Bool.{and_parts, eqb-true, eq-eqb, ltb-true, or_cases, not-true}
 use Rattle.std.proofs.lemmas.List.{append-nil}
 use Rattle.base64.specs.Rfc4648.{encode_symbols}
 use Rattle.base64.specs.Engines.{standard_no_pad}
 use Rattle.base64.specs.GeneralPurpose.{IsBytes, engine_symbols}
-use Rattle.base64.proofs.EngineFacts.{IsAscii-encode_of, encode_of-append}
+use Rattle.base64.proofs.EngineFacts.{encode_of-append}
 use Rattle.base64.proofs.Tables.{all_below_at}
-use Rattle.std.proofs.Common.{subst}
-use Rattle.std.specs.Str.{IsAscii}
 use Rattle.argon2_standard.specs.Standard.Grammar.{IsItem}
 use Rattle.argon2_standard.specs.Standard.Text.{base64}
 use Rattle.argon2_text.specs.Views.Faults.{IsSomeItem}
@@ -286,12 +282,6 @@ two_read (a ∷ b ∷ []) long short = absurd (omega arith)
 two_read (a ∷ b ∷ c ∷ []) long short = refl
 two_read (a ∷ b ∷ c ∷ d ∷ rest) long short = absurd (omega arith)
 
--- where an append went well, what was appended stands behind, in whatever words
-pub appended : {A E : Type 0} → (r : Result A E) (new old more same : List ℕ) → new ≡ (if is_ok r then old ++ more else old) → more ≡ same
-    → OnOk r (new ≡ old ++ same)
-appended (Ok a) new old more same is e = is ∙ ap (λ (x : List ℕ). old ++ x) e
-appended (Err f) new old more same is e = tt
-
 -- ---- the letters, group by group
 
 -- base64 of three bytes, of two and of one, and of three bytes and a rest
@@ -339,16 +329,6 @@ two_written (a ∷ b ∷ []) long short fits =
     rw (letter_at (a / 4) (omega arith), letter_at (a % 4 * 16 + b / 16) (omega arith), letter_at (b % 16 * 4) (omega arith)) refl
 two_written (a ∷ b ∷ c ∷ rest) long short fits = absurd (omega arith)
 
--- letters are ASCII
-pub base64_ascii : (letters bytes : List ℕ) → letters ≡ base64 bytes → IsAscii letters
-base64_ascii letters bytes is = subst IsAscii (sym is) (IsAscii-encode_of standard_no_pad bytes)
-
 -- behind three bytes base64 begins afresh
 pub written_behind : (group rest : List ℕ) → length group ≡ 3 → base64 (group ++ rest) ≡ base64 group ++ base64 rest
 written_behind group rest three = encode_of-append standard_no_pad group rest (omega (arith, three))
-
--- where an append went well, what was appended may be said in other words
-pub appended_same : {A E : Type 0} → (r : Result A E) (new old more same : List ℕ) → OnOk r (new ≡ old ++ more) → more ≡ same
-    → OnOk r (new ≡ old ++ same)
-appended_same (Ok a) new old more same is e = is ∙ ap (λ (x : List ℕ). old ++ x) e
-appended_same (Err f) new old more same is e = tt

@@ -28,12 +28,25 @@ struct Pieces<'a> {
 /// What a text spells before its salt and its hash, and these two as they are written there.
 #[derive(Clone, Copy)]
 pub struct Head<'a> {
+    /// The variant.
     pub variant: Variant,
+
+    /// The version; a text without one means version 0x10.
     pub version: Version,
+
+    /// The memory in KiB.
     pub mem_cost: u32,
+
+    /// The number of passes.
     pub time_cost: u32,
+
+    /// The number of lanes.
     pub parallelism: u32,
+
+    /// The base64 of the salt.
     pub salt: &'a str,
+
+    /// The base64 of the hash.
     pub hash: &'a str,
 }
 
