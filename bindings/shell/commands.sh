@@ -7,9 +7,8 @@
 #     prepare     a function that makes a program ready, argon2_program or argon2_tool, and sets `program` to its file
 #
 # The words `--help` and `--version` are answered here. `new`, `check` and `tune` are done by argon2_tool: it gets the
-# salt and the settings from here, and a password that is asked for on a terminal, or a text that is read from a
-# descriptor. All other words go to argon2_program as they are, with its standard streams and its exit status. Where
-# either says `usage` or `Decoding failed`, a line on standard error may be added, which names what looks wrong.
+# salt and the settings from here, or a text that is read from a descriptor. All other words go to argon2_program as they
+# are, with its standard streams and its exit status. On a terminal a password is asked for without an echo. Where either says `usage` or `Decoding failed`, a line on standard error may be added, which names what looks wrong.
 # shellcheck shell=sh disable=SC2154
 
 newline='
@@ -32,6 +31,9 @@ flags_of_v3='avx avx2 bmi1 bmi2 f16c fma abm movbe'
 # What the program's C library is told, where the user tells it nothing: to ask for huge pages.
 tunables=glibc.malloc.hugetlb=1
 
+# The oldest C library that the programs are loaded with.
+least_glibc=2.34
+
 # How many bytes of a line a terminal gives at most. It drops the rest silently.
 terminal_line=4095
 
@@ -40,11 +42,11 @@ most_read=65537
 
 main() {
     if asks_for_help "$@"; then
-        show_help
+        show_help || exit 4
         return
     fi
     case $#:${1-} in
-    1:--version | 1:-V) printf 'proved-argon2 %s\n' "$version" ;;
+    1:--version | 1:-V) printf 'proved-argon2 %s\n' "$version" || exit 4 ;;
     1:new)
         # The settings are words, to be split.
         # shellcheck disable=SC2086
@@ -54,7 +56,7 @@ main() {
     2:check) if [ "$2" = - ]; then check_described; else check "$2"; fi ;;
     2:tune) tune "$2" "$tuned_memory" ;;
     3:tune) tune "$2" "$3" ;;
-    *) run_program argon2_program "$@" ;;
+    *) if [ -t 0 ] && takes_password "$@"; then typed argon2_program "$@"; else run_program argon2_program "$@"; fi ;;
     esac
 }
 
@@ -80,7 +82,7 @@ fail() {
 # Runs a program in place of this shell, so that signals reach it: `run_program NAME WORD..`. Where it may refuse the
 # words themselves, the shell stays and says which of them looks wrong.
 run_program() {
-    prepare "$1" || exit 70
+    make_ready "$1"
     shift
     if looks_right "$@"; then
         GLIBC_TUNABLES=${GLIBC_TUNABLES-$tunables}
@@ -89,6 +91,16 @@ run_program() {
     fi
     call "$@"
     end_with "$?" "$@"
+}
+
+# Makes a program ready: `make_ready NAME`. It ends where there is none, or where none can be loaded here: then the loader
+# names a version that the system's C library lacks, or the shell the loader itself.
+make_ready() {
+    prepare "$1" || exit 70
+    loaded=$(LD_TRACE_LOADED_OBJECTS=1 "$program" 2>&1 </dev/null)
+    case $?:$loaded in
+    126:* | 127:* | *'not found'*) fail 70 "the programs need glibc $least_glibc or newer, which this system does not have" ;;
+    esac
 }
 
 # Runs the program that was made ready, in huge pages where the user has not set what the C library's memory is tuned by.
@@ -333,7 +345,7 @@ tell_of_newline() {
 # Prints the text of a password: `new_text VARIANT VERSION T M P LEN MODE`. The password is typed twice, or it
 # is all of standard input where that is no terminal.
 new_text() {
-    prepare argon2_tool || exit 70
+    make_ready argon2_tool
     new_salt
     if [ -t 0 ]; then
         ask 'Password: '
@@ -365,11 +377,26 @@ refuse_empty_password() {
 
 # Whether a password is that of a text, with the tool's lines and statuses: `check TEXT`.
 check() {
-    [ -t 0 ] || run_program argon2_tool check "$1"
-    prepare argon2_tool || exit 70
+    if [ -t 0 ]; then typed argon2_tool check "$1"; else run_program argon2_tool check "$1"; fi
+}
+
+# Runs a program on a password that is typed: `typed NAME WORD..`.
+typed() {
+    make_ready "$1"
+    shift
     ask 'Password: '
-    printf '%s' "$answer" | call check "$1"
-    end_with "$?" check "$1"
+    printf '%s' "$answer" | call "$@"
+    end_with "$?" "$@"
+}
+
+# Whether words are those of argon2_program that take a password, as far as can be told. Where the words are refused, no
+# password is asked for.
+takes_password() {
+    case $#:${1-} in
+    9:hash) looks_like_settings "$@" && looks_like_mode "$8" ;;
+    2:verify) looks_like_text "$2" ;;
+    *) return 1 ;;
+    esac
 }
 
 # The same for the text that is the first line of descriptor 3: `check - 3<FILE`.
@@ -447,7 +474,7 @@ tune() {
     [ "$1" -le 60000 ] || fail 2 'tune: at most 60000 milliseconds'
     passes=$(least_passes "$2")
     [ -n "$passes" ] || fail 2 'tune: less than 7168 KiB are too little for passwords'
-    prepare argon2_tool || exit 70
+    make_ready argon2_tool
     measure "$passes" "$2" || { progress '' && fail 5 "tune: check takes no text of $2 KiB"; }
     if [ "$took" -gt "$1" ]; then
         progress ''
