@@ -36,13 +36,15 @@ LEAKS = {
         test $0x400, %eax
         je original
         """},
-    # the hash is the last argument, behind a buffer and a place in it; any bytes are a table
-    'table_of_letters': {'argon2_text::encoding::items::put_hash': """
+    # the tag is the fourth argument, and its length is the fifth; any bytes are a table, and what is looked up is kept, or
+    # valgrind would leave the look-up out
+    'table_of_letters': {'proved_argon2_encode': """
         test %r8, %r8
         je original
         movzbl (%rcx), %eax
         lea start(%rip), %r10
         movzbl (%r10, %rax), %eax
+        movb %al, -8(%rsp)
         """},
     # the letters are the first argument, and their number is the second
     'branch_on_a_letter': {'argon2_text::encoding::letters::is_item': """
