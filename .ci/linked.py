@@ -212,7 +212,8 @@ class Inputs:
     """The objects that something is linked from, and where their sections are found in it."""
 
     def __init__(self, archive):
-        self.objects = [Elf(body) for _, body in members(archive)]
+        found = members(archive)
+        self.names, self.objects = [name for name, _ in found], [Elf(body) for _, body in found]
         self.globals = {it.name: (at, it) for at, elf in enumerate(self.objects) for it in elf.symbols
                         if it.section and it.is_global}
         self.linked, self.places = None, {}
@@ -233,7 +234,7 @@ class Inputs:
 
     def put(self, at, section, address):
         if not self.is_at(section, address):
-            raise Fault(f'{section.name} differs')
+            raise Fault(f'{section.name} of {self.names[at]} differs')
         self.places[at, section.index] = address
 
     def place_by_names(self, at, section):
@@ -325,7 +326,7 @@ class Inputs:
         self.check_leads()
         for at, section in self.loaded():
             if section.has(EXECUTE) and (at, section.index) not in self.places:
-                raise Fault(f'{section.name} is not there')
+                raise Fault(f'{section.name} of {self.names[at]} is not there')
         self.check_code()
         linked.check(self)
 
