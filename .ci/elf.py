@@ -34,7 +34,6 @@ class Symbol:
     value: int
     is_global: bool
     is_section: bool
-    is_exported: bool = True
 
 
 @dataclass(frozen=True)
@@ -67,10 +66,10 @@ class Elf:
             raise ValueError('is no ELF file for x86-64')
         self.kind, = struct.unpack_from('<H', content, 16)
         segments_at, sections_at = struct.unpack_from('<QQ', content, 32)
-        size, segments, _, sections, self.names_at = struct.unpack_from('<5H', content, 54)
+        size, segments, _, sections, names_at = struct.unpack_from('<5H', content, 54)
         self.segments = [self.segment(segments_at + size * at) for at in range(segments)]
         heads = [struct.unpack_from('<IIQQQQIIQQ', content, sections_at + 64 * at) for at in range(sections)]
-        names = self.bytes_of(heads[self.names_at]) if sections else b''
+        names = self.bytes_of(heads[names_at]) if sections else b''
         self.sections = [Section(at, text_at(names, head[0]), head[1], head[2], head[3], self.bytes_of(head), head[5],
                                  head[6], head[7], head[9]) for at, head in enumerate(heads)]
         self.symbols = self.symbols_of(SYMTAB)
@@ -91,9 +90,8 @@ class Elf:
         if table is None:
             return []
         names = self.sections[table.link].content
-        return [Symbol(text_at(names, name), 0 if place >= 0xff00 else place, value, info >> 4 != 0, info & 15 == 3,
-                       other & 3 == 0)
-                for name, info, other, place, value, _ in struct.iter_unpack('<IBBHQQ', table.content)]
+        return [Symbol(text_at(names, name), 0 if place >= 0xff00 else place, value, info >> 4 != 0, info & 15 == 3)
+                for name, info, _, place, value, _ in struct.iter_unpack('<IBBHQQ', table.content)]
 
     def read_relocations(self, section):
         of = self.exports if self.sections[section.link].kind == DYNSYM else self.symbols
@@ -101,11 +99,6 @@ class Elf:
                  for offset, info, addend in struct.iter_unpack('<QQq', section.content)]
         # Those of a shared object stand for the whole of it.
         self.sections[section.info if self.kind == RELOCATABLE else 0].relocations += found
-
-    def dynamic(self):
-        """The loader's table: pairs of a tag and a value."""
-        table = next((it.content for it in self.segments if it.kind == DYNAMIC), b'')
-        return list(struct.iter_unpack('<qQ', table))
 
 
 def members(content):

@@ -20,7 +20,7 @@ from pathlib import Path
 
 sys.dont_write_bytecode = True
 sys.path.insert(0, str(Path(__file__).resolve().parent))
-from elf import (ALLOC, EXECUTE, INTERPRETER, LOAD, MERGE, NOBITS, RELOCATABLE, SHARED, STRINGS, WRITE,  # noqa: E402
+from elf import (ALLOC, DYNAMIC, EXECUTE, INTERPRETER, LOAD, MERGE, NOBITS, RELOCATABLE, SHARED, STRINGS, WRITE,  # noqa: E402
                  Elf, members, text_at)
 
 # Kinds of relocations, and how many bytes each fills in.
@@ -28,7 +28,7 @@ WORD, NEAR, CALL, SLOT, SLOT_OF_CALL, SLOT_OF_MOVE = 1, 2, 4, 9, 41, 42
 SIZES = {WORD: 8, NEAR: 4, CALL: 4, SLOT: 4, SLOT_OF_CALL: 4, SLOT_OF_MOVE: 4}
 IN_SLOT, OF_CALL, RELATIVE = 6, 7, 8  # those of a shared object
 # What the loader's table may ask for beside tables: no other code to run first, no other place to look in.
-TAGS = {0, 1, 2, 3, 4, 5, 6, 7, 8, 9, 10, 11, 14, 20, 23, 30, 0x6ffffef5, 0x6ffffff0, 0x6ffffff9, 0x6ffffffb, 0x6ffffffc,
+TAGS = {1, 2, 3, 4, 5, 6, 7, 8, 9, 10, 11, 14, 20, 23, 30, 0x6ffffef5, 0x6ffffff0, 0x6ffffff9, 0x6ffffffb, 0x6ffffffc,
         0x6ffffffd, 0x6ffffffe, 0x6fffffff}
 NEEDED, STRTAB, SYMBOLS, RELA, RELA_SIZE, NAME, OF_CALLS, OF_CALLS_SIZE = 1, 5, 6, 7, 8, 14, 23, 2
 OBJECT, FUNCTION = 1, 2
@@ -43,6 +43,7 @@ STUBS = re.compile(rb'(?:\xff\x35.{4}\xff\x25.{4}\x0f\x1f\x40\x00|\xff\x25.{4}\x
 BESIDE = re.compile(b'(?:' + PADDING.pattern + STUBS.pattern + b')*' + PADDING.pattern, re.S)
 STUB = re.compile(rb'(?:\xf3\x0f\x1e\xfa)?\xf2?\xff\x25', re.S)
 CALLS = 'proved_argon2_'
+PAGE = 4096
 
 
 class Fault(Exception):
@@ -90,7 +91,8 @@ class Object(Linked):
         return None, self.address_of(found.symbol) + found.addend - addend
 
     def executable(self):
-        return [(self.bases[it.index], it.content, it.name) for it in self.elf.sections if it.has(ALLOC) and it.has(EXECUTE)]
+        return [(self.bases[it.index], it.content, it.name) for it in self.elf.sections
+                if it.has(ALLOC) and it.has(EXECUTE)]
 
     def check(self, inputs):
         """What is beside the sections: no other is loaded, and the calls alone can be seen."""
@@ -98,7 +100,8 @@ class Object(Linked):
             base = self.bases[section.index]
             is_read = section.has(ALLOC) and section.size and not UNREAD.match(section.name)
             is_constant = section.has(MERGE) and not section.has(WRITE | EXECUTE)  # (looked at where it is referred to)
-            if is_read and not is_constant and not any(base <= it < base + section.size for it in inputs.places.values()):
+            is_placed = any(base <= it < base + section.size for it in inputs.places.values())
+            if is_read and not is_constant and not is_placed:
                 raise Fault(f'{section.name} is no section of what it is linked from')
         exports = {it.name: self.address_of(it) for it in self.elf.symbols if it.section and it.is_global}
         inputs.check_exports(exports)
@@ -111,14 +114,27 @@ class Shared(Linked):
 
     def __init__(self, elf):
         super().__init__(elf)
-        self.loaded = [it for it in elf.segments if it.kind == LOAD]
-        self.table = elf.dynamic()
+        self.loaded = self.loaded_segments()
+        self.table = self.dynamic()
         self.tags = dict(self.table)
         self.relocations = {}
         for at, size in ((RELA, RELA_SIZE), (OF_CALLS, OF_CALLS_SIZE)):
             rows = self.read(self.tags[at], self.tags[size]) if at in self.tags else b''
             self.relocations.update((offset, (info & 0xffffffff, info >> 32, addend))
                                     for offset, info, addend in struct.iter_unpack('<QQq', rows))
+
+    def loaded_segments(self):
+        """None may be in the pages of another, since the loader would put one over the other."""
+        found = sorted((it for it in self.elf.segments if it.kind == LOAD), key=lambda it: it.address)
+        if any(-(one.address + one.size) // -PAGE > other.address // PAGE for one, other in zip(found, found[1:])):
+            raise Fault('two segments in a page')
+        return found
+
+    def dynamic(self):
+        """The loader's table, as it is in memory, up to its end: pairs of a tag and a value."""
+        one, = (it for it in self.elf.segments if it.kind == DYNAMIC)
+        rows = list(struct.iter_unpack('<qQ', self.read(one.address, one.size // 16 * 16)))
+        return rows[:next((at for at, (tag, _) in enumerate(rows) if tag == 0), len(rows))]
 
     def address_of(self, symbol):
         return symbol.value
@@ -212,7 +228,8 @@ class Inputs:
     """The objects that something is linked from, and where their sections are found in it."""
 
     def __init__(self, archive):
-        self.objects = [Elf(body) for _, body in members(archive)]
+        found = members(archive)
+        self.names, self.objects = [name for name, _ in found], [Elf(body) for _, body in found]
         self.globals = {it.name: (at, it) for at, elf in enumerate(self.objects) for it in elf.symbols
                         if it.section and it.is_global}
         self.linked, self.places = None, {}
@@ -233,7 +250,7 @@ class Inputs:
 
     def put(self, at, section, address):
         if not self.is_at(section, address):
-            raise Fault(f'{section.name} differs')
+            raise Fault(f'{section.name} of {self.names[at]} differs')
         self.places[at, section.index] = address
 
     def place_by_names(self, at, section):
@@ -298,8 +315,8 @@ class Inputs:
     def gaps(self, start, end):
         """What is between placed sections, as pairs of addresses."""
         at = start
-        for base, size in sorted((base, self.objects[at].sections[index].size) for (at, index), base in self.places.items()
-                                 if start <= base < end):
+        for base, size in sorted((base, self.objects[at].sections[index].size)
+                                 for (at, index), base in self.places.items() if start <= base < end):
             yield at, base
             at = base + size
         yield at, end
@@ -325,7 +342,7 @@ class Inputs:
         self.check_leads()
         for at, section in self.loaded():
             if section.has(EXECUTE) and (at, section.index) not in self.places:
-                raise Fault(f'{section.name} is not there')
+                raise Fault(f'{section.name} of {self.names[at]} is not there')
         self.check_code()
         linked.check(self)
 
