@@ -46,8 +46,9 @@ def luks_words(folder, image):
     with open(image, 'wb') as file:
         file.truncate(20 << 20)
     cryptsetup = shutil.which('cryptsetup', path='/usr/sbin:/sbin')
-    subprocess.run([cryptsetup, 'luksFormat', '-q', '--type', 'luks2', '--pbkdf', 'argon2id', '--pbkdf-force-iterations',
-                    '4', '--pbkdf-memory', '65536', '--pbkdf-parallel', '4', image, '--key-file', key], check=True)
+    subprocess.run([cryptsetup, 'luksFormat', '-q', '--type', 'luks2', '--pbkdf', 'argon2id',
+                    '--pbkdf-force-iterations', '4', '--pbkdf-memory', '65536', '--pbkdf-parallel', '4', image,
+                    '--key-file', key], check=True)
     return [cryptsetup, 'open', '--test-passphrase', '--key-file', key, image], [cryptsetup, 'isLuks', image]
 
 
