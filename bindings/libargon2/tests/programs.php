@@ -1,5 +1,5 @@
 <?php
-// What PHP answers over the libargon2.so.1 of this process: php programs.php make|check FILE|errors
+// What PHP answers over the libargon2.so.1 of this process: php programs.php make|check FILE|errors|sodium
 
 const PASSWORDS = ['', 'pw', "p\u{e4}ss", "a\0b"];
 
@@ -58,8 +58,21 @@ function errors(): void
     }
 }
 
+// Whether libsodium and the library each accept the other's hashes of a password, and none of another one.
+function sodium(): void
+{
+    foreach (array_slice(PASSWORDS, 1) as $password) {
+        $its = sodium_crypto_pwhash_str($password, 3, 8 << 20);
+        $own = password_hash($password, PASSWORD_ARGON2ID, ['memory_cost' => 8 << 10, 'time_cost' => 3, 'threads' => 1]);
+        echo json_encode([password_verify($password, $its), password_verify($password . '!', $its),
+            sodium_crypto_pwhash_str_verify($own, $password), sodium_crypto_pwhash_str_verify($own, $password . '!'),
+            sodium_crypto_pwhash_str_needs_rehash($own, 3, 8 << 20)]), "\n";
+    }
+}
+
 match ($argv[1]) {
     'make' => make(),
     'check' => check($argv[2]),
     'errors' => errors(),
+    'sodium' => sodium(),
 };

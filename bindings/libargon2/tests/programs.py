@@ -84,6 +84,10 @@ def check_php(libraries):
     libraries.are_taken('PHP', php)
     both_ways(libraries, 'PHP', [php, script, 'make'], [php, script, 'check'])
     compare('PHP: errors', *(libraries.run(name, php, script, 'errors')[0] for name in BOTH))
+    its, own = (libraries.run(name, php, script, 'sodium')[0] for name in BOTH)
+    compare('PHP: libsodium beside the library', its, own)
+    note('libsodium and ours accept hashes of each other, with the right password alone',
+         set(own.splitlines()) == {'[true,false,true,false,false]'}, own[:300])
 
 
 def check_cffi(libraries):
