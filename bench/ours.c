@@ -1,5 +1,5 @@
 /* Our library by its C face, loaded twice: its two builds have the same names. */
-#include "../bindings/c/proved_argon2_threads.h"
+#include "proved_argon2.h"
 #include "hashers.h"
 
 #include <dlfcn.h>
@@ -9,17 +9,18 @@ typedef uint32_t hash_raw(const uint8_t *pwd, size_t pwd_len, const uint8_t *sal
     const uint8_t *secret, size_t secret_len, const uint8_t *ad, size_t ad_len,
     const proved_argon2_settings *settings, uint8_t *out, size_t out_len);
 
-typedef uint32_t hash_raw_in(proved_argon2_memory *memory, const uint8_t *pwd, size_t pwd_len, const uint8_t *salt,
-    size_t salt_len, const uint8_t *secret, size_t secret_len, const uint8_t *ad, size_t ad_len,
-    const proved_argon2_settings *settings, uint8_t *out, size_t out_len);
-
 typedef uint32_t hash_raw_with(const proved_argon2_options *options, const uint8_t *pwd, size_t pwd_len,
     const uint8_t *salt, size_t salt_len, const uint8_t *secret, size_t secret_len, const uint8_t *ad, size_t ad_len,
     const proved_argon2_settings *settings, uint8_t *out, size_t out_len);
 
+typedef uint32_t memory_new(const proved_argon2_settings *settings, void **memory, size_t *memory_len);
+
+typedef void memory_free(void *memory, size_t memory_len);
+
 static hash_raw *hash_default, *hash_v3;
-static hash_raw_in *hash_in_default, *hash_in_v3;
 static hash_raw_with *hash_with_default, *hash_with_v3;
+static memory_new *memory_new_default;
+static memory_free *memory_free_default;
 compress_function *compress_default, *compress_v3;
 
 static proved_argon2_settings settings_of(const struct cost *cost)
@@ -43,20 +44,10 @@ static int call(hash_raw *hash, const struct cost *cost, const struct input *inp
         (const uint8_t *)"", 0, (const uint8_t *)"", 0, &settings, tag, TAG_LENGTH);
 }
 
-static int call_in(hash_raw_in *hash, proved_argon2_memory *memory, const struct cost *cost, const struct input *input,
-    uint8_t *tag)
+static int call_with(hash_raw_with *hash, proved_argon2_options options, const struct cost *cost,
+    const struct input *input, uint8_t *tag)
 {
     const proved_argon2_settings settings = settings_of(cost);
-    if (cost->threads != 1)
-        return 1;
-    return (int)hash(memory, (const uint8_t *)input->password, input->password_length, input->salt, SALT_LENGTH,
-        (const uint8_t *)"", 0, (const uint8_t *)"", 0, &settings, tag, TAG_LENGTH);
-}
-
-static int call_with(hash_raw_with *hash, const struct cost *cost, const struct input *input, uint8_t *tag)
-{
-    const proved_argon2_settings settings = settings_of(cost);
-    proved_argon2_options options = PROVED_ARGON2_OPTIONS;
     options.threads = cost->threads;
     return (int)hash(&options, (const uint8_t *)input->password, input->password_length, input->salt, SALT_LENGTH,
         (const uint8_t *)"", 0, (const uint8_t *)"", 0, &settings, tag, TAG_LENGTH);
@@ -72,28 +63,41 @@ int ours_v3(const struct cost *cost, const struct input *input, uint8_t tag[TAG_
     return call(hash_v3, cost, input, tag);
 }
 
-/* Over a memory that is kept from call to call, one for each build. */
+/* Over a memory that is kept from call to call, as large as the last case wants. */
+static int call_kept(hash_raw_with *hash, const struct cost *cost, const struct input *input, uint8_t *tag)
+{
+    static proved_argon2_options options = PROVED_ARGON2_OPTIONS;
+    static uint32_t kept;
+    const proved_argon2_settings settings = settings_of(cost);
+    if (kept != cost->memory) {
+        memory_free_default(options.memory, options.memory_len);
+        options = (proved_argon2_options)PROVED_ARGON2_OPTIONS;
+        kept = cost->memory;
+    }
+    if (options.memory == NULL && memory_new_default(&settings, &options.memory, &options.memory_len) != 0)
+        return 1;
+    return cost->threads != 1 || call_with(hash, options, cost, input, tag);
+}
+
 int ours_kept(const struct cost *cost, const struct input *input, uint8_t tag[TAG_LENGTH])
 {
-    static proved_argon2_memory memory;
-    return call_in(hash_in_default, &memory, cost, input, tag);
+    return call_kept(hash_with_default, cost, input, tag);
 }
 
 int ours_v3_kept(const struct cost *cost, const struct input *input, uint8_t tag[TAG_LENGTH])
 {
-    static proved_argon2_memory memory;
-    return call_in(hash_in_v3, &memory, cost, input, tag);
+    return call_kept(hash_with_v3, cost, input, tag);
 }
 
-/* By the call with options: the only one of ours that starts threads. */
+/* By the call with options, which can start threads. */
 int ours_with(const struct cost *cost, const struct input *input, uint8_t tag[TAG_LENGTH])
 {
-    return call_with(hash_with_default, cost, input, tag);
+    return call_with(hash_with_default, (proved_argon2_options)PROVED_ARGON2_OPTIONS, cost, input, tag);
 }
 
 int ours_v3_with(const struct cost *cost, const struct input *input, uint8_t tag[TAG_LENGTH])
 {
-    return call_with(hash_with_v3, cost, input, tag);
+    return call_with(hash_with_v3, (proved_argon2_options)PROVED_ARGON2_OPTIONS, cost, input, tag);
 }
 
 /* The function of a name in a library of a folder, or NULL where there is none, which is told. */
@@ -114,11 +118,11 @@ int load_ours(const char *folder)
     hash_v3 = (hash_raw *)loaded(folder, "argon2_c-v3.so", "proved_argon2_hash_raw");
     compress_default = (compress_function *)loaded(folder, "bench_compression.so", "bench_compress");
     compress_v3 = (compress_function *)loaded(folder, "bench_compression-v3.so", "bench_compress");
-    hash_in_default = (hash_raw_in *)loaded(folder, "argon2_c.so", "proved_argon2_hash_raw_in");
-    hash_in_v3 = (hash_raw_in *)loaded(folder, "argon2_c-v3.so", "proved_argon2_hash_raw_in");
+    memory_new_default = (memory_new *)loaded(folder, "argon2_c.so", "proved_argon2_memory_new");
+    memory_free_default = (memory_free *)loaded(folder, "argon2_c.so", "proved_argon2_memory_free");
     hash_with_default = (hash_raw_with *)loaded(folder, "argon2_c.so", "proved_argon2_hash_raw_with");
     hash_with_v3 = (hash_raw_with *)loaded(folder, "argon2_c-v3.so", "proved_argon2_hash_raw_with");
-    if (hash_in_default == NULL || hash_in_v3 == NULL || hash_with_default == NULL || hash_with_v3 == NULL)
+    if (memory_new_default == NULL || memory_free_default == NULL || hash_with_default == NULL || hash_with_v3 == NULL)
         return 1;
     return hash_default == NULL || hash_v3 == NULL || compress_default == NULL || compress_v3 == NULL;
 }

@@ -1,4 +1,5 @@
-/* What docs/C.md begins with: a text is made of a password, and the password verifies; and the same in a call each. */
+/* What docs/C.md shows: a text is made of a password, and the password verifies; the same in a call each; and a password
+ * that is cleared before the memory is filled, over a memory that is kept. */
 #include "proved_argon2.h"
 
 #include <string.h>
@@ -12,8 +13,27 @@ static int in_one_call_each(const char *password)
     return 0;
 }
 
+/* The tag of a password, which is cleared meanwhile. */
+static int clears_the_password(uint8_t *pwd, size_t pwd_len, const uint8_t *salt)
+{
+    const proved_argon2_settings settings = proved_argon2_owasp2();
+    proved_argon2_job job;
+    uint8_t tag[32];
+    proved_argon2_options options = PROVED_ARGON2_OPTIONS;
+    if (proved_argon2_memory_new(&settings, &options.memory, &options.memory_len) != PROVED_ARGON2_OK) return 1;
+    uint32_t code = proved_argon2_job_make(pwd, pwd_len, salt, 16, NULL, 0, NULL, 0, &settings, &job);
+    explicit_bzero(pwd, pwd_len);
+    code = code ? code : proved_argon2_job_run(&options, &job, tag, sizeof tag);
+    explicit_bzero(&job, sizeof job);
+    proved_argon2_memory_free(options.memory, options.memory_len);
+    code = code ? code : proved_argon2_verify_raw((const uint8_t *)"password", 8, salt, 16, NULL, 0, NULL, 0, &settings, tag, 32);
+    return code != PROVED_ARGON2_OK || pwd[0] != 0;
+}
+
 int main(void)
 {
+    uint8_t password[8] = "password";
+    if (clears_the_password(password, 8, (const uint8_t *)"a salt of 16 byt") != 0) return 1;
     if (in_one_call_each("correct horse battery staple") != 0) return 1;
     const uint8_t *pwd = (const uint8_t *)"correct horse battery staple";
     const size_t pwd_len = 28;

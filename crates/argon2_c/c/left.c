@@ -194,11 +194,11 @@ static void check_pools(size_t name)
 {
     static proved_argon2_run *const pools[] = {fails_at, forgets_at, repeats_at, exceeds_at};
     bool good = true;
-    for (int n = 0; n < MEMORIES * 9 * 4; n++) {
-        int left = n / 4 % 9 + 1;
+    for (int n = 0; n < MEMORIES * 9; n++) {
+        int left = n % 9 + 1;
         refuse_nothing();
-        trial it = trial_of(name, (size_t)n / 36, 4);
-        it.with.run = pools[n % 4];
+        trial it = trial_of(name, (size_t)n / 9, 4);
+        it.with.run = pools[(n + n / 9) % 4];
         it.with.pool = &left;
         it.expected = it.or_else = PROVED_ARGON2_WORKER_REFUSED;
         good = good && is_cleared(name, &it);
@@ -215,10 +215,10 @@ static int stops_at(void *arg, uint64_t done, uint64_t all)
 static void check_stops(size_t name)
 {
     bool good = true;
-    for (size_t n = 0; n < MEMORIES * 8 * 2; n++) {
-        uint64_t at = n / 2 % 8 + 1;
+    for (size_t n = 0; n < MEMORIES * 8; n++) {
+        uint64_t at = n % 8 + 1;
         refuse_nothing();
-        trial it = trial_of(name, n / 16, n % 2 == 0 ? 1 : 4);
+        trial it = trial_of(name, n / 8, n % 2 == 0 ? 1 : 4);
         it.with.tell = stops_at;
         it.with.arg = &at;
         it.expected = it.or_else = PROVED_ARGON2_STOPPED;
