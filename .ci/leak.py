@@ -36,8 +36,8 @@ LEAKS = {
         test $0x400, %eax
         je original
         """},
-    # the hash is the last argument, behind a buffer and a place in it; any bytes are a table
-    'table_of_letters': {'argon2_text::encoding::items::put_hash': """
+    # the tag is the fourth argument, and its length is the fifth; any bytes are a table
+    'table_of_letters': {'proved_argon2_encode': """
         test %r8, %r8
         je original
         movzbl (%rcx), %eax

@@ -55,6 +55,12 @@ static inline size_t bytes_of(const proved_argon2_job *job)
     return 4 * sizeof(block) * job->lanes * job->segment_length;
 }
 
+/* (their names in an archive, beside a program's own) */
+#define begin_call proved_driver_begin_call
+#define take_bytes proved_driver_take_bytes
+#define compute proved_driver_compute
+#define end_call proved_driver_end_call
+#define take_blocks proved_driver_take_blocks
 #pragma GCC visibility push(hidden)
 
 /* Begins a call with options, whose later fields are none. That a pointer is missing comes before all else. */

@@ -89,7 +89,7 @@ uint32_t end_call(call *it, uint32_t code)
 /* Asks for a worker's part of the pages at once; a system that cannot do so gives them one by one. */
 static uint32_t populate(const call *it, uint32_t number)
 {
-    const size_t bytes = it->with.memory == NULL ? mapped(bytes_of(&it->job)) : 0;
+    const size_t all = bytes_of(&it->job), bytes = it->with.memory == NULL && mapped(all) != 0 ? all : 0;
     const size_t part = (bytes / it->tasks / HUGE_PAGE + 1) * HUGE_PAGE, from = part * number;
     const size_t left = from >= bytes ? 0 : bytes - from;
     return left != 0 && madvise((char *)it->blocks + from, left < part ? left : part, POPULATE) != 0

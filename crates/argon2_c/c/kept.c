@@ -1,6 +1,6 @@
 /*
- * A memory that is kept: how large it is and where, that calls over it ask for no blocks, and that it is given back. It is
- * linked with --wrap for what it counts and refuses.
+ * A memory that is kept: how large it is and where, that calls over it ask for no blocks, and that it is given back.
+ * It is linked with --wrap for what it counts and refuses.
  */
 #include "calls.h"
 #include "system.h"

@@ -1,8 +1,8 @@
 /*
- * What the calls that are proved leave of secrets, which the caller clears, and what they overwrite: SECURITY.md says so.
- * Each call is made in a child, which has none of it before. left.c has the driver's calls; c/run compares the calls that
- * are named in both with those of the headers, and runs this over a library that overwrites nothing, where each check of
- * that has to fail. It is linked with --wrap for what it looks at.
+ * What the calls that are proved leave of secrets, which the caller clears, and what they overwrite: SECURITY.md says
+ * so. Each call is made in a child, which has none of it before. left.c has the driver's calls; c/run compares the
+ * calls that are named in both with those of the headers, and runs this over a library that overwrites nothing, where
+ * each check of that has to fail. It is linked with --wrap for what it looks at.
  */
 #include "left.h"
 

@@ -1,6 +1,6 @@
 /*
- * What the calls that hash or verify leave of secrets: nothing but what SECURITY.md names, whatever they answer. What is
- * given to free is looked through, and after a call the vector registers and all memory of the process that can be
+ * What the calls that hash or verify leave of secrets: nothing but what SECURITY.md names, whatever they answer. What
+ * is given to free is looked through, and after a call the vector registers and all memory of the process that can be
  * written. leaves.c has the calls that are proved. It is linked with --wrap for what it looks at and refuses.
  *
  *     left            all checks

@@ -1,6 +1,6 @@
 /*
- * A password in one call each, and the numbers that C alone answers. It is linked with --wrap=getrandom, so that the salt
- * is known.
+ * A password in one call each, and the numbers that C alone answers. It is linked with --wrap=getrandom, so that the
+ * salt is known.
  */
 #include "checks.h"
 

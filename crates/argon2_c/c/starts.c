@@ -1,8 +1,8 @@
 /*
- * The threads of the calls with options: as many as there are to be are started and joined for each slice, or a pool of
- * the caller's is asked to run as many tasks; a thread that is refused, whose lanes the caller's own fills; tasks that are
- * left out; eight hashes at once. Tags are compared with libargon2's. It is linked with --wrap for what it counts and
- * refuses.
+ * The threads of the calls with options: as many as there are to be are started and joined for each slice, or a pool
+ * of the caller's is asked to run as many tasks; a thread that is refused, whose lanes the caller's own fills; tasks
+ * that are left out; eight hashes at once. Tags are compared with libargon2's. It is linked with --wrap for what it
+ * counts and refuses.
  */
 #include "calls.h"
 #include "system.h"

@@ -1,6 +1,6 @@
 /*
- * How far a call is, that it can be stopped, that its thread is not cancelled within it, and that errno is as it was. It is
- * linked with --wrap for what it counts and refuses.
+ * How far a call is, that it can be stopped, that its thread is not cancelled within it, and that errno is as it was.
+ * It is linked with --wrap for what it counts and refuses.
  */
 #include "calls.h"
 #include "system.h"

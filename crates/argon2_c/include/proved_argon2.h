@@ -17,14 +17,14 @@
  * stand below, the length of the buffer, and only then memory. No call prints, waits, ends the process,
  * changes errno or reads anything but what it is passed.
  *
- * Memory. A call that hashes or verifies asks for at most the settings' mem_cost KiB for its blocks, in whole huge pages
- * where that is 2 MiB or more, and for the tag and the hash and salt of a text; no other call asks for any. All of it is
- * given back before the call returns, after it was overwritten, or to the system, which clears it. Such a call
- * overwrites the stack below and the vector registers too.
+ * Memory. A call that hashes or verifies asks for at most the settings' mem_cost KiB for its blocks, in whole huge
+ * pages where that is 2 MiB or more, and for the tag and the hash and salt of a text; no other call asks for any. All
+ * of it is given back before the call returns, after it was overwritten, or to the system, which clears it. Such a
+ * call overwrites the stack below and the vector registers too.
  *
- * Threads. The library keeps no state. Calls may run in several threads at once, as long as none writes to what another
- * one is passed. A thread is not cancelled within a call. No call may come from a signal handler. In the forked child of
- * a process with threads calls may be made where malloc may be called, as with the GNU C library.
+ * Threads. The library keeps no state. Calls may run in several threads at once, as long as none writes to what
+ * another one is passed. A thread is not cancelled within a call. No call may come from a signal handler. In the
+ * forked child of a process with threads calls may be made where malloc may be called, as with the GNU C library.
  *
  * Symbols. Each of the library's begins with proved_argon2_, so that a program may link libargon2 too.
  */

@@ -19,10 +19,11 @@
  *
  * Each call judges all numbers and lengths that it is given. Numbers that no accepted call has are
  * PROVED_ARGON2_NO_JOB, a pass, slice or lane that the job does not have is PROVED_ARGON2_NO_PLACE, a memory, slice or
- * segment of more or fewer blocks is PROVED_ARGON2_WRONG_BLOCKS, and a tag of another length PROVED_ARGON2_WRONG_LENGTH,
- * in this order; what would have been written is as it was then, but the memory of a call that is done. Blocks at an
- * address that is no multiple of 8 are PROVED_ARGON2_WRONG_BLOCKS before these, which the header's inline functions
- * answer. No call can see that blocks are there, and that none is written by another thread meanwhile.
+ * segment of more or fewer blocks is PROVED_ARGON2_WRONG_BLOCKS, and a tag of another length
+ * PROVED_ARGON2_WRONG_LENGTH, in this order; what would have been written is as it was then, but the memory of a call
+ * that is done. Blocks at an address that is no multiple of 8 are PROVED_ARGON2_WRONG_BLOCKS before these, which the
+ * header's inline functions answer. No call can see that blocks are there, and that none is written by another thread
+ * meanwhile.
  *
  * Nothing is cleared: the job holds H0, from which a password can be tried by one BLAKE2b, and so do the blocks.
  * proved_argon2_job_run (proved_argon2_threads.h) lends a job memory and threads, and clears them.
@@ -63,9 +64,9 @@ uint32_t proved_argon2_job_make(
     proved_argon2_job *job);
 
 /*
- * Judges a stored text as proved_argon2_verify_encoded does, and writes the job that it is verified by, its salt and its
- * hash. proved_argon2_read tells their lengths: any other is PROVED_ARGON2_WRONG_LENGTH, after all other refusals of the
- * text.
+ * Judges a stored text as proved_argon2_verify_encoded does, and writes the job that it is verified by, its salt and
+ * its hash. proved_argon2_read tells their lengths: any other is PROVED_ARGON2_WRONG_LENGTH, after all other refusals
+ * of the text.
  */
 PROVED_ARGON2_CHECKED PROVED_ARGON2_NONNULL
 uint32_t proved_argon2_job_read(
@@ -127,8 +128,9 @@ PROVED_ARGON2_CHECKED PROVED_ARGON2_NONNULL
 uint64_t proved_argon2_memory_len(const proved_argon2_settings *settings);
 
 /*
- * Writes the tag of a password as proved_argon2_hash_raw does, over blocks of the caller's, and so is never out of memory.
- * Blocks of another number than the settings want are PROVED_ARGON2_WRONG_BLOCKS, before the length of the buffer.
+ * Writes the tag of a password as proved_argon2_hash_raw does, over blocks of the caller's, and so is never out of
+ * memory. Blocks of another number than the settings want are PROVED_ARGON2_WRONG_BLOCKS, before the length of the
+ * buffer.
  */
 PROVED_ARGON2_CHECKED PROVED_ARGON2_NONNULL
 uint32_t proved_argon2_hash_over(

@@ -21,14 +21,14 @@ extern "C" {
 
 /*
  * What runs tasks in place of threads of the call's own: it calls task(arg, i) once for each i below tasks, in any
- * threads, in any order or at the same time, and returns 0 once all have returned. Any other answer, with no task running
- * any more, is PROVED_ARGON2_WORKER_REFUSED, and so is a task that was left out, run twice or not there.
+ * threads, in any order or at the same time, and returns 0 once all have returned. Any other answer, with no task
+ * running any more, is PROVED_ARGON2_WORKER_REFUSED, and so is a task that was left out, run twice or not there.
  */
 typedef int proved_argon2_run(void *pool, uint32_t tasks, void (*task)(void *arg, uint32_t i), void *arg);
 
 /*
- * What is told how far a call is, in the caller's thread: that done slices of all are filled, from 1 on. Where it answers
- * another number than 0, the call stops with PROVED_ARGON2_STOPPED. It returns, and does not jump.
+ * What is told how far a call is, in the caller's thread: that done slices of all are filled, from 1 on. Where it
+ * answers another number than 0, the call stops with PROVED_ARGON2_STOPPED. It returns, and does not jump.
  */
 typedef int proved_argon2_tell(void *arg, uint64_t done, uint64_t all);
 

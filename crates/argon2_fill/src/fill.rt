@@ -7,7 +7,8 @@ ghost use Rattle.argon2_memory.specs.Views.Jobs.{setting_of_context};
 ghost use Rattle.argon2_memory.specs.Views.Filling.{no_segment};
 ghost use Rattle.argon2_memory.specs.Standard.Kept.{HasShape, HoldsFill, HoldsLastPass, IsLeft, block_of, no_memory};
 ghost use Rattle.argon2_memory.specs.Laws.Matrix.{IsBegun, matrix_with};
-ghost use Rattle.argon2_memory.specs.Views.Memories.{AreSlices, IsFilledBelow, blocks_written, slice_writes, writes, writes_in, last_blocks_of};
+ghost use Rattle.argon2_memory.specs.Views.Memories.{AreSlices, blocks_written, places_in, slice_writes, writes, writes_in, last_blocks_of};
+ghost use Rattle.argon2_memory.specs.Views.Places.{AreFilledBelow};
 ghost use Rattle.argon2_memory.specs.Laws.Schedule.{blocks_in_slice};
 ghost use Rattle.argon2_memory.specs.Views.Segments.{IsReady, segment_at};
 ghost use Rattle.argon2_standard.specs.Standard.Setting.{memory_blocks};
@@ -167,11 +168,11 @@ pub fn fill_sequential(context: &Context<'_>, memory: &mut Memory)
 fn fill_slices(job: &Job, slices: &mut Slices)
     requires slices { AreSlices job.now.setting.lanes job.now.setting.segment_length
         (segments_of slices.old) }
-    requires begun { IsFilledBelow job.now.setting 0 0 (segments_of slices.old) }
+    requires begun { AreFilledBelow job.now.setting 0 0 (places_in (segments_of slices.old)) }
     ensures slices { AreSlices job.now.setting.lanes job.now.setting.segment_length
         (segments_of slices.new) }
-    ensures filled { IsFilledBelow job.now.setting job.now.setting.passes 0
-        (segments_of slices.new) }
+    ensures filled { AreFilledBelow job.now.setting job.now.setting.passes 0
+        (places_in (segments_of slices.new)) }
     ensures writes { writes_in (segments_of slices.new)
         ≡ (writes_in (segments_of slices.old) + blocks_written job.now.setting
         (4 * job.now.setting.passes)) % 2 ^ 64 }
@@ -187,12 +188,12 @@ fn fill_slices(job: &Job, slices: &mut Slices)
 pub fn fill_slice_in_turn(job: &Job, slices: &mut Slices)
     requires slices { AreSlices job.now.setting.lanes job.now.setting.segment_length
         (segments_of slices.old) }
-    requires ready { IsFilledBelow job.now.setting job.now.pass job.now.slice
-        (segments_of slices.old) }
+    requires ready { AreFilledBelow job.now.setting job.now.pass job.now.slice
+        (places_in (segments_of slices.old)) }
     ensures slices { AreSlices job.now.setting.lanes job.now.setting.segment_length
         (segments_of slices.new) }
-    ensures filled { IsFilledBelow job.now.setting job.now.pass (job.now.slice + 1)
-        (segments_of slices.new) }
+    ensures filled { AreFilledBelow job.now.setting job.now.pass (job.now.slice + 1)
+        (places_in (segments_of slices.new)) }
     ensures writes { writes_in (segments_of slices.new)
         ≡ (writes_in (segments_of slices.old)
         + job.now.setting.lanes * blocks_in_slice job.now.setting job.now.pass job.now.slice) % 2 ^

@@ -4,9 +4,10 @@
 ghost use Rattle.std.specs.Prelude.{◌≡◌, ◌≢◌, ℕ, ◌+◌, ◌-◌, ◌*◌, ◌^◌, ◌<◌, ◌≤◌, [], ◌∷◌, length, slice_index_or};
 ghost use Rattle.std.specs.List.{fold};
 ghost use Rattle.argon2_blocks.specs.Standard.Block.{xor, zero_block};
-ghost use Rattle.argon2_fill.specs.Views.Lent.{IsLentBegun, IsLentBelow, last_lent};
+ghost use Rattle.argon2_fill.specs.Views.Lent.{IsLentBegun, last_lent};
 ghost use Rattle.argon2_memory.specs.Views.Beside.{lent_blocks};
-ghost use Rattle.argon2_memory.specs.Views.Lent.{AreLent, FillsLent, HoldsSlice};
+ghost use Rattle.argon2_memory.specs.Views.Lent.{AreLent, FillsLent, HoldsSlice, lent_places};
+ghost use Rattle.argon2_memory.specs.Views.Places.{AreFilledBelow};
 ghost use Rattle.argon2_memory.specs.Views.Segments.{IsReady};
 ghost use Rattle.argon2_fill.specs.Laws.Lent.{EveryLentRunAgrees};
 ghost use Rattle.argon2_standard.specs.Standard.Setting.{memory_blocks};
@@ -134,10 +135,10 @@ fn fill_one_of_four(
     requires third_fits { length third.old ≡ job.now.setting.lanes * job.now.setting.segment_length }
     requires fourth_fits { length fourth.old
         ≡ job.now.setting.lanes * job.now.setting.segment_length }
-    ensures { let j = job.now in IsLentBelow j.setting j.pass j.slice
-        (first.old ∷ second.old ∷ third.old ∷ fourth.old ∷ [])
-        → IsLentBelow j.setting j.pass (j.slice + 1)
-        (first.new ∷ second.new ∷ third.new ∷ fourth.new ∷ []) }
+    ensures { let j = job.now in AreFilledBelow j.setting j.pass j.slice
+        (lent_places j.setting (first.old ∷ second.old ∷ third.old ∷ fourth.old ∷ []))
+        → AreFilledBelow j.setting j.pass (j.slice + 1)
+        (lent_places j.setting (first.new ∷ second.new ∷ third.new ∷ fourth.new ∷ [])) }
 {
     recall_job(job);
     match job.slice() {

@@ -9,7 +9,8 @@ ghost use Rattle.argon2_memory.specs.Views.Jobs.{setting_of_context};
 ghost use Rattle.argon2_fill.specs.Views.Boards.{NoneOut};
 ghost use Rattle.argon2_memory.specs.Views.Filling.{IsSnapshot};
 ghost use Rattle.argon2_memory.specs.Laws.Matrix.{HoldsLastPass, IsBegun};
-ghost use Rattle.argon2_memory.specs.Views.Memories.{AreSlices, HasShape, IsFilledBelow, block_of, no_memory};
+ghost use Rattle.argon2_memory.specs.Views.Memories.{AreSlices, HasShape, block_of, no_memory, places_in};
+ghost use Rattle.argon2_memory.specs.Views.Places.{AreFilledBelow};
 ghost use Rattle.argon2_fill.specs.Views.Permits.{PermitsAll};
 ghost use Rattle.argon2_memory.specs.Views.SliceLists.{segments_of};
 
@@ -33,8 +34,8 @@ use std::thread::Threads;
 pub fn board_of(alloc: Global, job: &Job, slices: &mut Slices) -> Result<Board>
     requires slices { AreSlices job.now.setting.lanes job.now.setting.segment_length
         (segments_of slices.old) }
-    requires ready { IsFilledBelow job.now.setting job.now.pass job.now.slice
-        (segments_of slices.old) }
+    requires ready { AreFilledBelow job.now.setting job.now.pass job.now.slice
+        (places_in (segments_of slices.old)) }
     ensures board { IfOk result (λ board. board
         ≡ record {
           job = job.now;
@@ -69,14 +70,14 @@ fn fill_slice_by_workers<R: Threads + Wait + Sync, G: Gate, P: Permit>(
 ) -> Result<()>
     requires slices { AreSlices job.now.setting.lanes job.now.setting.segment_length
         (segments_of slices.old) }
-    requires ready { IsFilledBelow job.now.setting job.now.pass job.now.slice
-        (segments_of slices.old) }
+    requires ready { AreFilledBelow job.now.setting job.now.pass job.now.slice
+        (places_in (segments_of slices.old)) }
     requires some_worker { 0 < workers }
     requires numbers_fit { first + workers < 2 ^ 64 }
     ensures slices { OnOk result (AreSlices job.now.setting.lanes job.now.setting.segment_length
         (segments_of slices.new)) }
-    ensures filled { OnOk result (IsFilledBelow job.now.setting job.now.pass (job.now.slice + 1)
-        (segments_of slices.new)) }
+    ensures filled { OnOk result (AreFilledBelow job.now.setting job.now.pass (job.now.slice + 1)
+        (places_in (segments_of slices.new))) }
     ensures permitted { OnOk result (PermitsAll (P.permits permit.now) first workers) }
     ensures refused { IfErr result (IsShortage true) }
 {

@@ -1,5 +1,6 @@
 -- A segment and a slice while they are filled.
 pub mod Filled
+pub mod Places
 pub mod Slices
 pub mod Written
 pub mod Made

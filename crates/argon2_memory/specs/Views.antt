@@ -3,6 +3,7 @@
 pub mod Jobs
 pub mod Positions
 pub mod Segments
+pub mod Places
 pub mod Sources
 pub mod Filling
 pub mod Memories

@@ -8,7 +8,8 @@ use Rattle.argon2_memory.specs.Views.Jobs.{IsSetting}
 use Rattle.argon2_memory.specs.Laws.Matrix.{IsBegun}
 use Rattle.argon2_standard.specs.Standard.Recurrence.{block_at, first_block}
 use Rattle.argon2_memory.specs.Views.Segments.{IsReady, segment_at, segment_block}
-use Rattle.argon2_memory.specs.Views.Memories.{MemoryValue, AreSlices, HasShape, IsFilledBelow, block_of, segment_in}
+use Rattle.argon2_memory.specs.Views.Memories.{MemoryValue, AreSlices, HasShape, block_of, places_in, segment_in}
+use Rattle.argon2_memory.specs.Views.Places.{Places, AreFilledBelow}
 use Rattle.argon2_memory.proofs.Schedules.AnyOrder.{recurrence_first}
 use Rattle.argon2_memory.proofs.Recurrence.Recurrences.{block_at-recurrence}
 
@@ -34,6 +35,19 @@ ready_first s good lane fits blocks n first =
           ∙ recurrence_first s (block_at s) lane i h')),
     )
 
+-- slices of whole segments, of which those of slice 0 are begun, are ready for pass 0
+module _ (s : Setting) (places : Places) (long : (k lane : ℕ) → k < 4 → lane < s.lanes → length (places k lane) ≡ s.segment_length)
+    (begun : (lane : ℕ) → lane < s.lanes → IsReady s 0 0 lane (places 0 lane)) where
+  ready_by : (k lane : ℕ) → k < 4 → lane < s.lanes → IsReady s 0 k lane (places k lane)
+  ready_by zero lane h fits = begun lane fits
+  ready_by (suc k) lane h fits = long (suc k) lane h fits
+
+  pub begun_below : AreFilledBelow s 0 0 places
+  begun_below = record {
+    below = λ k lane h fits. absurd (omega arith);
+    above = λ k lane low high fits. ready_by k lane high fits;
+  }
+
 module _ (s : Setting) (good : IsSetting s) (m : MemoryValue) (shape : HasShape s m) (slices : AreSlices s.lanes s.segment_length m.slices)
     (begun : IsBegun s (block_of m)) where
   first_stand : (lane column : ℕ) → lane < s.lanes → column < 2 →
@@ -44,13 +58,7 @@ module _ (s : Setting) (good : IsSetting s) (m : MemoryValue) (shape : HasShape 
       let r : column % m.segment_length ≡ column = mod-eq_of_lt short in
       rw (q, r) at (begun lane column fits h)
 
-  ready_by : (k lane : ℕ) → k < 4 → lane < s.lanes → IsReady s 0 k lane (segment_in m.slices k lane).blocks
-  ready_by zero lane h fits = ready_first s good lane fits (segment_in m.slices 0 lane).blocks (slices.blocks 0 lane h fits)
-      (λ column l. first_stand lane column fits l)
-  ready_by (suc k) lane h fits = slices.blocks (suc k) lane h fits
-
-  pub filled_begun : IsFilledBelow s 0 0 m.slices
-  filled_begun = record {
-    below = λ k lane h fits. absurd (omega arith);
-    above = λ k lane low high fits. ready_by k lane high fits;
-  }
+  pub filled_begun : AreFilledBelow s 0 0 (places_in m.slices)
+  filled_begun = begun_below s (places_in m.slices) slices.blocks
+      (λ lane fits. ready_first s good lane fits (segment_in m.slices 0 lane).blocks (slices.blocks 0 lane (omega arith) fits)
+      (λ column l. first_stand lane column fits l))

@@ -13,14 +13,15 @@ use Rattle.argon2_standard.specs.Standard.Tag.{last_blocks}
 use Rattle.argon2_memory.specs.Views.Jobs.{IsSetting, Job, IsJob}
 use Rattle.argon2_memory.specs.Views.Beside.{lent_blocks}
 use Rattle.argon2_memory.specs.Views.Filling.{rank_among}
-use Rattle.argon2_memory.specs.Views.Lent.{AreLent, HoldsSlice}
+use Rattle.argon2_memory.specs.Views.Lent.{AreLent, HoldsSlice, lent_places}
+use Rattle.argon2_memory.specs.Views.Places.{AreFilledBelow}
 use Rattle.argon2_memory.specs.Views.Segments.{IsReady, segment_at, segment_block}
 use Rattle.argon2_memory.proofs.Filling.Lent.{length-lent}
-use Rattle.argon2_memory.proofs.Schedules.SliceToSlice.{IsNext, is_next}
+use Rattle.argon2_memory.proofs.Filling.Places.{others_hold, filled_further}
 use Rattle.argon2_fill.specs.Laws.Lent.{IsLentRun, numbered}
-use Rattle.argon2_fill.specs.Views.Lent.{IsLentBegun, IsLentBelow, last_lent}
-use Rattle.argon2_fill.proofs.Filling.First.{ready_first}
-use Rattle.argon2_fill.proofs.Filling.Passes.{last_in}
+use Rattle.argon2_fill.specs.Views.Lent.{IsLentBegun, last_lent}
+use Rattle.argon2_fill.proofs.Filling.First.{begun_below, ready_first}
+use Rattle.argon2_fill.proofs.Filling.Passes.{last_in, next_slice}
 
 -- ---- one lane of a slice
 
@@ -101,21 +102,14 @@ lent_begun s good lane fits old long x y ex ey =
     ]))
 
 -- four whole slices of which the first is begun are ready for pass 0
-module _ (s : Setting) (m : List (List (List ℕ))) (long : (k : ℕ) → k < 4 → length (get_or m k []) ≡ s.lanes * s.segment_length)
-    (begun : IsLentBegun s (get_or m 0 [])) where
-  ready_by : (k lane : ℕ) → k < 4 → lane < s.lanes → IsReady s 0 k lane (lent_blocks s (get_or m k []) lane)
-  ready_by zero lane h fits = begun lane fits
-  ready_by (suc k) lane h fits = length-lent s (get_or m (suc k) []) lane (long (suc k) h) fits
-
-  pub begun_below : IsLentBelow s 0 0 m
-  begun_below = record {
-    below = λ k lane h fits. absurd (omega arith);
-    above = λ k lane low high fits. ready_by k lane high fits;
-  }
+pub lent_ready : (s : Setting) (m : List (List (List ℕ))) → ((k : ℕ) → k < 4 → length (get_or m k []) ≡ s.lanes * s.segment_length) →
+    IsLentBegun s (get_or m 0 []) → AreFilledBelow s 0 0 (lent_places s m)
+lent_ready s m long begun = begun_below s (lent_places s m) (λ k lane h fits. length-lent s (get_or m k []) lane (long k h) fits) begun
 
 -- ---- from slice to slice
 
-module _ (j : Job) (good : IsJob j) (m : List (List (List ℕ))) (four : length m ≡ 4) (ready : IsLentBelow j.setting j.pass j.slice m) where
+module _ (j : Job) (good : IsJob j) (m : List (List (List ℕ))) (four : length m ≡ 4)
+    (ready : AreFilledBelow j.setting j.pass j.slice (lent_places j.setting m)) where
   at-other : (k : ℕ) → k ≢ j.slice → get_or (remove m j.slice) (rank_among j k) [] ≡ get_or m k []
   at-other k ne =
       let few : j.slice < length m = let g = good.slice_fits in omega (arith, g, four) in
@@ -126,30 +120,20 @@ module _ (j : Job) (good : IsJob j) (m : List (List (List ℕ))) (four : length 
 
   -- the other slices are as a fill of the job asks for them
   pub are_lent : AreLent j (remove m j.slice)
-  are_lent = record {
-    lower = λ slice h lane fits. ap (λ (l : List (List ℕ)). lent_blocks j.setting l lane) (at-other slice (λ n. absurd (omega (arith, h, n))))
-        ∙ ready.below slice lane h fits;
-    upper = λ slice last low high p lane fits. ap (λ (l : List (List ℕ)). lent_blocks j.setting l lane) (at-other slice (λ n. absurd (omega (arith, low, n))))
-        ∙ (rw (← p) at (ready.above slice lane (omega (arith, low)) high fits));
-  }
+  are_lent = others_hold j (lent_places j.setting m) ready _ (λ k lane ne. ap (λ (l : List (List ℕ)). lent_blocks j.setting l lane) (at-other k ne))
 
   -- with the job's slice filled they are filled one slice further
   pub filled_one : (next : List (List (List ℕ))) → ((k : ℕ) → k ≢ j.slice → get_or next k [] ≡ get_or m k []) →
-      HoldsSlice j.setting j.pass j.slice (get_or next j.slice []) → IsLentBelow j.setting j.pass (j.slice + 1) next
-  filled_one next same holds = record {
-    below = λ k lane h fits. elim (eqb_tells k j.slice) [
-      | inl w ↦ rw w.1 (holds lane fits)
-      | inr w ↦ rw (same k w.1) (ready.below k lane (omega (arith, h, w.1)) fits)
-    ];
-    above = λ k lane low high fits. rw (same k (λ n. absurd (omega (arith, low, n)))) (ready.above k lane (omega (arith, low)) high fits);
-  }
+      HoldsSlice j.setting j.pass j.slice (get_or next j.slice []) → AreFilledBelow j.setting j.pass (j.slice + 1) (lent_places j.setting next)
+  filled_one next same holds = filled_further j (lent_places j.setting m) ready (lent_places j.setting next)
+      (λ k lane ne. ap (λ (l : List (List ℕ)). lent_blocks j.setting l lane) (same k ne)) holds
 
 -- with slice number k the job's
 pub filled_at : (j : Job) → IsJob j → (m next : List (List (List ℕ))) → length m ≡ 4 → (k : ℕ) → j.slice ≡ k →
     ((i : ℕ) → i ≢ k → get_or next i [] ≡ get_or m i []) → (others : List (List (List ℕ))) → others ≡ remove m k →
     (AreLent j others → ((lane : ℕ) → lane < j.setting.lanes → IsReady j.setting j.pass j.slice lane (lent_blocks j.setting (get_or m k []) lane)) →
     HoldsSlice j.setting j.pass j.slice (get_or next k [])) →
-    IsLentBelow j.setting j.pass j.slice m → IsLentBelow j.setting j.pass (j.slice + 1) next
+    AreFilledBelow j.setting j.pass j.slice (lent_places j.setting m) → AreFilledBelow j.setting j.pass (j.slice + 1) (lent_places j.setting next)
 filled_at j good m next four k e same others o fills ready =
     let P : List (List (List ℕ)) → Type 0 = λ l. AreLent j l in
     let lent : AreLent j others = subst P (ap (λ n. remove m n) e ∙ sym o) (are_lent j good m four ready) in
@@ -158,26 +142,10 @@ filled_at j good m next four k e same others o fills ready =
     let H : ℕ → Type 0 = λ n. HoldsSlice j.setting j.pass j.slice (get_or next n []) in
     filled_one j good m four ready next (λ i ne. same i (λ h. ne (h ∙ sym e))) (subst H (sym e) (fills lent own))
 
-next_by : (s : Setting) (pass slice pass' slice' : ℕ) (m : List (List (List ℕ))) → IsNext pass slice pass' slice' →
-    IsLentBelow s pass (slice + 1) m → IsLentBelow s pass' slice' m
-next_by s pass slice pass' slice' m (inl w) filled = record {
-  below = λ k lane h fits. filled.below k lane (omega (arith, w.0, h)) fits ∙ ap (λ p. segment_at s p k lane) w.1;
-  above = λ k lane low high fits. rw w.1 at (filled.above k lane (omega (arith, w.0, low)) high fits);
-}
-next_by s pass slice pass' slice' m (inr w) filled = record {
-  below = λ k lane h fits. absurd (omega (arith, w.1, h));
-  above = λ k lane low high fits. let e : suc pass ≡ pass' = omega (arith, w.2) in
-      rw (← e) (filled.below k lane (omega (arith, w.0, high)) fits);
-}
-
-pub next_lent : (s : Setting) (n : ℕ) (m : List (List (List ℕ))) → IsLentBelow s (n / 4) (n % 4 + 1) m → IsLentBelow s ((n + 1) / 4) ((n + 1) % 4) m
-next_lent s n m filled =
-    let e : suc n ≡ n + 1 = omega arith in next_by s (n / 4) (n % 4) ((n + 1) / 4) ((n + 1) % 4) m (rw e at (is_next n)) filled
-
 -- ---- the end
 
 -- after all passes each slice holds the blocks of the last pass
-pub last_slices : (s : Setting) → IsSetting s → (m : List (List (List ℕ))) → IsLentBelow s s.passes 0 m →
+pub last_slices : (s : Setting) → IsSetting s → (m : List (List (List ℕ))) → AreFilledBelow s s.passes 0 (lent_places s m) →
     (slice : ℕ) → slice < 4 → HoldsSlice s (s.passes - 1) slice (get_or m slice [])
 last_slices s good m filled slice below = λ lane fits.
     last_in s.passes s slice lane (lent_blocks s (get_or m slice []) lane) good.some_pass (filled.above slice lane (omega arith) below fits)
@@ -202,8 +170,8 @@ module _ (s : Setting) (slices : ℕ → List (List (List ℕ))) (run : IsLentRu
   is_job : (n : ℕ) → n < 4 * s.passes → IsJob (numbered s n)
   is_job n h = record { setting = run.setting; pass_fits = omega (arith, h); slice_fits = omega arith }
 
-  run_below : (n : ℕ) → n ≤ 4 * s.passes → IsLentBelow s (n / 4) (n % 4) (slices n)
-  run_below zero h = begun_below s (slices 0) run.long run.begun
+  run_below : (n : ℕ) → n ≤ 4 * s.passes → AreFilledBelow s (n / 4) (n % 4) (lent_places s (slices n))
+  run_below zero h = lent_ready s (slices 0) run.long run.begun
   run_below (suc n) h =
       let few : n < 4 * s.passes = omega (arith, h) in
       let before = run_below n (omega (arith, h)) in
@@ -211,7 +179,7 @@ module _ (s : Setting) (slices : ℕ → List (List (List ℕ))) (run : IsLentRu
       let lent = are_lent (numbered s n) (is_job n few) (slices n) (run.four n) before in
       let holds : HoldsSlice s (n / 4) (n % 4) (get_or (slices (suc n)) (n % 4) []) =
       λ lane fits. run.filled n lane few fits lent (before.above (n % 4) lane (omega arith) (omega arith) fits) in
-      rw e at (next_lent s n (slices (suc n)) (filled_one (numbered s n) (is_job n few) (slices n) (run.four n) before (slices (suc n))
+      rw e at (next_slice s n (lent_places s (slices (suc n))) (filled_one (numbered s n) (is_job n few) (slices n) (run.four n) before (slices (suc n))
       (λ k ne. run.others n k few ne) holds))
 
   pub run_agrees : HoldsSlice s (s.passes - 1) 3 (get_or (slices (4 * s.passes)) 3 [])

@@ -6,8 +6,9 @@ use Rattle.std.proofs.lemmas.Bool.{cases_lt}
 use Rattle.argon2_standard.specs.Standard.Setting.{Setting, lane_length, memory_blocks}
 use Rattle.argon2_memory.specs.Views.Jobs.{IsSetting}
 use Rattle.argon2_memory.specs.Laws.Schedule.{blocks_in_slice}
-use Rattle.argon2_memory.specs.Views.Segments.{SegmentValue, IsReady, segment_at, segment_block}
-use Rattle.argon2_memory.specs.Views.Memories.{MemoryValue, HasShape, block_of, last_blocks_of, segment_in, IsFilledBelow, blocks_written}
+use Rattle.argon2_memory.specs.Views.Segments.{IsReady, segment_at, segment_block}
+use Rattle.argon2_memory.specs.Views.Memories.{MemoryValue, HasShape, block_of, last_blocks_of, segment_in, places_in, blocks_written}
+use Rattle.argon2_memory.specs.Views.Places.{Places, AreFilledBelow}
 use Rattle.argon2_memory.specs.Laws.Matrix.{HoldsLastPass}
 use Rattle.argon2_memory.proofs.Filling.Slices.{slice_fits}
 use Rattle.argon2_memory.proofs.Schedules.AnyOrder.{other_eqb}
@@ -18,22 +19,22 @@ use Rattle.argon2_standard.specs.Standard.Recurrence.{block_at}
 use Rattle.argon2_standard.specs.Standard.Tag.{last_blocks}
 
 -- slices filled up to the end of one are filled below the next, of the same pass or the next
-next-below : (s : Setting) (pass slice pass' slice' : ℕ) (m : List (List SegmentValue)) → IsNext pass slice pass' slice' →
-    IsFilledBelow s pass (slice + 1) m → IsFilledBelow s pass' slice' m
-next-below s pass slice pass' slice' m (inl w) filled = record {
+next-below : (s : Setting) (pass slice pass' slice' : ℕ) (places : Places) → IsNext pass slice pass' slice' →
+    AreFilledBelow s pass (slice + 1) places → AreFilledBelow s pass' slice' places
+next-below s pass slice pass' slice' places (inl w) filled = record {
   below = λ k lane h fits. filled.below k lane (omega (arith, w.0)) fits ∙ ap (λ p. segment_at s p k lane) w.1;
   above = λ k lane low high fits. rw w.1 at (filled.above k lane (omega (arith, w.0)) high fits);
 }
-next-below s pass slice pass' slice' m (inr w) filled = record {
+next-below s pass slice pass' slice' places (inr w) filled = record {
   below = λ k lane h fits. absurd (omega (arith, w.1));
   above = λ k lane low high fits. let e : suc pass ≡ pass' = omega (arith, w.2) in rw (← e) (filled.below k lane (omega (arith, w.0)) fits);
 }
 
 -- slices filled up to the end of number n, over all passes, are filled below number n + 1
-pub next_slice : (s : Setting) (n : ℕ) (m : List (List SegmentValue)) → IsFilledBelow s (n / 4) (n % 4 + 1) m →
-    IsFilledBelow s ((n + 1) / 4) ((n + 1) % 4) m
-next_slice s n m filled =
-    let e : suc n ≡ n + 1 = omega arith in next-below s (n / 4) (n % 4) ((n + 1) / 4) ((n + 1) % 4) m (rw e at (is_next n)) filled
+pub next_slice : (s : Setting) (n : ℕ) (places : Places) → AreFilledBelow s (n / 4) (n % 4 + 1) places →
+    AreFilledBelow s ((n + 1) / 4) ((n + 1) % 4) places
+next_slice s n places filled =
+    let e : suc n ≡ n + 1 = omega arith in next-below s (n / 4) (n % 4) ((n + 1) / 4) ((n + 1) % 4) places (rw e at (is_next n)) filled
 
 -- a factor times a sum of two is the sum of its products with both
 dist : (p a b c : ℕ) → c ≡ a + b → p * c ≡ p * a + p * b
@@ -82,7 +83,7 @@ last_in zero s slice lane blocks h ready = absurd (omega arith)
 last_in (suc last) s slice lane blocks h ready = ready ∙ ap (λ p. segment_at s p slice lane) (omega arith)
 
 -- a memory that is filled through all passes holds at each place the block of the last pass
-pub holds_last_pass : (s : Setting) → IsSetting s → (m : MemoryValue) → HasShape s m → IsFilledBelow s s.passes 0 m.slices → HoldsLastPass s (block_of m)
+pub holds_last_pass : (s : Setting) → IsSetting s → (m : MemoryValue) → HasShape s m → AreFilledBelow s s.passes 0 (places_in m.slices) → HoldsLastPass s (block_of m)
 holds_last_pass s good m shape filled = λ lane column fits inside.
     let some : 0 < s.segment_length = omega (arith, good.long_segments) in
     let few : column / s.segment_length < 4 = slice_fits column s.segment_length inside in

@@ -1,14 +1,9 @@
--- A memory that is lent as four slices, each lane after lane, while it is filled.
-use Rattle.std.specs.Prelude.{◌≡◌, ℕ, ◌+◌, ◌-◌, ◌*◌, ◌<◌, ◌≤◌, List, [], map, slice_index_or}
+-- A memory that is lent as four slices, each lane after lane, before and after it is filled.
+use Rattle.std.specs.Prelude.{ℕ, ◌+◌, ◌-◌, ◌*◌, ◌<◌, List, map, slice_index_or, []}
 use Rattle.std.specs.List.{range_with_len}
 use Rattle.argon2_standard.specs.Standard.Setting.{Setting}
 use Rattle.argon2_memory.specs.Views.Beside.{lent_blocks}
-use Rattle.argon2_memory.specs.Views.Segments.{IsReady, segment_at}
-
--- in each lane the slices below the stated one hold the pass's blocks, and the others wait for it
-pub record IsLentBelow (s : Setting) (pass slice : ℕ) (slices : List (List (List ℕ))) : Type 0 where
-  pub below : (k lane : ℕ) → k < slice → lane < s.lanes → lent_blocks s (slice_index_or slices k []) lane ≡ segment_at s pass k lane
-  pub above : (k lane : ℕ) → slice ≤ k → k < 4 → lane < s.lanes → IsReady s pass k lane (lent_blocks s (slice_index_or slices k []) lane)
+use Rattle.argon2_memory.specs.Views.Segments.{IsReady}
 
 -- slice 0 holds the first two blocks of each lane, and anything else
 abbrev pub IsLentBegun : Setting → List (List ℕ) → Type 0

@@ -4,7 +4,8 @@ ghost use Rattle.std.specs.Prelude.{◌≡◌, IfOk};
 ghost use Rattle.std.specs.List.{remove};
 ghost use Rattle.argon2_fill.specs.Views.Boards.{NoneOut};
 ghost use Rattle.argon2_memory.specs.Views.Filling.{IsSnapshot};
-ghost use Rattle.argon2_memory.specs.Views.Memories.{AreSlices, IsFilledBelow};
+ghost use Rattle.argon2_memory.specs.Views.Memories.{AreSlices, places_in};
+ghost use Rattle.argon2_memory.specs.Views.Places.{AreFilledBelow};
 ghost use Rattle.argon2_memory.specs.Views.SliceLists.{segments_of};
 
 mod every_slice;
@@ -73,7 +74,7 @@ fn begin<'a>(
     ensures at { IfOk result (λ r. (r.0.pass ≡ 0) × (r.0.slice ≡ 1)) }
     ensures slices { IfOk result (λ r. AreSlices r.0.setting.lanes r.0.setting.segment_length
         (segments_of r.1)) }
-    ensures ready { IfOk result (λ r. IsFilledBelow r.0.setting 0 1 (segments_of r.1)) }
+    ensures ready { IfOk result (λ r. AreFilledBelow r.0.setting 0 1 (places_in (segments_of r.1))) }
 {
     let context = match Context::new(config, password, salt) {
         Ok(context) => context,

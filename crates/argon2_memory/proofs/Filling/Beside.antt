@@ -7,8 +7,8 @@ use Rattle.std.proofs.lemmas.List.{get_or-map, map-append, length-map, take-map,
 use Rattle.std.proofs.lemmas.List.Edits.{get_or-remove_below, get_or-remove_above}
 use Rattle.argon2_memory.specs.Views.Segments.{SegmentValue}
 use Rattle.argon2_memory.specs.Views.Jobs.{Job}
-use Rattle.argon2_memory.specs.Views.Filling.{no_segment, rank_among}
-use Rattle.argon2_memory.specs.Views.Beside.{IsBeside, IsAround}
+use Rattle.argon2_memory.specs.Views.Filling.{IsBeside, no_segment, rank_among}
+use Rattle.argon2_memory.specs.Views.Beside.{IsAround}
 
 pub map-remove : {A B : Type 0} (f : A → B) (xs : List A) (i : ℕ) → map f (remove xs i) ≡ remove (map f xs) i
 map-remove f xs i = rw (map-append, ← take-map, ← drop-map) refl

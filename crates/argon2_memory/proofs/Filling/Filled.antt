@@ -92,14 +92,14 @@ module _ (v : SnapshotValue) (job : IsJob v.job) (lane index : ℕ) (lane_fits :
         let up = div_above c s.segment_length (v.job.slice + 1) some above in
         let low = div_below c s.segment_length 4 some below in
         at_other r l c blocks (elim (eqb_tells (c / s.segment_length) v.job.slice) [ inl w ↦ absurd (omega (arith, up, w.1)) | inr w ↦ w.0 ])
-        (snapshot.upper (c / s.segment_length) l r (omega (arith, up)) low fits e)
+        (snapshot.held.upper (c / s.segment_length) l r (omega (arith, up)) low fits e)
 
     seen_lower : (l c : ℕ) (blocks : List (List ℕ)) → l < s.lanes → c < v.job.slice * s.segment_length →
         block_seen v blocks l c ≡ block_at s (record { pass = v.job.pass; lane = l; column = c })
     seen_lower l c blocks fits below =
         let low = div_below c s.segment_length v.job.slice some below in
         at_other v.job.pass l c blocks (elim (eqb_tells (c / s.segment_length) v.job.slice) [ inl w ↦ absurd (omega (arith, low, w.1)) | inr w ↦ w.0 ])
-        (snapshot.lower (c / s.segment_length) l low fits)
+        (snapshot.held.lower (c / s.segment_length) l low fits)
 
     module _ (blocks : List (List ℕ)) (filled : IsFilledTo v.job lane index blocks) where
       seen_own : (c : ℕ) → c < at.column → block_seen v blocks lane c ≡ block_at s (record { pass = v.job.pass; lane = lane; column = c })
@@ -108,7 +108,7 @@ module _ (v : SnapshotValue) (job : IsJob v.job) (lane index : ℕ) (lane_fits :
             ∙ ap (λ n. block_at s (record { pass = v.job.pass; lane = lane; column = n })) o)
         | inr w ↦
             let q : c / s.segment_length < v.job.slice + 1 = div_below c s.segment_length (v.job.slice + 1) some (omega (arith, below, index_fits)) in
-            at_other v.job.pass lane c blocks w.0 (snapshot.lower (c / s.segment_length) lane (omega (arith, q, w.1)) lane_fits)
+            at_other v.job.pass lane c blocks w.0 (snapshot.held.lower (c / s.segment_length) lane (omega (arith, q, w.1)) lane_fits)
       ]
 
       seen_readable : (r l c : ℕ) → l < s.lanes → IsReadable s at l (r, c) → block_seen v blocks l c ≡ block_at s (record { pass = r; lane = l; column = c })

@@ -8,8 +8,8 @@ use Rattle.std.specs.Borrow.{Bor}
 use Rattle.argon2_standard.specs.Standard.Setting.{Setting}
 use Rattle.argon2_memory.specs.Views.Segments.{SegmentValue}
 use Rattle.argon2_memory.specs.Views.Jobs.{Job, IsJob}
-use Rattle.argon2_memory.specs.Views.Filling.{SnapshotValue, IsSnapshot, no_segment, other_blocks, rank_among}
-use Rattle.argon2_memory.specs.Views.Beside.{IsBeside, lent_blocks, lent_segment, lent_slice, lent_slices}
+use Rattle.argon2_memory.specs.Views.Filling.{SnapshotValue, IsBeside, IsSnapshot, no_segment, other_blocks, rank_among}
+use Rattle.argon2_memory.specs.Views.Beside.{lent_blocks, lent_segment, lent_slice, lent_slices}
 use Rattle.argon2_memory.specs.Views.Lent.{AreLent}
 
 module _ (s : Setting) (others : List (Bor (List (List ℕ)))) (at lane index : ℕ) (o : Bor (List (List ℕ))) (four : length others ≡ 4) (at_fits : at < 4)
@@ -93,10 +93,9 @@ module _ (j : Job) (good : IsJob j) (a b c : List (List ℕ)) (long-a : length a
 
   pub snapshot_lent : AreLent j lists → IsSnapshot v
   snapshot_lent lent = record {
-    job = good;
-    slices = refl;
-    lanes = beside_lent.lanes;
-    blocks = beside_lent.blocks;
-    lower = λ slice lane h fits. other-is slice lane (let g = good.slice_fits in omega (arith, h, g)) fits ∙ lent.lower slice h lane fits;
-    upper = λ slice lane last low high fits p. other-is slice lane high fits ∙ lent.upper slice last low high p lane fits;
+    beside = beside_lent;
+    held = record {
+      lower = λ slice lane h fits. other-is slice lane (let g = good.slice_fits in omega (arith, h, g)) fits ∙ lent.lower slice lane h fits;
+      upper = λ slice lane last low high fits p. other-is slice lane high fits ∙ lent.upper slice lane last low high fits p;
+    };
   }

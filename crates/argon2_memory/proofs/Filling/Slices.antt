@@ -15,7 +15,9 @@ use Rattle.argon2_memory.specs.Views.SliceLists.{segments_of}
 use Rattle.argon2_memory.specs.Views.Jobs.{Job, IsJob}
 use Rattle.argon2_memory.specs.Views.Segments.{SegmentValue, segment_at, segment_block}
 use Rattle.argon2_memory.specs.Views.Filling.{no_segment, rank_among, IsSnapshot}
-use Rattle.argon2_memory.specs.Views.Memories.{segment_in, AreSlices, IsFilledBelow, slice_writes, writes_in, zero_segment}
+use Rattle.argon2_memory.specs.Views.Memories.{segment_in, places_in, AreSlices, slice_writes, writes_in, zero_segment}
+use Rattle.argon2_memory.specs.Views.Places.{AreFilledBelow}
+use Rattle.argon2_memory.proofs.Filling.Places.{others_hold, filled_further}
 use Rattle.std.proofs.lemmas.List.Sums.{sum_by-set}
 
 -- ---- the slices beside one
@@ -29,7 +31,7 @@ get-other j k m h ne = elim (cases_lt k j.slice) [
 ]
 
 module _ (j : Job) (good : IsJob j) (m : List (List SegmentValue)) (slices : AreSlices j.setting.lanes j.setting.segment_length m)
-    (ready : IsFilledBelow j.setting j.pass j.slice m) where
+    (ready : AreFilledBelow j.setting j.pass j.slice (places_in m)) where
   few : j.slice < length m
   few = let g = good.slice_fits in omega (arith, g, slices.count)
 
@@ -38,23 +40,22 @@ module _ (j : Job) (good : IsJob j) (m : List (List SegmentValue)) (slices : Are
 
   pub is_snapshot : (o : List (List SegmentValue)) → o ≡ remove m j.slice → IsSnapshot (record { job = j; others = o })
   is_snapshot o e = rw e (record {
-    job = good;
-    slices = let n = length-remove m j.slice few in omega (arith, n, slices.count);
-    lanes = λ at h. elim (cases_lt at j.slice) [
-      | inl w ↦
-          let e : rank_among j at ≡ at = rw (lt-ltb at j.slice w) refl in
-          ap (λ i. length (get_or (remove m j.slice) i [])) (sym e) ∙ ap (λ (l : List SegmentValue). length l) (at-other at (λ n. absurd
-          (omega arith))) ∙ slices.lanes at (omega arith)
-      | inr w ↦
-          let e : rank_among j (at + 1) ≡ at = rw (le-ltb (at + 1) j.slice (omega arith)) (omega arith) in
-          ap (λ i. length (get_or (remove m j.slice) i [])) (sym e) ∙ ap (λ (l : List SegmentValue). length l) (at-other (at + 1) (λ n. absurd
-          (omega arith))) ∙ slices.lanes (at + 1) (omega arith)
-    ];
-    blocks = λ k lane h ne fits. ap (λ (l : List SegmentValue). length (get_or l lane no_segment).blocks) (at-other k ne) ∙ slices.blocks k lane h fits;
-    lower = λ k lane h fits. ap (λ (l : List SegmentValue). (get_or l lane no_segment).blocks) (at-other k (λ n. absurd (omega arith)))
-        ∙ ready.below k lane h fits;
-    upper = λ k lane last low high fits p. ap (λ (l : List SegmentValue). (get_or l lane no_segment).blocks) (at-other k (λ n. absurd (omega arith)))
-        ∙ (rw (← p) at (ready.above k lane (omega arith) high fits));
+    beside = record {
+      job = good;
+      slices = let n = length-remove m j.slice few in omega (arith, n, slices.count);
+      lanes = λ at h. elim (cases_lt at j.slice) [
+        | inl w ↦
+            let e : rank_among j at ≡ at = rw (lt-ltb at j.slice w) refl in
+            ap (λ i. length (get_or (remove m j.slice) i [])) (sym e) ∙ ap (λ (l : List SegmentValue). length l) (at-other at (λ n. absurd
+            (omega arith))) ∙ slices.lanes at (omega arith)
+        | inr w ↦
+            let e : rank_among j (at + 1) ≡ at = rw (le-ltb (at + 1) j.slice (omega arith)) (omega arith) in
+            ap (λ i. length (get_or (remove m j.slice) i [])) (sym e) ∙ ap (λ (l : List SegmentValue). length l) (at-other (at + 1) (λ n. absurd
+            (omega arith))) ∙ slices.lanes (at + 1) (omega arith)
+      ];
+      blocks = λ k lane h ne fits. ap (λ (l : List SegmentValue). length (get_or l lane no_segment).blocks) (at-other k ne) ∙ slices.blocks k lane h fits;
+    };
+    held = others_hold j (places_in m) ready _ (λ k lane ne. ap (λ (l : List SegmentValue). (get_or l lane no_segment).blocks) (at-other k ne));
   })
 
   module _ (new : List SegmentValue) (lanes : length new ≡ j.setting.lanes)
@@ -80,14 +81,10 @@ module _ (j : Job) (good : IsJob j) (m : List (List SegmentValue)) (slices : Are
       ];
     }
 
-    pub filled_next : IsFilledBelow j.setting j.pass (j.slice + 1) (set m j.slice new)
-    filled_next = record {
-      below = λ k lane h fits. elim (eqb_tells k j.slice) [
-        | inl w ↦ rw w.1 (ap (λ (l : List SegmentValue). (get_or l lane no_segment).blocks) at-same ∙ filled lane fits)
-        | inr w ↦ ap (λ (l : List SegmentValue). (get_or l lane no_segment).blocks) (at-else k w.1) ∙ ready.below k lane (omega (arith, w.1)) fits
-      ];
-      above = λ k lane low high fits. rw (at-else k (λ n. absurd (omega arith))) (ready.above k lane (omega arith) high fits);
-    }
+    pub filled_next : AreFilledBelow j.setting j.pass (j.slice + 1) (places_in (set m j.slice new))
+    filled_next = filled_further j (places_in m) ready (places_in (set m j.slice new))
+        (λ k lane ne. ap (λ (l : List SegmentValue). (get_or l lane no_segment).blocks) (at-else k ne))
+        (λ lane fits. ap (λ (l : List SegmentValue). (get_or l lane no_segment).blocks) at-same ∙ filled lane fits)
 
 -- what is written when a slice is filled
 pub set-writes : (m : List (List SegmentValue)) (k d : ℕ) (new : List SegmentValue) → k < length m →

@@ -1,19 +1,11 @@
 -- The slices beside the one that is filled, whatever their blocks hold, and a fill over them.
-use Rattle.std.specs.Prelude.{◌≡◌, ◌≢◌, ℕ, ◌*◌, ◌<◌, List, [], length, map, slice_index_or, take, drop}
+use Rattle.std.specs.Prelude.{◌≡◌, ℕ, ◌*◌, List, [], length, map, slice_index_or, take, drop}
 use Rattle.std.specs.Borrow.{Bor}
 use Rattle.std.specs.List.{range_with_len, remove}
 use Rattle.argon2_standard.specs.Standard.Setting.{Setting}
-use Rattle.argon2_memory.specs.Views.Jobs.{Job, IsJob}
+use Rattle.argon2_memory.specs.Views.Jobs.{Job}
 use Rattle.argon2_memory.specs.Views.Segments.{SegmentValue}
-use Rattle.argon2_memory.specs.Views.Filling.{SnapshotValue, IsSnapshot, IsFilledTo, other_blocks, pick_of}
-
--- the shape of a job's other slices: three, each with a segment of L blocks for each lane
-pub record IsBeside (v : SnapshotValue) : Type 0 where
-  pub job : IsJob v.job
-  pub slices : length v.others ≡ 3
-  pub lanes : (at : ℕ) → at < 3 → length (slice_index_or v.others at []) ≡ v.job.setting.lanes
-  pub blocks : (slice lane : ℕ) → slice < 4 → slice ≢ v.job.slice → lane < v.job.setting.lanes →
-      length (other_blocks v slice lane) ≡ v.job.setting.segment_length
+use Rattle.argon2_memory.specs.Views.Filling.{SnapshotValue, IsBeside, IsSnapshot, IsFilledTo, pick_of}
 
 -- the lane and column that some word picks for the block at an index
 abbrev pub IsPicked : Job → ℕ → ℕ → ℕ × ℕ → Type 0

@@ -4,7 +4,8 @@ use Rattle.argon2_standard.specs.Standard.Setting.{Position, lane_length}
 use Rattle.argon2_memory.specs.Views.Jobs.{Job, IsJob}
 use Rattle.argon2_standard.specs.Standard.Reference.{pick}
 use Rattle.argon2_standard.specs.Standard.Recurrence.{block_at, drawn_word, address_word}
-use Rattle.argon2_memory.specs.Views.Segments.{SegmentValue, segment_at, segment_block}
+use Rattle.argon2_memory.specs.Views.Segments.{SegmentValue, segment_block}
+use Rattle.argon2_memory.specs.Views.Places.{HoldOthers}
 pub use Rattle.argon2_memory.specs.Standard.Kept.{no_segment}
 
 -- the place of an index of the job's segment of a lane
@@ -25,17 +26,18 @@ rank_among j slice = if nat_lt slice j.slice then slice else slice - 1
 abbrev pub other_blocks : SnapshotValue → ℕ → ℕ → List (List ℕ)
 other_blocks v slice lane = (slice_index_or (slice_index_or v.others (rank_among v.job slice) []) lane no_segment).blocks
 
--- the lower slices hold this pass's blocks, and the upper ones those of the last pass
-pub record IsSnapshot (v : SnapshotValue) : Type 0 where
+-- the shape of a job's other slices: three, each with a segment of L blocks for each lane
+pub record IsBeside (v : SnapshotValue) : Type 0 where
   pub job : IsJob v.job
   pub slices : length v.others ≡ 3
   pub lanes : (at : ℕ) → at < 3 → length (slice_index_or v.others at []) ≡ v.job.setting.lanes
   pub blocks : (slice lane : ℕ) → slice < 4 → slice ≢ v.job.slice → lane < v.job.setting.lanes →
       length (other_blocks v slice lane) ≡ v.job.setting.segment_length
-  pub lower : (slice lane : ℕ) → slice < v.job.slice → lane < v.job.setting.lanes →
-      other_blocks v slice lane ≡ segment_at v.job.setting v.job.pass slice lane
-  pub upper : (slice lane last : ℕ) → v.job.slice < slice → slice < 4 → lane < v.job.setting.lanes → suc last ≡ v.job.pass →
-      other_blocks v slice lane ≡ segment_at v.job.setting last slice lane
+
+-- the same, with the blocks that a fill of the job asks for
+pub record IsSnapshot (v : SnapshotValue) : Type 0 where
+  pub beside : IsBeside v
+  pub held : HoldOthers v.job (other_blocks v)
 
 -- the block at a lane and column, as a lane that is being filled sees it
 abbrev pub block_seen : SnapshotValue → List (List ℕ) → ℕ → ℕ → List ℕ

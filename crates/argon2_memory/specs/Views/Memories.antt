@@ -1,10 +1,11 @@
 -- What a contract sees of a memory.
-use Rattle.std.specs.Prelude.{◌≡◌, ℕ, ◌*◌, ◌%◌, ◌^◌, ◌<◌, ◌≤◌, ◌-◌, ◌==◌, if◌then◌else◌, List, [], length, map, replicate, slice_index_or, slice_set}
+use Rattle.std.specs.Prelude.{◌≡◌, ℕ, ◌*◌, ◌%◌, ◌^◌, ◌<◌, ◌-◌, ◌==◌, if◌then◌else◌, List, [], length, map, replicate, slice_index_or, slice_set}
 use Rattle.std.specs.List.{sum_by, range_with_len}
 use Rattle.argon2_blocks.specs.Standard.Block.{zero_block}
 use Rattle.argon2_memory.specs.Views.Sources.{with_block}
 use Rattle.argon2_standard.specs.Standard.Setting.{Setting}
-use Rattle.argon2_memory.specs.Views.Segments.{SegmentValue, IsReady, segment_at}
+use Rattle.argon2_memory.specs.Views.Segments.{SegmentValue}
+use Rattle.argon2_memory.specs.Views.Places.{Places}
 pub use Rattle.argon2_memory.specs.Standard.Kept.{MemoryValue, HasShape, block_of, no_memory, segment_in}
 
 -- four slices, each with a segment of L blocks for each of p lanes
@@ -29,10 +30,9 @@ writes_in slices = sum_by slice_writes slices % 2 ^ 64
 abbrev pub writes : MemoryValue → ℕ
 writes m = writes_in m.slices
 
--- in each lane the slices below the stated one hold the pass's blocks, and the others wait for it
-pub record IsFilledBelow (s : Setting) (pass slice : ℕ) (slices : List (List SegmentValue)) : Type 0 where
-  pub below : (k lane : ℕ) → k < slice → lane < s.lanes → (segment_in slices k lane).blocks ≡ segment_at s pass k lane
-  pub above : (k lane : ℕ) → slice ≤ k → k < 4 → lane < s.lanes → IsReady s pass k lane (segment_in slices k lane).blocks
+-- the blocks of each lane in a memory's slices
+abbrev pub places_in : List (List SegmentValue) → Places
+places_in slices slice lane = (segment_in slices slice lane).blocks
 
 -- how many blocks the first n slices of a fill write: all of theirs, but for the first two of each lane
 abbrev pub blocks_written : Setting → ℕ → ℕ

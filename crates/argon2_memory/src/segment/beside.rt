@@ -2,8 +2,8 @@
 
 ghost use Rattle.std.specs.Prelude.{◌≡◌, ◌*◌, ◌^◌, ◌<◌, [], map, slice_index_or, ◌≢◌, ℕ, ◌+◌, ◌/◌, ◌%◌, ◌≤◌, List, length};
 ghost use Rattle.std.specs.List.{remove};
-ghost use Rattle.argon2_memory.specs.Views.Beside.{IsBeside, IsAround, lent_slices};
-ghost use Rattle.argon2_memory.specs.Views.Filling.{SnapshotValue, other_blocks, block_seen, position_of};
+ghost use Rattle.argon2_memory.specs.Views.Beside.{IsAround, lent_slices};
+ghost use Rattle.argon2_memory.specs.Views.Filling.{SnapshotValue, IsBeside, other_blocks, block_seen, position_of};
 ghost use Rattle.argon2_memory.specs.Views.Memories.{segment_in};
 ghost use Rattle.argon2_memory.specs.Views.Sources.{IsBefore, source_block};
 ghost use Rattle.argon2_standard.specs.Standard.Setting.{lane_length};

@@ -1,6 +1,6 @@
 use Rattle.std.proofs.Common.{◌≡◌, ℕ, arith, ◌+◌, ◌*◌, ◌/◌, ◌%◌, ◌^◌, sym, ◌∙◌, ap}
 use Rattle.argon2_fill.proofs.Filling.Passes.{next_slice, blocks_more, add_written}
-use Rattle.argon2_memory.specs.Views.Memories.{blocks_written, writes_in}
+use Rattle.argon2_memory.specs.Views.Memories.{blocks_written, places_in, writes_in}
 use Rattle.argon2_memory.specs.Laws.Schedule.{blocks_in_slice}
 use Rattle.argon2_memory.specs.Views.SliceLists.{segments_of}
 use Rattle.argon2_fill.proofs.fill.fill_slices.Goals as goal
@@ -13,7 +13,7 @@ loop-n-preserved c =
     let now = writes_in (segments_of c.fill_slice_in_turn.new.slices) in
     record {
       slices = rw c.numbered_job.ensures at c.fill_slice_in_turn.ensures.slices;
-      filled = next_slice s n (segments_of c.fill_slice_in_turn.new.slices) (rw c.numbered_job.ensures at c.fill_slice_in_turn.ensures.filled);
+      filled = next_slice s n (places_in (segments_of c.fill_slice_in_turn.new.slices)) (rw c.numbered_job.ensures at c.fill_slice_in_turn.ensures.filled);
       writes = add_written before (blocks_written s n) (s.lanes * blocks_in_slice s (n / 4) (n % 4)) (writes_in (segments_of c.loop-n.slices)) now
           c.loop-n.invariant.writes (rw c.numbered_job.ensures at c.fill_slice_in_turn.ensures.writes)
           ∙ ap (λ (b : ℕ). (before + b) % 2 ^ 64) (sym (blocks_more s n c.recall_job.ensures.setting));

@@ -1,11 +1,12 @@
 use Rattle.std.proofs.Common.{◌≡◌, ◌*◌, ◌/◌, ◌%◌, [], ◌∷◌, arith}
-use Rattle.argon2_fill.proofs.Filling.Lent.{next_lent, last_slices}
+use Rattle.argon2_fill.proofs.Filling.Passes.{next_slice}
+use Rattle.argon2_fill.proofs.Filling.Lent.{last_slices}
 use Rattle.argon2_fill.proofs.lent.fill_lent.Goals as goal
 
 pub loop-n-preserved : goal.loop-n-preserved
 loop-n-preserved c = λ begun.
     let step = rw c.numbered_job.ensures at c.fill_one_of_four.ensures in
-    next_lent c.args.job.now.setting c.loop-n.n _ (step (c.loop-n.invariant begun))
+    next_slice c.args.job.now.setting c.loop-n.n _ (step (c.loop-n.invariant begun))
 
 pub returns : goal.returns
 returns c = λ begun k below.

@@ -1,7 +1,7 @@
 use Rattle.std.proofs.Common.{◌≡◌, ℕ, ◌+◌, ◌*◌, ◌≤◌, ◌<◌, ◌/◌, ◌%◌, ◌^◌, ◌-◌, Bool, arith, inl, inr, refl, ap, ◌∙◌}
 use Rattle.argon2_memory.specs.Views.Jobs.{setting_of_context}
 use Rattle.argon2_memory.specs.Views.Jobs.{Job}
-use Rattle.argon2_memory.specs.Views.Memories.{HasShape}
+use Rattle.argon2_memory.specs.Views.Memories.{HasShape, places_in}
 use Rattle.std.proofs.Math.Nat.{mul-le-mul_right}
 use Rattle.std.proofs.lemmas.Bool.{cases_lt}
 use Rattle.argon2_fill.specs.Views.Permits.{PermitsAll}
@@ -37,7 +37,7 @@ loop-n-preserved g c =
     let done = c.in_ok-fill_slice_by_workers.ensures in
     record {
       slices = rw c.numbered_job-job.ensures at done.slices;
-      filled = next_slice s n (segments_of c.fill_slice_by_workers.new.slices) (rw c.numbered_job-job.ensures at done.filled);
+      filled = next_slice s n (places_in (segments_of c.fill_slice_by_workers.new.slices)) (rw c.numbered_job-job.ensures at done.filled);
       permitted = rw (let m : (n + 1) * w ≡ n * w + w = omega arith in m)
           (permitted_more (g.P.Permit.permits c.args.permit.now) (n * w) w c.loop-n.invariant.permitted (rw c.from.ensures at done.permitted));
     }

@@ -11,8 +11,9 @@ returns g c snapshot filled =
     let v = c.args.beside.now in
     let all = (g.O.OwnBlocks.seen c.args.own.now).blocks in
     let before = c.source_before in
+    let read = c.named.ensures ∙ before.ensures.value all in
     let word : c.index.result.now ≡ slice_index (block_seen v all c.args.lane (previous v.job.setting
     (position_of v.job c.args.lane c.args.index)).column) 0 =
-    c.index.ensures ∙ ap (λ (block : List ℕ). slice_index block 0) (c.named.ensures ∙ before.ensures.value all) in
+    c.index.ensures ∙ ap (λ (block : List ℕ). slice_index block 0) read in
     drawn_from_previous v before.ensures.beside.job c.args.lane c.args.index q.lane_fits q.index_fits q.later snapshot all filled
     c.index.result.now q.dependent word
