@@ -46,8 +46,8 @@ unsafe extern "C" fn __wrap_proved_argon2_memory_new(
 
 #[no_mangle]
 unsafe extern "C" fn __wrap_proved_argon2_memory_free(memory: usize, length: usize) {
-    // (the library gives back so what calls take that are lent nothing)
-    if memory == PLACE.load(SeqCst) {
+    // (the library itself calls this for what its calls take, or for nothing)
+    if memory != 0 && memory == PLACE.load(SeqCst) {
         PLACE.store(0, SeqCst);
         WRONG.fetch_add((length != HELD.swap(0, SeqCst)).into(), SeqCst);
     }

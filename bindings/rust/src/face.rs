@@ -78,7 +78,7 @@ struct Options {
     run: *const c_void,
     pool: *mut c_void,
     limits: *const Limits,
-    tell: Option<unsafe extern "C" fn(*mut c_void, u64, u64) -> c_int>,
+    tell: Option<extern "C" fn(*mut c_void, u64, u64) -> c_int>,
     arg: *mut c_void,
 }
 

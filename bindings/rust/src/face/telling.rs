@@ -27,7 +27,7 @@ impl<'a> Telling<'a> {
 }
 
 /// `proved_argon2_tell` of the header.
-pub(super) unsafe extern "C" fn told(arg: *mut c_void, done: u64, all: u64) -> c_int {
+pub(super) extern "C" fn told(arg: *mut c_void, done: u64, all: u64) -> c_int {
     // SAFETY: `Options::by` names this with what it was lent, which is borrowed for the call alone. The library tells
     // it in the caller's thread, and one after another.
     let telling = unsafe { &mut *arg.cast::<Telling<'_>>() };
