@@ -14,8 +14,9 @@ GHOST = re.compile(r'^    ghost (?!use)(\w+) =')
 RE_EXPORT = re.compile(r'^pub use ([\w:]+?)(?:::\{([^}]*)\})?;', re.M)
 GHOST_TRAITS = ('Model',)
 PROMISE = re.compile(r'^ *(?:requires|ensures|ghost)\b.*', re.M)
-# `.ci/edits` judges the edits of these folders, and `rt ci` tries those of the first one too.
-EDITS = *WRONG, EQUAL = 'must-fail', 'wrong-bodies', 'equal-bodies'
+# A crate's edits: those that `rt ci` tries too have a file each in a folder, and all others a block each in one file.
+TRIED_ALONE, MUTANTS = 'must-fail', 'mutants.txt'
+REFUSED, PROVED = 'refused', 'proved'
 
 
 def crates():
@@ -211,11 +212,11 @@ class Edit:
     """An edit: its crate, its pairs of texts, the goals that it names where it is a wrong body, whether `rt ci` tries it
     too, and the functions in whose spans the texts stand. `function` is that of the last pair."""
 
-    def __init__(self, path, sources):
-        self.path, self.name, self.crate = path, path.stem, path.parent.parent.name
-        self.is_equal, self.is_tried_alone = path.parent.name == EQUAL, path.parent.name == WRONG[0]
+    def __init__(self, crate, verdict, name, text, sources, is_tried_alone=False):
+        self.crate, self.name, self.text = crate, name, text
+        self.is_equal, self.is_tried_alone = verdict == PROVED, is_tried_alone
         self.pairs, self.goals = list(self.read_pairs()), self.read_goals()
-        self.fault, self.functions, texts = None if self.pairs else 'it has no text', [], {}
+        self.fault, self.functions, texts = self.fault_of_form(verdict), [], {}
         for file, old, new in self.pairs:
             line = self.line_of(file, old, texts)
             if line is not None:
@@ -227,9 +228,17 @@ class Edit:
         self.file = self.pairs[-1][0] if self.pairs else None
         self.function = self.functions[-1] if self.functions else None
 
+    def fault_of_form(self, verdict):
+        if verdict not in (REFUSED, PROVED):
+            return f'it is neither {REFUSED} nor {PROVED}, but {verdict}'
+        strange = [line for line in self.text.splitlines() if not line.startswith(('file: ', 'old: ', 'new:', 'goal: '))]
+        if not self.is_tried_alone and strange:
+            return f'a line of it is none of an edit: {strange[0]}'
+        return None if self.pairs else 'it has no text'
+
     def read_pairs(self):
         file, old = None, None
-        for line in self.path.read_text(encoding='utf-8').splitlines():
+        for line in self.text.splitlines():
             if line.startswith('file: '):
                 file = TOP / 'crates' / self.crate / line[6:]
             elif line.startswith('old: '):
@@ -247,7 +256,7 @@ class Edit:
 
     def read_goals(self):
         """The goals that have to be left unproved: `returns-clause-items`, or behind their functions' paths."""
-        return re.findall(r'^goal: (.+)$', self.path.read_text(encoding='utf-8'), re.M)
+        return re.findall(r'^goal: (.+)$', self.text, re.M)
 
     def line_of(self, file, old, texts):
         """The line of an old text, which has to stand once in its file as the pairs before left it."""
@@ -260,8 +269,22 @@ class Edit:
         return texts[file][:texts[file].index(old)].count('\n') + 1
 
 
-def edits(sources, folders=EDITS):
-    found = [Edit(path, sources) for crate in crates() for folder in folders
-             for path in sorted((TOP / 'crates' / crate / folder).glob('*.edit'))]
+def mutants(crate, sources):
+    """The edits of a crate's file of them: blocks apart by an empty line, whose first line is a verdict and a name."""
+    file = TOP / 'crates' / crate / MUTANTS
+    blocks = re.split(r'\n{2,}', file.read_text(encoding='utf-8').strip('\n')) if file.exists() else []
+    for block in blocks:
+        first, _, text = block.partition('\n')
+        verdict, _, name = first.partition(' ')
+        yield Edit(crate, verdict, name, text, sources)
+
+
+def edits(sources):
+    """All edits, crate by crate."""
+    found = []
+    for crate in crates():
+        for path in sorted((TOP / 'crates' / crate / TRIED_ALONE).glob('*.edit')):
+            found.append(Edit(crate, REFUSED, path.stem, path.read_text(encoding='utf-8'), sources, is_tried_alone=True))
+        found += mutants(crate, sources)
     assert found, 'there is no edit'
     return found
