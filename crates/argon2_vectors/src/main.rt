@@ -23,7 +23,7 @@
 //! | `ThreadMode::from_threads N`, `Variant::from_u32 N`, `Version::from_str WORD`, .. | the value and its names |
 //! | `Error NAME` | the refusal that `serde` reads from this name: its case, what `serde` writes, its text |
 //! | `common` | the constants |
-//! | `run INPUT WORDS`, `run/broken`, `run/full`, `run/without_memory`, `arguments`, `start` | see `program.rt` |
+//! | `run INPUT WORDS`, `run/broken`, `run/full`, `run/without_memory`, `arguments`, `start`, `tool INPUT WORDS`, .. | see `program.rt` |
 //!
 //! INPUTS are `VARIANT VERSION T M P LEN MODE PASSWORD SALT SECRET DATA`. MODE is `seq`, `par`, `max`
 //! and a number, or `all`: then all thread modes, and the call that goes by no mode, have to give the
