@@ -27,6 +27,14 @@ lib/$library
 lib/$library.${version%%.*}
 lib/$library.$version
 lib/pkgconfig/proved_argon2.pc
+lib/proved-libargon2/bin/argon2
+lib/proved-libargon2/glibc-hwcaps/x86-64-v3/libargon2.a
+lib/proved-libargon2/glibc-hwcaps/x86-64-v3/libargon2.so.1
+lib/proved-libargon2/include/argon2.h
+lib/proved-libargon2/libargon2.a
+lib/proved-libargon2/libargon2.so
+lib/proved-libargon2/libargon2.so.1
+lib/proved-libargon2/pkgconfig/libargon2.pc
 libexec/proved-argon2/commands.sh
 libexec/proved-argon2/help.txt
 libexec/proved-argon2/x86-64-v2/argon2_program

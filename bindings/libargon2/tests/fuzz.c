@@ -3,8 +3,8 @@
  *
  *     fuzz SEED COUNT LIBARGON2 OURS
  *
- * What differs on purpose is in `is_on_purpose` alone (docs/LIBARGON2.md); each of it, and each error, has to be met.
- * The last line says what was met. The status is 0 where nothing else differs. */
+ * What differs on purpose is in `is_on_purpose` alone (docs/LIBARGON2.md); each of it, and each error, has to be met by
+ * 20,000 calls or more. The last line says what was met. The status is 0 where nothing else differs. */
 #include "calls.h"
 #include <stdio.h>
 #include <stdlib.h>
@@ -12,6 +12,7 @@
 
 #define MOST_PASSES 12 /* that a text may ask for */
 #define MOST_LANES 9
+#define ENOUGH 20000 /* calls to meet what few of them meet */
 
 static library both[2];
 static const library *const its = &both[0], *const ours = &both[1];
@@ -367,7 +368,7 @@ static uint64_t tell(uint64_t failed)
     printf("%llu calls, %llu of them ARGON2_OK; on purpose:", (unsigned long long)calls, (unsigned long long)met[0]);
     for (enum purpose i = VERSION; i < PURPOSES; i++) {
         printf(" %s %llu%s", purposes[i], (unsigned long long)met_on_purpose[i], i + 1 < PURPOSES ? "," : "\n");
-        failed += met_on_purpose[i] == 0;
+        failed += calls >= ENOUGH && met_on_purpose[i] == 0;
     }
     return failed;
 }
@@ -390,6 +391,6 @@ int main(int count, char **words)
         draw_inputs(&given);
         failed += !kinds[below(sizeof kinds / sizeof kinds[0])](&given);
     }
-    failed += count_unmet();
+    failed += calls >= ENOUGH ? count_unmet() : 0;
     return tell(failed) == 0 ? 0 : 1;
 }
