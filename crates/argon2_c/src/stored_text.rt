@@ -27,7 +27,7 @@ pub fn head_of(bytes: &[u8]) -> Result<Head<'_>, Refusal>
 ///
 /// Whether all bytes are ASCII is gathered to the last byte and answered once, so that no branch
 /// looks at a letter of the hash. Only other bytes, which spell nothing, are looked at one by one.
-pub fn text_of(bytes: &[u8]) -> Result<&str, Refusal>
+fn text_of(bytes: &[u8]) -> Result<&str, Refusal>
     ensures cases { MatchResult result (λ text. (text.now ≡ bytes.now) × IsUtf8 bytes.now)
         (λ refusal. (refusal ≡ NotUtf8) × (IsUtf8 bytes.now → ⊥)) }
 {
