@@ -7,8 +7,9 @@ uint32_t proved_argon2_hash_raw_with(const options *with, INPUTS, uint8_t *out, 
 {
     call it;
     uint32_t code = begin_call(&it, with, proved_argon2_are_missing(OF_INPUTS) || IS_MISSING(out));
-    code = code ? code : proved_argon2_job_make(OF_INPUTS, &it.job);
-    code = code || out_len == it.job.hash_length ? code : PROVED_ARGON2_WRONG_LENGTH;
+    code = code ? code : out_len == settings->hash_length ? proved_argon2_job_make(OF_INPUTS, &it.job)
+        : proved_argon2_hash_over(OF_INPUTS, NULL, 0, NULL, 0); /* which judges them alone, and refuses what is left */
+    code = code == PROVED_ARGON2_WRONG_BLOCKS ? PROVED_ARGON2_WRONG_LENGTH : code;
     return end_call(&it, code ? code : compute(&it, NULL, out));
 }
 
@@ -21,9 +22,10 @@ uint32_t proved_argon2_hash_encoded_with(const options *with, INPUTS, uint8_t *t
 {
     call it;
     uint32_t code = begin_call(&it, with, proved_argon2_are_missing(OF_INPUTS) || IS_MISSING(text));
-    code = code ? code : proved_argon2_job_make(OF_INPUTS, &it.job);
-    const uint64_t least = code ? 0 : proved_argon2_encoded_len(settings, (uint32_t)salt_len);
-    code = code || text_len > least ? code : PROVED_ARGON2_WRONG_LENGTH;
+    const int has_room = code == 0 && text_len > proved_argon2_encoded_len(settings, (uint32_t)salt_len);
+    code = code ? code : has_room ? proved_argon2_job_make(OF_INPUTS, &it.job)
+        : proved_argon2_hash_over(OF_INPUTS, NULL, 0, NULL, 0);
+    code = code == PROVED_ARGON2_WRONG_BLOCKS ? PROVED_ARGON2_WRONG_LENGTH : code;
     code = code ? code : take_bytes(&it, it.job.hash_length);
     code = code ? code : compute(&it, NULL, it.bytes);
     code = code ? code : proved_argon2_encode(salt, salt_len, settings, it.bytes, it.len, text, text_len);
@@ -84,8 +86,7 @@ uint32_t proved_argon2_verify_encoded(STORED)
 
 uint32_t proved_argon2_verify_encoded_within(STORED, const proved_argon2_limits *limits)
 {
-    options with = plain;
-    with.limits = limits;
+    const options with = {.size = sizeof with, .limits = limits};
     return proved_argon2_verify_encoded_with(limits == NULL ? NULL : &with, OF_STORED);
 }
 
@@ -96,8 +97,7 @@ static uint32_t run(const options *with, const proved_argon2_job *job, const uin
     uint32_t code = begin_call(&it, with, job == NULL || proved_argon2_is_missing(hash == NULL ? tag : hash, len));
     it.job = code ? it.job : *job;
     code = code ? code : proved_argon2_job_hash_over(&it.job, NULL, 0, NULL, 0);
-    code = code == PROVED_ARGON2_WRONG_BLOCKS ? PROVED_ARGON2_OK : code;
-    code = code || len == it.job.hash_length ? code : PROVED_ARGON2_WRONG_LENGTH;
+    code = code == PROVED_ARGON2_WRONG_BLOCKS ? len == it.job.hash_length ? 0 : PROVED_ARGON2_WRONG_LENGTH : code;
     code = code || hash == NULL ? code : take_bytes(&it, len);
     return end_call(&it, code ? code : compute(&it, hash, hash == NULL ? tag : it.bytes));
 }
