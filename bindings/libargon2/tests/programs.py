@@ -50,7 +50,8 @@ class Libraries:
         self.folder = folder
 
     def environment(self, name):
-        return {**os.environ, 'LD_LIBRARY_PATH': str(self.folder) if name == 'ours' else ''}
+        return {**os.environ, 'LD_LIBRARY_PATH': str(self.folder) if name == 'ours' else '',
+                **({'LD_PRELOAD': str(self.folder / 'libargon2.so.1')} if name == 'preloaded' else {})}
 
     def run(self, name, *words, given=b''):
         done = subprocess.run(words, input=given, env=self.environment(name), stdout=subprocess.PIPE,
@@ -84,6 +85,11 @@ def check_php(libraries):
     libraries.are_taken('PHP', php)
     both_ways(libraries, 'PHP', [php, script, 'make'], [php, script, 'check'])
     compare('PHP: errors', *(libraries.run(name, php, script, 'errors')[0] for name in BOTH))
+    compare('PHP: errors, ours preloaded',
+            *(libraries.run(name, php, script, 'errors')[0] for name in ('ours', 'preloaded')))
+    mapped = libraries.run('preloaded', php, '-r', 'echo file_get_contents("/proc/self/maps");')[0]
+    objects = set(re.findall(r'/\S*libargon2\S*', mapped))
+    note('PHP takes no other than what is preloaded', objects == {str(libraries.folder / 'libargon2.so.1')}, objects)
     its, own = (libraries.run(name, php, script, 'sodium')[0] for name in BOTH)
     compare('PHP: libsodium beside the library', its, own)
     note('libsodium and ours accept hashes of each other, with the right password alone',
