@@ -264,6 +264,8 @@ static void check_memory_free(size_t which)
     seek(which);
     memset(found, 0, sizeof found);
     const bool is_made = proved_argon2_memory_new(&calls[which].settings, &memory, &len) == PROVED_ARGON2_OK;
+    look_everywhere();
+    check(is_nothing_found("memory_new") && is_made, "memory_new leaves none of it");
     for (size_t i = 0; is_made && i < sought->count * PART; i++) {
         ((volatile uint8_t *)memory)[i] = sought->parts[i / PART].bytes[i % PART] ^ MASK;
     }
