@@ -48,7 +48,7 @@ class Function:
     def is_called(self, place):
         """Whether the checker calls it so: `crate::module::VariantOrd::cmp` is that of `impl Ord for Variant`."""
         what, _, name = (self.owner or '').rpartition(' for ')
-        return place.split('::') == [*self.module.path, *filter(None, [name + spelled(what)]), self.name]
+        return place.split('::') == [*self.module.path, *filter(None, [spelled_type(name) + spelled(what)]), self.name]
 
 
 def spelled(what):
@@ -59,6 +59,17 @@ def spelled(what):
         parts = inside.strip('()').split(', ')
         return f'{trait}Tuple{len(parts)}' + ''.join(map(capital, parts))
     return trait + ('Ref' if '&' in inside else '') + capital(inside.lstrip('&').partition('<')[0])
+
+
+def spelled_type(name):
+    """A type as the checker spells it: `[&'a [Block]; 4]` is `ArrayRefSliceBlock4`."""
+    name = re.sub(r"'\w+ ?", '', name)
+    if name.startswith('&'):
+        return 'Ref' + spelled_type(name[1:])
+    if not name.startswith('['):
+        return name
+    inside, _, count = name[1:-1].rpartition('; ')
+    return f'Array{spelled_type(inside)}{count}' if inside else f'Slice{spelled_type(count)}'
 
 
 def capital(word):
