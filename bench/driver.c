@@ -1,13 +1,13 @@
 /* Times whole hashes of our library beside its peers, in one interleaved run.
  *
  * Each round runs every implementation once, so that a slow moment of the machine falls on all of
- * them; the least time of all rounds counts. Every tag is compared before it is timed.
+ * them; the least time of all rounds counts, and the median says how far others are from it. Every tag is compared before it is timed.
  *
- * usage: driver table|plots SECONDS FOLDER
+ * usage: driver table|processes|plots|tags SECONDS FOLDER
  *
  * SECONDS is how long each case runs. The folder is what bench/run builds: our library, the compression and
  * `argon2_program`, each in two builds, and the peers that it builds itself. Of what is proved only a program has
- * threads, so the cases with threads time whole processes, the peers' and the calls with options too.
+ * threads of its own: it is timed as a process, beside processes that hash by the others.
  *
  * Each line is what was measured, of which case, of whom, and a number: nanoseconds a block of 1 KiB where it is a
  * time. bench/figures makes the tables and the plots of them. */
@@ -23,12 +23,15 @@
 #include <time.h>
 #include <unistd.h>
 
-enum { MOST_HASHERS = 16 };
+enum { MOST_HASHERS = 20, MOST_ROUNDS = 8192 };
 
 static const struct input the_input = { "password", 8, "somesaltsomesalt" };
 
 static struct hasher hashers[MOST_HASHERS];
 static int hasher_count;
+
+/* Those that are timed as processes come first: a process that ends keeps no memory for the next hash. */
+static int process_count;
 
 /* The peers stand behind our two builds. */
 enum { OURS, OURS_V3, FIRST_PEER };
@@ -46,10 +49,13 @@ static void name_hashers(void)
     hashers[hasher_count++] = (struct hasher) { "ours-v3", ours_v3 };
     for (const struct hasher *peer = peers; peer->name != NULL; peer++)
         hashers[hasher_count++] = *peer;
-    hashers[hasher_count++] = (struct hasher) { "kept", ours_kept };
-    hashers[hasher_count++] = (struct hasher) { "kept-v3", ours_v3_kept };
     hashers[hasher_count++] = (struct hasher) { "with", ours_with };
     hashers[hasher_count++] = (struct hasher) { "with-v3", ours_v3_with };
+    hashers[hasher_count++] = (struct hasher) { "before-v3", before_v3 };
+    hashers[hasher_count++] = (struct hasher) { "before-with-v3", before_v3_with };
+    process_count = hasher_count;
+    hashers[hasher_count++] = (struct hasher) { "kept", ours_kept };
+    hashers[hasher_count++] = (struct hasher) { "kept-v3", ours_v3_kept };
 }
 
 /* Argon2 rounds the memory down to a multiple of four blocks a lane. */
@@ -76,44 +82,63 @@ static void compare_tags(const struct cost *cost, int answers[MOST_HASHERS])
     }
 }
 
-/* Three rounds at least: a large case may take longer than its seconds, and the first round is a cold one. */
-static void time_hashes(const struct cost *cost, const int answers[MOST_HASHERS], double seconds, double least[MOST_HASHERS])
+/* The times of an implementation in the rounds of a case, in nanoseconds. */
+struct times {
+    double of_round[MOST_ROUNDS];
+    int count;
+};
+
+static void add(struct times *times, double spent)
+{
+    if (times->count < MOST_ROUNDS)
+        times->of_round[times->count++] = spent;
+}
+
+/* Two rounds at least: a large case may take longer than its seconds, and the first round is a cold one. */
+static void time_hashes(const struct cost *cost, const int answers[MOST_HASHERS], double seconds, struct times *times)
 {
     uint8_t tag[TAG_LENGTH];
     const double end = nanoseconds() + seconds * 1e9;
-    for (int i = 0; i < hasher_count; i++)
-        least[i] = 1e300;
-    for (int round = 0; round < 3 || nanoseconds() < end; round++) {
+    for (int round = 0; round < 2 || nanoseconds() < end; round++) {
         for (int i = 0; i < hasher_count; i++) {
             if (!answers[i])
                 continue;
             const double begin = nanoseconds();
             hashers[i].hash(cost, &the_input, tag);
-            const double spent = nanoseconds() - begin;
-            if (spent < least[i])
-                least[i] = spent;
+            add(&times[i], nanoseconds() - begin);
         }
     }
 }
 
-/* In nanoseconds a block, so that cases of different memory can be compared. */
-static void print_times(const char *what, const struct cost *cost, const int answers[MOST_HASHERS],
-    const double least[MOST_HASHERS])
+static int by_size(const void *left, const void *right)
 {
-    for (int i = 0; i < hasher_count; i++)
-        if (answers[i])
-            printf("%s\t(%u, %u, %u) x %u\t%s\t%.1f\n", what, cost->memory, cost->passes, cost->lanes, cost->threads,
-                hashers[i].name, least[i] / blocks(cost));
+    const double one = *(const double *)left, other = *(const double *)right;
+    return (one > other) - (one < other);
+}
+
+/* The least and the median, in nanoseconds a block, so that cases of different memory can be compared. */
+static void print_times(const char *what, const struct cost *cost, struct times *times)
+{
+    for (int i = 0; i < hasher_count; i++) {
+        double *const sorted = times[i].of_round;
+        if (times[i].count == 0)
+            continue;
+        qsort(sorted, (size_t)times[i].count, sizeof *sorted, by_size);
+        printf("%s\t(%u, %u, %u) x %u\t%s\t%.1f\t%.1f\n", what, cost->memory, cost->passes, cost->lanes, cost->threads,
+            hashers[i].name, sorted[0] / blocks(cost), sorted[times[i].count / 2] / blocks(cost));
+        times[i].count = 0;
+    }
     fflush(stdout);
 }
+
+static struct times all_times[MOST_HASHERS];
 
 static void run_case(const char *what, const struct cost *cost, double seconds)
 {
     int answers[MOST_HASHERS];
-    double least[MOST_HASHERS];
     compare_tags(cost, answers);
-    time_hashes(cost, answers, seconds, least);
-    print_times(what, cost, answers, least);
+    time_hashes(cost, answers, seconds, all_times);
+    print_times(what, cost, all_times);
 }
 
 static double least_compression(compress_function *compress)
@@ -233,13 +258,11 @@ static double time_process(int i, const struct cost *cost, char tag[2 * TAG_LENG
 static void run_threads(const char *what, const struct cost *cost, double seconds)
 {
     char first[2 * TAG_LENGTH], tag[2 * TAG_LENGTH];
-    int answers[MOST_HASHERS] = { 0 };
-    double least[MOST_HASHERS];
     const double end = nanoseconds() + seconds * 1e9;
     if (time_process(OURS, cost, first) < 0)
         exit(1);
-    for (int round = 0; round < 3 || nanoseconds() < end; round++) {
-        for (int i = 0; i < hasher_count; i++) {
+    for (int round = 0; round < 2 || nanoseconds() < end; round++) {
+        for (int i = 0; i < process_count; i++) {
             const double spent = time_process(i, cost, tag);
             if (spent < 0)
                 continue;
@@ -247,24 +270,45 @@ static void run_threads(const char *what, const struct cost *cost, double second
                 fprintf(stderr, "%s gives another tag\n", hashers[i].name);
                 exit(1);
             }
-            if (!answers[i] || spent < least[i])
-                least[i] = spent;
-            answers[i] = 1;
+            add(&all_times[i], spent);
         }
     }
-    print_times(what, cost, answers, least);
+    print_times(what, cost, all_times);
 }
 
-/* The cases of docs/PERFORMANCE.md's table. */
+/* The cases of docs/PERFORMANCE.md's table; openssl.c has the same. */
+static const struct cost table[] = {
+    { 256, 2, 1, 1 }, { 1024, 2, 1, 1 }, { 19456, 2, 1, 1 }, { 65536, 3, 1, 1 }, { 65536, 3, 4, 1 },
+    { 65536, 3, 4, 4 }, { 262144, 1, 4, 4 },
+};
+enum { CASES = sizeof table / sizeof *table };
+
 static void measure_table(double seconds)
 {
     print_memory(&(struct cost) { 65536, 1, 1, 1 });
     printf("compression\twarm\tours\t%.1f\n", least_compression(compress_default));
     printf("compression\twarm\tours-v3\t%.1f\n", least_compression(compress_v3));
-    run_case("hash", &(struct cost) { 256, 2, 1, 1 }, seconds);
-    run_case("hash", &(struct cost) { 19456, 2, 1, 1 }, seconds);
-    run_case("hash", &(struct cost) { 65536, 3, 1, 1 }, seconds);
-    run_case("hash", &(struct cost) { 65536, 3, 4, 1 }, seconds);
+    for (int i = 0; i < CASES; i++)
+        run_case("hash", &table[i], seconds * (table[i].threads == 1 ? 1 : 2));
+}
+
+/* The tags of these cases, for a peer that is timed elsewhere. */
+static void print_tags(void)
+{
+    for (int i = 0; i < CASES; i++) {
+        uint8_t tag[TAG_LENGTH];
+        if (ours_v3_with(&table[i], &the_input, tag) != 0)
+            exit(1);
+        printf("(%u, %u, %u) ", table[i].memory, table[i].passes, table[i].lanes);
+        for (int byte = 0; byte < TAG_LENGTH; byte++)
+            printf("%02x", tag[byte]);
+        printf("\n");
+    }
+}
+
+/* The program's cases, each hash in a process of its own. It forks, so it has to be a process that is small. */
+static void measure_processes(double seconds)
+{
     run_threads("process", &(struct cost) { 65536, 3, 4, 4 }, seconds);
     run_threads("process", &(struct cost) { 262144, 1, 4, 4 }, seconds);
 }
@@ -272,10 +316,10 @@ static void measure_table(double seconds)
 /* The points of its plots: two passes over 64 KiB to 1 GiB, and as many threads as lanes over 64 MiB in three passes. */
 static void measure_plots(double seconds)
 {
+    for (uint32_t threads = 1; threads <= 8; threads *= 2)
+        run_case("thread-plot", &(struct cost) { 65536, 3, threads, threads }, seconds);
     for (uint32_t memory = 64; memory <= 1048576; memory *= 4)
         run_case("memory-plot", &(struct cost) { memory, 2, 1, 1 }, seconds);
-    for (uint32_t threads = 1; threads <= 8; threads *= 2)
-        run_threads("thread-plot", &(struct cost) { 65536, 3, threads, threads }, seconds);
 }
 
 int main(int argc, char **argv)
@@ -290,6 +334,10 @@ int main(int argc, char **argv)
     name_hashers();
     if (strcmp(argv[1], "plots") == 0)
         measure_plots(atof(argv[2]));
+    else if (strcmp(argv[1], "tags") == 0)
+        print_tags();
+    else if (strcmp(argv[1], "processes") == 0)
+        measure_processes(atof(argv[2]));
     else
         measure_table(atof(argv[2]));
     return 0;

@@ -1,6 +1,6 @@
 """Times Python's `PasswordHasher()`, at our defaults, of each build of our library and of argon2-cffi, in one process.
 
-    password_hashers.py SECONDS LIBRARY LIBRARY_V3
+    password_hashers.py SECONDS LIBRARY COPY     the library, and a copy of it: each chooses its build once
 
 As in driver.c each round runs every one of them once and the least time counts, here of `hash`, and of all texts it is
 seen first that the others verify them. argon2-cffi is given our defaults, which are its own since 21.2 but not those
@@ -17,12 +17,14 @@ CASE = 'PasswordHasher()'
 SETTINGS = ('time_cost', 'memory_cost', 'parallelism', 'hash_len', 'salt_len')
 
 
-def ours(library):
-    """Our hasher over a shared object, of a package of its own."""
+def ours(library, build):
+    """Our hasher over a shared object, of a package of its own, by a build of it."""
     for name in [it for it in sys.modules if it.split('.')[0] == 'proved_argon2']:
         del sys.modules[name]
-    os.environ['PROVED_ARGON2_LIBRARY'] = library
-    return importlib.import_module('proved_argon2').PasswordHasher()
+    os.environ.update(PROVED_ARGON2_LIBRARY=library, PROVED_ARGON2_CPU=build)
+    hasher = importlib.import_module('proved_argon2').PasswordHasher()
+    hasher.hash(PASSWORD)
+    return hasher
 
 
 def compare(hashers):
@@ -50,13 +52,13 @@ def least_times(hashers, seconds):
 
 
 def main():
-    seconds, library, library_v3 = sys.argv[1:]
+    seconds, library, copy = sys.argv[1:]
     try:
         import argon2
     except ImportError:
         print('argon2-cffi: skipped, it is not there', file=sys.stderr)
         return
-    hashers = {'with': ours(library), 'with-v3': ours(library_v3)}
+    hashers = {'with': ours(library, 'x86-64-v2'), 'with-v3': ours(copy, 'x86-64-v3')}
     theirs = {name: getattr(hashers['with'], name) for name in SETTINGS}
     hashers['argon2-cffi'] = argon2.PasswordHasher(**theirs)
     compare(hashers)

@@ -35,12 +35,17 @@ static int libargon2(const struct cost *cost, const struct input *input, uint8_t
     return by_argon2(argon2_ctx, cost, input, tag);
 }
 
-static argon2_call *vector_call;
+static argon2_call *v3_call, *native_call;
 
 /* The same library from upstream's newest source, with the vectors of its opt.c. */
 static int upstream_v3(const struct cost *cost, const struct input *input, uint8_t tag[TAG_LENGTH])
 {
-    return vector_call == NULL || by_argon2(vector_call, cost, input, tag);
+    return v3_call == NULL || by_argon2(v3_call, cost, input, tag);
+}
+
+static int upstream_native(const struct cost *cost, const struct input *input, uint8_t tag[TAG_LENGTH])
+{
+    return native_call == NULL || by_argon2(native_call, cost, input, tag);
 }
 
 /* Its call has no parameter for lanes. */
@@ -120,7 +125,7 @@ static int libgcrypt(const struct cost *cost, const struct input *input, uint8_t
     return refused;
 }
 
-static hash_function *rust_argon2_1_hash, *rust_argon2_3_hash;
+static hash_function *rust_argon2_1_hash, *rust_argon2_3_hash, *rustcrypto_hash;
 
 /* It takes one thread, or as many as lanes. */
 static int rust_argon2(hash_function *hash, const struct cost *cost, const struct input *input, uint8_t *tag)
@@ -140,6 +145,11 @@ static int rust_argon2_3(const struct cost *cost, const struct input *input, uin
     return rust_argon2(rust_argon2_3_hash, cost, input, tag);
 }
 
+static int rustcrypto(const struct cost *cost, const struct input *input, uint8_t tag[TAG_LENGTH])
+{
+    return rustcrypto_hash == NULL || rustcrypto_hash(cost, input, tag);
+}
+
 /* The function of a name in a library of a folder, or NULL where bench/run could not build it. */
 static void *loaded(const char *folder, const char *library_name, const char *name)
 {
@@ -151,18 +161,22 @@ static void *loaded(const char *folder, const char *library_name, const char *na
 
 void load_peers(const char *folder)
 {
-    vector_call = (argon2_call *)loaded(folder, "upstream-v3.so", "argon2_ctx");
+    v3_call = (argon2_call *)loaded(folder, "upstream-v3.so", "argon2_ctx");
+    native_call = (argon2_call *)loaded(folder, "upstream-native.so", "argon2_ctx");
     rust_argon2_1_hash = (hash_function *)loaded(folder, "rust-argon2-1.0.0.so", "bench_rust_argon2");
     rust_argon2_3_hash = (hash_function *)loaded(folder, "rust-argon2-3.0.0.so", "bench_rust_argon2");
+    rustcrypto_hash = (hash_function *)loaded(folder, "rustcrypto.so", "bench_rustcrypto");
 }
 
 const struct hasher peers[] = {
     { "libsodium", libsodium },
     { "upstream-v3", upstream_v3 },
+    { "upstream-native", upstream_native },
     { "libargon2", libargon2 },
     { "botan", botan },
     { "libgcrypt", libgcrypt },
     { "rust-argon2-1", rust_argon2_1 },
     { "rust-argon2-3", rust_argon2_3 },
+    { "rustcrypto", rustcrypto },
     { NULL, NULL },
 };

@@ -1,91 +1,131 @@
-"""The plots of docs/PERFORMANCE.md: SVG whose letters are text, in colours that are read on white and on black."""
+"""The pictures of README.md and docs/PERFORMANCE.md: SVG whose letters are text, readable on white and on black. Each
+series has a colour of Okabe and Ito's palette, which differ in lightness too, and its name beside it."""
 
 import math
 import re
 from html import escape
 
-WIDTH, HEIGHT = 760, 430
-LEFT, RIGHT, TOP, BOTTOM = 64, 190, 52, 56
-# Each name has its colour, its dashes and its mark, so that a plot can be read without colours.
+WIDTH = 900
+# The colour and the dashes of a series, in the order in which they are drawn.
 STYLES = {
-    'ours': ('#d1495b', '', 'circle'),
-    'ours-v3': ('#d1495b', '6 3', 'square'),
-    'kept': ('#c77dc0', '', 'circle'),
-    'kept-v3': ('#c77dc0', '6 3', 'square'),
-    'libsodium': ('#2a9d8f', '', 'diamond'),
-    'upstream-v3': ('#4f86c6', '6 3', 'square'),
-    'libargon2': ('#4f86c6', '', 'circle'),
-    'botan': ('#8a8d91', '', 'diamond'),
-    'libgcrypt': ('#b08968', '', 'triangle'),
-    'rust-argon2-1': ('#c98b1b', '', 'triangle'),
-    'rust-argon2-3': ('#c98b1b', '6 3', 'diamond'),
+    'with-v3': ('#0072b2', ''),
+    'with': ('#56b4e9', '7 4'),
+    'libsodium': ('#d55e00', ''),
+    'upstream-v3': ('#009e73', ''),
+    'libargon2': ('#cc79a7', ''),
+    'rust-argon2-1': ('#e69f00', '7 4'),
+    'libgcrypt': ('#8a8d91', '2 4'),
 }
-# The words for a name in the legend and on the page, where they are not the name.
 LABELS = {
-    'ours': 'this library', 'ours-v3': 'this library, AVX2', 'kept': 'kept memory', 'kept-v3': 'kept memory, AVX2',
-    'upstream-v3': 'C reference, AVX2', 'rust-argon2-1': 'rust-argon2 1.0.0', 'rust-argon2-3': 'rust-argon2 3.0.0',
+    'ours': 'this library', 'ours-v3': 'this library, AVX2', 'with': 'this library, no AVX2', 'with-v3': 'this library, AVX2',
+    'upstream-v3': 'C reference, AVX2', 'upstream-native': 'C reference, native', 'rust-argon2-1': 'rust-argon2 1.0.0',
+    'rust-argon2-3': 'rust-argon2 3.0.0', 'rustcrypto': 'RustCrypto argon2', 'openssl': 'OpenSSL',
 }
-SHEET = '''text { font: 13px system-ui, sans-serif; fill: #6e7781 }
-.title { font-size: 15px; font-weight: 600 }
+SHEET = '''text { font: 14px system-ui, sans-serif; fill: #6e7781 }
+.title { font-size: 17px; font-weight: 600 }
+.own { font-weight: 600 }
+.caption { font-size: 12px }
 .grid { stroke: #8b949e; stroke-opacity: 0.35 }
 @media (prefers-color-scheme: light) { text { fill: #24292f } }
 @media (prefers-color-scheme: dark) { text { fill: #d0d7de } }'''
 
 
-def mark(shape, x, y, colour):
-    """A point of a series, by its shape."""
-    points = {'square': ((-4, -4), (4, -4), (4, 4), (-4, 4)), 'diamond': ((0, -5), (5, 0), (0, 5), (-5, 0)),
-              'triangle': ((0, -5), (5, 4), (-5, 4))}
-    if shape == 'circle':
-        return f'<circle cx="{x:.1f}" cy="{y:.1f}" r="4" fill="{colour}"/>'
-    corners = ' '.join(f'{x + dx:.1f},{y + dy:.1f}' for dx, dy in points[shape])
-    return f'<polygon points="{corners}" fill="{colour}"/>'
-
-
-def text(x, y, words, anchor='middle', kind=''):
+def text(x, y, words, anchor='start', kind=''):
     kind = f' class="{kind}"' if kind else ''
     return f'<text x="{x:.1f}" y="{y:.1f}" text-anchor="{anchor}"{kind}>{escape(words)}</text>'
 
 
-def steps(most):
-    """Round numbers from 0 to above the largest, at most eight of them."""
-    for step in (base * 10 ** power for power in range(-2, 7) for base in (1, 2, 5)):
-        if most / step <= 7:
-            return [step * index for index in range(math.ceil(most / step) + 1)]
-    raise ValueError(most)
+def picture(path, height, title, caption, parts):
+    """Writes an SVG of some parts, with a caption below them."""
+    path.write_text('\n'.join([
+        f'<svg xmlns="http://www.w3.org/2000/svg" viewBox="0 0 {WIDTH} {height}" role="img">',
+        f'<title>{escape(title)}</title>', f'<style>{SHEET}</style>', text(16, 26, title, kind='title'), *parts,
+        text(16, height - 12, caption, kind='caption'), '</svg>', '']), encoding='utf-8')
 
 
-def draw(path, title, bottom, unit, places, series):
-    """A plot: `places` are the words below, and each series has numbers at some of them."""
-    at_x = [LEFT + (WIDTH - LEFT - RIGHT) * (index + 0.5) / len(places) for index in range(len(places))]
-    scale = steps(max(max(points.values()) for points in series.values()))
-    at_y = lambda number: HEIGHT - BOTTOM - (HEIGHT - TOP - BOTTOM) * number / scale[-1]  # noqa: E731
-    out = [f'<svg xmlns="http://www.w3.org/2000/svg" viewBox="0 0 {WIDTH} {HEIGHT}" role="img">',
-           f'<title>{escape(title)}</title>', f'<style>{SHEET}</style>', text(LEFT, 20, title, 'start', 'title'),
-           text(LEFT, 40, unit, 'start'), text((LEFT + WIDTH - RIGHT) / 2, HEIGHT - 14, bottom)]
-    for number in scale:
-        out += [f'<line class="grid" x1="{LEFT}" x2="{WIDTH - RIGHT}" y1="{at_y(number):.1f}" y2="{at_y(number):.1f}"/>',
-                text(LEFT - 8, at_y(number) + 4, f'{number:g}', 'end')]
-    out += [text(x, HEIGHT - BOTTOM + 20, word) for x, word in zip(at_x, places)]
-    for line, (name, points) in enumerate((name, series[name]) for name in STYLES if name in series):
-        colour, dashes, shape = STYLES[name]
-        stroke = f'fill="none" stroke="{colour}" stroke-width="2" stroke-dasharray="{dashes or "none"}"'
-        spots = [(at_x[index], at_y(number)) for index, number in sorted(points.items())]
-        out.append(f'<polyline points="{" ".join(f"{x:.1f},{y:.1f}" for x, y in spots)}" {stroke}/>')
-        out += [mark(shape, x, y, colour) for x, y in spots]
-        y = TOP + 8 + 22 * line
-        out += [f'<line x1="{WIDTH - RIGHT + 20}" x2="{WIDTH - RIGHT + 54}" y1="{y}" y2="{y}" {stroke}/>',
-                mark(shape, WIDTH - RIGHT + 37, y, colour),
-                text(WIDTH - RIGHT + 62, y + 4, LABELS.get(name, name), 'start')]
-    path.write_text('\n'.join([*out, '</svg>', '']), encoding='utf-8')
+def milliseconds(number):
+    """A time as people write it: two digits, and no more than the number has."""
+    return f'{number:.2g}' if number < 10 else f'{number:.0f}'
+
+
+def apart(places, least):
+    """The same places in their order, moved downwards until each is so far below the one before."""
+    moved = {}
+    for name, place in sorted(places.items(), key=lambda item: item[1]):
+        moved[name] = max([place, *(other + least for other in moved.values())])
+    return moved
+
+
+class LogScale:
+    """Numbers on a logarithmic axis from below to above all of them, at powers of ten and their halves."""
+
+    def __init__(self, numbers, top, bottom):
+        self.top, self.bottom = top, bottom
+        self.low, self.high = math.log10(min(numbers)) - 0.1, math.log10(max(numbers)) + 0.1
+
+    def place(self, number):
+        return self.bottom - (self.bottom - self.top) * (math.log10(number) - self.low) / (self.high - self.low)
+
+    def marks(self):
+        steps = (1, 10) if self.high - self.low > 2.5 else (1, 2, 5, 10)
+        marks = {base * 10 ** power for power in range(-4, 6) for base in steps}
+        return sorted(mark for mark in marks if self.low <= math.log10(mark) <= self.high)
+
+
+def draw_lines(path, title, caption, below, places, series):
+    """A plot: `places` are the words below, and each series has milliseconds at some of them. The axis is logarithmic."""
+    left, right, top, bottom, height = 70, 190, 66, 380, 466
+    at_x = [left + (WIDTH - left - right) * (index + 0.3) / len(places) for index in range(len(places))]
+    scale = LogScale([number for points in series.values() for number in points.values()], top, bottom)
+    out = [text(16, 50, 'milliseconds a hash, on a logarithmic axis'),
+           text((left + WIDTH - right) / 2, bottom + 46, below, 'middle')]
+    for number in scale.marks():
+        y = scale.place(number)
+        out += [f'<line class="grid" x1="{left}" x2="{WIDTH - right}" y1="{y:.1f}" y2="{y:.1f}"/>',
+                text(left - 8, y + 5, f'{number:g}', 'end')]
+    out += [text(x, bottom + 22, word, 'middle') for x, word in zip(at_x, places)]
+    drawn = [(name, series[name]) for name in STYLES if name in series]
+    ends = apart({name: scale.place(points[max(points)]) for name, points in drawn}, 18)
+    for name, points in drawn:
+        colour, dashes = STYLES[name]
+        spots = [(at_x[index], scale.place(number)) for index, number in sorted(points.items())]
+        out.append(f'<polyline points="{" ".join(f"{x:.1f},{y:.1f}" for x, y in spots)}" fill="none" stroke="{colour}" '
+                   f'stroke-width="2.5" stroke-dasharray="{dashes or "none"}"/>')
+        out += [f'<circle cx="{x:.1f}" cy="{y:.1f}" r="4" fill="{colour}"/>' for x, y in spots]
+        x, y = spots[-1]
+        out += [f'<line x1="{x + 6:.1f}" y1="{y:.1f}" x2="{WIDTH - right + 6}" y2="{ends[name]:.1f}" stroke="{colour}" '
+                'stroke-opacity="0.5"/>',
+                f'<circle cx="{WIDTH - right + 10}" cy="{ends[name]:.1f}" r="4" fill="{colour}"/>',
+                text(WIDTH - right + 20, ends[name] + 5, LABELS.get(name, name), kind='own' if 'with' in name else '')]
+    picture(path, height, title, caption, out)
+
+
+def draw_bars(path, title, caption, groups):
+    """Bars from zero in groups, each of (words, [(label, milliseconds, whether it is ours)]), the quickest first."""
+    left, right, row, y = 200, 90, 26, 48
+    out = []
+    for words, bars in groups:
+        most = max(number for _, number, _ in bars)
+        out.append(text(16, y + 14, words, kind='own'))
+        y += 28
+        for label, number, is_ours in sorted(bars, key=lambda bar: bar[1]):
+            width = (WIDTH - left - right) * number / most
+            out += [text(left - 10, y + 15, label, 'end', 'own' if is_ours else ''),
+                    f'<rect x="{left}" y="{y}" width="{width:.1f}" height="{row - 6}" rx="2" '
+                    f'fill="{"#0072b2" if is_ours else "#8a8d91"}"/>',
+                    text(left + width + 8, y + 15, f'{milliseconds(number)} ms', kind='own' if is_ours else '')]
+            y += row
+        y += 16
+    picture(path, y + 24, title, caption, out)
 
 
 def by_name(cases, told):
-    """The numbers of each name, by the place of their case."""
+    """The numbers of each name that has a style, by the place of their case."""
     series = {}
     for place, (case, times) in enumerate(cases.items()):
         for name, time in times.items():
-            series.setdefault(name, {})[place] = told(case, time)
+            if name in STYLES:
+                series.setdefault(name, {})[place] = told(case, time)
     return series
 
 
@@ -102,15 +142,19 @@ def size(kib):
     raise ValueError(kib)
 
 
-def draw_by_memory(path, cases):
-    """Two passes in one lane: nanoseconds for each KiB of the memory."""
-    draw(path, 'Time of a hash against its memory', 'memory, in 2 passes, 1 lane, 1 thread',
-         'nanoseconds for each KiB of memory', [size(first_number(case)) for case in cases],
-         by_name(cases, lambda case, time: 2 * time))
+def draw_by_memory(path, caption, cases):
+    """Two passes in one lane."""
+    series = by_name(cases, lambda case, time: 2 * time * first_number(case) / 1e6)
+    draw_lines(path, 'How long does a hash take over more memory?', caption,
+               'memory, in 2 passes, 1 lane, 1 thread',
+               [size(first_number(case)) for case in cases],
+               {name: points for name, points in series.items() if name != 'libgcrypt'})
 
 
-def draw_by_threads(path, cases):
-    """64 MiB in three passes: milliseconds of a whole process."""
-    draw(path, 'Time of a hash against its threads', 'threads, and as many lanes, over 64 MiB in 3 passes',
-         'milliseconds of a whole process', [case.rsplit(' ', 1)[1] for case in cases],
-         by_name(cases, lambda case, time: time * 3 * first_number(case) / 1e6))
+def draw_by_threads(path, caption, cases):
+    """64 MiB in three passes. libsodium has no lanes."""
+    series = by_name(cases, lambda case, time: time * 3 * first_number(case) / 1e6)
+    draw_lines(path, 'How long does a hash take by more threads?', caption,
+               'threads, and as many lanes, over 64 MiB in 3 passes',
+               [case.rsplit(' ', 1)[1] for case in cases],
+               {name: points for name, points in series.items() if name != 'libsodium'})

@@ -58,7 +58,7 @@ uint32_t proved_argon2_verify_raw(INPUTS, const uint8_t *hash, size_t hash_len)
  * memory: it is judged first, without room for salt and hash, for which all that is accepted is refused. */
 static uint32_t read_text(call *it, STORED)
 {
-    static const proved_argon2_limits none = {UINT32_MAX, UINT32_MAX, UINT32_MAX};
+    static const proved_argon2_limits none = {UINT32_MAX, UINT32_MAX, UINT32_MAX, UINT64_MAX};
     proved_argon2_stored stored;
     uint32_t code = proved_argon2_read_within(text, text_len, it->with.limits ? it->with.limits : &none, &stored);
     code = code ? code : proved_argon2_job_read(OF_STORED, &it->job, NULL, 0, NULL, 0);

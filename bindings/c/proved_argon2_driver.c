@@ -65,7 +65,8 @@ uint32_t take_bytes(call *it, size_t len)
     return it->bytes == NULL ? PROVED_ARGON2_OUT_OF_MEMORY : PROVED_ARGON2_OK;
 }
 
-/* Clears what earlier calls of the caller left on the stack. */
+/* Clears what the loader may have saved on the stack of registers that blocks went through, where it binds a name late:
+ * the proved calls clear below themselves. */
 static __attribute__((noinline)) void clear_stack(void)
 {
     unsigned char below[STACK_BELOW];
@@ -116,7 +117,6 @@ static void take_step(void *arg, uint32_t number)
             : proved_argon2_job_fill(&it->job, (uint32_t)((it->step - 1) / 4), slice, (uint32_t)lane,
                 first, it->slice, second, it->slice, third, it->slice, own, length);
     }
-    clear_stack();
     it->workers[number].code = code;
     it->workers[number].state = 2 * it->step + 2;
 }

@@ -37,7 +37,8 @@ const char *argon2_error_message(int error_code)
         "There is no such version of Argon2", "Output pointer mismatch", "Not enough threads", "Too many threads",
         "Missing arguments", "Encoding failed", "Decoding failed", "Threading failure",
         "Some of encoded parameters are too long or too short", "The password does not match the supplied hash"};
-    return error_code > 0 || error_code < ARGON2_VERIFY_MISMATCH ? "Unknown error code" : messages[-error_code];
+    return error_code == -PROVED_ARGON2_OLD_PROCESSOR ? "The processor is too old"
+        : error_code > 0 || error_code < ARGON2_VERIFY_MISMATCH ? "Unknown error code" : messages[-error_code];
 }
 
 /* libargon2's code for one of the proved calls; a version that does not exist is a wrong parameter. */
@@ -49,6 +50,7 @@ static int code_of(uint32_t code)
     case PROVED_ARGON2_OUT_OF_MEMORY: return ARGON2_MEMORY_ALLOCATION_ERROR;
     case PROVED_ARGON2_WORKER_REFUSED: return ARGON2_THREAD_FAIL;
     case PROVED_ARGON2_DECODING_FAIL: case PROVED_ARGON2_NOT_UTF8: return ARGON2_DECODING_FAIL;
+    case PROVED_ARGON2_OLD_PROCESSOR: return -PROVED_ARGON2_OLD_PROCESSOR; /* for which libargon2 has no code */
     default: return ARGON2_INCORRECT_PARAMETER;
     }
 }
@@ -85,9 +87,8 @@ static proved_argon2_settings settings_of(const argon2_context *c, argon2_type t
 
 static void give_memory_back(const argon2_context *c, const proved_argon2_options *with)
 {
-    if (with->memory == NULL) return;
-    if (c->free_cbk != NULL) c->free_cbk(with->memory, with->memory_len);
-    else proved_argon2_memory_free(with->memory, with->memory_len);
+    if (c->free_cbk == NULL) proved_argon2_memory_free(with->memory, with->memory_len);
+    else if (with->memory != NULL) c->free_cbk(with->memory, with->memory_len);
 }
 
 /* Without a callback the driver takes the memory, but where flags ask that inputs be cleared: those have to stay where
@@ -158,8 +159,7 @@ int argon2_verify_ctx(argon2_context *context, const char *hash, argon2_type typ
 size_t argon2_encodedlen(
     uint32_t t_cost, uint32_t m_cost, uint32_t parallelism, uint32_t saltlen, uint32_t hashlen, argon2_type type)
 {
-    const proved_argon2_settings settings = {
-        (uint32_t)type, ARGON2_VERSION_NUMBER, m_cost, t_cost, parallelism, hashlen};
+    const proved_argon2_settings settings = {type, ARGON2_VERSION_NUMBER, m_cost, t_cost, parallelism, hashlen};
     return proved_argon2_encoded_len(&settings, saltlen) + 1;
 }
 
@@ -207,7 +207,6 @@ static int is_spelled(const char *text, const proved_argon2_settings *its, argon
 
 int argon2_verify(const char *encoded, const void *pwd, const size_t pwdlen, argon2_type type)
 {
-    proved_argon2_options with = PROVED_ARGON2_OPTIONS;
     proved_argon2_stored stored = {0};
     const proved_argon2_settings *const its = &stored.settings;
     if (pwdlen > ARGON2_MAX_PWD_LENGTH) return ARGON2_PWD_TOO_LONG;
@@ -216,14 +215,15 @@ int argon2_verify(const char *encoded, const void *pwd, const size_t pwdlen, arg
     const uint8_t *const text = (const uint8_t *)encoded;
     const size_t len = strlen(encoded);
     int code = code_of(proved_argon2_read(text, len, &stored));
+    if (code == -PROVED_ARGON2_OLD_PROCESSOR) return code;
     if (code != ARGON2_OK || !is_spelled(encoded, its, type)) return ARGON2_DECODING_FAIL;
     uint8_t any; /* the salt and the hash are judged by their lengths */
     const argon2_context c = {
         .out = &any, .outlen = its->hash_length, .pwd = (uint8_t *)(uintptr_t)pwd, .pwdlen = (uint32_t)pwdlen,
         .salt = &any, .saltlen = stored.salt_length, .t_cost = its->time_cost, .m_cost = its->mem_cost,
         .lanes = its->lanes, .threads = its->lanes};
+    const proved_argon2_options with = {.size = sizeof with, .threads = its->lanes};
     code = judge(&c);
-    with.threads = its->lanes;
     return code != ARGON2_OK ? code
         : code_of(proved_argon2_verify_encoded_with(&with, text, len, pwd, pwdlen, NULL, 0, NULL, 0));
 }

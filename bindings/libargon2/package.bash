@@ -7,11 +7,10 @@
 stage_libargon2() {
     local folder=$libdir/proved-libargon2 here=$root/bindings/libargon2 file
     for file in libargon2.so.1 libargon2.a; do
-        stage 644 "$from/x86-64-v2/$file" "$folder/$file"
-        stage 644 "$from/x86-64-v3/$file" "$folder/glibc-hwcaps/x86-64-v3/$file"
+        stage 644 "$from/$machine/$file" "$folder/$file"
     done
     ln -s libargon2.so.1 "$staged$folder/libargon2.so"
-    stage 755 "$from/x86-64-v2/argon2" "$folder/bin/argon2"
+    stage 755 "$from/$machine/argon2" "$folder/bin/argon2"
     stage 644 "$here/argon2.h" "$folder/include/argon2.h"
     stage_filled 644 "$here/libargon2.pc.in" "$folder/pkgconfig/libargon2.pc"
 }
@@ -35,9 +34,8 @@ take_libargon2() {
 }
 
 make_libargon2() {
-    local name=proved-libargon2-1 lib=lib/$triplet hwcaps=glibc-hwcaps/x86-64-v3/libargon2.so.1 file
+    local name=proved-libargon2-1 lib=lib/$triplet file
     take_libargon2 "$name" libargon2.so.1 "$lib/libargon2.so.1"
-    take_libargon2 "$name" "$hwcaps" "$lib/$hwcaps"
     file=$work/$name/usr/$lib/libargon2.so.1
     mkdir -p "$work/$name/DEBIAN"
     # What is built with it needs libargon2, whichever package that is of.
@@ -55,8 +53,6 @@ Description: libargon2's interface over a proved Argon2 - shared library
  Programs that call libargon2, such as PHP and cryptsetup, compute Argon2 by
  code that is proved to meet its contract once this package is in the place
  of libargon2-1. The interface around that code is tested.
- .
- The loader takes the build for processors with AVX2 where there is one.
 END
     make_libargon2_development
     # The command goes into no package: it stands in the tarball.
@@ -65,7 +61,7 @@ END
 
 make_libargon2_development() {
     local name=proved-libargon2-dev lib=lib/$triplet file
-    for file in libargon2.a glibc-hwcaps/x86-64-v3/libargon2.a libargon2.so pkgconfig/libargon2.pc; do
+    for file in libargon2.a libargon2.so pkgconfig/libargon2.pc; do
         take_libargon2 "$name" "$file" "$lib/$file"
     done
     take_libargon2 "$name" include/argon2.h include/argon2.h

@@ -74,9 +74,9 @@ def _sources():
 
 
 def _libraries():
-    """The shared objects, and the platform that they are for, where `./package` has put them."""
+    """The shared object, and the platform that it is for, where `./package` has put them."""
     folder = ROOT / "src" / PACKAGE / "libs"
-    return sorted(folder.glob("*/*.so.*")), (folder / "platform").read_text().strip() if folder.exists() else "any"
+    return sorted(folder.glob("*.so.*")), (folder / "platform").read_text().strip() if folder.exists() else "any"
 
 
 def _time():

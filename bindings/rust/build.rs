@@ -7,8 +7,6 @@ use std::process::{exit, Command};
 
 const ARCHIVE: &str = "libproved_argon2.a";
 const VARIABLE: &str = "PROVED_ARGON2_LIB_DIR";
-/// What a program is built for that takes the archive for x86-64-v3, as with `-C target-cpu=x86-64-v3`.
-const FEATURES_OF_V3: [&str; 7] = ["avx2", "bmi1", "bmi2", "f16c", "fma", "lzcnt", "movbe"];
 
 fn main() {
     println!("cargo:rerun-if-env-changed={VARIABLE}");
@@ -43,21 +41,21 @@ fn library_folder() -> Result<PathBuf, String> {
     })
 }
 
-/// The folder of this crate for the processor that is built for, where the crate has the archives.
+/// What is built for, as cargo names it.
+fn target(part: &str) -> String {
+    env::var(format!("CARGO_CFG_TARGET_{part}")).unwrap_or_default()
+}
+
+/// The folder of this crate for the machine that is built for, where the crate has archives.
 fn packaged_folder() -> Result<Option<PathBuf>, String> {
     let libraries = Path::new(env!("CARGO_MANIFEST_DIR")).join("lib");
     if !libraries.is_dir() {
         return Ok(None);
     }
-    let target = env::var("TARGET").unwrap_or_default();
-    if !(target.starts_with("x86_64-") && target.ends_with("-linux-gnu")) {
-        return Err(format!(
-            "the archives are for Linux on x86-64 with the GNU C library, and not for {target}"
-        ));
+    let folder = libraries.join(target("ARCH"));
+    if target("OS") != "linux" || !["gnu", "musl"].contains(&&*target("ENV")) || !folder.is_dir() {
+        return Err(format!("the crate has no archive for {}", env::var("TARGET").unwrap_or_default()));
     }
-    let features = env::var("CARGO_CFG_TARGET_FEATURE").unwrap_or_default();
-    let is_v3 = FEATURES_OF_V3.iter().all(|feature| features.split(',').any(|it| it == *feature));
-    let folder = libraries.join(if is_v3 { "x86-64-v3" } else { "x86-64-v2" });
     if has_archive(&folder) {
         Ok(Some(folder))
     } else {
@@ -68,7 +66,7 @@ fn packaged_folder() -> Result<Option<PathBuf>, String> {
 /// The folder of the repository's build, where this crate stands in the repository.
 fn built_folder() -> Option<PathBuf> {
     let here = Path::new(env!("CARGO_MANIFEST_DIR"));
-    let folder = here.parent()?.join("out/x86-64-v2");
+    let folder = here.parent()?.join("out").join(target("ARCH"));
     (here.ends_with("bindings/rust") && has_archive(&folder)).then_some(folder)
 }
 
@@ -76,9 +74,10 @@ fn built_folder() -> Option<PathBuf> {
 fn released_folder() -> Option<PathBuf> {
     let here = Path::new(env!("CARGO_MANIFEST_DIR"));
     let root = here.parent()?.parent()?;
-    let file = format!("x86-64-v2/{ARCHIVE}");
-    let is_current = || Command::new(root.join(".ci/released")).arg(&file).status().ok();
-    (here.ends_with("bindings/rust") && is_current()?.success()).then(|| root.join("release/x86-64-v2"))
+    let machine = target("ARCH");
+    let file = format!("{machine}/{ARCHIVE}");
+    let is_current = || Command::new(root.join(".ci/release/released")).arg(&file).status().ok();
+    (here.ends_with("bindings/rust") && is_current()?.success()).then(|| root.join("release").join(machine))
 }
 
 /// The folder that `pkg-config` names, where it has the archive.

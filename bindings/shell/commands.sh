@@ -112,6 +112,11 @@ call() {
 
 # The builds that this processor runs, the newest first: nothing where it is older than all.
 builds_that_run() {
+    case $(uname -m) in
+    aarch64) echo aarch64 && return ;;
+    x86_64) ;;
+    *) return ;;
+    esac
     flags=" $(sed -n '/^flags[^:]*:/{s///;p;q;}' /proc/cpuinfo 2>/dev/null) "
     # shellcheck disable=SC2086 # they are words
     ! has_flags $flags_of_v2 $flags_of_v3 || echo x86-64-v3
@@ -131,7 +136,8 @@ has_flags() {
 
 # Ends where no build runs here.
 refuse_processor() {
-    fail 70 "this processor is older than x86-64-v2, for which the program is built: see /proc/cpuinfo"
+    fail 70 "this processor is older than x86-64-v2, or neither x86-64 nor ARM64, for which the programs are built: see \
+/proc/cpuinfo"
 }
 
 # Ends with the status of the program, which had these words: `end_with STATUS WORD..`.
@@ -141,7 +147,7 @@ end_with() {
     case $status:${1-} in
     2:verify | 2:check) hint_at_text "$2" ;;
     2:rehash) hint_at_text "$8" ;;
-    5:new) add 'such settings make a text that check does not take: it may ask for at most 2 GiB, 10 passes and 16 lanes' ;;
+    5:new) add 'such settings make a text that check does not take: it may ask for at most 2 GiB, 10 passes, 16 lanes and the work of 4 GiB in one pass' ;;
     3:*) name_wrong_word "$@" ;;
     esac
     exit "$status"

@@ -29,7 +29,7 @@ static const struct {
     NUMBER(MEMORY_TOO_LITTLE), NUMBER(MEMORY_TOO_MUCH), NUMBER(LANES_TOO_FEW), NUMBER(LANES_TOO_MANY),
     NUMBER(INCORRECT_TYPE), NUMBER(INCORRECT_VERSION), NUMBER(DECODING_FAIL), NUMBER(OUT_OF_MEMORY),
     NUMBER(WORKER_REFUSED), NUMBER(MISMATCH), NUMBER(WRONG_LENGTH), NUMBER(NOT_UTF8), NUMBER(NEEDS_REHASH),
-    NUMBER(TOO_COSTLY), NUMBER(STOPPED), NUMBER(D), NUMBER(I), NUMBER(ID), NUMBER(VERSION_10), NUMBER(VERSION_13),
+    NUMBER(TOO_COSTLY), NUMBER(STOPPED), NUMBER(OLD_PROCESSOR), NUMBER(D), NUMBER(I), NUMBER(ID), NUMBER(VERSION_10), NUMBER(VERSION_13),
 };
 
 uint32_t number_of(const char *name)
@@ -182,12 +182,13 @@ uint32_t proved_argon2_verify_raw_with(const proved_argon2_options *with, PIECE(
 uint32_t proved_argon2_verify_encoded_with(const proved_argon2_options *with, PIECE(text), PIECE(pwd), PIECE(secret),
                                            PIECE(ad))
 {
-    static const proved_argon2_limits none = {0, 0, 0};
+    static const proved_argon2_limits none = {0, 0, 0, 0};
     const proved_argon2_limits *const limits = with->limits == NULL ? &none : with->limits;
     take(with);
     wait_while_held();
-    snprintf(passed[COMPUTING], sizeof *passed, "text %.*s %.*s %.*s %.*s %u %u %u", SHOWN(text), SHOWN(pwd),
-             SHOWN(secret), SHOWN(ad), limits->mem_cost, limits->time_cost, limits->lanes);
+    snprintf(passed[COMPUTING], sizeof *passed, "text %.*s %.*s %.*s %.*s %u %u %u %llu", SHOWN(text), SHOWN(pwd),
+             SHOWN(secret), SHOWN(ad), limits->mem_cost, limits->time_cost, limits->lanes,
+             (unsigned long long)limits->work);
     return answer;
 }
 
@@ -236,7 +237,7 @@ void proved_argon2_memory_free(void *memory, size_t memory_len)
 
 proved_argon2_limits proved_argon2_default_limits(void)
 {
-    return (proved_argon2_limits){7, 8, 9};
+    return (proved_argon2_limits){7, 8, 9, 10};
 }
 
 /* Seven different numbers, whatever is answered: what a refusal leaves must not be taken for a value. */

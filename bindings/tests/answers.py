@@ -38,7 +38,7 @@ def header(name):
 
 
 # All numbers of the header, those that stand beside them, and some that no call answers.
-NUMBERS = [*range(23), 63, *range(64, 76), *range(127, 131), 255, 256, 999, 0x7FFFFFFF, 0x80000000, 0xFFFFFFFF]
+NUMBERS = [*range(23), 63, *range(64, 76), *range(127, 132), 255, 256, 999, 0x7FFFFFFF, 0x80000000, 0xFFFFFFFF]
 OK, DECODING_FAIL, OUT_OF_MEMORY = header("OK"), header("DECODING_FAIL"), header("OUT_OF_MEMORY")
 MISMATCH, WRONG_LENGTH, NOT_UTF8 = header("MISMATCH"), header("WRONG_LENGTH"), header("NOT_UTF8")
 TOO_COSTLY, STOPPED = header("TOO_COSTLY"), header("STOPPED")
@@ -137,14 +137,14 @@ class Answers(unittest.TestCase):
     def test_each_call_passes_what_it_is_given_in_its_place(self):
         settings = "2 19 64 3 4 5"
         pieces = f"word somesalt key data {settings}"
-        limits = Limits(memory_cost=10, time_cost=11, parallelism=12)
+        limits = Limits(memory_cost=10, time_cost=11, parallelism=12, work=13)
         hashing = (b"word", b"somesalt", *SETTINGS)
         verifying = (TEXT.encode(), b"word", Type.ID)
         for call, wanted, judged in (
             (lambda **it: hash_secret_raw(*hashing, **it), f"raw {pieces}", f"raw {pieces}"),
             (lambda **it: hash_secret(*hashing, **it), f"encoded {pieces}", f"encoded {pieces}"),
-            (lambda **it: verify_secret(*verifying, **it), f"text {TEXT} word key data 0 0 0", None),
-            (lambda **it: verify_secret(*verifying, limits=limits, **it), f"text {TEXT} word key data 10 11 12", None),
+            (lambda **it: verify_secret(*verifying, **it), f"text {TEXT} word key data 0 0 0 0", None),
+            (lambda **it: verify_secret(*verifying, limits=limits, **it), f"text {TEXT} word key data 10 11 12 13", None),
         ):
             for named, lent in ((PIECES, -1), ({**PIECES, "memory": Memory()}, 0)):
                 call(**named)
@@ -156,15 +156,15 @@ class Answers(unittest.TestCase):
 
     def test_a_hasher_passes_what_it_is_given_in_its_place(self):
         for keep_memory in (False, True):
-            hasher = PasswordHasher(3, 64, 4, 5, 8, "utf-8", Type.I, limits=Limits(10, 11, 12), keep_memory=keep_memory)
+            hasher = PasswordHasher(3, 64, 4, 5, 8, "utf-8", Type.I, limits=Limits(10, 11, 12, 13), keep_memory=keep_memory)
             lent = 0 if keep_memory else -1
             hasher.hash("word", salt=b"somesalt")
             found = (passed(COMPUTING), STUB.bytes_lent_to_the_last())
             self.assertEqual(found, ("encoded word somesalt   1 19 64 3 4 5", lent))
             hasher.verify(TEXT, "word")
             found = (passed(COMPUTING), STUB.bytes_lent_to_the_last())
-            self.assertEqual(found, (f"text {TEXT} word   10 11 12", lent))
-        for settings, limits in (((1, 1, 1), "7 8 9"), ((9, 8, 1), "8 9 9"), ((8, 7, 10), "7 8 10")):
+            self.assertEqual(found, (f"text {TEXT} word   10 11 12 13", lent))
+        for settings, limits in (((1, 1, 1), "7 8 9 10"), ((9, 8, 1), "8 9 9 72"), ((8, 7, 10), "7 8 10 56")):
             PasswordHasher(*settings).verify(TEXT, "word")
             self.assertEqual(passed(COMPUTING), f"text {TEXT} word   {limits}")
 
@@ -257,7 +257,7 @@ class Answers(unittest.TestCase):
             self.assertEqual(STUB.threads_of_the_last(), wanted)
 
     def test_the_default_limits_are_the_library_s(self):
-        self.assertEqual(Limits(), Limits(memory_cost=7, time_cost=8, parallelism=9))
+        self.assertEqual(Limits(), Limits(memory_cost=7, time_cost=8, parallelism=9, work=10))
 
     def holds_what_is_read(self, call, value):
         errors = {DECODING_FAIL: InvalidHashError, NOT_UTF8: InvalidHashError, OUT_OF_MEMORY: MemoryError}

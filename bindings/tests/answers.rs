@@ -31,7 +31,7 @@ fn passed(kind: u32) -> String {
 }
 
 /// The errors in the order of the numbers from 1 on, and one of C alone.
-const ERRORS: [Error; 22] = [
+const ERRORS: [Error; 23] = [
     Error::OutputTooShort,
     Error::OutputTooLong,
     Error::PwdTooShort,
@@ -54,6 +54,7 @@ const ERRORS: [Error; 22] = [
     Error::OutOfMemory,
     Error::WorkerRefused,
     Error::Stopped,
+    Error::OldProcessor,
 ];
 
 /// The numbers of the header, those beside them, and some that no call answers.
@@ -63,6 +64,7 @@ fn numbers() -> impl Iterator<Item = u32> {
         128,
         129,
         130,
+        131,
         255,
         256,
         999,
@@ -120,7 +122,7 @@ fn spelled(error: &Error) -> String {
 
 /// Each error, variant and version has the number that the header gives to its name.
 fn numbers_are_the_header_s() -> bool {
-    let numbers = (1..=21).chain([130]);
+    let numbers = (1..=21).chain([130, 131]);
     let errors = ERRORS.iter().zip(numbers).all(|(error, number)| header(&spelled(error)) == number);
     let variants = [(Variant::Argon2d, "D"), (Variant::Argon2i, "I"), (Variant::Argon2id, "ID")]
         .into_iter()
@@ -157,7 +159,7 @@ const CONFIG: Config<'_> = Config {
     version: Version::Version13,
 };
 const SPELLED: &str = "word somesalt key data 2 19 64 3 4 5";
-const LIMITS: Limits = Limits { lanes: 12, mem_cost: 10, time_cost: 11 };
+const LIMITS: Limits = Limits { lanes: 12, mem_cost: 10, time_cost: 11, work: 13 };
 
 /// A call that computes, over a memory or without one: what it passes, and the threads that it asks for.
 type Computing = (fn(Option<&mut Memory>) -> bool, &'static str, u32);
@@ -173,8 +175,8 @@ const COMPUTING: [Computing; 5] = [
     (|memory| raw(memory) == Ok(vec![b'x'; 5]), "raw word somesalt key data 2 19 64 3 4 5", 3),
     (|memory| text(memory) == Ok("x".repeat(12)), "encoded word somesalt key data 2 19 64 3 4 5", 3),
     (|memory| verdict(memory) == Ok(true), "verify word somesalt key data 2 19 64 3 4 5 hash", 3),
-    (|memory| verdict_of_text(memory) == Ok(true), "text text word key data 0 0 0", 16),
-    (|memory| within(memory) == Ok(true), "text text word key data 10 11 12", 16),
+    (|memory| verdict_of_text(memory) == Ok(true), "text text word key data 0 0 0 0", 16),
+    (|memory| within(memory) == Ok(true), "text text word key data 10 11 12 13", 16),
 ];
 
 fn raw(memory: Option<&mut Memory>) -> Result<Vec<u8>, Error> {
@@ -221,7 +223,7 @@ fn arguments_are_in_their_places() -> bool {
         && passed(1) == format!("encoded {SPELLED}")
         && passed(2) == "length 2 19 64 3 4 5 8";
     let told_of = argon2::verify_encoded("text", b"word").is_ok()
-        && passed(0) == "text text word   0 0 0"
+        && passed(0) == "text text word   0 0 0 0"
         && argon2::read("text").is_ok()
         && passed(2) == "read text"
         && argon2::needs_rehash("text", &CONFIG).is_ok()
@@ -312,7 +314,7 @@ fn calls_tell_how_far_they_are() -> bool {
 fn are_the_library_s() -> bool {
     told(
         "the default limits are the library's",
-        Limits::default() == Limits { lanes: 9, mem_cost: 7, time_cost: 8 },
+        Limits::default() == Limits { lanes: 9, mem_cost: 7, time_cost: 8, work: 10 },
     )
 }
 

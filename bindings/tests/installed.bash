@@ -19,17 +19,12 @@ has_what_is_installed() {
     diff <(files_in "$1") <(LC_ALL=C sort <<END
 bin/proved-argon2
 $(cd crates/argon2_c/include && printf 'include/%s\n' *.h)
-lib/glibc-hwcaps/x86-64-v3/libproved_argon2.a
-lib/glibc-hwcaps/x86-64-v3/$library.${version%%.*}
-lib/glibc-hwcaps/x86-64-v3/$library.$version
 lib/libproved_argon2.a
 lib/$library
 lib/$library.${version%%.*}
 lib/$library.$version
 lib/pkgconfig/proved_argon2.pc
 lib/proved-libargon2/bin/argon2
-lib/proved-libargon2/glibc-hwcaps/x86-64-v3/libargon2.a
-lib/proved-libargon2/glibc-hwcaps/x86-64-v3/libargon2.so.1
 lib/proved-libargon2/include/argon2.h
 lib/proved-libargon2/libargon2.a
 lib/proved-libargon2/libargon2.so
@@ -53,5 +48,5 @@ END
 
 # Whether each file and folder that was installed has the mode of the list, and is whose it was that installed it.
 has_modes_of_the_list() {
-    .ci/modes.py installed "$1"
+    .ci/release/modes.py installed "$1"
 }

@@ -112,7 +112,7 @@ impl Asked {
             text: format!(
                 "$argon2id$v=19$m={mem_cost},t={time_cost},p={lanes}$c29tZXNhbHQ$AAAAAAAAAAAAAAAAAAAAAA"
             ),
-            limits: Limits { mem_cost: u32::MAX, lanes: u32::MAX, ..Limits::default() },
+            limits: Limits { mem_cost: u32::MAX, lanes: u32::MAX, work: u64::MAX, ..Limits::default() },
         }
     }
 

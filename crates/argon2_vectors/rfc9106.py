@@ -76,7 +76,7 @@ class Setting:
 
     def __init__(self, variant, version, time, memory, lanes, length, password, salt, secret=b"", data=b""):
         self.variant, self.version, self.time, self.memory = variant, version, time, memory
-        self.lanes, self.length = lanes, length
+        self.lanes, self.length, self.password = lanes, length, password
         self.segment = memory // (4 * lanes)
         self.columns = 4 * self.segment
         self.first = b"".join(map(le32, (lanes, length, memory, time, version, variant)))
@@ -117,7 +117,8 @@ class Setting:
             other, _, column = self.reference(r, lane, s, index, self.drawn(r, lane, s, index))
             yield other, column
 
-    def tag(self):
+    def filled(self):
+        """All blocks, by lane and column, after the last pass."""
         blocks = {(lane, column): words_of(self.first_block(lane, column))
                   for lane in range(self.lanes) for column in (0, 1)}
         for r in range(self.time):
@@ -125,10 +126,17 @@ class Setting:
                 for lane in range(self.lanes):
                     for index in range(2 if r == s == 0 else 0, self.segment):
                         self.fill(blocks, r, s, lane, index)
+        return blocks
+
+    def combined(self, blocks):
+        """The exclusive or of the lanes' last blocks, in bytes."""
         last = [0] * 128
         for lane in range(self.lanes):
             last = [a ^ b for a, b in zip(last, blocks[lane, self.columns - 1])]
-        return hprime(self.length, b"".join(word.to_bytes(8, "little") for word in last))
+        return b"".join(word.to_bytes(8, "little") for word in last)
+
+    def tag(self):
+        return hprime(self.length, self.combined(self.filled()))
 
     def fill(self, blocks, r, s, lane, index):
         column = s * self.segment + index

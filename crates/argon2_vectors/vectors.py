@@ -63,12 +63,9 @@ def stretched_hashes():
         pieces = rfc9106.hprime_pieces(length, MESSAGE)
         lengths = "+".join(str(len(piece)) for piece in pieces)
         answer = " ".join(piece.hex() for piece in pieces)
-        other = " ".join(piece.hex() for piece in rfc9106.hprime_pieces(length, b"abc"))
         yield f"hprime {lengths} {word(MESSAGE)}", answer
+        other = " ".join(piece.hex() for piece in rfc9106.hprime_pieces(length, b"abc"))
         yield f"hprime {lengths} 'abc", other
-        if length > 64:
-            yield f"hprime_both {lengths} {word(MESSAGE)} 'abc", f"{answer} {other}"
-            yield f"hprime_both {lengths} 'abc {word(MESSAGE)}", f"{other} {answer}"
 
 
 def shown(setting):
@@ -117,7 +114,7 @@ def runs():
             count += 1
             digits = salt.upper() if count % 2 else salt
             words = f"new {variant} {version} {time} {memory} {lanes} {length} seq {digits}"
-            if int(time) > 10 or int(memory) > 2097152 or int(lanes) > 16:
+            if int(time) > 10 or int(memory) > 2097152 or int(lanes) > 16 or int(memory) * int(time) > 4194304:
                 yield f"tool {password} {words}", '5 "" "The text is above the limits\\n"'
                 continue
             yield f"tool {password} {words}", told(variant, version, memory, time, lanes, salt, answer)

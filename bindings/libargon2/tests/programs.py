@@ -1,12 +1,13 @@
 #!/usr/bin/env python3
 """Runs Debian's own programs over two libraries with libargon2's interface, Debian's and ours, and compares what they
-answer: PHP, cryptsetup, argon2-cffi and the command argon2. What is made over one is verified over the other too.
+answer: PHP, cryptsetup, OpenLDAP, argon2-cffi and the command argon2. What is made over one is verified over the other too.
 
-    programs.py FOLDER     FOLDER has libargon2.so.1, glibc-hwcaps and the command argon2
+    programs.py FOLDER     FOLDER has libargon2.so.1 and the command argon2
 
 A line for each check, which begins with 'passed', 'FAILED' or 'skipped'.
 """
 
+import contextlib
 import itertools
 import os
 import re
@@ -14,11 +15,15 @@ import shutil
 import subprocess
 import sys
 import tempfile
+import time
 from pathlib import Path
 
 HERE = Path(__file__).resolve().parent
 BOTH = ('debian', 'ours')
 LUKS_TYPES, LUKS_LANES = ('argon2i', 'argon2id'), ('1', '2', '4')
+LDAP_SETTINGS = [f'm={memory} t={passes} p={lanes}' for memory, passes, lanes in (
+    (64, 1, 1), (1024, 3, 1), (4096, 2, 2), (4096, 2, 4), (7168, 5, 1), (65536, 1, 4))]
+LDAP_PASSWORD, INVALID_CREDENTIALS, NO_SERVER = 'correct horse', 49, 255
 COMMAND_SETTINGS = [list(it) for it in itertools.product(
     (['-i'], ['-d'], ['-id'], []), (['-v', '10'], ['-v', '13']), (['-t', '1'], []),
     (['-m', '3'], ['-k', '99'], ['-p', '4']), (['-l', '4'], ['-l', '65'], []), (['-e'], ['-r'], []))]
@@ -130,6 +135,51 @@ def check_cryptsetup(libraries):
                  statuses == [0, 0, 2, 0, 2], f'{made[0]} {statuses}')
 
 
+def ldap_server_of(hashes):
+    """The configuration of a server with a database for each hash, whose root has it as the password."""
+    databases = ''.join(f'database null\nsuffix "dc={number}"\nrootdn "cn=root,dc={number}"\nrootpw {each}\n'
+                        for number, each in enumerate(hashes))
+    return ('include /etc/ldap/schema/core.schema\nmodulepath /usr/lib/ldap\nmoduleload back_null.so\n'
+            f'moduleload argon2.so\n{databases}')
+
+
+@contextlib.contextmanager
+def ldap_server(libraries, name, folder):
+    """A server over a library until the block ends: gives its address."""
+    socket = Path(folder, 'socket')
+    socket.unlink(missing_ok=True)
+    address = f'ldapi://{str(socket).replace("/", "%2F")}'
+    server = subprocess.Popen(['/usr/sbin/slapd', '-f', str(Path(folder, 'slapd.conf')), '-h', address, '-d', '0'],
+                              env=libraries.environment(name), stdout=subprocess.DEVNULL, stderr=subprocess.DEVNULL)
+    try:
+        end = time.monotonic() + 60
+        while server.poll() is None and time.monotonic() < end \
+                and libraries.run(name, 'ldapwhoami', '-x', '-H', address)[1] == NO_SERVER:
+            time.sleep(0.05)
+        yield address
+    finally:
+        server.terminate()
+        server.wait(timeout=60)
+
+
+def check_slapd(libraries):
+    libraries.are_taken('OpenLDAP', '/usr/lib/ldap/argon2.so')
+    with tempfile.TemporaryDirectory() as folder:
+        words = ['/usr/sbin/slappasswd', '-n', '-o', 'module-path=/usr/lib/ldap', '-h', '{ARGON2}', '-s', LDAP_PASSWORD]
+        hashes = [libraries.run(maker, *words, '-o', f'module-load=argon2.so {settings}')[0]
+                  for maker, settings in itertools.product(BOTH, LDAP_SETTINGS)]
+        note(f'OpenLDAP: {len(hashes)} hashes are made',
+             all(it.startswith('{ARGON2}$argon2') for it in hashes) and len(set(hashes)) == len(hashes), hashes)
+        Path(folder, 'slapd.conf').write_text(ldap_server_of(hashes))
+        for name in BOTH:
+            with ldap_server(libraries, name, folder) as address:
+                statuses = [libraries.run(name, 'ldapwhoami', '-x', '-H', address, '-D', f'cn=root,dc={number}', '-w',
+                                          password)[1]
+                            for number, password in itertools.product(range(len(hashes)), (LDAP_PASSWORD, 'house'))]
+            note(f'OpenLDAP over {name}: {len(hashes)} hashes of both, with the right password alone',
+                 statuses == [0, INVALID_CREDENTIALS] * len(hashes), statuses)
+
+
 def command_told(command, words, given):
     """The output of a command, with no time in it, its error and its status."""
     done = subprocess.run(['argon2', *words], executable=command, input=given, capture_output=True, check=False,
@@ -153,6 +203,7 @@ def main():
     for name, is_there, check in (
             ('php-cli', shutil.which('php'), check_php),
             ('cryptsetup-bin', shutil.which('cryptsetup', path='/usr/sbin:/sbin'), check_cryptsetup),
+            ('slapd', Path('/usr/lib/ldap/argon2.so').exists() and shutil.which('ldapwhoami'), check_slapd),
             ('python3-argon2', has_cffi.returncode == 0, check_cffi),
             ('argon2', shutil.which('argon2', path='/usr/bin'), check_command)):
         if is_there:

@@ -39,38 +39,27 @@ class Import(unittest.TestCase):
 
 
 class Objects(unittest.TestCase):
-    """Where the shared object is looked for, by what the processor has."""
+    """Where the shared object is looked for."""
 
-    newer = "flags\t\t: fpu sse2 " + " ".join(_library.FLAGS_OF_V3) + "\nflags\t\t: fpu\n"
-    older = newer.replace(" avx2", "")
-
-    def files(self, about, folder="/site/proved_argon2", has_libs=False):
-        with mock.patch.dict(os.environ), mock.patch("sys.prefix", "/prefix"), mock.patch(
-            "builtins.open", mock.mock_open(read_data=about)
-        ), mock.patch.object(_library, "__file__", f"{folder}/_library.py"), mock.patch(
-            "os.path.isdir", lambda _: has_libs
-        ):
+    def files(self, folder="/site/proved_argon2", has_libs=False):
+        with mock.patch.dict(os.environ), mock.patch("sys.prefix", "/prefix"), mock.patch.object(
+            _library, "__file__", f"{folder}/_library.py"
+        ), mock.patch("os.path.isdir", lambda _: has_libs):
             os.environ.pop(_library.VARIABLE, None)
             return [*_library._files()]
 
-    def test_beside_this_python_it_is_the_one_for_this_processor(self):
-        name, beside = _library.SONAME, "/prefix/lib"
-        self.assertEqual(self.files(self.older), [name, f"{beside}/{name}"])
-        newest = f"{beside}/glibc-hwcaps/x86-64-v3/{name}"
-        self.assertEqual(self.files(self.newer), [name, newest, f"{beside}/{name}"])
+    def test_it_is_where_the_loader_looks_or_beside_this_python(self):
+        self.assertEqual(self.files(), [_library.SONAME, f"/prefix/lib/{_library.SONAME}"])
 
-    def test_of_a_wheel_and_of_the_repository_it_is_the_one_for_this_processor(self):
-        name = _library.SONAME
-        for about, cpus in ((self.older, ["x86-64-v2"]), (self.newer, ["x86-64-v3", "x86-64-v2"])):
-            found = self.files(about, has_libs=True)
-            self.assertEqual(found[: len(cpus)], [f"/site/proved_argon2/libs/{cpu}/{name}" for cpu in cpus])
-            found = self.files(about, folder="/it/bindings/python/src/proved_argon2")
-            self.assertEqual(found[-len(cpus) :], [f"/it/bindings/out/{cpu}/{name}" for cpu in cpus])
+    def test_of_a_wheel_it_is_first_and_of_the_repository_last(self):
+        name, machine = _library.SONAME, os.uname().machine
+        self.assertEqual(self.files(has_libs=True)[0], f"/site/proved_argon2/libs/{name}")
+        found = self.files(folder="/it/bindings/python/src/proved_argon2")
+        self.assertEqual(found[-1], f"/it/bindings/out/{machine}/{name}")
 
-    def test_a_processor_of_which_nothing_is_known_is_an_old_one(self):
-        self.assertEqual(self.files(""), self.files(self.older))
-        with mock.patch("builtins.open", side_effect=FileNotFoundError):
-            self.assertEqual(_library._cpus(), ["x86-64-v2"])
+    def test_an_older_processor_is_refused_by_name(self):
+        program = "import os\nos.environ['PROVED_ARGON2_CPU'] = 'none'\ntry:\n    import proved_argon2\nexcept ImportError as it:\n    print(it)"
+        self.assertIn("has no build for a processor as old as this one", fresh(program))
 
 
 class ErrorNumbers(unittest.TestCase):

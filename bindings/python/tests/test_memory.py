@@ -220,6 +220,8 @@ class KeptMemory(unittest.TestCase):
             self.assertIs(other.verify(text, "password"), True)
         other = pickle.loads(pickle.dumps(hasher))
         self.assertIsNot(other._memory, hasher._memory)
+        for memory in (copy.copy(hasher._memory), copy.deepcopy(hasher._memory)):
+            self.assertIsNot(memory._free, hasher._memory._free)
 
     def test_a_child_of_a_fork_has_a_memory_of_its_own(self):
         memory = Memory()
@@ -271,8 +273,9 @@ class KeepMemory(unittest.TestCase):
         memories = Memories()
         with counted(memories):
             hasher = PasswordHasher(**self.settings, limits=Limits(memory_cost=2048), keep_memory=True)
-            with self.assertRaises(TooCostlyError):
+            with self.assertRaises(TooCostlyError) as raised:
                 hasher.verify(LARGE, "password")
+        self.assertNotIsInstance(raised.exception, VerifyMismatchError)
         self.assertEqual(memories.asked, 0)
 
     def test_a_hasher_that_keeps_memory_works_in_many_threads(self):

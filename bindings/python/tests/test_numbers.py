@@ -87,17 +87,18 @@ class Settings(unittest.TestCase):
 
 
 class OfLimits(unittest.TestCase):
-    names = ("memory_cost", "time_cost", "parallelism")
+    names = ("memory_cost", "time_cost", "parallelism", "work")
 
-    def test_a_limit_is_a_number_of_32_bits(self):
+    def test_a_limit_is_a_number_of_32_bits_and_that_of_the_work_of_64(self):
         for name in self.names:
-            for number in TOO_MUCH:
+            most = 0xFFFFFFFFFFFFFFFF if name == "work" else 0xFFFFFFFF
+            for number in (number for number in (*TOO_MUCH, most + 1) if not 0 <= number <= most):
                 with self.subTest(name=name, number=number), self.assertRaisesRegex(ValueError, f"^{name} is"):
                     Limits(**{name: number})
             for number in NO_NUMBERS:
                 with self.subTest(name=name, number=number), self.assertRaisesRegex(TypeError, f"'{name}'"):
                     Limits(**{name: number})
-            for number in (0, 1, 0xFFFFFFFF):
+            for number in (0, 1, most):
                 self.assertEqual(getattr(Limits(**{name: number}), name), number)
 
     def test_limits_cannot_be_changed(self):
@@ -107,25 +108,27 @@ class OfLimits(unittest.TestCase):
                 setattr(limits, name, 1000)
             with self.assertRaises(AttributeError):
                 delattr(limits, name)
-        self.assertEqual(limits, Limits(2097152, 10, 16))
+        self.assertEqual(limits, Limits(2097152, 10, 16, 4194304))
         with self.assertRaises(AttributeError):
             PasswordHasher().limits.time_cost = 1000
-        self.assertEqual(PasswordHasher().limits, Limits(2097152, 10, 16))
+        self.assertEqual(PasswordHasher().limits, Limits(2097152, 10, 16, 4194304))
 
     def test_limits_are_values(self):
-        limits = Limits(memory_cost=1, time_cost=2, parallelism=3)
-        for other in (Limits(1, 2, 3), copy.copy(limits), copy.deepcopy(limits), pickle.loads(pickle.dumps(limits))):
+        limits = Limits(memory_cost=1, time_cost=2, parallelism=3, work=4)
+        for other in (Limits(1, 2, 3, 4), copy.copy(limits), copy.deepcopy(limits), pickle.loads(pickle.dumps(limits))):
             self.assertEqual((other, hash(other)), (limits, hash(limits)))
-        self.assertEqual(repr(limits), "Limits(memory_cost=1, time_cost=2, parallelism=3)")
-        for other in (Limits(0, 2, 3), Limits(1, 0, 3), Limits(1, 2, 0), (1, 2, 3), None):
+        self.assertEqual(repr(limits), "Limits(memory_cost=1, time_cost=2, parallelism=3, work=4)")
+        for other in (
+            Limits(0, 2, 3, 4), Limits(1, 0, 3, 4), Limits(1, 2, 0, 4), Limits(1, 2, 3), (1, 2, 3, 4), None
+        ):
             self.assertNotEqual(limits, other)
 
     def test_dataclasses_works_with_limits_and_parameters(self):
-        limits = dataclasses.replace(Limits(1, 2, 3), time_cost=5)
-        self.assertEqual((type(limits), limits), (Limits, Limits(1, 5, 3)))
+        limits = dataclasses.replace(Limits(1, 2, 3, 4), time_cost=5)
+        self.assertEqual((type(limits), limits), (Limits, Limits(1, 5, 3, 4)))
         with self.assertRaises(ValueError):
             dataclasses.replace(limits, time_cost=-1)
-        self.assertEqual(dataclasses.asdict(limits), {"memory_cost": 1, "time_cost": 5, "parallelism": 3})
+        self.assertEqual(dataclasses.asdict(limits), {"memory_cost": 1, "time_cost": 5, "parallelism": 3, "work": 4})
         self.assertTrue(dataclasses.is_dataclass(Parameters))
         self.assertEqual([it.name for it in dataclasses.fields(Parameters)], list(Parameters.__slots__))
         self.assertEqual(dataclasses.replace(profiles.OWASP, time_cost=3).time_cost, 3)
@@ -134,7 +137,7 @@ class OfLimits(unittest.TestCase):
             hash(profiles.OWASP)
 
     def test_limits_are_judged_where_they_are_given(self):
-        for limits in ((1, 2, 3), 1, "x", profiles.OWASP):
+        for limits in ((1, 2, 3, 4), 1, "x", profiles.OWASP):
             with self.assertRaisesRegex(TypeError, "'limits'"):
                 PasswordHasher(limits=limits)
             with self.assertRaisesRegex(TypeError, "'limits'"):
@@ -169,14 +172,22 @@ class OwnSettings(unittest.TestCase):
         self.assertIs(hasher.verify(hasher.hash("password"), "password"), True)
 
     def test_the_default_limits_are_the_library_s_or_the_settings(self):
-        wanted = Limits(2097152, 10, 16)
+        wanted = Limits(2097152, 10, 16, 4194304)
         self.assertEqual(DEFAULT_LIMITS, wanted)
-        for name in ("memory_cost", "time_cost", "parallelism"):
+        small = {"memory_cost": 8, "time_cost": 1, "parallelism": 1}
+        for name in small:
             limit = getattr(wanted, name)
             for number, expected in ((1, limit), (limit, limit), (limit + 1, limit + 1), (0xFFFFFFFF, 0xFFFFFFFF)):
-                limits = PasswordHasher(**{name: number}).limits
-                self.assertEqual(limits, dataclasses.replace(wanted, **{name: expected}))
-            self.assertEqual(getattr(PasswordHasher(**{name: 1 << 40}).limits, name), 0xFFFFFFFF)
+                limits = PasswordHasher(**{**small, name: number}).limits
+                self.assertEqual(limits, dataclasses.replace(wanted, **{name: expected}, work=limits.work))
+            self.assertEqual(getattr(PasswordHasher(**{**small, name: 1 << 40}).limits, name), 0xFFFFFFFF)
+        for memory_cost, time_cost, work in (
+            (419430, 10, 4194304), (419431, 10, 4194310), (2097152, 2, 4194304), (2097152, 3, 6291456),
+            (0xFFFFFFFF, 0xFFFFFFFF, 0xFFFFFFFF ** 2), (1 << 40, 1 << 1000, 0xFFFFFFFF ** 2),
+            (-(1 << 40), -(1 << 40), 4194304),
+        ):
+            limits = PasswordHasher(memory_cost=memory_cost, time_cost=time_cost).limits
+            self.assertEqual(limits.work, work)
 
     def test_limits_that_are_given_stay_as_they_are(self):
         for limits in (Limits(), Limits(time_cost=3), None):
@@ -186,6 +197,16 @@ class OwnSettings(unittest.TestCase):
             self.assertIs(hasher.keep_memory, True)
         with self.assertRaises(TooCostlyError):
             PasswordHasher(limits=Limits()).verify(PasswordHasher(**self.large).hash("password"), "password")
+
+    def test_work_above_its_limit_is_too_costly(self):
+        text = PasswordHasher(time_cost=3, memory_cost=64, parallelism=1).hash("password")
+        self.assertIs(PasswordHasher(limits=Limits(work=192)).verify(text, "password"), True)
+        for call in (
+            lambda limits: PasswordHasher(limits=limits).verify(text, "password"),
+            lambda limits: verify_secret(text.encode(), b"password", Type.ID, limits=limits),
+        ):
+            with self.assertRaises(TooCostlyError):
+                call(Limits(work=191))
 
 
 if __name__ == "__main__":

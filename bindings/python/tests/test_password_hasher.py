@@ -329,12 +329,15 @@ class Texts(unittest.TestCase):
         for text in (
             self.text + "=",
             self.text + "\0",
+            self.text.encode() + b"\0",
+            self.text.encode() + b"\0$",
+            self.text[:40] + "\xe9" + self.text[40:],
             self.text + "\n",
             self.text + " ",
             self.text[:-2],
             self.text.replace("m=256", "m=7"),
         ):
-            with self.assertRaises(VerificationError) as raised:
+            with self.assertRaises((VerificationError, InvalidHashError)) as raised:
                 PasswordHasher().verify(text, "password")
             self.assertNotIsInstance(raised.exception, VerifyMismatchError)
 

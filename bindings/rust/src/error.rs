@@ -1,4 +1,4 @@
-use crate::face::STOPPED;
+use crate::face::{OLD_PROCESSOR, STOPPED};
 use std::fmt;
 
 /// Why a call was refused.
@@ -71,6 +71,9 @@ pub enum Error {
 
     /// A [`Run`](crate::Run) was told to stop.
     Stopped,
+
+    /// The library has no build for a processor as old as this one.
+    OldProcessor,
 }
 
 impl Error {
@@ -105,13 +108,12 @@ impl Error {
     ///
     /// Where the library answers a number that no refusal of it has, which it never does.
     pub(crate) fn of_number(number: u32) -> Error {
-        if number == STOPPED {
-            return Error::Stopped;
-        }
         let place = usize::try_from(number).ok().and_then(|number| number.checked_sub(1));
-        match place.and_then(|place| Error::NUMBERED.get(place)) {
-            Some(error) => error.clone(),
-            None => panic!("the library answered {number}, which is no refusal"),
+        match (number, place.and_then(|place| Error::NUMBERED.get(place))) {
+            (STOPPED, _) => Error::Stopped,
+            (OLD_PROCESSOR, _) => Error::OldProcessor,
+            (_, Some(error)) => error.clone(),
+            (_, None) => panic!("the library answered {number}, which is no refusal"),
         }
     }
 
@@ -139,6 +141,7 @@ impl Error {
             Error::OutOfMemory => "Out of memory",
             Error::WorkerRefused => "A worker was refused",
             Error::Stopped => "The call was stopped",
+            Error::OldProcessor => "The processor is too old",
         }
     }
 }

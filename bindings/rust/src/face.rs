@@ -36,6 +36,9 @@ pub const TOO_COSTLY: u32 = 69;
 /// What the call told how far it was has stopped it.
 pub const STOPPED: u32 = 130;
 
+/// There is no build for a processor as old as this one.
+pub const OLD_PROCESSOR: u32 = 131;
+
 /// A buffer of this many bytes has room for the text of each refusal.
 #[cfg(test)]
 const MESSAGE_SIZE: usize = 64;
@@ -66,6 +69,7 @@ pub struct Limits {
     pub mem_cost: u32,
     pub time_cost: u32,
     pub lanes: u32,
+    pub work: u64,
 }
 
 /// `proved_argon2_options` of the header. The threads are the call's own.
@@ -309,7 +313,8 @@ pub fn verify_encoded_within(
     limits: &LimitsOfCrate,
     lent: Lent<'_, '_>,
 ) -> u32 {
-    let limits = Limits { mem_cost: limits.mem_cost, time_cost: limits.time_cost, lanes: limits.lanes };
+    let LimitsOfCrate { lanes, mem_cost, time_cost, work } = *limits;
+    let limits = Limits { mem_cost, time_cost, lanes, work };
     verify_with(&Options { limits: &limits, ..Options::by(MOST_FOR_A_TEXT, lent) }, text, pwd, secret, ad)
 }
 

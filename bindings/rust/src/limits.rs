@@ -2,7 +2,7 @@ use crate::face;
 use crate::{Config, Error, Memory, Run};
 use std::{error, fmt, result};
 
-/// The greatest numbers that a text may spell, for [`verify_encoded_within`].
+/// The greatest numbers that a text may spell, and the greatest product of two of them, for [`verify_encoded_within`].
 #[derive(Clone, Copy, Debug, Eq, PartialEq)]
 pub struct Limits {
     /// The lanes.
@@ -13,10 +13,13 @@ pub struct Limits {
 
     /// The passes over the memory.
     pub time_cost: u32,
+
+    /// The memory in KiB times the passes, by which the time grows.
+    pub work: u64,
 }
 
 impl Limits {
-    /// The default limits, each raised to the number of the settings where that is greater: what is hashed with these
+    /// The default limits, each raised to that of the settings where that is greater: what is hashed with these
     /// settings is within.
     ///
     /// # Examples
@@ -30,27 +33,29 @@ impl Limits {
     /// # Ok::<(), argon2::Unverified>(())
     /// ```
     pub fn at_least(config: &Config<'_>) -> Limits {
-        let Limits { lanes, mem_cost, time_cost } = Limits::default();
+        let Limits { lanes, mem_cost, time_cost, work } = Limits::default();
         Limits {
             lanes: lanes.max(config.lanes),
             mem_cost: mem_cost.max(config.mem_cost),
             time_cost: time_cost.max(config.time_cost),
+            work: work.max(u64::from(config.mem_cost) * u64::from(config.time_cost)),
         }
     }
 }
 
 impl Default for Limits {
-    /// The library's: 2 GiB, 10 passes and 16 lanes. Both recommendations of RFC 9106 are within.
+    /// The library's: 2 GiB, 10 passes, 16 lanes, and the work of 4 GiB in one pass. The recommendations of RFC 9106,
+    /// OWASP, libsodium and Django are within.
     fn default() -> Limits {
-        let face::Limits { mem_cost, time_cost, lanes } = face::default_limits();
-        Limits { lanes, mem_cost, time_cost }
+        let face::Limits { mem_cost, time_cost, lanes, work } = face::default_limits();
+        Limits { lanes, mem_cost, time_cost, work }
     }
 }
 
 /// Why a text was not verified within limits.
 #[derive(Clone, Debug, PartialEq)]
 pub enum Unverified {
-    /// The text spells a number above its limit.
+    /// The text spells more than a limit.
     TooCostly,
 
     /// The call without limits refuses so.
@@ -88,8 +93,8 @@ impl From<Error> for Unverified {
 /// # Errors
 ///
 /// [`Unverified::Refused`] with [`Error::DecodingFail`] for a text that spells no hash. Then
-/// [`Unverified::TooCostly`] for one that spells more memory, passes or lanes than its limit, before any memory is
-/// asked for. Else [`Unverified::Refused`] with the error of [`verify_encoded_ext`](crate::verify_encoded_ext).
+/// [`Unverified::TooCostly`] for one that spells more memory, passes or lanes than its limit, or more memory times
+/// passes, before any memory is asked for. Else [`Unverified::Refused`] with the error of [`verify_encoded_ext`](crate::verify_encoded_ext).
 ///
 /// # Examples
 ///
@@ -149,7 +154,8 @@ mod tests {
 
     #[test]
     fn the_default_allows_both_recommendations() {
-        assert_eq!(Limits::default(), Limits { lanes: 16, mem_cost: 2_097_152, time_cost: 10 });
+        let limits = Limits { lanes: 16, mem_cost: 2_097_152, time_cost: 10, work: 4_194_304 };
+        assert_eq!(Limits::default(), limits);
     }
 
     #[test]

@@ -53,13 +53,23 @@ fn limits_of_settings_allow_what_is_hashed_with_them() {
             Ok(false)
         );
     }
-    let Limits { lanes, mem_cost, time_cost } = Limits::default();
-    assert_eq!(Limits::at_least(&small), Limits::default());
+    let default = Limits::default();
+    assert_eq!(Limits::at_least(&small), default);
+    let (most, square) = (u32::MAX, u64::from(u32::MAX) * u64::from(u32::MAX));
     for (config, limits) in [
-        (Config { mem_cost: mem_cost + 1, ..small }, Limits { mem_cost: mem_cost + 1, lanes, time_cost }),
-        (Config { mem_cost: u32::MAX, ..small }, Limits { mem_cost: u32::MAX, lanes, time_cost }),
-        (Config { lanes: u32::MAX, ..small }, Limits { lanes: u32::MAX, mem_cost, time_cost }),
-        (Config { time_cost: u32::MAX, ..small }, Limits { time_cost: u32::MAX, lanes, mem_cost }),
+        (Config { mem_cost: 2_097_153, ..small }, Limits { mem_cost: 2_097_153, ..default }),
+        (Config { mem_cost: most, ..small }, Limits { mem_cost: most, work: u64::from(most), ..default }),
+        (Config { lanes: most, ..small }, Limits { lanes: most, ..default }),
+        (
+            Config { time_cost: most, ..small },
+            Limits { time_cost: most, work: 1360 * u64::from(most), ..default },
+        ),
+        (Config { mem_cost: 419_430, time_cost: 10, ..small }, default),
+        (Config { mem_cost: 419_431, time_cost: 10, ..small }, Limits { work: 4_194_310, ..default }),
+        (
+            Config { mem_cost: most, time_cost: most, ..small },
+            Limits { mem_cost: most, time_cost: most, work: square, ..default },
+        ),
     ] {
         assert_eq!(Limits::at_least(&config), limits);
     }

@@ -26,7 +26,7 @@ enum Answer {
 
 /// The five calls of settings, each as a function of a run.
 fn each_call(run: &mut Run<'_>, config: &Config<'_>, tag: &[u8], text: &str) -> Vec<Result<Answer>> {
-    let limits = Limits { time_cost: u32::MAX, ..Limits::default() };
+    let limits = Limits { time_cost: u32::MAX, work: u64::MAX, ..Limits::default() };
     let within = run.verify_encoded_within(text, b"password", &[], &[], &limits);
     vec![
         run.hash_raw(b"password", b"somesalt", config).map(Answer::Tag),

@@ -102,7 +102,7 @@ fn each_tag_and_refusal_comes_over_one_memory() {
         assert_eq!(tag, bytes_of(row.answer), "{line}");
         let text = hash_encoded_in(&mut memory, &row.pwd, &row.salt, &config).unwrap();
         assert!(text.ends_with(&format!("${}", base64_of(&tag))), "{line}");
-        let limits = Limits { lanes: u32::MAX, mem_cost: u32::MAX, time_cost: u32::MAX };
+        let limits = Limits { lanes: u32::MAX, mem_cost: u32::MAX, time_cost: u32::MAX, work: u64::MAX };
         for secret in [row.secret.clone(), [row.secret.as_slice(), b"x"].concat()] {
             let is_right = Ok(secret == row.secret);
             let config = Config { secret: &secret, ..config };

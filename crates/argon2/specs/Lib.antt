@@ -22,12 +22,12 @@ pub use Rattle.argon2_blocks.specs.Standard.Compression
 pub use Rattle.argon2_blocks.specs.Views.Lane
 pub use Rattle.argon2_memory.specs.Laws.Matrix
 pub use Rattle.argon2_memory.specs.Laws.Schedule
-pub use Rattle.argon2_memory.specs.Views.Positions
+pub use Rattle.argon2_memory.specs.Views.References
 pub use Rattle.argon2_memory.specs.Views.Segments
 pub use Rattle.argon2_memory.specs.Views.Sources
 pub use Rattle.argon2_memory.specs.Views.Filling
 pub use Rattle.argon2_memory.specs.Views.Memories
-pub use Rattle.argon2_memory.specs.Views.SliceLists
+pub use Rattle.argon2_memory.specs.Views.Places
 pub use Rattle.argon2_standard.specs.Standard.Outcome
 pub use Rattle.argon2_memory.specs.Laws.AnyOrder
 pub use Rattle.argon2_standard.specs.Standard.Text
@@ -41,7 +41,7 @@ pub use Rattle.argon2_fill.specs.Views.Boards
 pub use Rattle.argon2_fill.specs.Views.Slots
 pub use Rattle.argon2_fill.specs.Views.Permits
 pub use Rattle.argon2_standard.specs.declared.config.Config as ConfigType
-pub use Rattle.argon2_settings.specs.declared.context.Context as ContextType
+pub use Rattle.argon2_standard.specs.declared.context.Context as ContextType
 pub use Rattle.argon2_standard.specs.declared.error.Error as ErrorType
 pub use Rattle.argon2_standard.specs.declared.thread_mode.ThreadMode as ThreadModeType
 pub use Rattle.argon2_standard.specs.declared.variant.Variant as VariantType

@@ -8,6 +8,7 @@ mod limits;
 pub mod parts;
 mod rehashing;
 mod stored;
+mod theorems;
 mod verifying;
 
 pub use argon2_standard::config::Config;

@@ -1,7 +1,7 @@
 //! Verifying a password against a stored text that may not ask for more than the caller allows.
 
 ghost use Rattle.std.specs.Prelude.{◌≡◌, Some, false, nat_lt};
-ghost use Rattle.argon2.specs.Standard.Limits.{AnswersWithin, is_too_costly};
+ghost use Rattle.argon2.specs.Standard.Limits.{AnswersWithin, are_exceeded, is_too_costly};
 ghost use Rattle.argon2.specs.Views.Limits.{message_of};
 ghost use Rattle.argon2.specs.declared.limits.Unverified.TheVariants.{Refused};
 ghost use Rattle.argon2_standard.specs.Standard.Grammar.{Spells, SpellsNothing};
@@ -22,8 +22,7 @@ use std::sync::Wait;
 use std::thread::Threads;
 use std::{fmt, result};
 
-/// The greatest numbers that a stored text may spell. Each limits one number, and none the product
-/// of memory and passes, by which the time grows.
+/// The greatest numbers that a stored text may spell, and the greatest product of two of them.
 #[derive(Clone, Copy, Debug, Eq, PartialEq)]
 pub struct Limits {
     /// The memory in KiB.
@@ -34,6 +33,22 @@ pub struct Limits {
 
     /// The number of lanes.
     pub lanes: u32,
+
+    /// The memory in KiB times the number of passes, by which the time grows.
+    pub work: u64,
+}
+
+impl Limits {
+    /// Whether so much memory in KiB, so many passes or so many lanes are above a limit.
+    pub fn are_exceeded_by(&self, mem_cost: u32, time_cost: u32, lanes: u32) -> bool
+        ensures { result ≡ are_exceeded self.now mem_cost time_cost lanes }
+    {
+        mem_cost > self.mem_cost
+            || time_cost > self.time_cost
+            || lanes > self.lanes
+            // In 64 bits, which hold the product of any two numbers of 32 bits.
+            || u64::from(mem_cost) * u64::from(time_cost) > self.work
+    }
 }
 
 impl Default for Limits {
@@ -41,13 +56,14 @@ impl Default for Limits {
 
     ghost is_default = { λ limits. limits ≡ default_limits };
 
-    /// 2 GiB, 10 passes and 16 lanes, so that the settings of RFC 9106 (section 4), OWASP,
-    /// libsodium and Django are within.
+    /// 2 GiB, 10 passes and 16 lanes, and as much work as 4 GiB in one pass, so that the settings of
+    /// RFC 9106 (section 4), OWASP, libsodium and Django are within.
     fn default() -> Limits {
         Limits {
             mem_cost: 2_097_152,
             time_cost: 10,
             lanes: 16,
+            work: 4_194_304,
         }
     }
 }
@@ -56,7 +72,7 @@ impl Default for Limits {
 /// the limits for a wrong password or for a damaged text.
 #[derive(Clone, Debug, Drop, PartialEq)]
 pub enum Unverified {
-    /// The text spells a number above its limit.
+    /// The text spells more than a limit.
     TooCostly,
 
     /// The call without limits refuses so.
@@ -97,8 +113,8 @@ impl From<Error> for Unverified {
 /// it asks for no more than the limits.
 ///
 /// A text that spells nothing is `Refused(DecodingFail)`. One that spells more memory, passes or
-/// lanes than its limit is `TooCostly`, before any memory or worker is asked for. Any other text is
-/// answered as by `verify_encoded_ext`.
+/// lanes than its limit, or more memory times passes, is `TooCostly`, before any memory or worker is
+/// asked for. Any other text is answered as by `verify_encoded_ext`.
 pub fn verify_encoded_within<R: Threads + Wait + Sync>(
     rt: &R,
     alloc: Global,
@@ -148,7 +164,7 @@ pub fn verify_encoded_within_sequential(
     Ok(same)
 }
 
-/// Whether a stored text spells a number above its limit. `DecodingFail` comes first, since only a
+/// Whether a stored text spells more than a limit. `DecodingFail` comes first, since only a
 /// text that spells something has numbers. It takes no memory.
 fn is_too_costly(encoded: &str, limits: &Limits) -> Result<bool>
     ensures unspelled { SpellsNothing encoded.now → result ≡ Err Error.DecodingFail }
@@ -164,7 +180,5 @@ pub fn is_above(numbers: &Numbers, limits: &Limits) -> bool
     ensures { (d : Spelled) → numbers.now ≡ numbers_of d
         → result ≡ is_too_costly limits.now d }
 {
-    numbers.mem_cost > limits.mem_cost
-        || numbers.time_cost > limits.time_cost
-        || numbers.parallelism > limits.lanes
+    limits.are_exceeded_by(numbers.mem_cost, numbers.time_cost, numbers.parallelism)
 }

@@ -11,8 +11,8 @@ ghost use Rattle.argon2.specs.Views.StoredTexts.{IsAccepted, IsAccepting, IsConf
 ghost use Rattle.argon2_standard.specs.Standard.Stored.{IsStoredConfig};
 
 use argon2_blocks::common::MAX_HASH_LENGTH;
-use argon2_settings::context::{Context, accepted_context, first_refusal};
 use argon2_standard::config::Config;
+use argon2_standard::context::{Context, accepted_context, first_refusal};
 use argon2_standard::error::Error;
 use argon2_standard::result::Result;
 use argon2_standard::thread_mode::ThreadMode;

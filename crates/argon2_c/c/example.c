@@ -46,10 +46,11 @@ static void expect(bool holds, const char *what)
     }
 }
 
-/* Verifies a text that may come from anybody: no more than 64 MiB, 10 passes and 16 lanes. */
+/* Verifies a text that may come from anybody: no more than 64 MiB, 10 passes and 16 lanes, and the work of 64 MiB in
+ * three passes. */
 static uint32_t verify(const char *text, const char *guess)
 {
-    const proved_argon2_limits limits = {.mem_cost = 65536, .time_cost = 10, .lanes = 16};
+    const proved_argon2_limits limits = {.mem_cost = 65536, .time_cost = 10, .lanes = 16, .work = 196608};
     return proved_argon2_verify_encoded_within(bytes(text), strlen(text), bytes(guess), strlen(guess), NULL, 0, NULL, 0,
                                                &limits);
 }

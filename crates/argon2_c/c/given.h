@@ -131,7 +131,7 @@ static inline void spoil(void)
 {
     options.size = 0;
     settings.variant = 3;
-    limits = (proved_argon2_limits){0, 0, 0};
+    limits = (proved_argon2_limits){0, 0, 0, 0};
     job.lanes = 0;
     text[0] = 0xff;
     for (size_t i = 0; i < PLACES; i++) {

@@ -1,6 +1,6 @@
 /*
- * What the calls that are proved leave of secrets, which the caller clears, and what they overwrite: SECURITY.md says
- * so. Each call is made in a child, which has none of it before. left.c has the driver's calls; c/run compares the
+ * What the calls that are proved leave of secrets in what the caller lends them, who clears it, and what they overwrite:
+ * SECURITY.md says so. Each call is made in a child, which has none of it before. left.c has the driver's calls; c/run compares the
  * calls that are named in both with those of the headers, and runs this over a library that overwrites nothing, where
  * each check of that has to fail. It is linked with --wrap for what it looks at.
  */
@@ -20,7 +20,7 @@ static proved_argon2_block blocks[2048];
 CALL(job_make, INPUTS_OF(IT), &job)
 CALL(job_read, TEXT_OF(IT), &job, salt, 16, hash, TAG)
 CALL(read, TEXT_READ, &stored)
-CALL(read_within, TEXT_READ, &(proved_argon2_limits){2048, 2, 4}, &stored)
+CALL(read_within, TEXT_READ, &(proved_argon2_limits){2048, 2, 4, 4096}, &stored)
 CALL(read_bytes, TEXT_READ, salt, 16, hash, TAG)
 CALL(needs_rehash, TEXT_READ, &IT.settings)
 CALL(encode, BYTES(IT, salt), &IT.settings, sought->tag, TAG, out, sizeof out)
@@ -87,7 +87,8 @@ static uint32_t does_job_verify_over(void)
 /* What is overwritten after its last use. First blocks stay in a memory that is begun, and are written over later. */
 enum { SEEDS = 1 << OF_SEED | 1 << OF_LAST, BUFFERS = SEEDS | 1 << OF_FIRST };
 
-#define ROW(name, expected, leaves, overwrites) {#name, does_##name, expected, leaves, overwrites}
+#define ROW(name, expected, leaves, overwrites) {#name, does_##name, expected, leaves, overwrites, true}
+#define OTHER(name, leaves) {#name, does_##name, 0, leaves, 0, false}
 
 /* What each leaves, or KINDS for none: of what it computes, or reads of a text. */
 static const struct row {
@@ -96,13 +97,14 @@ static const struct row {
     uint32_t expected;
     enum kind leaves;
     int overwrites;
+    bool computes; /* so that it overwrites its stack */
 } rows[] = {
     ROW(job_make, 0, OF_H0, 0), ROW(job_read, 0, OF_H0, 0), ROW(job_begin, 0, OF_FIRST, SEEDS),
     ROW(job_fill, 0, OF_BLOCKS, 0), ROW(job_finish, 0, OF_TAG, BUFFERS), ROW(job_verify, 64, OF_TAG, BUFFERS),
     ROW(job_hash_over, 0, OF_TAG, BUFFERS), ROW(job_verify_over, 64, OF_TAG, BUFFERS),
-    ROW(hash_over, 0, OF_TAG, BUFFERS), ROW(verify_over, 64, OF_TAG, BUFFERS), ROW(read, 0, KINDS, 0),
-    ROW(read_within, 0, KINDS, 0), ROW(read_bytes, 0, OF_TAG, 0), ROW(needs_rehash, 0, KINDS, 0),
-    ROW(encode, 0, KINDS, 0), ROW(encoded_len, 0, KINDS, 0), ROW(memory_len, 0, KINDS, 0), ROW(message, 0, KINDS, 0),
+    ROW(hash_over, 0, OF_TAG, BUFFERS), ROW(verify_over, 64, OF_TAG, BUFFERS), OTHER(read, KINDS),
+    OTHER(read_within, KINDS), OTHER(read_bytes, OF_TAG), OTHER(needs_rehash, KINDS), OTHER(encode, KINDS),
+    OTHER(encoded_len, KINDS), OTHER(memory_len, KINDS), OTHER(message, KINDS),
 };
 
 static uint32_t does_row(const void *arg)
@@ -111,18 +113,11 @@ static uint32_t does_row(const void *arg)
     return row->does();
 }
 
-/* The kinds of which something is found after a call, as bits. */
-static int kinds_left(const void *arg)
+/* The kinds of which something is found, as bits. */
+static int kinds_found(void)
 {
-    const struct row *const row = arg;
     int bits = 0;
-    seek(MAPPED);
     memset(found, 0, sizeof found);
-    look_at = look_at_request;
-    if (far_below(does_row, row) != row->expected) {
-        return -1;
-    }
-    look_at = NULL;
     look_everywhere();
     for (size_t kind = 0; kind < KINDS; kind++) {
         bits |= found[kind] != 0 ? 1 << kind : 0;
@@ -130,20 +125,57 @@ static int kinds_left(const void *arg)
     return bits;
 }
 
-int main(void)
+/* Clears what the calls are lent, as a caller does, and what the vector registers held, which are the driver's to clear. */
+static void clear_what_is_lent(void)
+{
+    memset(registers, 0, sizeof registers);
+    __real_explicit_bzero(&job, sizeof job);
+    __real_explicit_bzero(blocks, sizeof blocks);
+    __real_explicit_bzero(out, sizeof out);
+    __real_explicit_bzero(hash, sizeof hash);
+}
+
+/* What is found after a call: of what it leaves, of what it overwrites, and elsewhere than in what it is lent. What a call
+ * gives back may have none of it. */
+enum { LEAVES = 1, OVERWRITES = 2, ELSEWHERE = 4, NO_ANSWER = 8 };
+
+static int what_is_left(const void *arg)
+{
+    const struct row *const row = arg;
+    seek(MAPPED);
+    memset(found, 0, sizeof found);
+    look_at = look_at_request;
+    if (far_below(does_row, row) != row->expected || !is_nothing_found(row->name)) {
+        return NO_ANSWER;
+    }
+    look_at = NULL;
+    const int bits = kinds_found(), leaves = row->leaves == KINDS ? -1 : 1 << row->leaves;
+    clear_what_is_lent();
+    return (bits & leaves ? LEAVES : 0) | (bits & row->overwrites ? OVERWRITES : 0) | (kinds_found() ? ELSEWHERE : 0);
+}
+
+static void check_row(const struct row *row)
 {
     char name[96];
+    const int left = status_of(what_is_left, row);
+    const bool is_none = row->leaves == KINDS, is_over = left >= 0 && left < NO_ANSWER;
+    snprintf(name, sizeof name, "%s leaves %s", row->name, is_none ? "none of it" : of_kinds[row->leaves]);
+    check(is_over && (left & LEAVES) == (is_none ? 0 : LEAVES), name);
+    if (row->overwrites != 0) {
+        snprintf(name, sizeof name, "%s overwrites what it should", row->name);
+        check(is_over && (left & OVERWRITES) == 0, name);
+    }
+    if (row->computes) {
+        snprintf(name, sizeof name, "%s overwrites its stack", row->name);
+        check(is_over && (left & ELSEWHERE) == 0, name);
+    }
+}
+
+int main(void)
+{
     check_nothing_before();
     for (size_t i = 0; i < sizeof rows / sizeof *rows; i++) {
-        const struct row *const row = &rows[i];
-        const int bits = status_of(kinds_left, row);
-        const bool is_none = row->leaves == KINDS;
-        snprintf(name, sizeof name, "%s leaves %s", row->name, is_none ? "none of it" : of_kinds[row->leaves]);
-        check(is_none ? bits == 0 : bits >= 0 && bits < 1 << KINDS && (bits >> row->leaves & 1) != 0, name);
-        if (row->overwrites != 0) {
-            snprintf(name, sizeof name, "%s overwrites what it should", row->name);
-            check(bits >= 0 && (bits & row->overwrites) == 0, name);
-        }
+        check_row(&rows[i]);
     }
     return checks_failed != 0;
 }

@@ -5,6 +5,8 @@
  *
  *     left            all checks
  *     left unwiped    what is left where nothing is cleared: each call has to fail
+ *     left few        each call but those of a password alone, done once, where all else takes too long
+ *     left unwiped few
  */
 #include "left.h"
 
@@ -58,7 +60,7 @@ static uint32_t answer(size_t name, const trial *it)
     const call *const of = &calls[it->call];
     const uint8_t *const hash = it->is_right ? sought->tag : zeros, *const text = it->is_right ? sought->text : sought->other;
     const size_t tag_len = it->is_short ? TAG - 1 : TAG, text_len = it->is_short ? TAG - 1 : sizeof out;
-    const proved_argon2_limits widest = {UINT32_MAX, UINT32_MAX, UINT32_MAX};
+    const proved_argon2_limits widest = {UINT32_MAX, UINT32_MAX, UINT32_MAX, UINT64_MAX};
     switch (name) {
     case 0: return proved_argon2_hash_raw_with(&it->with, INPUTS_OF(*of), out, tag_len);
     case 1: return hash_encoded(&it->with, of, out, text_len);
@@ -236,7 +238,7 @@ static uint32_t refusal_of(size_t name)
 /* A buffer that does not fit, a text above its limits, and memories that do not. */
 static void check_arguments(size_t name)
 {
-    static const proved_argon2_limits below = {2047, 2, 4};
+    static const proved_argon2_limits below = {2047, 2, 4, UINT64_MAX};
     refuse_nothing();
     trial it = trial_of(name, 0, 4);
     it.is_short = true;
@@ -357,15 +359,21 @@ static void check_stack(void)
 
 int main(int argc, char **argv)
 {
+    const bool is_few = argc > 1 && strcmp(argv[argc - 1], "few") == 0;
     check_nothing_before();
     no_wiping = argc > 1 && strcmp(argv[1], "unwiped") == 0;
-    if (!no_wiping) {
+    if (!no_wiping && !is_few) {
         check_dumps();
+    }
+    if (!no_wiping) {
         check_stack();
         check_memory_free(MAPPED);
     }
     check_memory_free(SMALL);
-    for (size_t name = 0; name < NAMES; name++) {
+    for (size_t name = 0; name < PLAIN && is_few; name++) {
+        check_done(name);
+    }
+    for (size_t name = 0; name < NAMES && !is_few; name++) {
         check_done(name);
         check_requests(name);
         if (name < WITH) {

@@ -11,16 +11,16 @@
 
 /* ---- what is looked for */
 
-enum { PART = 16, PARTS = 48, MASK = 0x5A, TAG = 32, TEXT = 160 };
-enum kind { OF_H0, OF_SEED, OF_FIRST, OF_BLOCKS, OF_LAST, OF_TAG, OF_INPUTS, KINDS };
+enum { PART = 16, PARTS = 64, MASK = 0x5A, TAG = 32, LONG_TAG = 100, TEXT = 256 };
+enum kind { OF_H0, OF_SEED, OF_FIRST, OF_CHAIN, OF_BLOCKS, OF_LAST, OF_TAG, OF_INPUTS, KINDS };
 
 static const char *const of_kinds[KINDS] = {
-    "H0", "what a first block is hashed from", "first blocks of the first pass", "blocks", "the combined last blocks",
-    "the tag", "the inputs"};
+    "H0", "what a first block is hashed from", "first blocks of the first pass", "the last hashes of a first block's chain",
+    "blocks", "the combined last blocks", "the tag", "the inputs"};
 
-/* The calls: over a mapping, over less than that takes, and what password_hash computes. Their inputs are where nobody
- * can write, and so are not found there. */
-enum { MAPPED, SMALL, ALONE, CALLS };
+/* The calls: over a mapping, over less than that takes, what password_hash computes, and one whose tag is a chain of
+ * hashes. Their inputs are where nobody can write, and so are not found there. */
+enum { MAPPED, SMALL, ALONE, LONG, CALLS };
 
 static const call calls[CALLS] = {
     {{PROVED_ARGON2_ID, 0x13, 2048, 2, 4, TAG}, "the password that is looked for", "a salt of 16 byt",
@@ -30,6 +30,8 @@ static const call calls[CALLS] = {
     {{PROVED_ARGON2_ID, 0x13, 19456, 2, 1, TAG}, "the password that is looked for",
      {0x80, 0x81, 0x82, 0x83, 0x84, 0x85, 0x86, 0x87, 0x88, 0x89, 0x8a, 0x8b, 0x8c, 0x8d, 0x8e, 0x8f}, "", "", 31, 16,
      0, 0},
+    {{PROVED_ARGON2_ID, 0x13, 64, 2, 4, LONG_TAG}, "the password that is looked for", "a salt of 16 byt",
+     "the secret that is looked for", "data", 31, 16, 29, 4},
 };
 
 #define BYTES(it, what) (it).what, (it).what##_len
@@ -37,7 +39,7 @@ static const call calls[CALLS] = {
 
 /* A call's tag, its text, a text of zeros, and what is looked for, each byte with MASK so that it is not found here. */
 typedef struct known {
-    uint8_t tag[TAG], text[TEXT], other[TEXT];
+    uint8_t tag[LONG_TAG], text[TEXT], other[TEXT];
     size_t count;
     struct {
         enum kind kind;
@@ -46,7 +48,7 @@ typedef struct known {
 } known;
 
 static known *all_known, *sought;
-static const uint8_t zeros[TAG];
+static const uint8_t zeros[LONG_TAG];
 
 static inline void keep(known *to, enum kind kind, const void *bytes)
 {
@@ -54,6 +56,15 @@ static inline void keep(known *to, enum kind kind, const void *bytes)
         to->parts[to->count].bytes[i] = ((const uint8_t *)bytes)[i] ^ MASK;
     }
     to->parts[to->count++].kind = kind;
+}
+
+/* The last two hashes of the chains that the first two blocks of the last lane are: of the last but one, its first half. */
+static inline void keep_chains(const proved_argon2_block *first, known *to)
+{
+    for (size_t column = 0; column < 2; column++) {
+        keep(to, OF_CHAIN, first[column].words + 116);
+        keep(to, OF_CHAIN, first[column].words + 120);
+    }
 }
 
 /* Takes a step of a job and keeps some of the slice that it has written, with its last bytes. */
@@ -73,18 +84,22 @@ static inline bool take_step(const proved_argon2_job *job, proved_argon2_block *
     const enum kind kind = step == 0 ? OF_FIRST : OF_BLOCKS;
     keep(to, kind, own[step == 0 ? 0 : length - 1].words);
     keep(to, kind, own[slice - length + 1].words + 100);
-    if (step != 0) {
+    if (step == 0) {
+        keep_chains(own + slice - length, to);
+    } else {
         keep(to, OF_BLOCKS, own[slice - 1].words + 126);
     }
     return good;
 }
 
-/* What the second block of the last lane is hashed from: H0, and behind it the column and the lane. */
-static inline void keep_seed(const proved_argon2_job *job, known *to)
+/* What the first two blocks of the last lane are hashed from: H0, and behind it the column and the lane. */
+static inline void keep_seeds(const proved_argon2_job *job, known *to)
 {
-    uint8_t seed[PART] = {[8] = 1, [12] = (uint8_t)(job->lanes - 1)};
-    memcpy(seed, job->prehash + sizeof job->prehash - 8, 8);
-    keep(to, OF_SEED, seed);
+    for (uint8_t column = 0; column < 2; column++) {
+        uint8_t seed[PART] = {[8] = column, [12] = (uint8_t)(job->lanes - 1)};
+        memcpy(seed, job->prehash + sizeof job->prehash - 8, 8);
+        keep(to, OF_SEED, seed);
+    }
 }
 
 /* The exclusive or of the last blocks; that of one lane is in the matrix. */
@@ -103,13 +118,14 @@ static inline void keep_last(const proved_argon2_job *job, const proved_argon2_b
 
 static inline bool spell(const call *it, const uint8_t *tag, uint8_t *text)
 {
-    return proved_argon2_encode(it->salt, it->salt_len, &it->settings, tag, TAG, text, TEXT) == PROVED_ARGON2_OK;
+    return proved_argon2_encode(it->salt, it->salt_len, &it->settings, tag, it->settings.hash_length, text, TEXT)
+        == PROVED_ARGON2_OK;
 }
 
 /* Computes a call by its steps, to know what to look for. */
 static inline bool know(const call *it, known *to)
 {
-    const size_t size = (size_t)it->settings.mem_cost * 1024;
+    const size_t size = (size_t)it->settings.mem_cost * 1024, len = it->settings.hash_length;
     proved_argon2_block *const blocks = mmap(NULL, size, PROT_READ | PROT_WRITE, MAP_PRIVATE | MAP_ANONYMOUS, -1, 0);
     proved_argon2_job job;
     bool good = proved_argon2_job_make(INPUTS_OF(*it), &job) == PROVED_ARGON2_OK;
@@ -117,15 +133,16 @@ static inline bool know(const call *it, known *to)
         good = take_step(&job, blocks, step, to);
     }
     const size_t slice = (size_t)job.lanes * job.segment_length;
-    good = good && proved_argon2_job_finish(&job, blocks + 3 * slice, slice, to->tag, TAG) == PROVED_ARGON2_OK;
+    good = good && proved_argon2_job_finish(&job, blocks + 3 * slice, slice, to->tag, len) == PROVED_ARGON2_OK;
     good = good && spell(it, to->tag, to->text) && spell(it, zeros, to->other);
     for (size_t i = 0; i < 4; i++) {
         keep(to, OF_H0, job.prehash + PART * i);
     }
-    keep_seed(&job, to);
+    keep_seeds(&job, to);
     keep_last(&job, blocks + 3 * slice, to);
-    keep(to, OF_TAG, to->tag);
-    keep(to, OF_TAG, to->tag + PART);
+    for (size_t at = 0; at + PART <= len; at += PART) {
+        keep(to, OF_TAG, to->tag + at);
+    }
     keep(to, OF_INPUTS, it->pwd + 1);
     if (it->secret_len != 0) {
         keep(to, OF_INPUTS, it->secret + 1);
@@ -208,12 +225,19 @@ static inline void look_everywhere(void)
 }
 
 /* What the vector registers held when a call had returned. */
-static uint8_t registers[16][32];
+static uint8_t registers[32][32];
 
-#define NOTE(number) __asm__ volatile("vmovdqu %%ymm" #number ", %0" : "=m"(registers[number]))
-#define NOTE_HALF(number) __asm__ volatile("movdqu %%xmm" #number ", %0" : "=m"(registers[number]))
 #define EACH_BY(note) note(0); note(1); note(2); note(3); note(4); note(5); note(6); note(7); note(8); note(9); \
     note(10); note(11); note(12); note(13); note(14); note(15)
+#if defined(__aarch64__)
+#define NOTE(number) __asm__ volatile("str q" #number ", %0" : "=m"(registers[number]))
+#define NOTE_ALL() EACH_BY(NOTE); NOTE(16); NOTE(17); NOTE(18); NOTE(19); NOTE(20); NOTE(21); NOTE(22); NOTE(23); \
+    NOTE(24); NOTE(25); NOTE(26); NOTE(27); NOTE(28); NOTE(29); NOTE(30); NOTE(31)
+#else
+#define NOTE(number) __asm__ volatile("vmovdqu %%ymm" #number ", %0" : "=m"(registers[number]))
+#define NOTE_HALF(number) __asm__ volatile("movdqu %%xmm" #number ", %0" : "=m"(registers[number]))
+#define NOTE_ALL() if (__builtin_cpu_supports("avx")) { EACH_BY(NOTE); } else { EACH_BY(NOTE_HALF); }
+#endif
 
 /* Makes a call with so much room above it that what looks afterwards has its frames there, and not where the call's
  * frames were. */
@@ -222,11 +246,7 @@ __attribute__((noinline, unused)) static uint32_t far_below(uint32_t (*does)(con
     volatile uint8_t room[1 << 16];
     room[0] = 0;
     const uint32_t code = does(arg);
-    if (__builtin_cpu_supports("avx")) {
-        EACH_BY(NOTE);
-    } else {
-        EACH_BY(NOTE_HALF);
-    }
+    NOTE_ALL();
     return code + room[0];
 }
 

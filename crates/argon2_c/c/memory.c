@@ -24,7 +24,7 @@ CALL(hash_raw, INPUTS, buffer, TAG)
 CALL(hash_encoded, INPUTS, buffer, sizeof buffer)
 CALL(verify_raw, INPUTS, tag, TAG)
 CALL(verify_encoded, STORED)
-CALL(verify_encoded_within, STORED, &(proved_argon2_limits){LARGE, 2, 4})
+CALL(verify_encoded_within, STORED, &(proved_argon2_limits){LARGE, 2, 4, 2 * LARGE})
 CALL(hash_raw_with, &with, INPUTS, buffer, TAG)
 CALL(hash_encoded_with, &with, INPUTS, buffer, sizeof buffer)
 CALL(verify_raw_with, &with, INPUTS, tag, TAG)
@@ -100,6 +100,51 @@ static void check_call(const struct row *row, uint32_t threads)
     check(good && requests == wanted && most_held >= blocks && most_held <= most, name);
 }
 
+/* A call with pages refused at one of the populatings of its mapping. Where the system has none, that is a shortage, which
+ * writes nothing; where it cannot do so, pages come one by one. */
+static bool ends_well_unpopulated(const struct row *row, size_t number, int how)
+{
+    fill_bytes(buffer, sizeof buffer, 7);
+    memcpy(before, buffer, sizeof buffer);
+    refuse_nothing();
+    held = 0;
+    refused_populating = number;
+    refused_how = how;
+    errno = 77;
+    const uint32_t code = row->does();
+    const bool is_errno = errno == 77;
+    const bool is_short = code == PROVED_ARGON2_OUT_OF_MEMORY && memcmp(buffer, before, sizeof buffer) == 0;
+    return is_errno && held == 0 && (how == 0 || how == EINVAL ? is_value(code) : is_short);
+}
+
+/* All pages are asked for once, as huge ones, and each of the parts may be refused. */
+static void check_populating(const struct row *row, uint32_t threads)
+{
+    const size_t blocks = (size_t)it.settings.mem_cost * 1024;
+    char name[96];
+    with = by(threads);
+    bool good = ends_well_unpopulated(row, 0, 0) && populated == blocks && in_huge_pages >= blocks
+        && (populatings > 1) == (threads > 1);
+    for (size_t number = populatings; good && number > 0; number--) {
+        good = ends_well_unpopulated(row, number, ENOMEM) && ends_well_unpopulated(row, number, EFAULT)
+            && ends_well_unpopulated(row, number, EINVAL);
+    }
+    snprintf(name, sizeof name, "%s by %u threads has its pages at once, or is short of them", row->name,
+             (unsigned)threads);
+    check(good, name);
+}
+
+static void check_populatings(void)
+{
+    make(LARGE);
+    for (size_t i = 0; i < sizeof rows / sizeof *rows; i++) {
+        check_populating(&rows[i], 1);
+        if (rows[i].is_by_threads) {
+            check_populating(&rows[i], 4);
+        }
+    }
+}
+
 static int tells_nothing(void *arg, uint64_t done, uint64_t all)
 {
     (void)arg;
@@ -146,7 +191,7 @@ static void check_without_memory(void)
 {
     static const char no_passes[] = "$argon2d$m=256,t=0,p=1$c29tZXNhbHQ$AAAAAA", no_hash[] = "$argon2d$m=256,t=2,p=1$c2";
     static const char right[] = "$argon2d$m=256,t=2,p=1$c29tZXNhbHQ$vUBIaP8AxS51Q8gzLmp3KlckiS1+Mo1c8lO7yOcms3E";
-    const proved_argon2_limits below = {255, 2, 1};
+    const proved_argon2_limits below = {256, 2, 1, 511};
     proved_argon2_settings refused = it.settings;
     proved_argon2_stored stored;
     uint8_t salt[8], hash[32];
@@ -158,7 +203,8 @@ static void check_without_memory(void)
     refuse_request(1);
     const uint32_t little = proved_argon2_hash_raw(NULL, 0, it.salt, 8, NULL, 0, NULL, 0, &refused, buffer, TAG);
     const uint32_t shorter = proved_argon2_hash_raw(NULL, 0, it.salt, 8, NULL, 0, NULL, 0, &it.settings, buffer, TAG - 1);
-    const uint32_t full = proved_argon2_hash_encoded(NULL, 0, it.salt, 8, NULL, 0, NULL, 0, &it.settings, buffer, TAG);
+    const size_t without_zero = (size_t)proved_argon2_encoded_len(&it.settings, 8);
+    const uint32_t full = proved_argon2_hash_encoded(NULL, 0, it.salt, 8, NULL, 0, NULL, 0, &it.settings, buffer, without_zero);
     const uint32_t text_of_none = proved_argon2_verify_encoded(REFUSED_TEXT(no_passes));
     const uint32_t costly = proved_argon2_verify_encoded_within(REFUSED_TEXT(right), &below);
     const uint32_t costly_with = proved_argon2_verify_encoded_with(&with, REFUSED_TEXT(right));
@@ -182,6 +228,7 @@ int main(void)
 {
     check_calls(SMALL);
     check_calls(LARGE);
+    check_populatings();
     check_memory_new(SMALL);
     check_memory_new(LARGE);
     check_without_memory();

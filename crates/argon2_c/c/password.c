@@ -42,9 +42,9 @@ static void check_password(void)
     check_code(proved_argon2_password_verify(text, "pass", 4), PROVED_ARGON2_MISMATCH, "its beginning does not");
     check_code(proved_argon2_password_verify(text, NULL, 0), PROVED_ARGON2_MISMATCH, "no password does not");
     check_code(proved_argon2_password_verify("x", "pass", 4), PROVED_ARGON2_DECODING_FAIL, "what is no text");
-    check_code(proved_argon2_password_verify("$argon2id$v=19$m=2097152,t=10,p=16$AAAAAAA$AAAAAAA", "pass", 4),
+    check_code(proved_argon2_password_verify("$argon2id$v=19$m=2097152,t=2,p=16$AAAAAAA$AAAAAAA", "pass", 4),
                PROVED_ARGON2_SALT_TOO_SHORT, "a text at the default limits");
-    check_code(proved_argon2_password_verify("$argon2id$v=19$m=2097152,t=11,p=16$AAAAAAA$AAAAAAA", "pass", 4),
+    check_code(proved_argon2_password_verify("$argon2id$v=19$m=2097152,t=3,p=1$AAAAAAA$AAAAAAA", "pass", 4),
                PROVED_ARGON2_TOO_COSTLY, "a text above them");
     code = proved_argon2_password_hash(text, NULL, 0);
     check(code == PROVED_ARGON2_OK && proved_argon2_password_verify(text, "", 0) == PROVED_ARGON2_OK, "the empty one");
@@ -82,5 +82,6 @@ int main(void)
     check_message(PROVED_ARGON2_NULL_POINTER, "A pointer is null");
     check_message(PROVED_ARGON2_NO_RANDOM_BYTES, "There are no random bytes");
     check_message(PROVED_ARGON2_STOPPED, "The hash was stopped");
+    check_message(PROVED_ARGON2_OLD_PROCESSOR, "The processor is too old");
     return checks_failed != 0;
 }

@@ -1,9 +1,11 @@
 /*
  * Null pointers, call by call: each pointer of the header and of the calls with options is null in turn. It is refused
  * by name, before what else is wrong with the call, and nothing is written; with the length 0 it passes nothing. c/run
- * compares the names of these checks with the pointers that the headers declare. It is linked with --wrap=getrandom,
- * so that a salt is the same each time.
+ * compares the names of these checks with the pointers that the headers declare. Then, where the library has no build for
+ * the processor, each call is refused by that name, and writes nothing. It is linked with --wrap=getrandom, so that a
+ * salt is the same each time.
  */
+#include "../../../bindings/c/builds.h"
 #include "given.h"
 
 ssize_t __wrap_getrandom(void *buffer, size_t length, unsigned flags);
@@ -157,11 +159,39 @@ static void check_pointers(const struct row *row)
     }
 }
 
+#ifdef __x86_64__ /* (where there are builds to choose from) */
+/* Whether a call is refused for the processor, or gives zero, where it has no number for it. */
+static bool refuses_the_processor(const struct row *row)
+{
+    const bool gives_a_length = row->call == encoded_len || row->call == memory_len;
+    give_what_fits();
+    const uint32_t code = row->call();
+    return code == (gives_a_length ? PROVED_ARGON2_INCORRECT_TYPE : PROVED_ARGON2_OLD_PROCESSOR)
+        && memcmp(&written, &written_before, sizeof written) == 0;
+}
+
+static void check_without_a_build(void)
+{
+    char name[96];
+    build_in_use = NO_BUILD;
+    for (size_t i = 0; i < sizeof rows / sizeof *rows; i++) {
+        snprintf(name, sizeof name, "%s on an older processor", rows[i].name);
+        check(refuses_the_processor(&rows[i]), name);
+    }
+    check(proved_argon2_library_version() == 0 && proved_argon2_default_limits().mem_cost == 0
+              && proved_argon2_owasp2().version == 0 && proved_argon2_rfc9106().version == 0,
+          "what gives numbers gives zeros on an older processor");
+}
+#endif
+
 int main(void)
 {
     check_what_fits();
     for (size_t i = 0; i < sizeof rows / sizeof *rows; i++) {
         check_pointers(&rows[i]);
     }
+#ifdef __x86_64__
+    check_without_a_build();
+#endif
     return checks_failed != 0;
 }

@@ -129,6 +129,7 @@ static void check_depth(void *(*call)(void *), size_t idle, const char *name)
 
 int main(void)
 {
+    depth_of(nothing); /* (the first thread of a process also binds what the C library calls) */
     const size_t idle = depth_of(nothing);
     check_depth(hash_raw, idle, "stack of hash_raw");
     check_depth(hash_encoded, idle, "stack of hash_encoded");

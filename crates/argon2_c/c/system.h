@@ -21,6 +21,8 @@ void *__real_mmap(void *at, size_t len, int protection, int flags, int file, off
 void *__wrap_mmap(void *at, size_t len, int protection, int flags, int file, off_t offset);
 int __real_munmap(void *at, size_t len);
 int __wrap_munmap(void *at, size_t len);
+int __real_madvise(void *at, size_t len, int advice);
+int __wrap_madvise(void *at, size_t len, int advice);
 void *__real_aligned_alloc(size_t alignment, size_t len);
 void *__wrap_aligned_alloc(size_t alignment, size_t len);
 void *__real_malloc(size_t len);
@@ -46,6 +48,12 @@ static size_t first_refused, last_refused;
 static atomic_size_t requests;
 static size_t refused_request;
 
+/* How often pages were asked for at once, for how many bytes in all, and which of these is refused, counted from 1, and
+ * how; and for how many bytes huge pages were. */
+static atomic_size_t populatings, populated, in_huge_pages;
+static size_t refused_populating;
+static int refused_how;
+
 /* How many bytes are held, and were at most. */
 static atomic_size_t held, most_held;
 
@@ -61,7 +69,8 @@ static void (*look_at)(const void *block);
 static inline void refuse_nothing(void)
 {
     starts = granted = joins = most_running = bursts = open_to_signals = large_stacks = requests = 0;
-    first_refused = last_refused = refused_request = 0;
+    populatings = populated = in_huge_pages = 0;
+    first_refused = last_refused = refused_request = refused_populating = 0;
 }
 
 /* Refuses so many starts from this one on. */
@@ -162,6 +171,21 @@ int __wrap_munmap(void *at, size_t len)
     const int status = __real_munmap(at, len);
     held -= status == 0 ? len : 0;
     return status;
+}
+
+int __wrap_madvise(void *at, size_t len, int advice)
+{
+    enum { POPULATE = 23 };
+    in_huge_pages += advice == MADV_HUGEPAGE ? len : 0;
+    if (advice != POPULATE) {
+        return __real_madvise(at, len, advice);
+    }
+    populated += len;
+    if (++populatings == refused_populating) {
+        errno = refused_how;
+        return -1;
+    }
+    return __real_madvise(at, len, advice);
 }
 
 void *__wrap_malloc(size_t len)

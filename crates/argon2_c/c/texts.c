@@ -35,7 +35,7 @@ static void check_reading(void)
 /* What is no text is refused by a number, and what would have been written is as it was. */
 static void check_unread(const char *it, uint32_t refusal, const char *name)
 {
-    const proved_argon2_limits none = {0, 0, 0};
+    const proved_argon2_limits none = {0, 0, 0, 0};
     proved_argon2_stored stored, before;
     memset(&stored, 7, sizeof stored);
     memset(&before, 7, sizeof before);
@@ -98,14 +98,17 @@ static void check_bytes(void)
 
 static uint32_t read_within(uint32_t mem_cost, uint32_t time_cost, uint32_t lanes, proved_argon2_stored *stored)
 {
-    const proved_argon2_limits limits = {mem_cost, time_cost, lanes};
+    const proved_argon2_limits limits = {mem_cost, time_cost, lanes, 0};
     return proved_argon2_read_within(bytes_of(text), strlen(text), &limits, stored);
 }
 
 static void check_reading_within(void)
 {
     static const char passes[] = "$argon2i$v=19$m=0,t=7,p=0$$";
-    const proved_argon2_limits six = {0, 6, 0}, seven = {0, 7, 0};
+    static const char work[] = "$argon2i$v=19$m=4294967295,t=4294967295,p=0$$";
+    const proved_argon2_limits six = {0, 6, 0, 0}, seven = {0, 7, 0, 0};
+    const uint64_t product = UINT64_C(4294967295) * 4294967295;
+    const proved_argon2_limits below = {UINT32_MAX, UINT32_MAX, 0, product - 1}, at = {UINT32_MAX, UINT32_MAX, 0, product};
     proved_argon2_stored stored, before;
     memset(&stored, 7, sizeof stored);
     memset(&before, 7, sizeof before);
@@ -113,11 +116,15 @@ static void check_reading_within(void)
     check_code(read_within(4294967295, 0, 5, &stored), PROVED_ARGON2_TOO_COSTLY, "lanes above their limit are not read");
     check_code(proved_argon2_read_within(bytes_of(passes), strlen(passes), &six, &stored), PROVED_ARGON2_TOO_COSTLY,
                "passes above their limit are not read");
+    check_code(proved_argon2_read_within(bytes_of(work), strlen(work), &below, &stored), PROVED_ARGON2_TOO_COSTLY,
+               "the greatest work, above its limit, is not read");
     check_code(proved_argon2_read_within(bytes_of("$"), 1, &six, &stored), PROVED_ARGON2_DECODING_FAIL, "nor is no text");
     check(memcmp(&stored, &before, sizeof stored) == 0, "nothing is written for them");
     check_code(proved_argon2_read_within(bytes_of(passes), strlen(passes), &seven, &stored), PROVED_ARGON2_OK,
                "passes at their limit are read");
     check(stored.settings.time_cost == 7, "they are written");
+    check_code(proved_argon2_read_within(bytes_of(work), strlen(work), &at, &stored), PROVED_ARGON2_OK,
+               "the greatest work, at its limit, is read");
     check_code(read_within(4294967295, 0, 6, &stored), PROVED_ARGON2_OK, "numbers at their limits are read");
     check(memcmp(&stored.settings, &settings_of_text, sizeof settings_of_text) == 0 && stored.salt_length == 8,
           "they are written too");
@@ -128,7 +135,7 @@ static void check_reading_within(void)
 /* Verifies that text within limits: its salt has 8 bytes, its passes are 0. */
 static uint32_t within(uint32_t mem_cost, uint32_t time_cost, uint32_t lanes)
 {
-    const proved_argon2_limits limits = {mem_cost, time_cost, lanes};
+    const proved_argon2_limits limits = {mem_cost, time_cost, lanes, 0};
     return proved_argon2_verify_encoded_within(bytes_of(text), strlen(text), NULL, 0, NULL, 0, NULL, 0, &limits);
 }
 
@@ -146,12 +153,13 @@ static void check_limits(void)
     code = proved_argon2_verify_encoded_within(bytes_of(tag_of_rfc9106), strlen(tag_of_rfc9106), pwd, 31, secret,
                                                sizeof secret, ad, sizeof ad, &limits);
     check_code(code, PROVED_ARGON2_MISMATCH, "another password does not");
-    check(limits.mem_cost == 2097152 && limits.time_cost == 10 && limits.lanes == 16, "the default limits");
+    check(limits.mem_cost == 2097152 && limits.time_cost == 10 && limits.lanes == 16 && limits.work == 4194304,
+          "the default limits");
     check_code(within(4294967295, 0, 6), PROVED_ARGON2_TIME_TOO_SMALL, "numbers at their limits");
     check_code(within(4294967294, 4294967295, 4294967295), PROVED_ARGON2_TOO_COSTLY, "memory above its limit");
     check_code(within(4294967295, 4294967295, 5), PROVED_ARGON2_TOO_COSTLY, "lanes above their limit");
     const char *passes = "$argon2i$v=19$m=0,t=1,p=0$$";
-    const proved_argon2_limits none = {0, 0, 0}, one_pass = {0, 1, 0};
+    const proved_argon2_limits none = {0, 0, 0, 0}, one_pass = {0, 1, 0, 0};
     code = proved_argon2_verify_encoded_within(bytes_of(passes), strlen(passes), NULL, 0, NULL, 0, NULL, 0, &none);
     check_code(code, PROVED_ARGON2_TOO_COSTLY, "passes above their limit");
     code = proved_argon2_verify_encoded_within(bytes_of(passes), strlen(passes), NULL, 0, NULL, 0, NULL, 0, &one_pass);

@@ -237,12 +237,12 @@ static void check_options(void)
 static void check_limits(void)
 {
     static const char text[] = "$argon2id$v=19$m=256,t=2,p=4$c29tZXNhbHQ$AAAAAAAAAAAAAAAAAAAAAAAAAAAAAAAAAAAAAAAAAAA";
-    const proved_argon2_limits at = {256, 2, 4};
+    const proved_argon2_limits at = {256, 2, 4, 512};
     proved_argon2_options with = by(4);
     with.limits = &at;
     check_code(verify_encoded(&with, &sample, bytes_of(text)), PROVED_ARGON2_MISMATCH, "a text at its limits");
-    const proved_argon2_limits below[3] = {{255, 2, 4}, {256, 1, 4}, {256, 2, 3}};
-    for (int i = 0; i < 3; i++) {
+    const proved_argon2_limits below[] = {{255, 2, 4, 512}, {256, 1, 4, 512}, {256, 2, 3, 512}, {256, 2, 4, 511}};
+    for (size_t i = 0; i < sizeof below / sizeof *below; i++) {
         refuse_starts(1, SIZE_MAX);
         with.limits = &below[i];
         check_code(verify_encoded(&with, &sample, bytes_of(text)), PROVED_ARGON2_TOO_COSTLY, "a text above a limit");

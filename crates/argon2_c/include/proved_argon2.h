@@ -15,16 +15,20 @@
  * on a refusal what it would have written to is as it was, byte for byte. What is refused first is the
  * only answer: the variant's number, the version's number, the settings in the order in which the limits
  * stand below, the length of the buffer, and only then memory. No call prints, waits, ends the process,
- * changes errno or reads anything but what it is passed.
+ * changes errno or reads anything but what it is passed, but the first one: it asks the processor which of the
+ * library's builds it can run, and the environment variable PROVED_ARGON2_CPU, for tests, which one it is to be. Where
+ * there is none, each call that may be refused is PROVED_ARGON2_OLD_PROCESSOR, after null pointers, and each other one
+ * gives zeros.
  *
  * Memory. A call that hashes or verifies asks for at most the settings' mem_cost KiB for its blocks, in whole huge
  * pages where that is 2 MiB or more, and for the tag and the hash and salt of a text; no other call asks for any. All
  * of it is given back before the call returns, after it was overwritten, or to the system, which clears it. Such a
  * call overwrites the stack below and the vector registers too.
  *
- * Threads. The library keeps no state. Calls may run in several threads at once, as long as none writes to what
- * another one is passed. A thread is not cancelled within a call. No call may come from a signal handler. In the
- * forked child of a process with threads calls may be made where malloc may be called, as with the GNU C library.
+ * Threads. The library keeps no state but which build it runs. Calls may run in several threads at once, as long as
+ * none writes to what another one is passed. A thread is not cancelled within a call. No call may come from a signal
+ * handler. In the forked child of a process with threads calls may be made where malloc may be called, as with the GNU
+ * C library.
  *
  * Symbols. Each of the library's begins with proved_argon2_, so that a program may link libargon2 too.
  */
@@ -121,7 +125,8 @@ enum proved_argon2_code {
     /* Answered in C alone, and by nothing that is proved: */
     PROVED_ARGON2_NULL_POINTER = 128,    /* a pointer is null, and its length is not 0 */
     PROVED_ARGON2_NO_RANDOM_BYTES = 129, /* proved_argon2_password_hash: the system gave no salt */
-    PROVED_ARGON2_STOPPED = 130          /* proved_argon2_threads.h: what the call tells how far it is has stopped it */
+    PROVED_ARGON2_STOPPED = 130,         /* proved_argon2_threads.h: what the call tells how far it is has stopped it */
+    PROVED_ARGON2_OLD_PROCESSOR = 131    /* the library has no build for a processor as old as this one */
 };
 
 /* The settings of a hash. A field that is left out of an initializer is 0, and no hash has version 0. */
@@ -135,13 +140,14 @@ typedef struct proved_argon2_settings {
 } proved_argon2_settings;
 
 /*
- * The greatest numbers that a stored text may spell. A field that is left out of an initializer is 0, within which no
- * text of a hash is.
+ * The greatest numbers that a stored text may spell, and the greatest product of two of them. A field that is left out of
+ * an initializer is 0, within which no text of a hash is.
  */
 typedef struct proved_argon2_limits {
     uint32_t mem_cost;  /* the memory in KiB */
     uint32_t time_cost; /* the passes over the memory */
     uint32_t lanes;     /* the degree of parallelism */
+    uint64_t work;      /* the memory in KiB times the passes, by which the time grows */
 } proved_argon2_limits;
 
 /* What a stored text spells. */
@@ -231,13 +237,14 @@ uint32_t proved_argon2_verify_encoded(
     const uint8_t *secret, size_t secret_len,
     const uint8_t *ad, size_t ad_len);
 
-/* 2 GiB, 10 passes and 16 lanes: both recommendations of RFC 9106, section 4, are within. */
+/* 2 GiB, 10 passes, 16 lanes, and the work of 4 GiB in one pass: the settings of RFC 9106, section 4, OWASP, libsodium and
+ * Django are within. */
 proved_argon2_limits proved_argon2_default_limits(void);
 
 /*
  * The same for a text that may be costly: PROVED_ARGON2_TOO_COSTLY only where it spells more memory, passes or lanes
- * than its limit. What spells no hash is refused first, as above; then nothing is compared and no memory is taken
- * where the text is too costly; and any other text is answered as above.
+ * than its limit, or more memory times passes. What spells no hash is refused first, as above; then nothing is compared
+ * and no memory is taken where the text is too costly; and any other text is answered as above.
  */
 PROVED_ARGON2_CHECKED
 uint32_t proved_argon2_verify_encoded_within(

@@ -25,8 +25,9 @@
  * header's inline functions answer. No call can see that blocks are there, and that none is written by another thread
  * meanwhile.
  *
- * Nothing is cleared: the job holds H0, from which a password can be tried by one BLAKE2b, and so do the blocks.
- * proved_argon2_job_run (proved_argon2_threads.h) lends a job memory and threads, and clears them.
+ * Each call that computes overwrites the stack below it before it returns. What it is lent is the caller's to clear: the
+ * job holds H0, from which a password can be tried by one BLAKE2b, and so do the blocks. proved_argon2_job_run
+ * (proved_argon2_threads.h) lends a job memory and threads, and clears them and the vector registers.
  */
 #ifndef PROVED_ARGON2_JOBS_H
 #define PROVED_ARGON2_JOBS_H

@@ -111,6 +111,7 @@ static inline const char *proved_argon2_header_message(uint32_t number)
     return number == PROVED_ARGON2_NULL_POINTER ? "A pointer is null"
         : number == PROVED_ARGON2_NO_RANDOM_BYTES ? "There are no random bytes"
         : number == PROVED_ARGON2_STOPPED ? "The hash was stopped"
+        : number == PROVED_ARGON2_OLD_PROCESSOR ? "The processor is too old"
         : NULL;
 }
 

@@ -9,8 +9,8 @@ use Rattle.argon2.specs.Jobs.{IsSetting}
 use Rattle.argon2.specs.Prehash.{hashed_inputs, prehash_of, setting_of}
 use Rattle.argon2.specs.Setting.{Setting}
 use Rattle.argon2.specs.SettingsTable.{max_lanes, refusal_of}
-use Rattle.argon2_settings.proofs.Settings.Accepted.{accepted, long_segment}
-use Rattle.argon2_settings.proofs.Settings.HashLengths.{length-blake2b}
+use Rattle.argon2_standard.proofs.Settings.Accepted.{accepted, long_segment}
+use Rattle.argon2_standard.proofs.Settings.HashLengths.{length-blake2b}
 use Rattle.argon2.specs.VariantType.{Variant}
 use Rattle.argon2.specs.VersionType.{Version}
 use Rattle.argon2_c.specs.Jobs.{is_out_of_bounds, job_of, setting_at, setting_of_job, setting_with}

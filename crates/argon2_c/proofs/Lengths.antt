@@ -2,7 +2,7 @@
 use Rattle.std.proofs.Common.{◌≡◌, ℕ, ◌≤◌, None, refl}
 use Rattle.argon2.specs.ConfigType.{Config}
 use Rattle.argon2.specs.SettingsTable.{refusal_of}
-use Rattle.argon2_settings.proofs.Settings.Accepted.{accepted}
+use Rattle.argon2_standard.proofs.Settings.Accepted.{accepted}
 
 -- the table's row on a long salt
 pub accepted_salt : (config : Config) (p s h : ℕ) → refusal_of config p s h ≡ None → s ≤ 4294967295

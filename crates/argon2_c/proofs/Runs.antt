@@ -1,5 +1,5 @@
 -- From the answers of the steps to the tag.
-use Rattle.std.proofs.Common.{◌≡◌, ℕ, ◌-◌, ◌*◌, ◌/◌, ◌%◌, ◌<◌, List, [], ◌∷◌, length, get_or, Some, Result, Ok, Err, refl, arith, sym, inl, inr, ◌∙◌}
+use Rattle.std.proofs.Common.{◌≡◌, ℕ, suc, ◌-◌, ◌*◌, ◌/◌, ◌%◌, ◌<◌, List, [], ◌∷◌, length, get_or, Some, Result, Ok, Err, refl, arith, ap, sym, inl, inr, ◌∙◌}
 use Rattle.std.specs.List.{remove}
 use Rattle.std.proofs.lemmas.Bool.Decides.{eqb_tells}
 use Rattle.std.proofs.lemmas.List.Edits.{length-remove}
@@ -8,10 +8,12 @@ use Rattle.argon2.specs.Jobs.{IsSetting}
 use Rattle.argon2.specs.Prehash.{setting_of}
 use Rattle.argon2.specs.Setting.{Setting, memory_blocks}
 use Rattle.argon2.specs.Tag.{last_blocks, tag_from, tag_of}
-use Rattle.argon2_memory.specs.Views.Lent.{FillsLent, HoldsSlice}
+use Rattle.argon2_memory.specs.Views.Places.{FillsLent, HoldsSlice, lent_blocks, lent_places}
 use Rattle.argon2_memory.specs.Views.Segments.{IsReady}
-use Rattle.argon2_fill.specs.Laws.Lent.{IsLentRun}
-use Rattle.argon2_fill.proofs.Filling.Lent.{run_agrees}
+use Rattle.argon2_memory.proofs.Filling.Lent.{length-lent}
+use Rattle.argon2_fill.specs.Laws.Lanes.{IsRunOfLanes, numbered}
+use Rattle.argon2_fill.proofs.Filling.Lent.{fills_among}
+use Rattle.argon2_fill.proofs.Filling.Passes.{run_agrees}
 use Rattle.argon2_c.specs.Answers.{Tells}
 use Rattle.argon2_c.specs.Jobs.{BeginsAt, FillsAt, Finishes, FinishesAt, IsPlace, IsTagOf, Verifies, VerifiesAt, job_of, setting_of_job}
 use Rattle.argon2_c.specs.Over.{HashesJob, JudgesJob, Lent}
@@ -142,20 +144,22 @@ module _ (pwd salt : List ℕ) (config : Config) (len : ℕ) where
           let four = run.four n in let few : n % 4 < length (slices n) = omega (arith, four) in
           let l = length-remove (slices n) (n % 4) few in three_of (remove (slices n) (n % 4)) (omega (arith, l, four))
 
-      lent_run : IsLentRun its slices
-      lent_run = record {
+      run_of_lanes : IsRunOfLanes its (λ n. lent_places its (slices n))
+      run_of_lanes = record {
         setting = good;
-        four = run.four;
-        long = run.long;
+        long = λ k lane h fits. length-lent its (slice_at (slices 0) k) lane (run.long k h) fits;
         begun = λ lane fits. let step = run.begun lane fits in begun its lane step.0 _ fits (rw is at step.1);
-        others = run.others;
+        others = λ n k lane few ne. ap (λ (l : List (List ℕ)). lent_blocks its l lane) (run.others n k few ne);
         filled = λ n lane few fits.
             let place : IsPlace its (n / 4) (n % 4) lane = record { pass_fits = omega (arith, few); slice_fits = omega arith; lane_fits = fits } in
-            rw (beside n) at (filled its (n / 4) (n % 4) lane _ _ _ _ _ place (rw is at (run.filled n lane few fits)));
+            let four = run.four n in
+            fills_among (numbered its n) (slices n) (omega (arith, four)) lane
+            (lent_blocks its (slice_at (slices n) (n % 4)) lane) (lent_blocks its (slice_at (slices (suc n)) (n % 4)) lane)
+            (rw (beside n) at (filled its (n / 4) (n % 4) lane _ _ _ _ _ place (rw is at (run.filled n lane few fits))));
       }
 
-      holds : HoldsSlice its (its.passes - 1) 3 (slice_at (slices (4 * its.passes)) 3)
-      holds = run_agrees its slices lent_run
+      holds : HoldsSlice its (its.passes - 1) 3 (lent_places its (slices (4 * its.passes)) 3)
+      holds = run_agrees its (λ n. lent_places its (slices n)) run_of_lanes 3 (omega arith)
 
       tag_by : (new : List ℕ) → IsTagOf its (slice_at (slices (4 * its.passes)) 3) len new → new ≡ tag_of pwd salt config len
       unfolding tag_of

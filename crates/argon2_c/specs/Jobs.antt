@@ -13,7 +13,7 @@ use Rattle.argon2.specs.Variant.{variant_number}
 use Rattle.argon2.specs.VariantType.{Variant}
 use Rattle.argon2.specs.Version.{version_number}
 use Rattle.argon2.specs.VersionType.{Version}
-use Rattle.argon2_memory.specs.Views.Lent.{FillsLent, HoldsSlice}
+use Rattle.argon2_memory.specs.Views.Places.{FillsLent, HoldsSlice, lent_blocks}
 use Rattle.argon2_memory.specs.Views.Segments.{IsReady}
 use Rattle.argon2_c.specs.Answers.{OfText, OrRefused, Tells, WritesWhere}
 use Rattle.argon2_c.specs.Buffer.{padded}
@@ -138,7 +138,7 @@ Fills (Some s) pass slice lane first second third old new answer = FillsAt s pas
 
 -- the tag, where slice 3 holds the blocks of the last pass
 abbrev pub IsTagOf : Setting → List (List ℕ) → ℕ → List ℕ → Type 0
-IsTagOf s last len tag = HoldsSlice s (s.passes - 1) 3 last → tag ≡ tag_from (last_blocks s) len
+IsTagOf s last len tag = HoldsSlice s (s.passes - 1) 3 (lent_blocks s last) → tag ≡ tag_from (last_blocks s) len
 
 -- the tag, in a buffer of just its length
 pub record FinishesAt (s : Setting) (len : ℕ) (last : List (List ℕ)) (old new : List ℕ) (answer : Result (Unit {0}) Refusal) : Type 0 where

@@ -21,7 +21,7 @@ use argon2::parts::encoding::Head;
 use argon2::parts::stored::{config_of_numbers, refusal};
 use argon2::{Variant, Version};
 use argon2_memory::job::job_of_setting;
-use argon2_settings::context::{accepted_context, prehash_of_context};
+use argon2_standard::context::{accepted_context, prehash_of_context};
 
 /// The most blocks that one of the four slices has, since a memory cost fits 32 bits.
 const MAX_BLOCKS_IN_SLICE: u64 = 0x3FFF_FFFF;
@@ -131,6 +131,7 @@ impl LentJob {
 
 /// Writes the job of a password. The numbers of the settings are looked at first, then the settings
 /// table; on a refusal the job is as it was.
+#[inline(never)]
 pub fn make(
     pwd: &[u8],
     salt: &[u8],
@@ -155,6 +156,7 @@ pub fn make(
 /// Writes the job that a stored text is verified by, and its salt and its hash, to buffers of their
 /// lengths. It refuses as `read` does; then what the text spells is judged, and last the buffers. On
 /// a refusal all are as they were.
+#[inline(never)]
 pub fn make_stored(
     text: &[u8],
     pwd: &[u8],

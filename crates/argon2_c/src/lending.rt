@@ -9,6 +9,7 @@ ghost use Rattle.argon2_c.specs.Refusal.{IsCodeOf};
 ghost use Rattle.argon2_c.specs.Runs.{EveryRunGivesTheTag, EveryRunGivesTheVerdict, OneCallGivesTheTag, OneCallGivesTheVerdict};
 ghost use Rattle.argon2_c.specs.Settings.{config_of};
 
+use crate::ending::cleared;
 use crate::jobs::LentJob;
 use crate::refusal::{code_of, code_of_verdict};
 use crate::settings::Settings;
@@ -29,7 +30,7 @@ pub extern "C" fn proved_argon2_job_make(
     ensures { IsCodeOf (MakesJob (config_of settings.now secret.entry ad.entry) pwd.now salt.now
         job.old job.new) result }
 {
-    code_of(&jobs::make(pwd, salt, secret, ad, settings, job))
+    cleared(code_of(&jobs::make(pwd, salt, secret, ad, settings, job)))
 }
 
 /// Writes the job that a stored text is verified by, and the text's salt and hash, to buffers of
@@ -48,7 +49,7 @@ pub extern "C" fn proved_argon2_job_read(
         (record { job = job.old; items = record { salt = salt.old; hash = hash.old } })
         (record { job = job.new; items = record { salt = salt.new; hash = hash.new } })) result }
 {
-    code_of(&jobs::make_stored(text, pwd, secret, ad, job, salt, hash))
+    cleared(code_of(&jobs::make_stored(text, pwd, secret, ad, job, salt, hash)))
 }
 
 /// Writes a lane's first two blocks into its segment of slice 0, whatever stands there.
@@ -56,7 +57,7 @@ pub extern "C" fn proved_argon2_job_read(
 pub extern "C" fn proved_argon2_job_begin(job: &LentJob, lane: u32, own: &mut [Block]) -> u32
     ensures { IsCodeOf (Begins (setting_of_job job.now) lane own.old own.new) result }
 {
-    code_of(&steps::begin(job, lane, own))
+    cleared(code_of(&steps::begin(job, lane, own)))
 }
 
 /// Fills a lane's segment of a slice in a pass, beside the other three slices in rising order.
@@ -74,7 +75,7 @@ pub extern "C" fn proved_argon2_job_fill(
     ensures { IsCodeOf (Fills (setting_of_job job.now) pass slice lane first.now second.now
         third.now own.old own.new) result }
 {
-    code_of(&steps::fill(job, pass, slice, lane, first, second, third, own))
+    cleared(code_of(&steps::fill(job, pass, slice, lane, first, second, third, own)))
 }
 
 /// Writes the tag of a filled memory, whose slice 3 is passed, to a buffer of its length.
@@ -83,7 +84,7 @@ pub extern "C" fn proved_argon2_job_finish(job: &LentJob, last: &[Block], out: &
     ensures { IsCodeOf (Finishes (setting_of_job job.now) job.now.hash_length last.now out.old
         out.new) result }
 {
-    code_of(&steps::finish(job, last, out))
+    cleared(code_of(&steps::finish(job, last, out)))
 }
 
 /// Returns 0 only where a hash is the tag of a filled memory, and 64 only where it is not. The tag
@@ -98,7 +99,7 @@ pub extern "C" fn proved_argon2_job_verify(
     ensures { IsCodeOf (Verifies (setting_of_job job.now) job.now.hash_length last.now hash.now
         tag.old tag.new) result }
 {
-    code_of_verdict(&steps::verify(job, last, hash, tag))
+    cleared(code_of_verdict(&steps::verify(job, last, hash, tag)))
 }
 
 /// Writes the tag of a job to a buffer of its length, computed over just the job's blocks, whatever
@@ -113,7 +114,7 @@ pub extern "C" fn proved_argon2_job_hash_over(
         (record { blocks = blocks.old; tag = out.old })
         (record { blocks = blocks.new; tag = out.new })) result }
 {
-    code_of(&over::hash_job(job, blocks, out))
+    cleared(code_of(&over::hash_job(job, blocks, out)))
 }
 
 /// Returns 0 only where a hash is the tag of a job, and 64 only where it is not. The tag is then in
@@ -129,7 +130,7 @@ pub extern "C" fn proved_argon2_job_verify_over(
         (record { blocks = blocks.old; tag = tag.old })
         (record { blocks = blocks.new; tag = tag.new })) result }
 {
-    code_of_verdict(&over::verify_job(job, blocks, hash, tag))
+    cleared(code_of_verdict(&over::verify_job(job, blocks, hash, tag)))
 }
 
 /// Writes the text of a given tag and then zeros to `text`, which has more bytes than the text. On

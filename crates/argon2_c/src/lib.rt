@@ -17,6 +17,7 @@ ghost use Rattle.argon2_c.specs.Settings.{config_of};
 
 mod buffer;
 mod encoding;
+mod ending;
 mod jobs;
 mod lending;
 mod limits;
@@ -29,6 +30,7 @@ mod steps;
 mod stored_text;
 
 use argon2::parts::block::Block;
+use ending::cleared;
 pub use jobs::LentJob;
 pub use lending::{
     any_order_of_steps, proved_argon2_encode, proved_argon2_job_begin, proved_argon2_job_fill,
@@ -61,7 +63,7 @@ pub extern "C" fn proved_argon2_hash_over(
         (record { blocks = blocks.old; tag = out.old })
         (record { blocks = blocks.new; tag = out.new })) result }
 {
-    code_of(&over::hash(pwd, salt, secret, ad, settings, blocks, out))
+    cleared(code_of(&over::hash(pwd, salt, secret, ad, settings, blocks, out)))
 }
 
 /// Returns 0 only where `hash` is the tag of a password, and 64 only where it is not;
@@ -82,7 +84,7 @@ pub extern "C" fn proved_argon2_verify_over(
         hash.now (record { blocks = blocks.old; tag = tag.old })
         (record { blocks = blocks.new; tag = tag.new })) result }
 {
-    code_of_verdict(&over::verify(pwd, salt, secret, ad, settings, blocks, hash, tag))
+    cleared(code_of_verdict(&over::verify(pwd, salt, secret, ad, settings, blocks, hash, tag)))
 }
 
 /// Writes what a stored text spells to `stored`, and verifies nothing. On a refusal `stored` is as
@@ -95,7 +97,7 @@ pub extern "C" fn proved_argon2_read(text: &[u8], stored: &mut Stored) -> u32
 }
 
 /// `proved_argon2_read` for a text that asks for no more than the limits. Returns 69 only where the
-/// text spells a number above its limit.
+/// text spells more than one of them.
 #[unsafe(no_mangle)]
 pub extern "C" fn proved_argon2_read_within(
     text: &[u8],

@@ -4,7 +4,8 @@ ghost use Rattle.std.specs.Prelude.{◌≡◌};
 ghost use Rattle.argon2.specs.Views.Limits.{default_limits};
 ghost use Rattle.argon2_c.specs.Limits.{limits_from, limits_of};
 
-/// The greatest numbers that a stored text may spell, in a layout that C knows.
+/// The greatest numbers that a stored text may spell, and the greatest product of two of them, in a
+/// layout that C knows.
 #[repr(C)]
 #[derive(Clone, Copy, Debug)]
 pub struct Limits {
@@ -16,6 +17,9 @@ pub struct Limits {
 
     /// The number of lanes.
     pub lanes: u32,
+
+    /// The memory in KiB times the number of passes.
+    pub work: u64,
 }
 
 impl Limits {
@@ -27,6 +31,7 @@ impl Limits {
             mem_cost: self.mem_cost,
             time_cost: self.time_cost,
             lanes: self.lanes,
+            work: self.work,
         }
     }
 }
@@ -38,10 +43,11 @@ fn limits_from(limits: argon2::Limits) -> Limits
         mem_cost: limits.mem_cost,
         time_cost: limits.time_cost,
         lanes: limits.lanes,
+        work: limits.work,
     }
 }
 
-/// The library's default limits: 2 GiB, 10 passes and 16 lanes.
+/// The library's default limits: 2 GiB, 10 passes and 16 lanes, and as much work as 4 GiB in one pass.
 #[unsafe(no_mangle)]
 pub extern "C" fn proved_argon2_default_limits() -> Limits
     ensures { result ≡ limits_from default_limits }

@@ -19,6 +19,7 @@ use argon2_fill::lent::{hash_lent, hash_lent_job};
 /// Writes the tag of a password to a buffer of `settings.hash_length` bytes. The numbers of the
 /// settings are looked at first, then the settings table, then how many blocks there are, and last
 /// the length of the buffer.
+#[inline(never)]
 pub fn hash(
     pwd: &[u8],
     salt: &[u8],
@@ -59,6 +60,7 @@ fn hash_context(context: &Context<'_>, blocks: &mut [Block], out: &mut [u8]) -> 
 /// Whether a hash is the tag of its own length, which is then in a buffer of that length; the
 /// settings are judged with it, and `settings.hash_length` is not looked at. It refuses as `hash`
 /// does.
+#[inline(never)]
 pub fn verify(
     pwd: &[u8],
     salt: &[u8],
@@ -100,6 +102,7 @@ fn verify_context(
 }
 
 /// Writes the tag of a job to a buffer of its length.
+#[inline(never)]
 pub fn hash_job(numbers: &LentJob, blocks: &mut [Block], out: &mut [u8]) -> Result<(), Refusal>
     ensures { HashesJob (setting_of_job numbers.now) numbers.now.hash_length
         (record { blocks = blocks.old; tag = out.old })
@@ -121,6 +124,7 @@ pub fn hash_job(numbers: &LentJob, blocks: &mut [Block], out: &mut [u8]) -> Resu
 }
 
 /// Whether a hash is the tag of a job, which is then in a buffer of its length.
+#[inline(never)]
 pub fn verify_job(
     numbers: &LentJob,
     blocks: &mut [Block],

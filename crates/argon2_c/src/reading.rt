@@ -70,8 +70,8 @@ pub fn read(text: &[u8], stored: &mut Stored) -> Result<(), Refusal>
     }
 }
 
-/// Writes what a stored text spells, where it spells no number above its limit; else it is
-/// `TooCostly`. It refuses as `read` does before.
+/// Writes what a stored text spells, where that is within the limits; else it is `TooCostly`. It
+/// refuses as `read` does before.
 pub fn read_within(text: &[u8], limits: &Limits, stored: &mut Stored) -> Result<(), Refusal>
     ensures { ReadsTextWithin (limits_of limits.now) text.now stored.old stored.new result }
 {

@@ -23,6 +23,7 @@ fn is_slice(job: &Job, blocks: &[Block]) -> bool
 }
 
 /// Writes a lane's first two blocks into its segment of slice 0.
+#[inline(never)]
 pub fn begin(numbers: &LentJob, lane: u32, own: &mut [Block]) -> Result<(), Refusal>
     ensures { Begins (setting_of_job numbers.now) lane own.old own.new result }
 {
@@ -42,6 +43,7 @@ pub fn begin(numbers: &LentJob, lane: u32, own: &mut [Block]) -> Result<(), Refu
 }
 
 /// Fills a lane's segment of a slice in a pass, beside the other three slices in rising order.
+#[inline(never)]
 pub fn fill(
     numbers: &LentJob,
     pass: u32,
@@ -74,6 +76,7 @@ pub fn fill(
 }
 
 /// Writes the tag to a buffer of its length, where slice 3 holds the blocks of the last pass.
+#[inline(never)]
 pub fn finish(numbers: &LentJob, last: &[Block], out: &mut [u8]) -> Result<(), Refusal>
     ensures { Finishes (setting_of_job numbers.now) numbers.now.hash_length last.now out.old out.new
         result }
@@ -95,6 +98,7 @@ pub fn finish(numbers: &LentJob, last: &[Block], out: &mut [u8]) -> Result<(), R
 
 /// Whether a hash is the tag, which is then in a buffer of its length. The buffer is the caller's,
 /// who clears it: a compiler may drop a write here that nobody reads.
+#[inline(never)]
 pub fn verify(
     numbers: &LentJob,
     last: &[Block],

@@ -177,7 +177,5 @@ fn new_lines<R: Threads + Wait + Sync>(
 fn is_above(config: &Config<'_>, limits: &Limits) -> bool
     ensures { result ≡ is_too_costly limits.now (spelled_of config.now [] []) }
 {
-    config.mem_cost > limits.mem_cost
-        || config.time_cost > limits.time_cost
-        || config.lanes > limits.lanes
+    limits.are_exceeded_by(config.mem_cost, config.time_cost, config.lanes)
 }

@@ -1,2 +1,2 @@
 -- Statements about the definitions. The contracts of calls without arguments make them.
-pub mod Lent
+pub mod Lanes

@@ -3,4 +3,3 @@ pub mod Replay
 pub mod Boards
 pub mod Slots
 pub mod Permits
-pub mod Lent

@@ -1,18 +1,15 @@
 //! The stages of a hash: a memory, the first blocks of each lane, the fill of all slices, the tag.
 
-ghost use Rattle.std.specs.Prelude.{◌≡◌, ℕ, ◌+◌, ◌-◌, ◌*◌, ◌%◌, ◌^◌, ◌<◌, ◌≤◌, ◌++◌, [], IfErr, IfOk, IsOk, OnErr, OnOk, false, length, slice_index_or, true, vec_len};
+ghost use Rattle.std.specs.Prelude.{◌≡◌, ℕ, ◌+◌, ◌-◌, ◌*◌, ◌%◌, ◌^◌, ◌<◌, ◌≤◌, ◌++◌, [], IfErr, IfOk, IsOk, OnErr, OnOk, false, length, true, vec_len};
 ghost use Rattle.argon2_standard.specs.Standard.Outcome.{IsShortage};
 ghost use Rattle.argon2_standard.specs.Standard.ThreadModes.{may_lack_workers, uses_sequential};
 ghost use Rattle.argon2_memory.specs.Views.Jobs.{setting_of_context};
-ghost use Rattle.argon2_memory.specs.Views.Filling.{no_segment};
 ghost use Rattle.argon2_memory.specs.Standard.Kept.{HasShape, HoldsFill, HoldsLastPass, IsLeft, block_of, no_memory};
 ghost use Rattle.argon2_memory.specs.Laws.Matrix.{IsBegun, matrix_with};
-ghost use Rattle.argon2_memory.specs.Views.Memories.{AreSlices, blocks_written, places_in, slice_writes, writes, writes_in, last_blocks_of};
-ghost use Rattle.argon2_memory.specs.Views.Places.{AreFilledBelow};
+ghost use Rattle.argon2_memory.specs.Views.Memories.{AreSlices, blocks_written, slice_writes, writes, writes_in, segments_of};
+ghost use Rattle.argon2_memory.specs.Views.Places.{AreFilledBelow, HoldsSlice, IsReadySlice, lanes_in, last_blocks_in, places_in};
 ghost use Rattle.argon2_memory.specs.Laws.Schedule.{blocks_in_slice};
-ghost use Rattle.argon2_memory.specs.Views.Segments.{IsReady, segment_at};
 ghost use Rattle.argon2_standard.specs.Standard.Setting.{memory_blocks};
-ghost use Rattle.argon2_memory.specs.Views.SliceLists.{segments_of};
 ghost use Rattle.argon2_standard.specs.Standard.Tag.{tag_of, tag_from};
 ghost use Rattle.std.specs.Int.{to_le_bytes, w32};
 ghost use Rattle.argon2_standard.specs.Standard.Recurrence.{first_block};
@@ -21,7 +18,7 @@ ghost use Rattle.argon2_blocks.specs.Standard.Block.{block_bytes, xor, zero_bloc
 ghost use Rattle.argon2_blocks.specs.Standard.Hprime.{hprime};
 
 use crate::workers::{NoGate, fill_parallel};
-use argon2_blocks::blake2b::{hprime, hprime_both, wipe};
+use argon2_blocks::blake2b::{hprime, wipe};
 use argon2_blocks::block::Block;
 use argon2_blocks::common::{BLOCK_SIZE, PREHASH_DIGEST_LENGTH, PREHASH_SEED_LENGTH};
 use argon2_memory::job::{
@@ -31,7 +28,7 @@ use argon2_memory::memory::{
     Memory, Slices, memory_of_slices, others, recall_memory, take_slice, take_slices,
 };
 use argon2_memory::segment::{Segment, Snapshot, fill_segment};
-use argon2_settings::context::Context;
+use argon2_standard::context::Context;
 use argon2_standard::error::Error;
 use argon2_standard::result::Result;
 use std::alloc::Global;
@@ -90,36 +87,22 @@ fn first_input(prehash: &[u8; PREHASH_DIGEST_LENGTH], lane: u32, column: u32, ou
     tail.copy_from_slice(&lane.to_le_bytes());
 }
 
-/// Writes both of a lane's first two blocks (RFC 9106, 3.2, steps 3 and 4), which takes less time
-/// than one after the other.
+/// Writes one of a lane's first two blocks (RFC 9106, 3.2, steps 3 and 4).
 #[tactic(auto, unfolding(argon2_standard::specs::Standard::Recurrence::first_block))]
-pub fn write_first_blocks(job: &Job, lane: u32, first: &mut Block, second: &mut Block)
-    ensures first { first.new ≡ first_block job.now.setting
-        (record { pass = 0; lane = lane; column = 0 }) }
-    ensures second { second.new ≡ first_block job.now.setting
-        (record { pass = 0; lane = lane; column = 1 }) }
+pub fn write_first_block(job: &Job, lane: u32, column: u32, block: &mut Block)
+    ensures { block.new ≡ first_block job.now.setting
+        (record { pass = 0; lane = lane; column = column }) }
 {
-    let mut first_seed = [0; PREHASH_SEED_LENGTH];
-    let mut second_seed = [0; PREHASH_SEED_LENGTH];
+    let mut seed = [0; PREHASH_SEED_LENGTH];
     // With H0 a password is tried at the cost of one hash, so each copy of it is overwritten.
     let mut prehash = prehash_of_job(job);
-    first_input(&prehash, lane, 0, &mut first_seed);
-    first_input(&prehash, lane, 1, &mut second_seed);
+    first_input(&prehash, lane, column, &mut seed);
     wipe(&mut prehash, 0);
-    let mut first_bytes = [0; BLOCK_SIZE];
-    let mut second_bytes = [0; BLOCK_SIZE];
-    hprime_both(
-        &mut first_bytes,
-        &mut second_bytes,
-        &first_seed,
-        &second_seed,
-    );
-    first.set_u8(&first_bytes);
-    second.set_u8(&second_bytes);
-    wipe(&mut first_seed, 0);
-    wipe(&mut second_seed, 0);
-    wipe(&mut first_bytes, 0);
-    wipe(&mut second_bytes, 0);
+    let mut bytes = [0; BLOCK_SIZE];
+    hprime(&mut bytes, &seed);
+    block.set_u8(&bytes);
+    wipe(&mut seed, 0);
+    wipe(&mut bytes, 0);
 }
 
 /// Writes a lane's first two blocks. The memory lends none to be written, so they are copied.
@@ -137,7 +120,8 @@ fn write_first(job: &Job, lane: u32, memory: &mut Memory)
     recall_memory(memory);
     let mut first = Block::zero();
     let mut second = Block::zero();
-    write_first_blocks(job, lane, &mut first, &mut second);
+    write_first_block(job, lane, 0, &mut first);
+    write_first_block(job, lane, 1, &mut second);
     memory.set(lane, 0, &first);
     memory.set(lane, 1, &second);
     first.wipe();
@@ -210,12 +194,10 @@ pub fn fill_slice_in_turn(job: &Job, slices: &mut Slices)
 /// Fills the segments of a slice, lane after lane.
 fn fill_lanes(snapshot: &Snapshot<'_>, segments: &mut [Segment])
     requires lanes { length segments.old ≡ snapshot.now.job.setting.lanes }
-    requires ready { let j = snapshot.now.job in (lane : ℕ) → lane < j.setting.lanes
-        → IsReady j.setting j.pass j.slice lane
-        (slice_index_or segments.old lane no_segment).blocks }
-    ensures filled { let j = snapshot.now.job in (lane : ℕ) → lane < j.setting.lanes
-        → (slice_index_or segments.new lane no_segment).blocks
-        ≡ segment_at j.setting j.pass j.slice lane }
+    requires ready { let j = snapshot.now.job in
+        IsReadySlice j.setting j.pass j.slice (lanes_in segments.old) }
+    ensures filled { let j = snapshot.now.job in
+        HoldsSlice j.setting j.pass j.slice (lanes_in segments.new) }
     ensures writes { let j = snapshot.now.job in slice_writes segments.new % 2 ^ 64
         ≡ (slice_writes segments.old + j.setting.lanes * blocks_in_slice j.setting j.pass j.slice) %
         2 ^ 64 }
@@ -255,14 +237,16 @@ pub fn fill_memory_blocks<R: Threads + Wait + Sync>(
 }
 
 /// The exclusive or of the last blocks of all lanes.
-fn combine_last_blocks(memory: &Memory, lanes: u32, column: u32, out: &mut Block)
+fn combine_last_blocks(memory: &Memory, out: &mut Block)
     requires zero { out.old ≡ zero_block }
-    requires lanes_fit { lanes ≡ memory.now.lanes }
-    requires last { column + 1 ≡ 4 * memory.now.segment_length }
-    ensures { out.new ≡ fold xor zero_block (last_blocks_of memory.now) }
+    requires some { 0 < memory.now.segment_length }
+    ensures { let m = memory.now in
+        out.new ≡ fold xor zero_block
+        (last_blocks_in m.lanes m.segment_length (places_in m.slices 3)) }
 {
-    for lane in 0..lanes {
-        *out ^= &memory[(lane, column)];
+    let last = memory.lane_length() - 1;
+    for lane in 0..memory.lanes() {
+        *out ^= &memory[(lane, last)];
     }
 }
 
@@ -286,8 +270,9 @@ pub(crate) fn write_tag(block: &mut Block, out: &mut [u8])
 #[tactic(auto, unfolding(argon2_standard::specs::Standard::SettingsTable::refusal_of))]
 pub fn finalize(alloc: Global, context: &Context<'_>, memory: &Memory) -> Result<Vec<u8>>
     requires shape { HasShape (setting_of_context context.now) memory.now }
-    ensures hash { IfOk result (λ tag. tag.items
-        ≡ tag_from (last_blocks_of memory.now) context.now.config.hash_length) }
+    ensures hash { let m = memory.now in IfOk result (λ tag. tag.items
+        ≡ tag_from (last_blocks_in m.lanes m.segment_length (places_in m.slices 3))
+        context.now.config.hash_length) }
     ensures tag { let c = context.now in HoldsLastPass (setting_of_context c) (block_of memory.now)
         → IfOk result (λ tag. tag.items ≡ tag_of c.pwd.now c.salt.now c.config c.config.hash_length) }
     ensures length { IfOk result (λ tag. vec_len tag ≡ context.now.config.hash_length) }
@@ -295,12 +280,7 @@ pub fn finalize(alloc: Global, context: &Context<'_>, memory: &Memory) -> Result
 {
     recall_context(context);
     let mut block = Block::zero();
-    combine_last_blocks(
-        memory,
-        context.config.lanes,
-        context.lane_length - 1,
-        &mut block,
-    );
+    combine_last_blocks(memory, &mut block);
     let mut tag = vec![in alloc; 0u8; context.config.hash_length as usize]?;
     write_tag(&mut block, &mut tag[..]);
     Ok(tag)

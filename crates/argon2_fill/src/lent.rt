@@ -1,24 +1,20 @@
 //! The steps of a hash over a memory that is lent, whatever stands in it: four slices of blocks,
 //! each lane after lane.
 
-ghost use Rattle.std.specs.Prelude.{◌≡◌, ◌≢◌, ℕ, ◌+◌, ◌-◌, ◌*◌, ◌^◌, ◌<◌, ◌≤◌, [], ◌∷◌, length, slice_index_or};
+ghost use Rattle.std.specs.Prelude.{◌≡◌, ◌≢◌, ℕ, ◌+◌, ◌-◌, ◌*◌, ◌^◌, ◌<◌, ◌≤◌, [], ◌∷◌, length};
 ghost use Rattle.std.specs.List.{fold};
 ghost use Rattle.argon2_blocks.specs.Standard.Block.{xor, zero_block};
-ghost use Rattle.argon2_fill.specs.Views.Lent.{IsLentBegun, last_lent};
-ghost use Rattle.argon2_memory.specs.Views.Beside.{lent_blocks};
-ghost use Rattle.argon2_memory.specs.Views.Lent.{AreLent, FillsLent, HoldsSlice, lent_places};
-ghost use Rattle.argon2_memory.specs.Views.Places.{AreFilledBelow};
+ghost use Rattle.argon2_memory.specs.Views.Places.{AreFilledBelow, FillsLent, HoldOthers, HoldsSlice, IsReadySlice, among, last_blocks_in, lent_blocks, lent_places};
 ghost use Rattle.argon2_memory.specs.Views.Segments.{IsReady};
-ghost use Rattle.argon2_fill.specs.Laws.Lent.{EveryLentRunAgrees};
 ghost use Rattle.argon2_standard.specs.Standard.Setting.{memory_blocks};
 ghost use Rattle.argon2_standard.specs.Standard.Tag.{last_blocks, tag_from, tag_of};
 
-use crate::fill::{write_first_blocks, write_tag};
+use crate::fill::{write_first_block, write_tag};
 use argon2_blocks::block::Block;
 use argon2_blocks::common::SYNC_POINTS;
 use argon2_memory::job::{Job, numbered_job, recall_context, recall_job, slice_count};
 use argon2_memory::segment::fill_lent_segment;
-use argon2_settings::context::Context;
+use argon2_standard::context::Context;
 
 /// Writes a lane's first two blocks (RFC 9106, section 3.2, steps 3 and 4) into its segment of
 /// slice 0.
@@ -28,9 +24,8 @@ pub fn write_first_lent(job: &Job, lane: u32, own: &mut [Block])
     ensures { IsReady job.now.setting 0 0 lane own.new }
 {
     recall_job(job);
-    // Split, since both blocks are written side by side.
-    let (first, rest) = own.split_at_mut(1);
-    write_first_blocks(job, lane, &mut first[0], &mut rest[0]);
+    write_first_block(job, lane, 0, &mut own[0]);
+    write_first_block(job, lane, 1, &mut own[1]);
 }
 
 /// The place of a lane's first block in a slice. It is a function of its own, so that it is shown
@@ -62,7 +57,7 @@ fn begin_lane(job: &Job, lane: u32, slice: &mut [Block])
 /// Writes the first two blocks of each lane into slice 0.
 pub fn initialize_lent(job: &Job, slice: &mut [Block])
     requires slice_fits { length slice.old ≡ job.now.setting.lanes * job.now.setting.segment_length }
-    ensures { IsLentBegun job.now.setting slice.new }
+    ensures { IsReadySlice job.now.setting 0 0 (lent_blocks job.now.setting slice.new) }
 {
     for lane in 0..job.lanes() {
         begin_lane(job, lane, slice);
@@ -110,10 +105,11 @@ pub fn fill_lent_slice(
         ≡ job.now.setting.lanes * job.now.setting.segment_length }
     requires third_fits { length third.now ≡ job.now.setting.lanes * job.now.setting.segment_length }
     requires slice_fits { length slice.old ≡ job.now.setting.lanes * job.now.setting.segment_length }
-    ensures { let j = job.now in AreLent j (first.now ∷ second.now ∷ third.now ∷ [])
-        → ((lane : ℕ) → lane < j.setting.lanes
-        → IsReady j.setting j.pass j.slice lane (lent_blocks j.setting slice.old lane))
-        → HoldsSlice j.setting j.pass j.slice slice.new }
+    ensures { let j = job.now in
+        let others = lent_places j.setting (first.now ∷ second.now ∷ third.now ∷ []) in
+        HoldOthers j (among j others)
+        → IsReadySlice j.setting j.pass j.slice (lent_blocks j.setting slice.old)
+        → HoldsSlice j.setting j.pass j.slice (lent_blocks j.setting slice.new) }
 {
     for lane in 0..job.lanes() {
         fill_lane(job, lane, first, second, third, slice);
@@ -163,9 +159,9 @@ pub fn fill_lent(
     requires third_fits { length third.old ≡ job.now.setting.lanes * job.now.setting.segment_length }
     requires fourth_fits { length fourth.old
         ≡ job.now.setting.lanes * job.now.setting.segment_length }
-    ensures { let s = job.now.setting in IsLentBegun s first.old → (slice : ℕ) → slice < 4
-        → HoldsSlice s (s.passes - 1) slice
-        (slice_index_or (first.new ∷ second.new ∷ third.new ∷ fourth.new ∷ []) slice []) }
+    ensures { let s = job.now.setting in IsReadySlice s 0 0 (lent_blocks s first.old)
+        → (slice : ℕ) → slice < 4 → HoldsSlice s (s.passes - 1) slice
+        (lent_places s (first.new ∷ second.new ∷ third.new ∷ fourth.new ∷ []) slice) }
 {
     recall_job(job);
     // One loop over the slices of all passes, so that one invariant serves for all.
@@ -178,7 +174,8 @@ pub fn fill_lent(
 fn combine_last_lent(job: &Job, slice: &[Block], out: &mut Block)
     requires zero { out.old ≡ zero_block }
     requires slice_fits { length slice.now ≡ job.now.setting.lanes * job.now.setting.segment_length }
-    ensures { out.new ≡ fold xor zero_block (last_lent job.now.setting slice.now) }
+    ensures { let s = job.now.setting in out.new ≡ fold xor zero_block
+        (last_blocks_in s.lanes s.segment_length (lent_blocks s slice.now)) }
 {
     let length = job.segment_length() as usize;
     for lane in 0..job.lanes() {
@@ -193,8 +190,11 @@ pub fn finalize_lent(job: &Job, slice: &[Block], out: &mut [u8])
     requires slice_fits { length slice.now ≡ job.now.setting.lanes * job.now.setting.segment_length }
     requires some { 0 < length out.old }
     requires few { length out.old < 2 ^ 32 }
-    ensures hash { out.new ≡ tag_from (last_lent job.now.setting slice.now) (length out.old) }
-    ensures tag { let s = job.now.setting in HoldsSlice s (s.passes - 1) 3 slice.now
+    ensures hash { let s = job.now.setting in
+        out.new ≡ tag_from (last_blocks_in s.lanes s.segment_length (lent_blocks s slice.now))
+        (length out.old) }
+    ensures tag { let s = job.now.setting in
+        HoldsSlice s (s.passes - 1) 3 (lent_blocks s slice.now)
         → out.new ≡ tag_from (last_blocks s) (length out.old) }
 {
     recall_job(job);
@@ -236,10 +236,3 @@ pub fn hash_lent(context: &Context<'_>, blocks: &mut [Block], out: &mut [u8])
     let _hash_length = context.config.hash_length;
     hash_lent_job(&Job::new(context), blocks, out);
 }
-
-/// Whatever the order of the fills of lanes within each slice, and also at the same time: where the
-/// first blocks are there, and each lane of each slice of each pass is filled once in the order of
-/// passes and slices, slice 3 ends with the blocks of the last pass, whose hash is the tag.
-pub fn any_order_lent()
-    ensures { EveryLentRunAgrees }
-{}

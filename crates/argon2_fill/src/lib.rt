@@ -4,4 +4,5 @@
 pub mod fill;
 pub mod lent;
 pub mod stack;
+pub mod theorems;
 pub mod workers;

@@ -1,13 +1,9 @@
 -- How the types and the steps of the code look to contracts. No clause of a root call in Rattle uses them; those of the
 -- calls that C makes over lent blocks do.
 pub mod Jobs
-pub mod Positions
 pub mod Segments
-pub mod Places
 pub mod Sources
+pub mod Places
 pub mod Filling
+pub mod References
 pub mod Memories
-pub mod SliceLists
-pub mod Made
-pub mod Beside
-pub mod Lent

@@ -9,7 +9,7 @@ ghost use Rattle.argon2_standard.specs.Standard.Setting.{lane_length, memory_blo
 ghost use Rattle.argon2_standard.specs.Standard.Variant.{variant_number};
 
 use argon2_blocks::common::{ADDRESSES_IN_BLOCK, PREHASH_DIGEST_LENGTH, SYNC_POINTS};
-use argon2_settings::context::{Context, prehash_of_context};
+use argon2_standard::context::{Context, prehash_of_context};
 use argon2_standard::variant::Variant::{self, Argon2i, Argon2id};
 use argon2_standard::version::Version;
 use std::marker::Model;
@@ -193,6 +193,16 @@ impl Job {
         ensures some { 2 ≤ result }
     {
         self.segment_length
+    }
+
+    /// How many columns a lane has.
+    #[tactic(auto, using(crate::proofs::Recurrence::Jobs::lane_fits))]
+    pub(crate) fn lane_length(&self) -> u32
+        ensures value { result ≡ lane_length self.now.setting }
+        ensures job { IsJob self.now }
+        ensures some { 8 ≤ result }
+    {
+        SYNC_POINTS * self.segment_length
     }
 
     /// How many passes there are.

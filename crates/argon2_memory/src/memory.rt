@@ -2,8 +2,8 @@
 
 ghost use Rattle.std.specs.Prelude.{◌≡◌, ◌*◌, ◌%◌, ◌^◌, ◌<◌, [], IfOk, map, replicate, slice_index_or, slice_set, ◌+◌, ◌/◌, ◌≤◌, IfErr, length};
 ghost use Rattle.std.specs.List.{remove};
-ghost use Rattle.argon2_memory.specs.Views.Memories.{wiped_memory, wiped_segment, slice_writes, writes_in, zero_segment, AreSlices, IsMemory, MemoryValue, block_of, no_memory, segment_in, set_in, writes, zero_memory};
-ghost use Rattle.argon2_memory.specs.Views.SliceLists.{segments_of};
+ghost use Rattle.argon2_memory.specs.Views.Memories.{wiped_memory, slice_writes, writes_in, AreSlices, IsMemory, MemoryValue, block_of, no_memory, segment_in, set_in, writes, zero_memory, segments_of};
+ghost use Rattle.argon2_memory.specs.Views.Segments.{wiped_segment, zero_segment};
 
 use crate::segment::Segment;
 use argon2_blocks::block::Block;

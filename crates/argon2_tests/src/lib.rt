@@ -1,6 +1,7 @@
-//! Tests of public calls, over `argon2` alone, and the calls that `.ci/refusals` runs with each
+//! Tests of public calls, over `argon2` alone, and the calls that `.ci/faults/refusals` runs with each
 //! request for memory and each start of a worker refused in turn.
 #![tactic(auto)]
 
+pub mod surface;
 #[cfg(test)]
 mod tests;

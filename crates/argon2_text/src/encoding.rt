@@ -19,8 +19,8 @@ mod reading;
 mod writing;
 
 use crate::decoded::Decoded;
-use argon2_settings::context::Context;
 use argon2_standard::config::Config;
+use argon2_standard::context::Context;
 use argon2_standard::error::Error;
 use argon2_standard::result::Result;
 pub use items::{read_hash, read_salt};

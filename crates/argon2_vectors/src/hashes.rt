@@ -2,7 +2,7 @@
 
 use crate::words::{Words, bytes_of};
 use anyhow::{Context, Result, anyhow, ensure};
-use argon2::parts::blake2b::{blake2b, hprime, hprime_both};
+use argon2::parts::blake2b::{blake2b, hprime};
 use std::alloc::Global;
 
 /// The most bytes of H' that are asked for.
@@ -34,24 +34,6 @@ pub fn stretched(alloc: Global, words: &mut Words<'_>) -> Result<String> {
     let mut out = [0; ROOM];
     hprime(&mut out[..length], message.as_slice());
     in_pieces(alloc, &out[..length], lengths)
-}
-
-/// H' of two messages, both in pieces.
-pub fn both_stretched(alloc: Global, words: &mut Words<'_>) -> Result<String> {
-    let lengths = words.word()?;
-    let (first, second) = (words.bytes(alloc)?, words.bytes(alloc)?);
-    let length = sum_of(lengths)?;
-    ensure!(64 < length && length <= ROOM, "the length of the hashes");
-    let (mut one, mut other) = ([0; ROOM], [0; ROOM]);
-    hprime_both(
-        &mut one[..length],
-        &mut other[..length],
-        first.as_slice(),
-        second.as_slice(),
-    );
-    let one = in_pieces(alloc, &one[..length], lengths)?;
-    let other = in_pieces(alloc, &other[..length], lengths)?;
-    Ok(format!(in alloc; "{one} {other}")?)
 }
 
 /// The sum of the lengths that a word joins by `+`.

@@ -18,7 +18,7 @@
 //! | `fill_sequential INPUTS` | how many blocks are written before the fill, and by it |
 //! | `reference_positions INPUTS PASS SLICE LANE FIRST COUNT` | `LANE,COLUMN` of each |
 //! | `blake2b LENGTH PIECE..` | the hash in hexadecimal |
-//! | `hprime LENGTHS MESSAGE`, `hprime_both LENGTHS FIRST SECOND` | the hash, or both, cut into pieces of these lengths |
+//! | `hprime LENGTHS MESSAGE` | the hash, cut into pieces of these lengths |
 //! | `Config::NAME` | the preset, and whether it uses one thread |
 //! | `ThreadMode::from_threads N`, `Variant::from_u32 N`, `Version::from_str WORD`, .. | the value and its names |
 //! | `Error NAME` | the refusal that `serde` reads from this name: its case, what `serde` writes, its text |

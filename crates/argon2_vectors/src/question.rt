@@ -72,7 +72,6 @@ fn answer_alone(alloc: Global, call: &str, words: &mut Words<'_>) -> Result<Stri
         "reference_positions" => stages::positions(alloc, words),
         "blake2b" => hashes::plain(alloc, words),
         "hprime" => hashes::stretched(alloc, words),
-        "hprime_both" => hashes::both_stretched(alloc, words),
         "arguments" => program::words_given(alloc, words),
         _ => types::answer(alloc, call, words),
     }

@@ -18,9 +18,6 @@ VARIABLE = "PROVED_ARGON2_LIBRARY"
 # Where this file's folder stands in the repository.
 IN_REPOSITORY = "/bindings/python/src/proved_argon2"
 
-# What a processor has for which the object of x86-64-v3 is built, as Linux names it.
-FLAGS_OF_V3 = {"avx", "avx2", "bmi1", "bmi2", "f16c", "fma", "abm", "movbe"}
-
 # What a call answers: done or a match, another password, a buffer that does not fit, a text that is not UTF-8 or
 # is above the limits.
 OK = 0
@@ -59,7 +56,12 @@ class Stored(ctypes.Structure):
 class NumberLimits(ctypes.Structure):
     """`proved_argon2_limits` of the header."""
 
-    _fields_ = [(name, ctypes.c_uint32) for name in ("mem_cost", "time_cost", "lanes")]
+    _fields_ = [
+        ("mem_cost", ctypes.c_uint32),
+        ("time_cost", ctypes.c_uint32),
+        ("lanes", ctypes.c_uint32),
+        ("work", ctypes.c_uint64),
+    ]
 
 
 # `proved_argon2_tell`, which is passed two numbers more: they are counted here.
@@ -90,34 +92,21 @@ class Refused(Exception):
         self.number = number
 
 
-def _cpus() -> "List[str]":
-    """For which processors an object runs on this one, the newest first."""
-    try:
-        with open("/proc/cpuinfo", encoding="ascii", errors="replace") as about:
-            flags = next((line for line in about if line.startswith("flags")), "").split()
-    except OSError:
-        flags = []
-    return [*(["x86-64-v3"] if FLAGS_OF_V3.issubset(flags) else []), "x86-64-v2"]
-
-
 def _files() -> "Iterator[str]":
     """Where the shared object may be: where the environment says, or else in the wheel, where the loader looks, beside
-    this Python, or in the repository's build where this file stands in the repository. The loader chooses by the
-    processor itself."""
+    this Python, or in the repository's build where this file stands in the repository."""
     named = os.environ.get(VARIABLE)
     if named:
         yield named
         return
     here = os.path.dirname(os.path.realpath(__file__))
     if os.path.isdir(os.path.join(here, "libs")):
-        yield from (os.path.join(here, "libs", cpu, SONAME) for cpu in _cpus())
+        yield os.path.join(here, "libs", SONAME)
     yield SONAME
-    beside = os.path.join(sys.prefix, "lib")
-    yield from (os.path.join(beside, "glibc-hwcaps", cpu, SONAME) for cpu in _cpus()[:-1])
-    yield os.path.join(beside, SONAME)
+    yield os.path.join(sys.prefix, "lib", SONAME)
     bindings, inside = here[: -len(IN_REPOSITORY)], here[-len(IN_REPOSITORY) :]
     if inside == IN_REPOSITORY:
-        yield from (os.path.join(bindings, "bindings", "out", cpu, SONAME) for cpu in _cpus())
+        yield os.path.join(bindings, "bindings", "out", os.uname().machine, SONAME)
 
 
 # The types of what each call takes, and of what it returns.
@@ -154,9 +143,13 @@ def _load() -> ctypes.CDLL:
     reasons = []
     for file in _files():
         try:
-            return _bound(file)
+            library = _bound(file)
         except (OSError, AttributeError) as error:
             reasons.append(str(error))
+            continue
+        if library.proved_argon2_library_version() == 0:
+            raise ImportError(f"{file} has no build for a processor as old as this one")
+        return library
     raise ImportError(
         f"{SONAME} cannot be loaded: run ./install in the repository of proved-argon2, or name the file in "
         f"{VARIABLE} ({'; '.join(reasons)})"
@@ -166,12 +159,12 @@ def _load() -> ctypes.CDLL:
 _library = _load()
 
 
-def require_number(name: str, number: object, refusal: "Type[Exception]") -> None:
-    """Raises where a number is no integer, or has not 32 bits: `ctypes` would pass its lowest bits."""
+def require_number(name: str, number: object, refusal: "Type[Exception]", bits: int = 32) -> None:
+    """Raises where a number is no integer, or has more bits: `ctypes` would pass its lowest ones."""
     if not isinstance(number, int) or isinstance(number, bool):
         raise TypeError(f"'{name}' must be int, not {number.__class__.__name__}")
-    if not 0 <= number <= MAX_NUMBER:
-        raise refusal(f"{name} is {number}: no number of 32 bits")
+    if not 0 <= number < 1 << bits:
+        raise refusal(f"{name} is {number}: no number of {bits} bits")
 
 
 def _slices(*pieces: bytes) -> "List[Union[bytes, int]]":

@@ -10,26 +10,29 @@ _DEFAULT = default_limits()
 
 
 class Limits(Record):
-    """The greatest numbers that a text may spell: the memory in KiB, the passes over it, and the lanes.
+    """The greatest numbers that a text may spell: the memory in KiB, the passes over it, and the lanes; and the greatest
+    `work`, the memory in KiB times the passes, by which the time grows.
 
-    The defaults are the library's: 2 GiB, 10 passes and 16 lanes. Both recommendations of RFC 9106 are within. No field
-    can be changed: `dataclasses.replace` makes others.
+    The defaults are the library's: 2 GiB, 10 passes, 16 lanes, and the work of 4 GiB in one pass. The recommendations
+    of RFC 9106, OWASP, libsodium and Django are within. No field can be changed: `dataclasses.replace` makes others.
     """
 
-    __slots__ = ("memory_cost", "time_cost", "parallelism")
+    __slots__ = ("memory_cost", "time_cost", "parallelism", "work")
 
     memory_cost: int
     time_cost: int
     parallelism: int
+    work: int
 
     def __init__(
         self,
         memory_cost: int = _DEFAULT.mem_cost,
         time_cost: int = _DEFAULT.time_cost,
         parallelism: int = _DEFAULT.lanes,
+        work: int = _DEFAULT.work,
     ) -> None:
-        for name, number in zip(self.__slots__, (memory_cost, time_cost, parallelism)):
-            require_number(name, number, ValueError)
+        for name, number in zip(self.__slots__, (memory_cost, time_cost, parallelism, work)):
+            require_number(name, number, ValueError, bits=64 if name == "work" else 32)
             object.__setattr__(self, name, number)
 
     def __setattr__(self, name: str, value: object) -> "NoReturn":
@@ -51,5 +54,6 @@ DEFAULT_LIMITS = Limits()
 
 def default_limits_of(memory_cost: int, time_cost: int, parallelism: int) -> Limits:
     """The default limits of a hasher with these settings, which has to verify what it hashes."""
-    own = (memory_cost, time_cost, parallelism)
-    return Limits(*(max(limit, min(number, MAX_NUMBER)) for limit, number in zip(DEFAULT_LIMITS._values(), own)))
+    memory, passes, lanes = (min(max(number, 0), MAX_NUMBER) for number in (memory_cost, time_cost, parallelism))
+    own = (memory, passes, lanes, memory * passes)
+    return Limits(*(max(limit, number) for limit, number in zip(DEFAULT_LIMITS._values(), own)))

@@ -14,7 +14,7 @@ class VerifyMismatchError(VerificationError):
 
 
 class TooCostlyError(VerificationError):
-    """The hash asks for more memory, passes or lanes than the limits. No password was looked at."""
+    """The hash asks for more memory, passes, lanes or work than the limits. No password was looked at."""
 
 
 class HashingError(Argon2Error):

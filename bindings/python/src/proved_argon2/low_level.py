@@ -179,7 +179,7 @@ def verify_secret(
 def _numbers(limits: Limits) -> NumberLimits:
     if not isinstance(limits, Limits):
         raise TypeError(f"'limits' must be Limits, not {limits.__class__.__name__}")
-    return NumberLimits(limits.memory_cost, limits.time_cost, limits.parallelism)
+    return NumberLimits(limits.memory_cost, limits.time_cost, limits.parallelism, limits.work)
 
 
 def error_to_str(error: int) -> str:

@@ -24,7 +24,7 @@ use Rattle.argon2_standard.specs.Standard.Tag.{tag_of}
 use Rattle.argon2_standard.specs.Standard.Text.{Spelled}
 use Rattle.argon2_text.specs.Views.Texts.{IsSpelledBy, IsSpellingOf, spelled_by, spelled_with}
 use Rattle.argon2_standard.specs.Standard.Outcome.{IsVerdict}
-use Rattle.argon2_settings.proofs.Settings.Accepted as settings
+use Rattle.argon2_standard.proofs.Settings.Accepted as settings
 use Rattle.argon2_text.proofs.Reading.TextItems.{item_unique}
 use Rattle.argon2.proofs.TextLaws.TextSpellings.{spells_one}
 

@@ -6,13 +6,13 @@ use Rattle.std.specs.Int.Bits.{xor_assoc, xor_self, xor_zero_l, xor_zero_r}
 use Rattle.std.proofs.lemmas.Nat.{le_or_l, le_or_r}
 use Rattle.argon2_standard.specs.declared.config.Config.{Config}
 use Rattle.argon2_standard.specs.declared.error.Error.{Error}
-use Rattle.argon2_settings.specs.declared.context.Context.{Context}
+use Rattle.argon2_standard.specs.declared.context.Context.{Context}
 use Rattle.argon2_standard.specs.Standard.Outcome.{IsOutcome, IsShortage}
 use Rattle.argon2_standard.specs.Standard.SettingsTable.{refusal_of}
 use Rattle.argon2_standard.specs.Standard.Prehash.{prehash_of, setting_of}
 use Rattle.argon2_standard.specs.Standard.Tag.{tag_from, tag_of}
 use Rattle.argon2.specs.Laws.Definitions.{LengthIsTheHash, OwnTagVerifies, TagForgetsMode}
-use Rattle.argon2_settings.proofs.Settings.HashLengths.{length-hprime}
+use Rattle.argon2_standard.proofs.Settings.HashLengths.{length-hprime}
 use Rattle.argon2_standard.specs.Standard.Outcome.{IsVerdict}
 use Rattle.argon2.specs.Views.Comparison.{difference_of}
 

@@ -1,14 +1,19 @@
 -- What the calls within limits answer.
-use Rattle.std.specs.Prelude.{◌≡◌, ◌||◌, Bool, true, false, nat_lt, Result, Ok, Err}
+use Rattle.std.specs.Prelude.{◌≡◌, ◌||◌, ◌*◌, ℕ, Bool, true, false, nat_lt, Result, Ok, Err}
 use Rattle.argon2_standard.specs.declared.error.Error.{Error}
 use Rattle.argon2_standard.specs.Standard.Text.{Spelled}
 use Rattle.argon2.specs.declared.limits.Limits.{Limits}
 use Rattle.argon2.specs.declared.limits.Unverified.{Unverified}
 use Rattle.argon2.specs.declared.limits.Unverified.TheVariants.{TooCostly, Refused}
 
--- the text spells more memory, passes or lanes than its limit
+-- so much memory in KiB, so many passes or so many lanes, or the product of memory and passes, are above a limit
+abbrev pub are_exceeded : Limits → ℕ → ℕ → ℕ → Bool
+are_exceeded limits mem_cost time_cost lanes =
+    nat_lt limits.mem_cost mem_cost || nat_lt limits.time_cost time_cost || nat_lt limits.lanes lanes || nat_lt limits.work (mem_cost * time_cost)
+
+-- the text spells more than a limit
 abbrev pub is_too_costly : Limits → Spelled → Bool
-is_too_costly limits d = nat_lt limits.mem_cost d.mem_cost || nat_lt limits.time_cost d.time_cost || nat_lt limits.lanes d.parallelism
+is_too_costly limits d = are_exceeded limits d.mem_cost d.time_cost d.parallelism
 
 -- too costly, or else an answer of the call without limits
 abbrev pub AnswersWithin : Bool → (Result Bool Error → Type 0) → Result Bool Unverified → Type 0

@@ -5,9 +5,9 @@ use Rattle.argon2.specs.declared.limits.Limits.{Limits}
 use Rattle.argon2.specs.declared.limits.Unverified.{Unverified}
 use Rattle.argon2.specs.declared.limits.Unverified.TheVariants.{TooCostly, Refused}
 
--- 2 GiB, 10 passes, 16 lanes: both recommendations fit (RFC 9106, 4)
+-- 2 GiB, 10 passes, 16 lanes, and the work of 4 GiB in one pass: both recommendations fit (RFC 9106, 4)
 abbrev pub default_limits : Limits
-default_limits = record { mem_cost = 2097152; time_cost = 10; lanes = 16 }
+default_limits = record { mem_cost = 2097152; time_cost = 10; lanes = 16; work = 4194304 }
 
 abbrev pub message_of : Unverified → List ℕ
 message_of TooCostly = codes "The text is above the limits"

@@ -44,7 +44,3 @@ place_below (x ∷ s) (suc k) h = place_below s k (and_parts _ _ h).1
 -- where the word of that place begins, in bytes
 pub word_begins : (s : List ℕ) (k : ℕ) → IsTrue (list_all (λ i. nat_lt i 16) s) → Fits w64 (get_or s k 0 * 8)
 word_begins s k h = let below = place_below s k h in record { fits = omega arith }
-
--- where the vector of that place begins
-pub vector_begins : (s : List ℕ) (k : ℕ) → IsTrue (list_all (λ i. nat_lt i 16) s) → Fits w64 (get_or s k 0 * 16)
-vector_begins s k h = let below = place_below s k h in record { fits = omega arith }

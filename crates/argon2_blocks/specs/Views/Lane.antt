@@ -1,7 +1,7 @@
 -- A vector is the list of its lanes.
 use Rattle.std.specs.Prelude.{ℕ, ◌+◌, ◌*◌, List, [], ◌∷◌, ◌++◌, map, slice_index, slice_index_or, take}
 use Rattle.std.specs.List.{fold, flat_map, range_with_len}
-use Rattle.argon2_blocks.specs.Standard.Blake2b.{Four, words_at, put_at, mix_places}
+use Rattle.argon2_blocks.specs.Standard.Blake2b.{words_at, put_at, mix_places}
 use Rattle.argon2_blocks.specs.Standard.Compression.{mix_gb}
 
 -- the words that stand in lane i of each of the vectors
@@ -25,7 +25,3 @@ vector_pair vectors n = slice_index_or vectors (2 * n) [] ++ slice_index_or vect
 -- the words of the vectors, joined
 abbrev pub vector_words : List (List ℕ) → List ℕ
 vector_words vectors = flat_map (λ vector. vector) vectors
-
--- the words that stand in lane i of each of four vectors
-abbrev pub four_in_lane : ℕ → List (List ℕ) → Four
-four_in_lane i vectors = words_at (lane i vectors) (record { a = 0; b = 1; c = 2; d = 3 })

@@ -33,59 +33,47 @@ fn add_product(x: u64x8, y: u64x8) -> u64x8
     x + y + (low + low)
 }
 
-// Each lane rotated right by 63 bits, which is left by one.
+// Each lane rotated right.
 #[inline(always)]
-fn rotate_by_63(x: u64x8) -> u64x8
-    ensures { result ≡ map (λ a. rotate_right w64 a 63) x }
+fn rotate_lanes(x: u64x8, bits: u32) -> u64x8
+    requires some { 0 < bits }
+    requires few { bits < 64 }
+    ensures { result ≡ map (λ a. rotate_right w64 a bits) x }
 {
     recall_vector(x);
-    (x >> u64x8::splat(63)) | (x + x)
+    (x >> u64x8::splat(bits as u64)) | (x << u64x8::splat(64 - bits as u64))
 }
 
-// Each lane rotated right by 32 bits, which is 4 bytes. The bytes are shuffled, since shifts
-// or shuffles of 32 bits take up to 5 % more time.
+// Each lane rotated right by 32 bits: its halves change places.
 #[inline(always)]
 fn rotate_by_32(x: u64x8) -> u64x8
     ensures { result ≡ map (λ a. rotate_right w64 a 32) x }
 {
     recall_vector(x);
-    u64x8::from_le_bytes(
-        x.to_le_bytes().swizzle([
-            4, 5, 6, 7, 0, 1, 2, 3, 12, 13, 14, 15, 8, 9, 10, 11, 20, 21, 22, 23, 16, 17, 18, 19,
-            28, 29, 30, 31, 24, 25, 26, 27, 36, 37, 38, 39, 32, 33, 34, 35, 44, 45, 46, 47, 40, 41,
-            42, 43, 52, 53, 54, 55, 48, 49, 50, 51, 60, 61, 62, 63, 56, 57, 58, 59,
-        ]),
-    )
+    let halves = u32x16::from_le_bytes(x.to_le_bytes());
+    let swapped = halves.swizzle([1, 0, 3, 2, 5, 4, 7, 6, 9, 8, 11, 10, 13, 12, 15, 14]);
+    u64x8::from_le_bytes(swapped.to_le_bytes())
 }
 
-// Each lane rotated right by 24 bits, which is 3 bytes.
+// Each lane rotated right by 24 bits, in two steps: of both a compiler for x86-64 makes one shuffle
+// of bytes, and of shifts alone it makes three instructions (docs/DECISIONS.md).
 #[inline(always)]
 fn rotate_by_24(x: u64x8) -> u64x8
     ensures { result ≡ map (λ a. rotate_right w64 a 24) x }
 {
     recall_vector(x);
-    u64x8::from_le_bytes(
-        x.to_le_bytes().swizzle([
-            3, 4, 5, 6, 7, 0, 1, 2, 11, 12, 13, 14, 15, 8, 9, 10, 19, 20, 21, 22, 23, 16, 17, 18,
-            27, 28, 29, 30, 31, 24, 25, 26, 35, 36, 37, 38, 39, 32, 33, 34, 43, 44, 45, 46, 47, 40,
-            41, 42, 51, 52, 53, 54, 55, 48, 49, 50, 59, 60, 61, 62, 63, 56, 57, 58,
-        ]),
-    )
+    let swapped = rotate_by_32(x);
+    rotate_lanes(swapped, 56)
 }
 
-// Each lane rotated right by 16 bits, which is 2 bytes: a shuffle, as by 32.
+// Each lane rotated right by 16 bits: two steps, as by 24.
 #[inline(always)]
 fn rotate_by_16(x: u64x8) -> u64x8
     ensures { result ≡ map (λ a. rotate_right w64 a 16) x }
 {
     recall_vector(x);
-    u64x8::from_le_bytes(
-        x.to_le_bytes().swizzle([
-            2, 3, 4, 5, 6, 7, 0, 1, 10, 11, 12, 13, 14, 15, 8, 9, 18, 19, 20, 21, 22, 23, 16, 17,
-            26, 27, 28, 29, 30, 31, 24, 25, 34, 35, 36, 37, 38, 39, 32, 33, 42, 43, 44, 45, 46, 47,
-            40, 41, 50, 51, 52, 53, 54, 55, 48, 49, 58, 59, 60, 61, 62, 63, 56, 57,
-        ]),
-    )
+    let swapped = rotate_by_32(x);
+    rotate_lanes(swapped, 48)
 }
 
 // Two mixes in each lane: of the vectors 0, 2, 4 and 6, and of the others.
@@ -104,7 +92,7 @@ pub(super) fn mix_two(v: [u64x8; 8]) -> [u64x8; 8]
     let (a0, a1) = (add_product(a0, b0), add_product(a1, b1));
     let (d0, d1) = (rotate_by_16(d0 ^ a0), rotate_by_16(d1 ^ a1));
     let (c0, c1) = (add_product(c0, d0), add_product(c1, d1));
-    let (b0, b1) = (rotate_by_63(b0 ^ c0), rotate_by_63(b1 ^ c1));
+    let (b0, b1) = (rotate_lanes(b0 ^ c0, 63), rotate_lanes(b1 ^ c1, 63));
     [a0, a1, b0, b1, c0, c1, d0, d1]
 }
 

@@ -15,8 +15,7 @@ use Rattle.argon2_fill.specs.declared.workers.board.Event.{Event}
 use Rattle.argon2_fill.specs.declared.workers.board.Event.TheVariants.{Take, Put}
 use Rattle.argon2_fill.specs.declared.workers.board.Slot.{Slot}
 use Rattle.argon2_fill.specs.declared.workers.board.Slot.TheVariants as slot
-use Rattle.argon2_memory.specs.Views.Segments.{SegmentValue, segment_at}
-use Rattle.argon2_memory.specs.Views.Filling.{no_segment}
+use Rattle.argon2_memory.specs.Views.Segments.{IsReady, SegmentValue, segment_at, no_segment}
 use Rattle.argon2_fill.specs.Views.Replay.{least_waiting, after_take, after_put}
 use Rattle.argon2_fill.specs.Views.Boards.{AllDone, AreReady, HoldSlice, NoneOut}
 use Rattle.argon2_fill.specs.Views.Slots.{AreLanes, IsSlot, place_in, events_left}
@@ -233,7 +232,8 @@ lanes-new job segments slots is ready =
           let e : Some t ≡ Some (slot.Waiting h) = sym here ∙ at k h there in
           let f : slot.Waiting h ≡ t = cc in
           let P : Slot → Type 0 = λ u. IsSlot job k u in
-          subst P f (rw (get_or_from_slice_get segments k h no_segment there) at (ready.each k (omega arith)));
+          let own : IsReady job.setting job.pass job.slice k (get_or segments k no_segment).blocks = ready.each k (omega arith) in
+          subst P f (rw (get_or_from_slice_get segments k h no_segment there) at own);
     }
 
 -- of lanes that all wait none is out

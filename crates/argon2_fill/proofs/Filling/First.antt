@@ -8,8 +8,8 @@ use Rattle.argon2_memory.specs.Views.Jobs.{IsSetting}
 use Rattle.argon2_memory.specs.Laws.Matrix.{IsBegun}
 use Rattle.argon2_standard.specs.Standard.Recurrence.{block_at, first_block}
 use Rattle.argon2_memory.specs.Views.Segments.{IsReady, segment_at, segment_block}
-use Rattle.argon2_memory.specs.Views.Memories.{MemoryValue, AreSlices, HasShape, block_of, places_in, segment_in}
-use Rattle.argon2_memory.specs.Views.Places.{Places, AreFilledBelow}
+use Rattle.argon2_memory.specs.Views.Memories.{MemoryValue, AreSlices, HasShape, block_of, segment_in}
+use Rattle.argon2_memory.specs.Views.Places.{places_in, Places, AreFilledBelow, IsReadySlice}
 use Rattle.argon2_memory.proofs.Schedules.AnyOrder.{recurrence_first}
 use Rattle.argon2_memory.proofs.Recurrence.Recurrences.{block_at-recurrence}
 
@@ -37,7 +37,7 @@ ready_first s good lane fits blocks n first =
 
 -- slices of whole segments, of which those of slice 0 are begun, are ready for pass 0
 module _ (s : Setting) (places : Places) (long : (k lane : ℕ) → k < 4 → lane < s.lanes → length (places k lane) ≡ s.segment_length)
-    (begun : (lane : ℕ) → lane < s.lanes → IsReady s 0 0 lane (places 0 lane)) where
+    (begun : IsReadySlice s 0 0 (places 0)) where
   ready_by : (k lane : ℕ) → k < 4 → lane < s.lanes → IsReady s 0 k lane (places k lane)
   ready_by zero lane h fits = begun lane fits
   ready_by (suc k) lane h fits = long (suc k) lane h fits

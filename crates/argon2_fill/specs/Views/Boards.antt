@@ -1,13 +1,13 @@
 -- What a contract sees of a board, and what its segments hold.
-use Rattle.std.specs.Prelude.{◌≡◌, ◌≢◌, ℕ, zero, suc, ◌<◌, List, Some, length, slice_get, slice_index_or}
+use Rattle.std.specs.Prelude.{◌≡◌, ◌≢◌, ℕ, zero, suc, ◌<◌, List, Some, length, slice_get}
 use Rattle.std.specs.Coded.{Coded-set, coded_list, coded_ℕ, ×_prop}
 use Rattle.argon2_fill.specs.declared.workers.board.Place.{Place}
 use Rattle.argon2_fill.specs.declared.workers.board.Place.TheVariants.{Done, Out}
 use Rattle.argon2_fill.specs.declared.workers.board.Event.{Event}
 use Rattle.argon2_standard.specs.Standard.Setting.{Setting}
 use Rattle.argon2_memory.specs.Views.Jobs.{Job}
-use Rattle.argon2_memory.specs.Views.Segments.{SegmentValue, IsReady, segment_at}
-use Rattle.argon2_memory.specs.Views.Filling.{no_segment}
+use Rattle.argon2_memory.specs.Views.Places.{HoldsSlice, IsReadySlice, lanes_in}
+use Rattle.argon2_memory.specs.Views.Segments.{SegmentValue, IsReady}
 
 -- the job, the state of each lane, and the events so far
 pub record BoardValue : Type 0 where
@@ -18,14 +18,12 @@ pub record BoardValue : Type 0 where
 -- a segment for each lane, in order, as a fill of the job asks for it
 pub record AreReady (job : Job) (segments : List SegmentValue) : Type 0 where
   pub lanes : length segments ≡ job.setting.lanes
-  pub each : (lane : ℕ) → lane < job.setting.lanes →
-      IsReady job.setting job.pass job.slice lane (slice_index_or segments lane no_segment).blocks
+  pub each : IsReadySlice job.setting job.pass job.slice (lanes_in segments)
 
 -- a segment for each lane, in order, with the blocks of the job's pass
 pub record HoldSlice (job : Job) (segments : List SegmentValue) : Type 0 where
   pub lanes : length segments ≡ job.setting.lanes
-  pub each : (lane : ℕ) → lane < job.setting.lanes →
-      (slice_index_or segments lane no_segment).blocks ≡ segment_at job.setting job.pass job.slice lane
+  pub each : HoldsSlice job.setting job.pass job.slice (lanes_in segments)
 
 -- every lane is done
 abbrev pub AllDone : List Place → Type 0

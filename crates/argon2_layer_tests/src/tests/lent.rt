@@ -3,7 +3,7 @@
 use super::orders::config;
 use argon2_blocks::block::Block;
 use argon2_fill::lent::hash_lent;
-use argon2_settings::context::Context;
+use argon2_standard::context::Context;
 use argon2_standard::variant::Variant;
 use std::test::Fail;
 

@@ -5,11 +5,11 @@ ghost use Rattle.std.specs.Prelude.{◌<◌, length};
 use argon2_blocks::blake2b::hprime;
 use argon2_blocks::block::{Block, fill_block};
 use argon2_blocks::common::SYNC_POINTS;
-use argon2_fill::fill::write_first_blocks;
+use argon2_fill::fill::write_first_block;
 use argon2_memory::job::Job;
 use argon2_memory::segment::{pick, reference_positions};
-use argon2_settings::context::Context;
 use argon2_standard::config::Config;
+use argon2_standard::context::Context;
 use argon2_standard::thread_mode::ThreadMode;
 use argon2_standard::variant::Variant;
 use argon2_standard::version::Version;
@@ -136,13 +136,10 @@ fn run<'a>(
         blocks.push(Block::zero())?;
     }
     for lane in 0..job.lanes() {
-        let mut first = Block::zero();
-        let mut second = Block::zero();
-        write_first_blocks(&job, lane, &mut first, &mut second);
-        let at = place(rt, &job, &blocks, lane, 0);
-        blocks[at] = first;
-        let at = place(rt, &job, &blocks, lane, 1);
-        blocks[at] = second;
+        for column in 0..2 {
+            let at = place(rt, &job, &blocks, lane, column);
+            write_first_block(&job, lane, column, &mut blocks[at]);
+        }
     }
     for n in 0..4 * u64::from(job.passes()) {
         let slice_job = job.at((n / 4) as u32, (n % 4) as u32);

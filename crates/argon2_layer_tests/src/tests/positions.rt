@@ -9,8 +9,8 @@ ghost use Rattle.argon2_standard.specs.declared.version.Version.TheVariants.{Ver
 
 use argon2_memory::job::Job;
 use argon2_memory::segment::{pick, reference_set_column, reference_set_size};
-use argon2_settings::context::Context;
 use argon2_standard::config::Config;
+use argon2_standard::context::Context;
 use argon2_standard::thread_mode::ThreadMode;
 use argon2_standard::variant::Variant;
 use argon2_standard::version::Version;

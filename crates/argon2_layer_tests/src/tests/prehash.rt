@@ -2,10 +2,10 @@
 
 use argon2_blocks::blake2b::{blake2b, hprime};
 use argon2_blocks::block::Block;
-use argon2_fill::fill::write_first_blocks;
+use argon2_fill::fill::write_first_block;
 use argon2_memory::job::Job;
-use argon2_settings::context::Context;
 use argon2_standard::config::Config;
+use argon2_standard::context::Context;
 use argon2_standard::thread_mode::ThreadMode;
 use argon2_standard::variant::Variant;
 use argon2_standard::version::Version;
@@ -45,8 +45,7 @@ fn hashes_the_stated_inputs_first(rt: HostRuntime) -> Result<(), Fail> {
     let job = Job::new(&context);
     assert_eq!(rt; job.lanes(), 2);
     let mut block = Block::zero();
-    let mut second = Block::zero();
-    write_first_blocks(&job, 1, &mut block, &mut second);
+    write_first_block(&job, 1, 0, &mut block);
     assert!(rt; block.as_u8() == bytes);
     Ok(())
 }

@@ -4,9 +4,8 @@ ghost use Rattle.std.specs.Prelude.{◌≡◌, IfOk};
 ghost use Rattle.std.specs.List.{remove};
 ghost use Rattle.argon2_fill.specs.Views.Boards.{NoneOut};
 ghost use Rattle.argon2_memory.specs.Views.Filling.{IsSnapshot};
-ghost use Rattle.argon2_memory.specs.Views.Memories.{AreSlices, places_in};
-ghost use Rattle.argon2_memory.specs.Views.Places.{AreFilledBelow};
-ghost use Rattle.argon2_memory.specs.Views.SliceLists.{segments_of};
+ghost use Rattle.argon2_memory.specs.Views.Memories.{AreSlices, segments_of};
+ghost use Rattle.argon2_memory.specs.Views.Places.{places_in, AreFilledBelow};
 
 mod every_slice;
 mod meeting;
@@ -21,8 +20,8 @@ use argon2_fill::workers::{
 use argon2_memory::job::{Job, recall_context, recall_job};
 use argon2_memory::memory::{Memory, Slices, others, take_slices};
 use argon2_memory::segment::{Segment, Snapshot};
-use argon2_settings::context::Context;
 use argon2_standard::config::Config;
+use argon2_standard::context::Context;
 use argon2_standard::error::Error;
 use argon2_standard::result::Result;
 use argon2_standard::thread_mode::ThreadMode;

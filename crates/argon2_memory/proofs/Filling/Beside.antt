@@ -1,14 +1,14 @@
 -- The slices by their numbers, where another one stands in for the job's own.
-use Rattle.std.proofs.Common.{◌≡◌, ◌≢◌, ℕ, ◌+◌, ◌-◌, ◌<◌, List, [], ◌∷◌, map, length, get_or, refl, arith, inl, inr, ap, sym, ◌∙◌}
+use Rattle.std.proofs.Common.{◌≡◌, ◌≢◌, ℕ, ◌-◌, ◌<◌, List, [], ◌∷◌, map, length, get_or, refl, arith, inl, inr, ap, sym, ◌∙◌}
 use Rattle.std.specs.List.{remove}
 use Rattle.std.proofs.lemmas.Bool.Decides.{eqb_tells}
-use Rattle.std.proofs.lemmas.Bool.{cases_lt, lt-ltb, le-ltb}
+use Rattle.std.proofs.lemmas.Bool.{lt-ltb, le-ltb}
 use Rattle.std.proofs.lemmas.List.{get_or-map, map-append, length-map, take-map, drop-map}
-use Rattle.std.proofs.lemmas.List.Edits.{get_or-remove_below, get_or-remove_above}
-use Rattle.argon2_memory.specs.Views.Segments.{SegmentValue}
+use Rattle.argon2_memory.specs.Views.Segments.{SegmentValue, no_segment}
 use Rattle.argon2_memory.specs.Views.Jobs.{Job}
-use Rattle.argon2_memory.specs.Views.Filling.{IsBeside, no_segment, rank_among}
-use Rattle.argon2_memory.specs.Views.Beside.{IsAround}
+use Rattle.argon2_memory.specs.Views.Filling.{IsBeside, IsAround}
+use Rattle.argon2_memory.specs.Views.Places.{rank_among}
+use Rattle.argon2_memory.proofs.Filling.Places.{among-remove, rank_fits}
 
 pub map-remove : {A B : Type 0} (f : A → B) (xs : List A) (i : ℕ) → map f (remove xs i) ≡ remove (map f xs) i
 map-remove f xs i = rw (map-append, ← take-map, ← drop-map) refl
@@ -31,13 +31,7 @@ module _ (j : Job) (slices : List (List SegmentValue)) (around : IsAround j slic
   pub other-is : (slice : ℕ) → slice < 4 → slice ≢ j.slice → get_or slices slice [] ≡ get_or (remove slices j.slice) (rank_among j slice) []
   other-is slice fits other =
       let own : j.slice < length slices = let h = around.beside.job.slice_fits in let n = around.count in omega (arith, h, n) in
-      elim (cases_lt slice j.slice) [
-        | inl w ↦ rw (lt-ltb slice j.slice w) (sym (get_or-remove_below slices j.slice [] slice w own))
-        | inr w ↦
-            let e : slice - 1 + 1 ≡ slice = omega (arith, w, other) in
-            rw (le-ltb slice j.slice w) (sym (get_or-remove_above slices j.slice [] (slice - 1) (omega (arith, w, other)) own
-            ∙ ap (λ n. get_or slices n []) e))
-      ]
+      sym (among-remove j slices [] own slice other)
 
   -- each of the four is some other slice, and has its shape
   is-other : (slice : ℕ) → slice < 4 →
@@ -65,16 +59,10 @@ module _ (j : Job) (slices : List (List SegmentValue)) (around : IsAround j slic
     ]
   ]
 
-  rank_fits : (k : ℕ) → k < 4 → k ≢ j.slice → rank_among j k < 3
-  rank_fits k fits other = elim (cases_lt k j.slice) [
-    | inl w ↦ rw (lt-ltb k j.slice w) (let h = around.beside.job.slice_fits in omega (arith, h, w))
-    | inr w ↦ rw (le-ltb k j.slice w) (omega (arith, fits))
-  ]
-
   pub lanes-at : (slice : ℕ) → slice < 4 → length (get_or slices slice []) ≡ j.setting.lanes
   lanes-at slice fits =
       let (k, (k_fits, other, e)) = is-other slice fits in
-      ap (λ (l : List SegmentValue). length l) e ∙ around.beside.lanes (rank_among j k) (rank_fits k k_fits other)
+      ap (λ (l : List SegmentValue). length l) e ∙ around.beside.lanes (rank_among j k) (rank_fits j around.beside.job.slice_fits k k_fits)
 
   pub blocks-at : (slice lane : ℕ) → slice < 4 → lane < j.setting.lanes →
       length (get_or (get_or slices slice []) lane no_segment).blocks ≡ j.setting.segment_length

@@ -11,13 +11,12 @@ use Rattle.std.proofs.lemmas.Nat.{div-mul-add}
 use Rattle.argon2_blocks.specs.Standard.Block.{xor}
 use Rattle.argon2_blocks.specs.Standard.Compression.{compress_g}
 use Rattle.argon2_standard.specs.Standard.Setting.{Setting, Position, lane_length, slice_of}
-use Rattle.argon2_memory.specs.Views.Jobs.{IsSetting, IsPosition, Job, IsJob, first_index}
+use Rattle.argon2_memory.specs.Views.Jobs.{IsSetting, IsPosition, Job, IsJob, first_index, position_of}
 use Rattle.argon2_standard.specs.Standard.Reference.{is_data_independent, previous, pick}
 use Rattle.argon2_standard.specs.Standard.Recurrence.{block_at, drawn_word, address_word, combines, made_block}
 use Rattle.argon2_memory.specs.Views.Segments.{segment_at, segment_block, IsReady}
-use Rattle.argon2_memory.specs.Views.Filling.{position_of, SnapshotValue, IsSnapshot}
-use Rattle.argon2_memory.specs.Views.Beside.{IsPicked}
-use Rattle.argon2_memory.specs.Views.Filling.{other_blocks, block_seen, IsFilledTo, pick_of, reference_of}
+use Rattle.argon2_memory.specs.Views.Filling.{SnapshotValue, IsSnapshot, other_blocks, block_seen, IsFilledTo}
+use Rattle.argon2_memory.specs.Views.References.{IsPicked, pick_of, reference_of}
 use Rattle.argon2_memory.proofs.Recurrence.Jobs.{start_fits, later_index}
 use Rattle.argon2_memory.proofs.Recurrence.Recurrences.{same_choice, both-true, block_at-recurrence}
 use Rattle.argon2_memory.proofs.Schedules.AnyOrder.{pick-lane_fits, recurrence_later, slice_of_sum}

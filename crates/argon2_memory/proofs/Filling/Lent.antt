@@ -1,16 +1,21 @@
 -- The blocks of a slice that is lent, lane after lane.
-use Rattle.std.proofs.Common.{◌≡◌, ℕ, zero, suc, ◌+◌, ◌*◌, ◌<◌, ◌≤◌, List, [], ◌∷◌, length, get_or, drop, arith, inl, inr, refl, sym, ◌∙◌, ap}
+use Rattle.std.proofs.Common.{◌≡◌, ℕ, zero, suc, ◌+◌, ◌*◌, ◌<◌, ◌≤◌, List, [], ◌∷◌, length, get_or, drop, arith, refl, sym, ◌∙◌, ap}
 use Rattle.std.proofs.Math.Nat.{mul-le-mul_right}
-use Rattle.std.proofs.lemmas.Bool.{cases_lt, lt-ltb, le-ltb}
 use Rattle.std.proofs.lemmas.List.{get_or-map, get_or_default, get_or-take, get_or-drop, length-take, length-drop}
 use Rattle.std.proofs.lemmas.List.FromFn.{get_or-map-range_with_len, length-map-range_with_len}
 use Rattle.std.specs.Borrow.{Bor}
 use Rattle.argon2_standard.specs.Standard.Setting.{Setting}
-use Rattle.argon2_memory.specs.Views.Segments.{SegmentValue}
+use Rattle.argon2_memory.specs.Views.Segments.{SegmentValue, no_segment}
 use Rattle.argon2_memory.specs.Views.Jobs.{Job, IsJob}
-use Rattle.argon2_memory.specs.Views.Filling.{SnapshotValue, IsBeside, IsSnapshot, no_segment, other_blocks, rank_among}
-use Rattle.argon2_memory.specs.Views.Beside.{lent_blocks, lent_segment, lent_slice, lent_slices}
-use Rattle.argon2_memory.specs.Views.Lent.{AreLent}
+use Rattle.argon2_memory.specs.Views.Filling.{SnapshotValue, IsBeside, IsSnapshot, other_blocks, lent_segment, lent_slice, lent_slices}
+use Rattle.argon2_memory.specs.Views.Places.{rank_among, among, lent_blocks, lent_places, HoldOthers}
+use Rattle.argon2_memory.proofs.Filling.Places.{rank_fits}
+
+-- a block of a lane's part of a slice
+pub get-lent : (s : Setting) (blocks : List (List ℕ)) (lane index : ℕ) → index < s.segment_length →
+    get_or (lent_blocks s blocks lane) index [] ≡ get_or blocks (lane * s.segment_length + index) []
+get-lent s blocks lane index h =
+    get_or-take s.segment_length (drop (lane * s.segment_length) blocks) index [] h ∙ get_or-drop (lane * s.segment_length) blocks index []
 
 module _ (s : Setting) (others : List (Bor (List (List ℕ)))) (at lane index : ℕ) (o : Bor (List (List ℕ))) (four : length others ≡ 4) (at_fits : at < 4)
     (lane_fits : lane < s.lanes) (is : o ≡ get_or others at o) where
@@ -33,8 +38,7 @@ module _ (s : Setting) (others : List (Bor (List (List ℕ)))) (at lane index : 
       block ≡ get_or o.now place block → block ≡ get_or (get_or (get_or (lent_slices s others) at []) lane no_segment).blocks index []
   block-is index_fits place e fits block read =
       read ∙ get_or_default o.now place block [] fits ∙ ap (λ n. get_or o.now n []) e
-      ∙ sym (get_or-drop (lane * s.segment_length) o.now index [])
-      ∙ sym (get_or-take s.segment_length (drop (lane * s.segment_length) o.now) index [] index_fits)
+      ∙ sym (get-lent s o.now lane index index_fits)
       ∙ sym (ap (λ (x : SegmentValue). get_or x.blocks index []) segment-is)
 
 -- a lane's part of a slice of p * L blocks has L blocks
@@ -68,16 +72,10 @@ module _ (j : Job) (good : IsJob j) (a b c : List (List ℕ)) (long-a : length a
   long-at (suc (suc zero)) h = long-c
   long-at (suc (suc (suc at))) h = absurd (omega arith)
 
-  rank_fits : (slice : ℕ) → slice < 4 → rank_among j slice < 3
-  rank_fits slice h = elim (cases_lt slice j.slice) [
-    | inl w ↦ rw (lt-ltb slice j.slice w) (let g = good.slice_fits in omega (arith, w, g))
-    | inr w ↦ rw (le-ltb slice j.slice w) (omega arith)
-  ]
-
   other-is : (slice lane : ℕ) → slice < 4 → lane < j.setting.lanes →
       other_blocks v slice lane ≡ lent_blocks j.setting (get_or lists (rank_among j slice) []) lane
   other-is slice lane h fits =
-      ap (λ (l : List SegmentValue). (get_or l lane no_segment).blocks) (slice-at (rank_among j slice) (rank_fits slice h))
+      ap (λ (l : List SegmentValue). (get_or l lane no_segment).blocks) (slice-at (rank_among j slice) (rank_fits j good.slice_fits slice h))
       ∙ ap (λ (x : SegmentValue). x.blocks) (get_or-map-range_with_len (lent_segment j.setting (get_or lists (rank_among j slice) [])) 0
       j.setting.lanes lane lane no_segment fits (omega arith))
 
@@ -88,10 +86,10 @@ module _ (j : Job) (good : IsJob j) (a b c : List (List ℕ)) (long-a : length a
     lanes = λ at h. ap (λ (l : List SegmentValue). length l) (slice-at at h)
         ∙ length-map-range_with_len (lent_segment j.setting (get_or lists at [])) 0 j.setting.lanes;
     blocks = λ slice lane h ne fits. ap (λ (l : List (List ℕ)). length l) (other-is slice lane h fits)
-        ∙ length-lent j.setting (get_or lists (rank_among j slice) []) lane (long-at (rank_among j slice) (rank_fits slice h)) fits;
+        ∙ length-lent j.setting (get_or lists (rank_among j slice) []) lane (long-at (rank_among j slice) (rank_fits j good.slice_fits slice h)) fits;
   }
 
-  pub snapshot_lent : AreLent j lists → IsSnapshot v
+  pub snapshot_lent : HoldOthers j (among j (lent_places j.setting lists)) → IsSnapshot v
   snapshot_lent lent = record {
     beside = beside_lent;
     held = record {

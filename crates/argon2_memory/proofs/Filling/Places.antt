@@ -1,9 +1,31 @@
 -- From slice to slice, wherever the blocks stand.
-use Rattle.std.proofs.Common.{◌≡◌, ◌≢◌, ℕ, ◌+◌, ◌<◌, arith, inl, inr, ◌∙◌}
+use Rattle.std.proofs.Common.{◌≡◌, ◌≢◌, ℕ, ◌+◌, ◌-◌, ◌<◌, List, length, get_or, arith, inl, inr, ap, ◌∙◌}
+use Rattle.std.specs.List.{remove}
+use Rattle.std.proofs.lemmas.Bool.{cases_lt, lt-ltb, le-ltb}
 use Rattle.std.proofs.lemmas.Bool.Decides.{eqb_tells}
+use Rattle.std.proofs.lemmas.List.Edits.{get_or-remove_above, get_or-remove_below}
 use Rattle.argon2_memory.specs.Views.Jobs.{Job}
-use Rattle.argon2_memory.specs.Views.Places.{Places, AreFilledBelow, HoldOthers}
+use Rattle.argon2_memory.specs.Views.Places.{Places, AreFilledBelow, HoldOthers, rank_among}
 use Rattle.argon2_memory.specs.Views.Segments.{segment_at}
+
+-- ---- the slices beside the job's
+
+-- each has a place among three
+pub rank_fits : (j : Job) → j.slice < 4 → (k : ℕ) → k < 4 → rank_among j k < 3
+rank_fits j few k h = elim (cases_lt k j.slice) [
+  | inl w ↦ rw (lt-ltb k j.slice w) (omega (arith, w, few))
+  | inr w ↦ rw (le-ltb k j.slice w) (omega (arith, h))
+]
+
+-- at which it stands where the job's is taken out of four
+pub among-remove : {A : Type 0} (j : Job) (xs : List A) (d : A) → j.slice < length xs → (k : ℕ) → k ≢ j.slice →
+    get_or (remove xs j.slice) (rank_among j k) d ≡ get_or xs k d
+among-remove j xs d h k ne = elim (cases_lt k j.slice) [
+  | inl w ↦ rw (lt-ltb k j.slice w) (get_or-remove_below xs j.slice d k w h)
+  | inr w ↦ rw (le-ltb k j.slice w) (get_or-remove_above xs j.slice d (k - 1) (omega (arith, w, ne)) h ∙ ap (λ n. get_or xs n d) (omega (arith, w, ne)))
+]
+
+-- ---- a slice further
 
 module _ (j : Job) (places : Places) (ready : AreFilledBelow j.setting j.pass j.slice places) where
   -- the other slices are as a fill of the job asks for them

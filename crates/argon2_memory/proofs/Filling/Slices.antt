@@ -7,28 +7,19 @@ use Rattle.std.proofs.lemmas.List.{get_or-set_same, get_or-set_other, length-set
 use Rattle.argon2_blocks.specs.Standard.Block.{zero_block}
 use Rattle.std.proofs.lemmas.List.FromFn.{length-map-range_with_len}
 use Rattle.std.proofs.Math.Nat.{div-lt_iff_lt-mul}
-use Rattle.std.proofs.lemmas.List.Edits.{get_or-remove_above, get_or-remove_below, length-remove}
+use Rattle.std.proofs.lemmas.List.Edits.{length-remove}
 use Rattle.std.specs.List.{remove}
 use Rattle.std.proofs.lemmas.List.{map-set}
 use Rattle.argon2_memory.specs.declared.segment.counted.Segment.{Segment}
-use Rattle.argon2_memory.specs.Views.SliceLists.{segments_of}
+use Rattle.argon2_memory.specs.Views.Memories.{segments_of, segment_in, AreSlices, slice_writes, writes_in}
 use Rattle.argon2_memory.specs.Views.Jobs.{Job, IsJob}
-use Rattle.argon2_memory.specs.Views.Segments.{SegmentValue, segment_at, segment_block}
-use Rattle.argon2_memory.specs.Views.Filling.{no_segment, rank_among, IsSnapshot}
-use Rattle.argon2_memory.specs.Views.Memories.{segment_in, places_in, AreSlices, slice_writes, writes_in, zero_segment}
-use Rattle.argon2_memory.specs.Views.Places.{AreFilledBelow}
-use Rattle.argon2_memory.proofs.Filling.Places.{others_hold, filled_further}
+use Rattle.argon2_memory.specs.Views.Segments.{SegmentValue, segment_at, segment_block, no_segment, zero_segment}
+use Rattle.argon2_memory.specs.Views.Places.{rank_among, places_in, AreFilledBelow}
+use Rattle.argon2_memory.specs.Views.Filling.{IsSnapshot}
+use Rattle.argon2_memory.proofs.Filling.Places.{among-remove, others_hold, filled_further}
 use Rattle.std.proofs.lemmas.List.Sums.{sum_by-set}
 
 -- ---- the slices beside one
-
--- the slice at a place among the others
-get-other : (j : Job) (k : ℕ) (m : List (List SegmentValue)) → j.slice < length m → k ≢ j.slice →
-    get_or (remove m j.slice) (rank_among j k) [] ≡ get_or m k []
-get-other j k m h ne = elim (cases_lt k j.slice) [
-  | inl w ↦ rw (lt-ltb k j.slice w) (get_or-remove_below m j.slice [] k w h)
-  | inr w ↦ rw (le-ltb k j.slice w) (get_or-remove_above m j.slice [] (k - 1) (omega arith) h ∙ ap (λ n. get_or m n []) (omega arith))
-]
 
 module _ (j : Job) (good : IsJob j) (m : List (List SegmentValue)) (slices : AreSlices j.setting.lanes j.setting.segment_length m)
     (ready : AreFilledBelow j.setting j.pass j.slice (places_in m)) where
@@ -36,7 +27,7 @@ module _ (j : Job) (good : IsJob j) (m : List (List SegmentValue)) (slices : Are
   few = let g = good.slice_fits in omega (arith, g, slices.count)
 
   at-other : (k : ℕ) → k ≢ j.slice → get_or (remove m j.slice) (rank_among j k) [] ≡ get_or m k []
-  at-other k ne = get-other j k m few ne
+  at-other k ne = among-remove j m [] few k ne
 
   pub is_snapshot : (o : List (List SegmentValue)) → o ≡ remove m j.slice → IsSnapshot (record { job = j; others = o })
   is_snapshot o e = rw e (record {

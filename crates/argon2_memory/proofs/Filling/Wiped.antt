@@ -2,9 +2,8 @@
 use Rattle.std.proofs.Common.{◌≡◌, ℕ, ◌<◌, List, [], map, length, get_or, arith, ap, ◌∙◌}
 use Rattle.std.proofs.lemmas.List.{get_or-map, length-map, length-replicate}
 use Rattle.argon2_blocks.specs.Standard.Block.{zero_block}
-use Rattle.argon2_memory.specs.Views.Filling.{no_segment}
-use Rattle.argon2_memory.specs.Views.Memories.{AreSlices, segment_in, wiped_segment}
-use Rattle.argon2_memory.specs.Views.Segments.{SegmentValue}
+use Rattle.argon2_memory.specs.Views.Segments.{no_segment, wiped_segment, SegmentValue}
+use Rattle.argon2_memory.specs.Views.Memories.{AreSlices, segment_in}
 
 module _ (p len : ℕ) (slices : List (List SegmentValue)) (good : AreSlices p len slices) where
   abbrev pub wiped : List (List SegmentValue)

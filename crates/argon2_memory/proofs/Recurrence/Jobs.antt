@@ -6,9 +6,9 @@ use Rattle.argon2_standard.specs.declared.config.Config.{Config}
 use Rattle.argon2_standard.specs.Standard.SettingsTable.{refusal_of}
 use Rattle.argon2_standard.specs.Standard.Setting.{Setting, lane_length}
 use Rattle.argon2_standard.specs.Standard.Prehash.{hashed_inputs, prehash_of, setting_of}
-use Rattle.argon2_settings.specs.declared.context.Context.{Context}
-use Rattle.argon2_settings.proofs.Settings.Accepted.{accepted, long_segment}
-use Rattle.argon2_settings.proofs.Settings.HashLengths.{length-blake2b}
+use Rattle.argon2_standard.specs.declared.context.Context.{Context}
+use Rattle.argon2_standard.proofs.Settings.Accepted.{accepted, long_segment}
+use Rattle.argon2_standard.proofs.Settings.HashLengths.{length-blake2b}
 use Rattle.argon2_memory.specs.Views.Jobs.{IsSetting, setting_of_context}
 
 -- the setting of an accepted call, whose passes and blocks fit 32 bits

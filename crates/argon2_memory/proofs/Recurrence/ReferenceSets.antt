@@ -8,9 +8,9 @@ use Rattle.std.proofs.lemmas.List.{length-append, length-take, get_or-take, get_
 use Rattle.std.proofs.lemmas.List.FromFn.{get_or-map-range_with_len}
 use Rattle.std.proofs.Math.Nat.{div-add-mod}
 use Rattle.argon2_standard.specs.Standard.Setting.{Setting, Position, lane_length, slice_of, index_of}
-use Rattle.argon2_memory.specs.Views.Jobs.{IsPosition, Job, IsJob, first_index}
+use Rattle.argon2_memory.specs.Views.Jobs.{IsPosition, Job, IsJob, first_index, position_of}
 use Rattle.argon2_standard.specs.Standard.Reference.{columns_between, columns_of_last_pass, without_last, reference_set, relative_position, drawn_lane, pick}
-use Rattle.argon2_memory.specs.Views.Filling.{position_of, left_columns, reference_set_size, reference_set_column, pick_of}
+use Rattle.argon2_memory.specs.Views.References.{left_columns, reference_set_size, reference_set_column, pick_of}
 use Rattle.argon2_memory.proofs.Recurrence.Jobs.{start_fits, later_index}
 use Rattle.argon2_memory.proofs.Recurrence.References.{length-columns, some_reference, own_lane_first, relative_position_fits}
 use Rattle.argon2_memory.proofs.Schedules.AnyOrder.{slice_of_sum}

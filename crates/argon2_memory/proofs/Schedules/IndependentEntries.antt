@@ -4,7 +4,7 @@ use Rattle.argon2_standard.specs.Standard.Setting.{Setting, Position, slice_of}
 use Rattle.argon2_memory.specs.Views.Jobs.{IsSetting, IsPosition}
 use Rattle.argon2_standard.specs.Standard.Reference.{reference_set, pick}
 use Rattle.argon2_standard.specs.Standard.Recurrence.{address_word}
-use Rattle.argon2_memory.specs.Views.Positions.{positions_in, reference_positions_of}
+use Rattle.argon2_memory.specs.Views.References.{positions_in, reference_positions_of}
 use Rattle.argon2_memory.proofs.Recurrence.References.{pick-readable}
 
 -- a setting's references are those of its variant, lanes, segment length and passes alone

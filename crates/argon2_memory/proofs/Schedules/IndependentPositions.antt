@@ -3,12 +3,11 @@ use Rattle.std.proofs.Common.{◌≡◌, ℕ, ◌+◌, ◌-◌, ◌/◌, ◌%◌
 use Rattle.std.specs.Prelude.{slice_index}
 use Rattle.std.proofs.lemmas.List.{length-take, length-drop, get_or-take, get_or-drop, ext_get_or}
 use Rattle.std.proofs.lemmas.List.FromFn.{get_or-map-range_with_len, length-map-range_with_len}
-use Rattle.argon2_memory.specs.Views.Jobs.{Job, IsJob, first_index}
+use Rattle.argon2_memory.specs.Views.Jobs.{Job, IsJob, first_index, position_of}
 use Rattle.argon2_standard.specs.Standard.Reference.{is_data_independent}
 use Rattle.argon2_standard.specs.Standard.Recurrence.{address_word, addresses}
-use Rattle.argon2_memory.specs.Views.Positions.{positions_in, reference_positions_of}
+use Rattle.argon2_memory.specs.Views.References.{positions_in, reference_positions_of, pick_of, independent_reference, reference_of}
 use Rattle.argon2_memory.proofs.Schedules.IndependentEntries.{reference_positions_of-setting}
-use Rattle.argon2_memory.specs.Views.Filling.{position_of, pick_of, independent_reference, reference_of}
 use Rattle.argon2_memory.proofs.Recurrence.ReferenceSets.{same_slice, same_index}
 
 -- the address word of an index is word index % 128 of the address block index / 128

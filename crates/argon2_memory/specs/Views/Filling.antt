@@ -1,30 +1,22 @@
 -- A segment while it is filled, from the other slices and from its own blocks so far.
-use Rattle.std.specs.Prelude.{◌≡◌, ◌≢◌, ℕ, suc, ◌+◌, ◌-◌, ◌*◌, ◌/◌, ◌%◌, ◌<◌, ◌≤◌, Bool, ◌==◌, nat_lt, if◌then◌else◌, List, [], length, slice_index_or}
-use Rattle.argon2_standard.specs.Standard.Setting.{Position, lane_length}
+use Rattle.std.specs.Prelude.{◌≡◌, ◌≢◌, ℕ, suc, ◌/◌, ◌%◌, ◌<◌, ◌≤◌, ◌==◌, if◌then◌else◌, List, [], length, map, slice_index_or}
+use Rattle.std.specs.Borrow.{Bor}
+use Rattle.std.specs.List.{range_with_len, remove}
+use Rattle.argon2_standard.specs.Standard.Setting.{Setting}
 use Rattle.argon2_memory.specs.Views.Jobs.{Job, IsJob}
-use Rattle.argon2_standard.specs.Standard.Reference.{pick}
-use Rattle.argon2_standard.specs.Standard.Recurrence.{block_at, drawn_word, address_word}
+use Rattle.argon2_memory.specs.Views.Places.{HoldOthers, among, lent_blocks, places_in}
 use Rattle.argon2_memory.specs.Views.Segments.{SegmentValue, segment_block}
-use Rattle.argon2_memory.specs.Views.Places.{HoldOthers}
-pub use Rattle.argon2_memory.specs.Standard.Kept.{no_segment}
 
--- the place of an index of the job's segment of a lane
-abbrev pub position_of : Job → ℕ → ℕ → Position
-position_of j lane index =
-    record { pass = j.pass; lane = lane; column = j.slice * j.setting.segment_length + index }
+-- ---- the slices beside the one that is filled
 
 -- what a contract sees of a snapshot: the job, and the other slices in rising order
 pub record SnapshotValue : Type 0 where
   pub job : Job
   pub others : List (List SegmentValue)
 
--- the place of a slice among the three that are not the job's
-abbrev pub rank_among : Job → ℕ → ℕ
-rank_among j slice = if nat_lt slice j.slice then slice else slice - 1
-
 -- the blocks of a lane in one of the other slices
 abbrev pub other_blocks : SnapshotValue → ℕ → ℕ → List (List ℕ)
-other_blocks v slice lane = (slice_index_or (slice_index_or v.others (rank_among v.job slice) []) lane no_segment).blocks
+other_blocks v slice lane = among v.job (places_in v.others) slice lane
 
 -- the shape of a job's other slices: three, each with a segment of L blocks for each lane
 pub record IsBeside (v : SnapshotValue) : Type 0 where
@@ -38,6 +30,24 @@ pub record IsBeside (v : SnapshotValue) : Type 0 where
 pub record IsSnapshot (v : SnapshotValue) : Type 0 where
   pub beside : IsBeside v
   pub held : HoldOthers v.job (other_blocks v)
+
+-- the slices by their numbers, where the first of the others stands in for the job's own
+pub record IsAround (j : Job) (slices : List (List SegmentValue)) : Type 0 where
+  pub beside : IsBeside (record { job = j; others = remove slices j.slice })
+  pub count : length slices ≡ 4
+  pub stand_in : slice_index_or slices j.slice [] ≡ slice_index_or (remove slices j.slice) 0 []
+
+-- slices that are lent, lane after lane
+abbrev pub lent_segment : Setting → List (List ℕ) → ℕ → SegmentValue
+lent_segment s blocks lane = record { blocks = lent_blocks s blocks lane; tally = 0 }
+
+abbrev pub lent_slice : Setting → List (List ℕ) → List SegmentValue
+lent_slice s blocks = map (lent_segment s blocks) (range_with_len 0 s.lanes)
+
+abbrev pub lent_slices : Setting → List (Bor (List (List ℕ))) → List (List SegmentValue)
+lent_slices s others = map (λ (o : Bor (List (List ℕ))). lent_slice s o.now) others
+
+-- ---- the segment
 
 -- the block at a lane and column, as a lane that is being filled sees it
 abbrev pub block_seen : SnapshotValue → List (List ℕ) → ℕ → ℕ → List ℕ
@@ -54,31 +64,7 @@ pub record IsFilledTo (j : Job) (lane index : ℕ) (blocks : List (List ℕ)) : 
   pub old : (last k : ℕ) → suc last ≡ j.pass → index ≤ k → k < j.setting.segment_length →
       slice_index_or blocks k [] ≡ segment_block j.setting last j.slice lane k
 
--- the lane and column that a word picks for a block
-abbrev pub pick_of : Job → ℕ → ℕ → ℕ → ℕ × ℕ
-pick_of j lane index word =
-    let chosen = pick j.setting word (position_of j lane index) in (chosen.lane, chosen.column)
-
--- the lane and column that the block at an index refers to
-abbrev pub reference_of : Job → ℕ → ℕ → ℕ × ℕ
-reference_of j lane index = pick_of j lane index (drawn_word j.setting (block_at j.setting) (position_of j lane index))
-
--- how many columns of a lane the last pass left, and how many elements the reference set has
-abbrev pub left_columns : Job → ℕ
-left_columns j =
-    if j.pass == 0 then 0 else lane_length j.setting - (j.slice * j.setting.segment_length + j.setting.segment_length)
-
-abbrev pub reference_set_size : Job → Bool → ℕ → ℕ
-reference_set_size j is_own index =
-    let elsewhere = left_columns j + j.slice * j.setting.segment_length in
-    if is_own then elsewhere + index - 1 else if index == 0 then elsewhere - 1 else elsewhere
-
--- the column at a relative position in the reference set
-abbrev pub reference_set_column : Job → ℕ → ℕ
-reference_set_column j position =
-    if nat_lt position (left_columns j) then j.slice * j.setting.segment_length + j.setting.segment_length + position
-    else position - left_columns j
-
--- the lane and column that the block at an index of an independent segment refers to
-abbrev pub independent_reference : Job → ℕ → ℕ → ℕ × ℕ
-independent_reference j lane index = pick_of j lane index (address_word j.setting (position_of j lane index))
+-- where the other slices hold their blocks, a segment that was filled up to the first index is filled up
+-- to the end
+abbrev pub FillsOn : SnapshotValue → ℕ → ℕ → ℕ → SegmentValue → SegmentValue → Type 0
+FillsOn v lane first end old new = IsSnapshot v → IsFilledTo v.job lane first old.blocks → IsFilledTo v.job lane end new.blocks

@@ -1,10 +1,10 @@
 -- The bounds of a setting, and a job: its numbers with those of one pass and one slice.
-use Rattle.std.specs.Prelude.{◌≡◌, ℕ, ◌^◌, ◌<◌, ◌≤◌, ◌==◌, ◌&&◌, if◌then◌else◌, List, length}
+use Rattle.std.specs.Prelude.{◌≡◌, ℕ, ◌+◌, ◌*◌, ◌^◌, ◌<◌, ◌≤◌, ◌==◌, ◌&&◌, if◌then◌else◌, List, length}
 use Rattle.argon2_standard.specs.Standard.SettingsTable.{max_lanes}
 use Rattle.argon2_standard.specs.Standard.Setting.{Setting, lane_length, memory_blocks, Position}
 use Rattle.argon2_standard.specs.declared.config.Config.{Config}
 use Rattle.argon2_standard.specs.Standard.Prehash.{setting_of}
-use Rattle.argon2_settings.specs.declared.context.Context.{Context}
+use Rattle.argon2_standard.specs.declared.context.Context.{Context}
 
 -- the bounds of a setting
 pub record IsSetting (s : Setting) : Type 0 where
@@ -30,6 +30,11 @@ pub record Job : Type 0 where
   pub setting : Setting
   pub pass : ℕ
   pub slice : ℕ
+
+-- the place of an index of the job's segment of a lane
+abbrev pub position_of : Job → ℕ → ℕ → Position
+position_of j lane index =
+    record { pass = j.pass; lane = lane; column = j.slice * j.setting.segment_length + index }
 
 -- the index of the first block that a fill writes
 abbrev pub first_index : Job → ℕ

@@ -1,11 +1,10 @@
 -- What a contract sees of a memory.
-use Rattle.std.specs.Prelude.{◌≡◌, ℕ, ◌*◌, ◌%◌, ◌^◌, ◌<◌, ◌-◌, ◌==◌, if◌then◌else◌, List, [], length, map, replicate, slice_index_or, slice_set}
-use Rattle.std.specs.List.{sum_by, range_with_len}
-use Rattle.argon2_blocks.specs.Standard.Block.{zero_block}
-use Rattle.argon2_memory.specs.Views.Sources.{with_block}
+use Rattle.std.specs.Prelude.{◌≡◌, ℕ, ◌*◌, ◌%◌, ◌^◌, ◌<◌, ◌-◌, ◌==◌, if◌then◌else◌, List, [], Vec, length, map, replicate, slice_index_or, slice_set}
+use Rattle.std.specs.List.{sum_by}
+use Rattle.std.specs.declared.alloc.Global.{Global}
 use Rattle.argon2_standard.specs.Standard.Setting.{Setting}
-use Rattle.argon2_memory.specs.Views.Segments.{SegmentValue}
-use Rattle.argon2_memory.specs.Views.Places.{Places}
+use Rattle.argon2_memory.specs.declared.segment.counted.Segment.{Segment}
+use Rattle.argon2_memory.specs.Views.Segments.{SegmentValue, wiped_segment, with_block, zero_segment}
 pub use Rattle.argon2_memory.specs.Standard.Kept.{MemoryValue, HasShape, block_of, no_memory, segment_in}
 
 -- four slices, each with a segment of L blocks for each of p lanes
@@ -19,6 +18,10 @@ pub record IsMemory (m : MemoryValue) : Type 0 where
   pub fits : 4 * m.lanes * m.segment_length < 2 ^ 32
   pub lane_fits : 4 * m.segment_length < 2 ^ 32
 
+-- the lists of segments that four vectors hold
+abbrev pub segments_of : List (Vec Segment Global) → List (List SegmentValue)
+segments_of slices = map (λ (v : Vec Segment Global). v.items) slices
+
 -- the sum of the tallies of a slice
 abbrev pub slice_writes : List SegmentValue → ℕ
 slice_writes segments = sum_by (λ (segment : SegmentValue). segment.tally) segments
@@ -30,18 +33,11 @@ writes_in slices = sum_by slice_writes slices % 2 ^ 64
 abbrev pub writes : MemoryValue → ℕ
 writes m = writes_in m.slices
 
--- the blocks of each lane in a memory's slices
-abbrev pub places_in : List (List SegmentValue) → Places
-places_in slices slice lane = (segment_in slices slice lane).blocks
-
 -- how many blocks the first n slices of a fill write: all of theirs, but for the first two of each lane
 abbrev pub blocks_written : Setting → ℕ → ℕ
 blocks_written s n = s.lanes * (n * s.segment_length - (if n == 0 then 0 else 2))
 
--- a segment, and a memory, of zeros in which nothing was written yet
-abbrev pub zero_segment : ℕ → SegmentValue
-zero_segment length = record { blocks = replicate length zero_block; tally = 0 }
-
+-- a memory of zeros in which nothing was written yet
 abbrev pub zero_memory : ℕ → ℕ → MemoryValue
 zero_memory lanes segment_length = record {
   lanes = lanes;
@@ -49,17 +45,9 @@ zero_memory lanes segment_length = record {
   slices = replicate 4 (replicate lanes (zero_segment segment_length));
 }
 
--- a segment of as many blocks, of zeros, none of which was written
-abbrev pub wiped_segment : SegmentValue → SegmentValue
-wiped_segment s = zero_segment (length s.blocks)
-
 -- a memory whose segments are wiped
 abbrev pub wiped_memory : MemoryValue → MemoryValue
 wiped_memory m = record m { slices = map (map wiped_segment) m.slices }
-
--- the last block of each lane
-abbrev pub last_blocks_of : MemoryValue → List (List ℕ)
-last_blocks_of m = map (λ lane. block_of m lane (4 * m.segment_length - 1)) (range_with_len 0 m.lanes)
 
 -- the slices with a block written at a lane and index
 abbrev pub set_in : List (List SegmentValue) → ℕ → ℕ → ℕ → List ℕ → List (List SegmentValue)

@@ -1,12 +1,53 @@
 -- The blocks of each slice and lane while they are filled, wherever they stand: in a memory's segments or lent.
-use Rattle.std.specs.Prelude.{◌≡◌, ℕ, suc, ◌<◌, ◌≤◌, List}
+use Rattle.std.specs.Prelude.{◌≡◌, ℕ, suc, ◌-◌, ◌*◌, ◌<◌, ◌≤◌, nat_lt, if◌then◌else◌, List, [], map, slice_index_or, take, drop}
+use Rattle.std.specs.List.{range_with_len}
 use Rattle.argon2_standard.specs.Standard.Setting.{Setting}
 use Rattle.argon2_memory.specs.Views.Jobs.{Job}
-use Rattle.argon2_memory.specs.Views.Segments.{IsReady, segment_at}
+use Rattle.argon2_memory.specs.Views.Segments.{SegmentValue, IsReady, no_segment, segment_at}
 
--- the blocks of a slice's lane
+-- the blocks of each lane in a slice
+abbrev pub Lanes : Type 0
+Lanes = ℕ → List (List ℕ)
+
+-- and those of each slice
 abbrev pub Places : Type 0
-Places = ℕ → ℕ → List (List ℕ)
+Places = ℕ → Lanes
+
+-- ---- where they stand
+
+-- in a slice of a memory
+abbrev pub lanes_in : List SegmentValue → Lanes
+lanes_in segments lane = (slice_index_or segments lane no_segment).blocks
+
+-- in a memory's slices
+abbrev pub places_in : List (List SegmentValue) → Places
+places_in slices slice lane = lanes_in (slice_index_or slices slice []) lane
+
+-- in a slice that is lent, lane after lane
+abbrev pub lent_blocks : Setting → List (List ℕ) → Lanes
+lent_blocks s blocks lane = take s.segment_length (drop (lane * s.segment_length) blocks)
+
+-- in slices that are lent
+abbrev pub lent_places : Setting → List (List (List ℕ)) → Places
+lent_places s slices slice lane = lent_blocks s (slice_index_or slices slice []) lane
+
+-- the place of a slice among the three that are not the job's
+abbrev pub rank_among : Job → ℕ → ℕ
+rank_among j slice = if nat_lt slice j.slice then slice else slice - 1
+
+-- in three slices, by the numbers that they have among four with the job's
+abbrev pub among : Job → Places → Places
+among j three slice lane = three (rank_among j slice) lane
+
+-- ---- what they hold
+
+-- each lane is as a pass over the slice asks for it
+abbrev pub IsReadySlice : Setting → ℕ → ℕ → Lanes → Type 0
+IsReadySlice s pass slice lanes = (lane : ℕ) → lane < s.lanes → IsReady s pass slice lane (lanes lane)
+
+-- each lane holds the slice's blocks of a pass
+abbrev pub HoldsSlice : Setting → ℕ → ℕ → Lanes → Type 0
+HoldsSlice s pass slice lanes = (lane : ℕ) → lane < s.lanes → lanes lane ≡ segment_at s pass slice lane
 
 -- in each lane the slices below the stated one hold the pass's blocks, and the others wait for it
 pub record AreFilledBelow (s : Setting) (pass slice : ℕ) (places : Places) : Type 0 where
@@ -18,3 +59,16 @@ pub record HoldOthers (j : Job) (places : Places) : Type 0 where
   pub lower : (slice lane : ℕ) → slice < j.slice → lane < j.setting.lanes → places slice lane ≡ segment_at j.setting j.pass slice lane
   pub upper : (slice lane last : ℕ) → j.slice < slice → slice < 4 → lane < j.setting.lanes → suc last ≡ j.pass →
       places slice lane ≡ segment_at j.setting last slice lane
+
+-- what a fill of a lane's segment of the job's slice leaves there: where the other slices hold their
+-- blocks, and the segment was as a fill asks for it, the blocks of the job's pass
+abbrev pub Fills : Job → ℕ → Places → List (List ℕ) → List (List ℕ) → Type 0
+Fills j lane places old new = HoldOthers j places → IsReady j.setting j.pass j.slice lane old → new ≡ segment_at j.setting j.pass j.slice lane
+
+-- the same beside three slices that are lent in rising order
+abbrev pub FillsLent : Job → ℕ → List (List (List ℕ)) → List (List ℕ) → List (List ℕ) → Type 0
+FillsLent j lane others old new = Fills j lane (among j (lent_places j.setting others)) old new
+
+-- the last block of each of p lanes in a slice, whose segments have len blocks
+abbrev pub last_blocks_in : ℕ → ℕ → Lanes → List (List ℕ)
+last_blocks_in p len lanes = map (λ lane. slice_index_or (lanes lane) (len - 1) []) (range_with_len 0 p)

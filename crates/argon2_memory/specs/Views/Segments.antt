@@ -1,9 +1,12 @@
--- What a segment, one lane's part of a slice, holds.
-use Rattle.std.specs.Prelude.{◌≡◌, ℕ, zero, suc, ◌+◌, ◌*◌, List, map, length, take}
+-- What a segment, one lane's part of a slice, holds, and how it keeps its blocks.
+use Rattle.std.specs.Prelude.{◌≡◌, ℕ, zero, suc, ◌+◌, ◌-◌, ◌*◌, ◌%◌, ◌^◌, ◌<◌, ◌≤◌, List, [], ◌++◌, map, length, replicate, slice_index_or, slice_set, take}
 use Rattle.std.specs.List.{range_with_len}
+use Rattle.argon2_blocks.specs.Standard.Block.{zero_block}
 use Rattle.argon2_standard.specs.Standard.Setting.{Setting}
 use Rattle.argon2_standard.specs.Standard.Recurrence.{block_at}
-pub use Rattle.argon2_memory.specs.Standard.Kept.{SegmentValue}
+pub use Rattle.argon2_memory.specs.Standard.Kept.{SegmentValue, no_segment}
+
+-- ---- the blocks of a pass
 
 -- the block at an index of a lane's segment, as a pass leaves it
 abbrev pub segment_block : Setting → ℕ → ℕ → ℕ → ℕ → List ℕ
@@ -20,3 +23,33 @@ abbrev pub IsReady : Setting → ℕ → ℕ → ℕ → List (List ℕ) → Typ
 IsReady s zero zero lane blocks = (length blocks ≡ s.segment_length) × (take 2 blocks ≡ take 2 (segment_at s 0 0 lane))
 IsReady s zero (suc slice) lane blocks = length blocks ≡ s.segment_length
 IsReady s (suc last) slice lane blocks = blocks ≡ segment_at s last slice lane
+
+-- ---- writes
+
+-- the segment with a block written at the index
+abbrev pub with_block : SegmentValue → ℕ → List ℕ → SegmentValue
+with_block segment index block = record {
+  blocks = slice_set segment.blocks index block;
+  tally = (segment.tally + 1) % 2 ^ 64;
+}
+
+-- a segment of zeros in which nothing was written yet
+abbrev pub zero_segment : ℕ → SegmentValue
+zero_segment length = record { blocks = replicate length zero_block; tally = 0 }
+
+-- a segment of as many blocks, of zeros, none of which was written
+abbrev pub wiped_segment : SegmentValue → SegmentValue
+wiped_segment s = zero_segment (length s.blocks)
+
+-- ---- zeros that are not made yet
+
+-- the blocks that are made, and the zeros behind them
+abbrev pub with_zeros : List (List ℕ) → ℕ → List (List ℕ)
+with_zeros made zeros = made ++ replicate zeros zero_block
+
+-- there is room for the zeros that are not made; where there are some, the last block that is made is
+-- of zeros too, and is read in place of each of them
+pub record IsMadeInPart (made : List (List ℕ)) (count capacity zeros : ℕ) : Type 0 where
+  pub room : count + zeros ≤ capacity
+  pub some : 0 < zeros → 0 < count
+  pub last : 0 < zeros → slice_index_or made (count - 1) [] ≡ zero_block

@@ -1,8 +1,7 @@
 -- The block that a source names.
-use Rattle.std.specs.Prelude.{ℕ, ◌+◌, ◌%◌, ◌^◌, ◌<◌, List, [], slice_index_or, slice_set}
+use Rattle.std.specs.Prelude.{ℕ, ◌<◌, List, [], slice_index_or}
 use Rattle.argon2_memory.specs.declared.segment.counted.Source.{Source}
 use Rattle.argon2_memory.specs.declared.segment.counted.Source.TheVariants.{Own, Other}
-use Rattle.argon2_memory.specs.Views.Segments.{SegmentValue}
 
 -- one of the segment's own blocks, or the one that is lent
 abbrev pub source_block : List (List ℕ) → Source → List ℕ
@@ -13,10 +12,3 @@ source_block blocks (Other block) = block.now
 abbrev pub IsBefore : ℕ → Source → Type 0
 IsBefore index (Own at) = at < index
 IsBefore index (Other block) = Unit {0}
-
--- the segment with a block written at the index
-abbrev pub with_block : SegmentValue → ℕ → List ℕ → SegmentValue
-with_block segment index block = record {
-  blocks = slice_set segment.blocks index block;
-  tally = (segment.tally + 1) % 2 ^ 64;
-}

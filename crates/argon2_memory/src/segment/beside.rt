@@ -2,18 +2,16 @@
 
 ghost use Rattle.std.specs.Prelude.{◌≡◌, ◌*◌, ◌^◌, ◌<◌, [], map, slice_index_or, ◌≢◌, ℕ, ◌+◌, ◌/◌, ◌%◌, ◌≤◌, List, length};
 ghost use Rattle.std.specs.List.{remove};
-ghost use Rattle.argon2_memory.specs.Views.Beside.{IsAround, lent_slices};
-ghost use Rattle.argon2_memory.specs.Views.Filling.{SnapshotValue, IsBeside, other_blocks, block_seen, position_of};
+ghost use Rattle.argon2_memory.specs.Views.Filling.{IsAround, lent_slices, SnapshotValue, IsBeside, other_blocks, block_seen};
+ghost use Rattle.argon2_memory.specs.Views.Jobs.{position_of, first_index};
 ghost use Rattle.argon2_memory.specs.Views.Memories.{segment_in};
 ghost use Rattle.argon2_memory.specs.Views.Sources.{IsBefore, source_block};
 ghost use Rattle.argon2_standard.specs.Standard.Setting.{lane_length};
-ghost use Rattle.argon2_memory.specs.Views.Jobs.{first_index};
 ghost use Rattle.argon2_standard.specs.Standard.Reference.{previous};
 
 use super::counted::{Segment, Source};
 use crate::job::Job;
 use argon2_blocks::block::Block;
-use argon2_blocks::common::SYNC_POINTS;
 use std::marker::Model;
 
 /// Four slices by their numbers, which are read while a segment is filled.
@@ -202,7 +200,7 @@ fn previous_column(job: &Job, index: u32) -> u32
 {
     let column = job.start() + index;
     if column == 0 {
-        SYNC_POINTS * job.segment_length() - 1
+        job.lane_length() - 1
     } else {
         column - 1
     }

@@ -3,10 +3,9 @@
 
 ghost use Rattle.std.specs.Prelude.{◌≡◌, ◌+◌, ◌%◌, ◌^◌, ◌<◌, ◌≤◌, [], IfOk, length, replicate, slice_index_or, slice_set, vec_capacity, vec_len};
 ghost use Rattle.argon2_blocks.specs.Standard.Block.{zero_block};
-ghost use Rattle.argon2_memory.specs.Views.Memories.{wiped_segment, zero_segment};
+ghost use Rattle.argon2_memory.specs.Views.Segments.{wiped_segment, zero_segment, with_block, IsMadeInPart, with_zeros};
 ghost use Rattle.argon2_standard.specs.Standard.Recurrence.{made_block};
-ghost use Rattle.argon2_memory.specs.Views.Sources.{IsBefore, source_block, with_block};
-ghost use Rattle.argon2_memory.specs.Views.Made.{IsMadeInPart, with_zeros};
+ghost use Rattle.argon2_memory.specs.Views.Sources.{IsBefore, source_block};
 
 use argon2_blocks::block::{Block, fill_block};
 use std::alloc::{AllocError, Global};
@@ -26,8 +25,7 @@ pub struct Segment {
 
 impl Model for Segment {
     ghost use Rattle.std.specs.Prelude.{vec_capacity, vec_len};
-    ghost use Rattle.argon2_memory.specs.Views.Segments.{SegmentValue};
-    ghost use Rattle.argon2_memory.specs.Views.Made.{IsMadeInPart, with_zeros};
+    ghost use Rattle.argon2_memory.specs.Views.Segments.{SegmentValue, IsMadeInPart, with_zeros};
 
     ghost Value = { SegmentValue };
 

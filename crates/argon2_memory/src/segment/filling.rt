@@ -2,10 +2,10 @@
 
 ghost use Rattle.std.specs.Prelude.{◌≡◌, ℕ, ◌+◌, ◌-◌, ◌*◌, ◌%◌, ◌^◌, ◌<◌, ◌≤◌, [], ◌∷◌, length, slice_index_or, true, false};
 ghost use Rattle.argon2_memory.specs.Laws.Schedule.{blocks_in_slice};
-ghost use Rattle.argon2_memory.specs.Views.Beside.{FillsOn, IsPicked};
-ghost use Rattle.argon2_memory.specs.Views.Filling.{IsFilledTo, IsSnapshot, position_of, reference_of};
-ghost use Rattle.argon2_memory.specs.Views.Jobs.{first_index};
-ghost use Rattle.argon2_memory.specs.Views.Lent.{FillsLent};
+ghost use Rattle.argon2_memory.specs.Views.Filling.{FillsOn, IsFilledTo, IsSnapshot};
+ghost use Rattle.argon2_memory.specs.Views.References.{IsPicked, reference_of};
+ghost use Rattle.argon2_memory.specs.Views.Jobs.{position_of, first_index};
+ghost use Rattle.argon2_memory.specs.Views.Places.{FillsLent};
 ghost use Rattle.argon2_memory.specs.Views.Segments.{IsReady, segment_at};
 ghost use Rattle.argon2_memory.specs.Views.Sources.{IsBefore, source_block};
 ghost use Rattle.argon2_standard.specs.Standard.Recurrence.{block_at, drawn_word};

@@ -1,16 +1,15 @@
 //! The references of a block: the lane and column that a drawn word picks.
 
 ghost use Rattle.std.specs.Prelude.{◌≡◌, ℕ, ◌+◌, ◌-◌, ◌*◌, ◌/◌, ◌%◌, ◌^◌, ◌<◌, ◌≤◌, ◌==◌, length, take, drop, true, false};
-ghost use Rattle.argon2_memory.specs.Views.Filling.{reference_set_column, reference_set_size, left_columns, pick_of, position_of};
-ghost use Rattle.argon2_memory.specs.Views.Jobs.{first_index, IsJob};
-ghost use Rattle.argon2_memory.specs.Views.Positions.{reference_positions_of};
+ghost use Rattle.argon2_memory.specs.Views.References.{reference_set_column, reference_set_size, left_columns, pick_of, reference_positions_of};
+ghost use Rattle.argon2_memory.specs.Views.Jobs.{position_of, first_index, IsJob};
 ghost use Rattle.argon2_standard.specs.Standard.Recurrence.{addresses};
 ghost use Rattle.argon2_standard.specs.Standard.Reference.{drawn_lane, relative_position, is_data_independent};
 ghost use Rattle.argon2_standard.specs.Standard.Setting.{lane_length};
 
 use crate::job::{Job, recall_job};
 use argon2_blocks::block::{Block, fill_block};
-use argon2_blocks::common::{ADDRESSES_IN_BLOCK, QWORDS_IN_BLOCK, SYNC_POINTS};
+use argon2_blocks::common::{ADDRESSES_IN_BLOCK, QWORDS_IN_BLOCK};
 
 /// A word has two halves of 32 bits. A division by this power of 2 is a shift, whose time tells
 /// nothing of what is drawn.
@@ -48,7 +47,7 @@ fn left_columns(job: &Job) -> u32
     if job.pass() == 0 {
         0
     } else {
-        SYNC_POINTS * job.segment_length() - end
+        job.lane_length() - end
     }
 }
 
@@ -76,12 +75,12 @@ pub fn reference_set_column(job: &Job, position: u32) -> u32
     ensures { result ≡ reference_set_column job.now position }
 {
     let left = left_columns(job);
-    let turn = SYNC_POINTS * job.segment_length();
+    let length = job.lane_length();
     // Neither a branch nor a remainder, since the position is drawn. The sum may exceed 32 bits
-    // before the turn is taken off.
+    // before the length is taken off.
     position
-        .wrapping_add(turn - left)
-        .wrapping_sub(reaches(position, left) * turn)
+        .wrapping_add(length - left)
+        .wrapping_sub(reaches(position, left) * length)
 }
 
 /// The lane that a word draws for a block of a lane, and 1 if it is that lane, else 0.

@@ -1,7 +1,7 @@
 //! Each request for memory and each start of a worker refused in turn.
 //!
 //! A test here makes one call, or calls that have to ask for nothing, and prints what came: `value`
-//! for the stated value, else the refusal. `.ci/refusals` runs each of them again and again, with
+//! for the stated value, else the refusal. `.ci/faults/refusals` runs each of them again and again, with
 //! another request or start refused each time.
 
 mod asks_for_nothing;

@@ -1,8 +1,8 @@
-use Rattle.std.proofs.Common.{◌≡◌, ◌-◌, ◌*◌, map}
-use Rattle.std.specs.List.{fold, range_with_len}
+use Rattle.std.proofs.Common.{◌≡◌}
+use Rattle.std.specs.List.{fold}
 use Rattle.argon2_blocks.specs.Standard.Block.{xor, zero_block}
-use Rattle.argon2_memory.specs.Views.Memories.{block_of}
+use Rattle.argon2_memory.specs.Views.Places.{last_blocks_in, places_in}
 use Rattle.argon2_fill.proofs.fill.combine_last_blocks.Given as goal
 
 abbrev pub invariant-loop-lane : goal.invariant-loop-lane
-invariant-loop-lane l = l.out ≡ fold xor zero_block (map (λ lane. block_of l.memory lane (4 * l.memory.segment_length - 1)) (range_with_len 0 l.lane))
+invariant-loop-lane l = l.out ≡ fold xor zero_block (last_blocks_in l.lane l.memory.segment_length (places_in l.memory.slices 3))

@@ -1,6 +1,5 @@
 use Rattle.std.proofs.Common.{◌≡◌, ℕ, ◌+◌, ◌-◌, ◌*◌, ◌%◌, ◌^◌, List, refl, ap, ◌∙◌}
-use Rattle.argon2_memory.specs.Views.Jobs.{setting_of_context}
-use Rattle.argon2_memory.specs.Views.Jobs.{Job}
+use Rattle.argon2_memory.specs.Views.Jobs.{setting_of_context, Job}
 use Rattle.argon2_standard.specs.Standard.Setting.{memory_blocks}
 use Rattle.argon2_memory.specs.Views.Memories.{HasShape, blocks_written, writes_in}
 use Rattle.argon2_memory.specs.Views.Segments.{SegmentValue}

@@ -1,7 +1,6 @@
 use Rattle.std.proofs.Common.{◌≡◌, ◌+◌, ◌/◌, ◌%◌, ◌^◌}
-use Rattle.argon2_memory.specs.Views.Memories.{AreSlices, blocks_written, places_in, writes_in}
-use Rattle.argon2_memory.specs.Views.Places.{AreFilledBelow}
-use Rattle.argon2_memory.specs.Views.SliceLists.{segments_of}
+use Rattle.argon2_memory.specs.Views.Memories.{AreSlices, blocks_written, writes_in, segments_of}
+use Rattle.argon2_memory.specs.Views.Places.{places_in, AreFilledBelow}
 use Rattle.argon2_fill.proofs.fill.fill_slices.Given as goal
 
 abbrev pub invariant-loop-n : goal.invariant-loop-n

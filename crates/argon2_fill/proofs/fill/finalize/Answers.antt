@@ -4,7 +4,7 @@ use Rattle.argon2_blocks.specs.Standard.Block.{block_bytes}
 use Rattle.argon2_blocks.specs.Standard.Hprime.{hprime}
 use Rattle.argon2_memory.specs.Views.Jobs.{setting_of_context}
 use Rattle.argon2_standard.specs.Standard.Tag.{tag_from, tag_of}
-use Rattle.argon2_fill.proofs.Filling.Passes.{last_blocks-are}
+use Rattle.argon2_fill.proofs.Filling.Passes.{last_blocks-memory}
 use Rattle.argon2_fill.proofs.fill.finalize.Goals as goal
 
 pub returns-clause-hash : goal.returns-clause-hash
@@ -22,4 +22,4 @@ returns-clause-tag c = λ holds.
     let x = c.args.context.now in
     returns-clause-hash c
     ∙ ap (λ (blocks : List (List ℕ)). tag_from blocks x.config.hash_length)
-    (last_blocks-are (setting_of_context x) c.recall_context.ensures.setting c.args.memory.now c.requires.shape holds)
+    (last_blocks-memory (setting_of_context x) c.recall_context.ensures.setting c.args.memory.now c.requires.shape holds)

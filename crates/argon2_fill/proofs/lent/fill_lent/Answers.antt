@@ -1,6 +1,6 @@
 use Rattle.std.proofs.Common.{◌≡◌, ◌*◌, ◌/◌, ◌%◌, [], ◌∷◌, arith}
-use Rattle.argon2_fill.proofs.Filling.Passes.{next_slice}
-use Rattle.argon2_fill.proofs.Filling.Lent.{last_slices}
+use Rattle.argon2_memory.specs.Views.Places.{lent_places}
+use Rattle.argon2_fill.proofs.Filling.Passes.{last_slices, next_slice}
 use Rattle.argon2_fill.proofs.lent.fill_lent.Goals as goal
 
 pub loop-n-preserved : goal.loop-n-preserved
@@ -14,5 +14,5 @@ returns c = λ begun k below.
     let whole : c.loop-n.n ≡ 4 * s.passes = omega arith in
     let pass : c.loop-n.n / 4 ≡ s.passes = omega (arith, whole) in
     let slice : c.loop-n.n % 4 ≡ 0 = omega (arith, whole) in
-    last_slices s c.recall_job.ensures.setting (c.loop-n.first ∷ c.loop-n.second ∷ c.loop-n.third ∷ c.loop-n.fourth ∷ [])
+    last_slices s c.recall_job.ensures.setting (lent_places s (c.loop-n.first ∷ c.loop-n.second ∷ c.loop-n.third ∷ c.loop-n.fourth ∷ []))
     (rw (pass, slice) at (c.loop-n.invariant begun)) k below

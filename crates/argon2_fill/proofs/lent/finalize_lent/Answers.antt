@@ -2,7 +2,8 @@ use Rattle.std.proofs.Common.{ℕ, List, length, ap, ◌∙◌}
 use Rattle.argon2_blocks.specs.Standard.Block.{block_bytes}
 use Rattle.argon2_blocks.specs.Standard.Hprime.{hprime}
 use Rattle.argon2_standard.specs.Standard.Tag.{tag_from}
-use Rattle.argon2_fill.proofs.Filling.Lent.{last_blocks-lent}
+use Rattle.argon2_memory.specs.Views.Places.{lent_blocks}
+use Rattle.argon2_fill.proofs.Filling.Passes.{last_blocks-held}
 use Rattle.argon2_fill.proofs.lent.finalize_lent.Goals as goal
 
 pub returns-clause-hash : goal.returns-clause-hash
@@ -12,5 +13,6 @@ returns-clause-hash c = c.write_tag.ensures.hash ∙ ap (λ (b : List ℕ). hpri
 pub returns-clause-tag : goal.returns-clause-tag
 unfolding tag_from
 returns-clause-tag c holds =
-    (c.write_tag.ensures.hash ∙ ap (λ (b : List ℕ). hprime (length c.args.out.now) (block_bytes b)) c.combine_last_lent.ensures)
-    ∙ ap (λ (l : List (List ℕ)). tag_from l (length c.args.out.now)) (last_blocks-lent c.args.job.now.setting c.recall_job.ensures.setting c.args.slice.now holds)
+    let s = c.args.job.now.setting in
+    returns-clause-hash c
+    ∙ ap (λ (l : List (List ℕ)). tag_from l (length c.args.out.now)) (last_blocks-held s c.recall_job.ensures.setting (lent_blocks s c.args.slice.now) holds)

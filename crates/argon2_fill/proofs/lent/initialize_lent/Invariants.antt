@@ -1,5 +1,5 @@
 use Rattle.std.proofs.Common.{ℕ, ◌<◌}
-use Rattle.argon2_memory.specs.Views.Beside.{lent_blocks}
+use Rattle.argon2_memory.specs.Views.Places.{lent_blocks}
 use Rattle.argon2_memory.specs.Views.Segments.{IsReady}
 use Rattle.argon2_fill.proofs.lent.initialize_lent.Given as goal
 

@@ -1,11 +1,10 @@
 use Rattle.std.proofs.Common.{◌≡◌, ℕ, ◌+◌, ◌*◌, ◌≤◌, ◌<◌, ◌/◌, ◌%◌, ◌^◌, ◌-◌, Bool, arith, inl, inr, refl, ap, ◌∙◌}
-use Rattle.argon2_memory.specs.Views.Jobs.{setting_of_context}
-use Rattle.argon2_memory.specs.Views.Jobs.{Job}
-use Rattle.argon2_memory.specs.Views.Memories.{HasShape, places_in}
+use Rattle.argon2_memory.specs.Views.Jobs.{setting_of_context, Job}
+use Rattle.argon2_memory.specs.Views.Memories.{HasShape, segments_of}
+use Rattle.argon2_memory.specs.Views.Places.{places_in}
 use Rattle.std.proofs.Math.Nat.{mul-le-mul_right}
 use Rattle.std.proofs.lemmas.Bool.{cases_lt}
 use Rattle.argon2_fill.specs.Views.Permits.{PermitsAll}
-use Rattle.argon2_memory.specs.Views.SliceLists.{segments_of}
 use Rattle.argon2_fill.proofs.Filling.First.{filled_begun}
 use Rattle.argon2_fill.proofs.Filling.Passes.{holds_last_pass, next_slice}
 use Rattle.argon2_fill.proofs.workers.fill_parallel_with.Goals as goal

@@ -1,7 +1,6 @@
 use Rattle.std.proofs.Common.{◌≡◌, ◌%◌, ◌^◌, take}
 use Rattle.std.specs.List.{sum_by}
-use Rattle.argon2_memory.specs.Views.Memories.{slice_writes}
-use Rattle.argon2_memory.specs.Views.SliceLists.{segments_of}
+use Rattle.argon2_memory.specs.Views.Memories.{slice_writes, segments_of}
 use Rattle.argon2_memory.proofs.memory.tally.Given as goal
 
 abbrev pub invariant-loop-segments : goal.invariant-loop-segments

@@ -1,6 +1,6 @@
 use Rattle.std.proofs.Common.{arith}
 use Rattle.std.proofs.lemmas.List.Edits.{map_over_more}
-use Rattle.argon2_memory.specs.Views.Memories.{wiped_segment}
+use Rattle.argon2_memory.specs.Views.Segments.{wiped_segment}
 use Rattle.argon2_memory.proofs.memory.wipe_slice.Goals as goal
 
 pub loop-segment-preserved : goal.loop-segment-preserved

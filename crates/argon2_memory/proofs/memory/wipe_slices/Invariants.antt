@@ -1,5 +1,5 @@
 use Rattle.std.proofs.Common.{◌≡◌, ◌++◌, drop, map, take}
-use Rattle.argon2_memory.specs.Views.Memories.{wiped_segment}
+use Rattle.argon2_memory.specs.Views.Segments.{wiped_segment}
 use Rattle.argon2_memory.proofs.memory.wipe_slices.Given as goal
 
 -- the first ones are overwritten, the others not yet

@@ -1,5 +1,5 @@
 use Rattle.std.proofs.Common.{◌≡◌, replicate}
-use Rattle.argon2_memory.specs.Views.Memories.{zero_segment}
+use Rattle.argon2_memory.specs.Views.Segments.{zero_segment}
 use Rattle.argon2_memory.proofs.memory.zero_slice.Given as goal
 
 abbrev pub invariant-loop-lane : goal.invariant-loop-lane

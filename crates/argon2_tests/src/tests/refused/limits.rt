@@ -13,42 +13,71 @@ const OF_TEXT: Limits = Limits {
     mem_cost: 32,
     time_cost: 3,
     lanes: 4,
+    work: 96,
+};
+
+const NONE: Limits = Limits {
+    mem_cost: 0,
+    time_cost: 0,
+    lanes: 0,
+    work: 0,
 };
 
 // Limits of which one is below what that text spells.
-const BELOW: [Limits; 4] = [
+const BELOW: [Limits; 5] = [
     Limits {
         mem_cost: 31,
         time_cost: 3,
         lanes: 4,
+        work: 96,
     },
     Limits {
         mem_cost: 32,
         time_cost: 2,
         lanes: 4,
+        work: 96,
     },
     Limits {
         mem_cost: 32,
         time_cost: 3,
         lanes: 3,
+        work: 96,
     },
     Limits {
-        mem_cost: 0,
-        time_cost: 0,
-        lanes: 0,
+        mem_cost: 32,
+        time_cost: 3,
+        lanes: 4,
+        work: 95,
     },
+    NONE,
 ];
 
-// Texts of RFC 9106's two recommendations, and of one number more than the default allows.
-const RECOMMENDED: [&str; 2] = [
+// Texts of the two recommendations of RFC 9106, the five of OWASP, libsodium's three for Argon2id and its greatest for
+// Argon2i, and Django's; and one at all default limits but that of the passes.
+const WITHIN: [&str; 13] = [
     "$argon2id$v=19$m=2097152,t=1,p=4$AAAAAAA$AAAAAAA",
     "$argon2id$v=19$m=65536,t=3,p=4$AAAAAAA$AAAAAAA",
+    "$argon2id$v=19$m=47104,t=1,p=1$AAAAAAA$AAAAAAA",
+    "$argon2id$v=19$m=19456,t=2,p=1$AAAAAAA$AAAAAAA",
+    "$argon2id$v=19$m=12288,t=3,p=1$AAAAAAA$AAAAAAA",
+    "$argon2id$v=19$m=9216,t=4,p=1$AAAAAAA$AAAAAAA",
+    "$argon2id$v=19$m=7168,t=5,p=1$AAAAAAA$AAAAAAA",
+    "$argon2id$v=19$m=65536,t=2,p=1$AAAAAAA$AAAAAAA",
+    "$argon2id$v=19$m=262144,t=3,p=1$AAAAAAA$AAAAAAA",
+    "$argon2id$v=19$m=1048576,t=4,p=1$AAAAAAA$AAAAAAA",
+    "$argon2i$v=19$m=524288,t=8,p=1$AAAAAAA$AAAAAAA",
+    "$argon2id$v=19$m=102400,t=2,p=8$AAAAAAA$AAAAAAA",
+    "$argon2id$v=19$m=2097152,t=2,p=16$AAAAAAA$AAAAAAA",
 ];
 
-const ABOVE: [&str; 5] = [
+// Texts above one default limit, above all, and above that of the memory without passes.
+const ABOVE: [&str; 8] = [
     "$argon2id$v=19$m=2097153,t=1,p=4$AAAAAAA$AAAAAAA",
     "$argon2id$v=19$m=65536,t=11,p=4$AAAAAAA$AAAAAAA",
     "$argon2id$v=19$m=65536,t=3,p=17$AAAAAAA$AAAAAAA",
+    "$argon2id$v=19$m=2097152,t=3,p=4$AAAAAAA$AAAAAAA",
+    "$argon2id$v=19$m=2097152,t=10,p=16$AAAAAAA$AAAAAAA",
+    "$argon2id$v=19$m=419431,t=10,p=1$AAAAAAA$AAAAAAA",
     "$argon2id$v=19$m=4294967295,t=4294967295,p=16777215$c29tZXNhbHQ$iekCn0Y3spW+sCcFanM2xBT63UP2sghkUoHLIUpWRS8",
     "$argon2d$m=4294967295,t=0,p=0$$",
 ];
@@ -117,17 +146,12 @@ fn a_costly_text_asks_for_nothing_refused_in_turn(rt: HostRuntime) -> Result<(),
 fn a_text_within_limits_is_judged_refused_in_turn(rt: HostRuntime) -> Result<(), Fail> {
     let (alloc, limits) = (rt.alloc(), Limits::default());
     let short = Unverified::Refused(Error::SaltTooShort);
-    for text in RECOMMENDED {
+    for text in WITHIN {
         assert!(rt; both_answer(&rt, alloc, text, &limits, &short), "{text}");
     }
     let unspelled = Unverified::Refused(Error::DecodingFail);
-    let none = Limits {
-        mem_cost: 0,
-        time_cost: 0,
-        lanes: 0,
-    };
     assert!(rt;
-        both_answer(&rt, alloc, "$argon2id$", &none, &unspelled),
+        both_answer(&rt, alloc, "$argon2id$", &NONE, &unspelled),
         "no text"
     );
     tell(&rt, Ok(true))

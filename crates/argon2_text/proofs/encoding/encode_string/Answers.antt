@@ -1,7 +1,7 @@
 use Rattle.std.proofs.Common.{arith, drop, length}
 use Rattle.std.proofs.lemmas.List.{take_at}
 use Rattle.std.proofs.lemmas.Str.{IsUtf8-from_ascii}
-use Rattle.argon2_settings.proofs.Settings.Accepted as settings
+use Rattle.argon2_standard.proofs.Settings.Accepted as settings
 use Rattle.argon2_standard.specs.Standard.Text.{spelled_of, text_of}
 use Rattle.argon2_text.proofs.Writing.TextBytes.{IsAscii-text_of}
 use Rattle.argon2_text.proofs.encoding.encode_string.Goals as goal

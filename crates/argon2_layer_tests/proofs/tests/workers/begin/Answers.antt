@@ -1,5 +1,4 @@
-use Rattle.argon2_memory.specs.Views.Jobs.{setting_of_context}
-use Rattle.argon2_memory.specs.Views.Jobs.{IsSetting}
+use Rattle.argon2_memory.specs.Views.Jobs.{setting_of_context, IsSetting}
 use Rattle.argon2_fill.proofs.Filling.First.{filled_begun}
 use Rattle.argon2_layer_tests.proofs.tests.workers.begin.Goals as goal
 

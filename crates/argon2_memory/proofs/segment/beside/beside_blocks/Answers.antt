@@ -1,6 +1,6 @@
 use Rattle.std.proofs.Common.{ℕ, List}
 use Rattle.std.specs.Borrow.{Bor}
-use Rattle.argon2_memory.specs.Views.Beside.{lent_slice}
+use Rattle.argon2_memory.specs.Views.Filling.{lent_slice}
 use Rattle.argon2_memory.proofs.Filling.Beside.{around}
 use Rattle.argon2_memory.proofs.segment.beside.beside_blocks.Goals as goal
 

@@ -1,6 +1,6 @@
 use Rattle.std.proofs.Common.{◌≡◌, ◌+◌}
 use Rattle.std.specs.Prelude.{vec_len, vec_capacity}
-use Rattle.argon2_memory.specs.Views.Made.{IsMadeInPart, with_zeros}
+use Rattle.argon2_memory.specs.Views.Segments.{IsMadeInPart, with_zeros}
 use Rattle.argon2_memory.proofs.segment.counted.make_up_to.Given as goal
 
 abbrev pub invariant-loop-zeros : goal.invariant-loop-zeros

@@ -1,5 +1,5 @@
 use Rattle.std.proofs.Common.{◌≡◌, ◌+◌, ◌-◌, ◌%◌, ◌^◌, ◌≤◌, length}
-use Rattle.argon2_memory.specs.Views.Beside.{FillsOn}
+use Rattle.argon2_memory.specs.Views.Filling.{FillsOn}
 use Rattle.argon2_memory.specs.Views.Jobs.{first_index}
 use Rattle.argon2_memory.proofs.segment.filling.fill_own.Given as goal
 

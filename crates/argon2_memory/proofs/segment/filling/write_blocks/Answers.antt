@@ -1,6 +1,6 @@
 use Rattle.std.proofs.Common.{◌+◌}
 use Rattle.argon2_standard.specs.Standard.Recurrence.{block_at, drawn_word}
-use Rattle.argon2_memory.specs.Views.Filling.{position_of}
+use Rattle.argon2_memory.specs.Views.Jobs.{position_of}
 use Rattle.argon2_memory.proofs.segment.filling.write_blocks.Goals as goal
 
 pub write_block-requires-clause-picked : goal.write_block-requires-clause-picked

@@ -1,5 +1,5 @@
 use Rattle.std.proofs.Common.{◌≡◌, ◌+◌, ◌%◌, ◌^◌, length}
-use Rattle.argon2_memory.specs.Views.Beside.{FillsOn}
+use Rattle.argon2_memory.specs.Views.Filling.{FillsOn}
 use Rattle.argon2_memory.proofs.segment.filling.write_blocks.Given as goal
 
 abbrev pub invariant-loop-k : goal.invariant-loop-k

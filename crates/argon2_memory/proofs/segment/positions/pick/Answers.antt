@@ -1,5 +1,5 @@
 use Rattle.std.proofs.Common.{ℕ, Bool, sym, ◌∙◌, ap}
-use Rattle.argon2_memory.specs.Views.Filling.{reference_set_column, reference_set_size}
+use Rattle.argon2_memory.specs.Views.References.{reference_set_column, reference_set_size}
 use Rattle.argon2_standard.specs.Standard.Reference.{relative_position}
 use Rattle.argon2_memory.proofs.Recurrence.ReferenceSets.{some-picked, pick-is}
 use Rattle.argon2_memory.proofs.segment.positions.pick.Goals as goal

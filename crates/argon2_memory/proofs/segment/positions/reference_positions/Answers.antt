@@ -1,7 +1,7 @@
 use Rattle.std.proofs.Common.{◌≡◌, ℕ, ◌+◌, ◌-◌, ◌/◌, ◌%◌, ◌<◌, List, length, take, drop, arith, sym, ◌∙◌, ap, below_more, get_or-set_same, get_or-set_other}
 use Rattle.std.specs.Prelude.{slice_index}
 use Rattle.argon2_standard.specs.Standard.Recurrence.{addresses}
-use Rattle.argon2_memory.specs.Views.Filling.{independent_reference, pick_of}
+use Rattle.argon2_memory.specs.Views.References.{independent_reference, pick_of}
 use Rattle.argon2_memory.specs.Views.Jobs.{first_index}
 use Rattle.argon2_memory.proofs.Schedules.IndependentEntries.{reference_positions_of-setting}
 use Rattle.argon2_memory.proofs.Schedules.IndependentPositions.{address_word-is, positions-all}

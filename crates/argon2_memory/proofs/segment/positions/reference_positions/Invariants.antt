@@ -1,5 +1,5 @@
 use Rattle.std.proofs.Common.{◌≡◌, ℕ, ◌+◌, ◌-◌, ◌/◌, ◌<◌, get_or}
-use Rattle.argon2_memory.specs.Views.Filling.{independent_reference}
+use Rattle.argon2_memory.specs.Views.References.{independent_reference}
 use Rattle.argon2_standard.specs.Standard.Recurrence.{addresses}
 use Rattle.argon2_memory.proofs.segment.positions.reference_positions.Given as goal
 

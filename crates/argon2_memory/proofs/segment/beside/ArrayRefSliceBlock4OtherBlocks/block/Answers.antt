@@ -1,7 +1,7 @@
 use Rattle.std.proofs.Common.{ℕ, List, arith, sym, ◌∙◌}
 use Rattle.std.specs.Borrow.{Bor}
 use Rattle.std.proofs.lemmas.List.{length-map}
-use Rattle.argon2_memory.specs.Views.Beside.{lent_slice}
+use Rattle.argon2_memory.specs.Views.Filling.{lent_slice}
 use Rattle.argon2_memory.proofs.Filling.Lent.{place_fits, block-is}
 use Rattle.argon2_memory.proofs.segment.beside.ArrayRefSliceBlock4OtherBlocks.block.Goals as goal
 

@@ -1,0 +1,122 @@
+"""Steps that run side by side: what each says, its counts, its seconds, those of the processors, and what it skips."""
+
+import os
+import re
+import subprocess
+import threading
+import time
+
+from shared import TOP
+
+COUNTS = re.compile(r'(\d+) passed, (\d+) failed(?:, (\d+) skipped)?')
+SKIPPED = re.compile(r'skipped: (?:.*: all (\d+) checks \()?')
+PROVED = re.compile(r'^(?:fn|struct|enum|impl|trait) \S+: proved')
+printing = threading.Lock()
+
+
+class Step(threading.Thread):
+    """A command, which begins when the steps that it needs have ended, and is left out where one of them has failed.
+    What it says is shown whole when it ends, or at once, as each fault is; of lines that `quiet` finds
+    errors are shown where it fails. It has to count what passed, or else its status counts."""
+
+    def __init__(self, name, command=None, needed=(), folder=TOP, is_shown_at_once=False, is_counted=True, quiet=None):
+        super().__init__(name=name)
+        self.command, self.needed, self.folder = command or [TOP / name], needed, folder
+        self.is_shown_at_once, self.is_counted, self.quiet = is_shown_at_once, is_counted, quiet
+        self.left_out = []
+        self.lines, self.counts, self.seconds, self.of_processors = [], [0, 0, 0], 0.0, 0.0
+        self.skipped, self.names = [], []
+        self.start()
+
+    @property
+    def failed(self):
+        return self.counts[1] > 0
+
+    def run(self):
+        for step in self.needed:
+            step.join()
+            if step.failed:
+                self.end(f'it was not run, since {step.name} failed')
+                return
+        status = self.run_command()
+        if not self.is_counted:
+            self.counts = [int(status == 0), int(status != 0), 0]
+        self.judge_skips()
+        has_ended_well = status == 0 and self.counts[0]
+        self.end(None if has_ended_well else f'it ended with status {status}, and {self.counts[0]} passed')
+
+    def run_command(self):
+        begun = time.monotonic()
+        process = subprocess.Popen(self.command, cwd=self.folder, stdin=subprocess.DEVNULL, stdout=subprocess.PIPE,
+                                   stderr=subprocess.STDOUT, text=True, errors='replace')
+        for line in process.stdout:
+            self.take(line.rstrip('\n'))
+        _, status, used = os.wait4(process.pid, 0)
+        process.returncode = os.waitstatus_to_exitcode(status)
+        self.seconds, self.of_processors = time.monotonic() - begun, used.ru_utime + used.ru_stime
+        return process.returncode
+
+    def take(self, line):
+        """Takes a line. The last one that counts is the step's; none may be taken for the sum of all steps."""
+        counts = COUNTS.fullmatch(line)
+        if counts:
+            self.counts = [int(it or 0) for it in counts.groups()]
+            line = f'{self.name}: {line}'
+        if SKIPPED.match(line):
+            self.skipped.append(line)
+        if self.quiet and self.quiet.search(line):
+            self.left_out.append(line)
+            return
+        if self.is_shown_at_once or 'FAILED' in line:
+            with printing:
+                print(line, flush=True)
+        if not self.is_shown_at_once:
+            self.lines.append(line)
+
+    def judge_skips(self):
+        """Counts what may not be skipped (.ci/gate/skips), but where the step has counted it, and a skip without a name."""
+        asked = [subprocess.run(['bash', TOP / '.ci/gate/skips', *words, self.name], input='\n'.join(self.skipped), text=True,
+                                stdout=subprocess.PIPE, check=False) for words in (['--names'], [])]
+        self.names, faults = (it.stdout.splitlines() for it in asked)
+        if any(it.returncode for it in asked):
+            faults.append('FAILED: .ci/gate/skips cannot tell what may be skipped')
+        named = sum(int(SKIPPED.match(line)[1] or 1) for line in self.skipped)
+        if named != self.counts[2]:
+            faults.append(f'FAILED: {self.counts[2]} checks were skipped, and {named} are named')
+        faults = [fault for fault in faults if fault not in self.lines]
+        self.lines += faults
+        self.counts[1] += len(faults)
+
+    def end(self, fault):
+        """Shows what it said. A fault that it has not counted is counted."""
+        if fault and not self.failed:
+            self.lines.append(f'{self.name}: FAILED: {fault}')
+            self.counts[1] = 1
+        if self.failed:
+            self.lines[:0] = [line for line in self.left_out if 'error' in line]
+        self.lines.append(f'{self.name}: {self.seconds:.0f} seconds, {self.of_processors:.0f} of the processors')
+        with printing:
+            print('\n'.join(self.lines), flush=True)
+
+
+def close(steps, begun):
+    """Waits for all steps, prints a table of them, the sum of their counts and the names of what was skipped, and gives
+    whether some passed and none failed."""
+    for step in steps:
+        step.join()
+    width = max(len(it.name) for it in steps) + 2
+    print(f'{"step":{width}}{"seconds":>8}{"of processors":>15}{"passed":>8}{"failed":>8}{"skipped":>8}')
+    for step in steps:
+        counts = ''.join(f'{it:8}' for it in step.counts)
+        print(f'{step.name:{width}}{step.seconds:8.0f}{step.of_processors:15.0f}{counts}')
+    of_processors = sum(it.of_processors for it in steps)
+    print(f'{"all":{width}}{time.monotonic() - begun:8.0f}{of_processors:15.0f}, '
+          f'on {len(os.sched_getaffinity(0))} processors')
+    for step in steps:
+        for line in step.lines:
+            if 'FAILED' in line:
+                print(line if line.startswith(step.name) else f'{step.name}: {line}')
+    passed, failed, skipped = (sum(it.counts[at] for it in steps) for at in range(3))
+    names = '; '.join(name for step in steps for name in step.names)
+    print(f'{passed} passed, {failed} failed, {skipped} skipped' + (f': {names}' if names else ''))
+    return passed > 0 and not failed

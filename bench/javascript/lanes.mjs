@@ -1,0 +1,52 @@
+// The least times of hashes by the package, here and in the pages of browsers: lanes.mjs PAGE ROUNDS
+import { execFileSync } from 'node:child_process';
+import * as argon2 from 'proved-argon2';
+import { Chromium, Firefox } from './browsers.mjs';
+import { serve } from './server.mjs';
+
+const [page, rounds] = process.argv.slice(2);
+
+/** Milliseconds: of the default settings, and of four lanes by one, two and four workers. It goes to pages as its text. */
+async function times({ hash }, rounds) {
+    const lanes = { memoryCost: 65536, timeCost: 3, parallelism: 4 };
+    const cases = { default: {}, 1: { ...lanes, threads: 1 }, 2: { ...lanes, threads: 2 }, 4: { ...lanes, threads: 4 } };
+    const least = {};
+    for (let round = 0; round <= rounds; round++) {
+        for (const [name, options] of Object.entries(cases)) {
+            const began = performance.now();
+            await hash('password', options);
+            // (in the first round engines compile, and workers start)
+            least[name] = round === 0 ? Infinity : Math.min(least[name], performance.now() - began);
+        }
+    }
+    return least;
+}
+
+function say(engine, { default: alone, ...least }) {
+    console.log(`${engine}: ${alone.toFixed(0)} ms; by 1, 2 and 4 workers ${Object.values(least).map(Math.round).join(', ')} ms; ` +
+        `four take ${(least[4] / least[1]).toFixed(2)} of one`);
+}
+
+async function inPage(Browser) {
+    try {
+        execFileSync(Browser.command, ['--version'], { stdio: 'ignore' });
+    } catch {
+        console.log(`${Browser.name}: skipped, it is not there`);
+        return;
+    }
+    const server = await serve(page);
+    const browser = await new Browser().open();
+    await browser.visit(server.url);
+    const told = await browser.told(`
+        const argon2 = await import('/proved-argon2/index.js');
+        return (${times})(argon2, ${rounds});`);
+    say(await browser.version(), told);
+    await browser.close();
+    server.close();
+}
+
+console.log('Argon2id, 19 MiB, 2 passes, 1 lane; 64 MiB, 3 passes, 4 lanes');
+say(`Node/${process.versions.node}`, await times(argon2, Number(rounds)));
+await inPage(Chromium);
+await inPage(Firefox);
+process.exit();

@@ -1,0 +1,156 @@
+# The peers of bench/run, which sources this: where they come from, how they are built, and what each is. It uses out,
+# tree, here and the arrays cargo and rustc_of_cargo.
+
+# The archive that the machine's own lists take Debian's packages from.
+debian_archive() {
+    cat /etc/apt/sources.list /etc/apt/sources.list.d/*.{list,sources} 2>/dev/null | grep -E '^(URIs:|deb )' \
+        | grep -oE '[a-z+]+://[^ ]+/debian/?( |$)' | head -n 1
+}
+
+# Debian 13, whose packages this machine need not have: `newer apt-get|apt-cache WORD..`, by lists of its own.
+newer() {
+    local command=$1 lists=$tree/newer
+    shift
+    if [ ! -d "$lists/lists/partial" ]; then
+        mkdir -p "$lists"/{lists/partial,cache/archives/partial}
+        printf "%s [signed-by=/usr/share/keyrings/debian-archive-keyring.gpg] $(debian_archive) trixie main\n" deb deb-src \
+            >"$lists/sources.list"
+        newer apt-get update -qq
+    fi
+    "$command" -o "Dir::Etc::sourcelist=$lists/sources.list" -o Dir::Etc::sourceparts=- -o "Dir::State::lists=$lists/lists" \
+        -o "Dir::Cache=$lists/cache" -o Dir::State::status=/dev/null -o APT::Sandbox::User=root "$@"
+}
+
+# Unpacks packages of it into a folder: `unpack_newer FOLDER PACKAGE..`.
+unpack_newer() {
+    local folder=$1 package
+    shift
+    mkdir -p "$folder/packages"
+    (cd "$folder/packages" && newer apt-get download -qq "$@") || return
+    for package in "$folder"/packages/*.deb; do
+        dpkg-deb -x "$package" "$folder" || return
+    done
+}
+
+# The version of one: `newer_version PACKAGE`.
+newer_version() {
+    newer apt-cache policy "$1" | sed -n 's/^  Candidate: //p'
+}
+
+# Upstream's source of 20190702.
+fetch_upstream() {
+    (cd "$tree" && newer apt-get source -qq --tar-only --download-only argon2 \
+        && tar xf argon2_0~20190702*.orig.tar.* && mv phc-winner-argon2-20190702 upstream)
+}
+
+# Its vector form: opt.c in the place of ref.c, with the flags of its Makefile, for x86-64-v3 and for this processor.
+build_upstream() {
+    local cpu
+    rm -f "$out"/upstream-{v3,native}.so
+    fetch_upstream >"$out/upstream.log" 2>&1 || { echo 'upstream: skipped, its source of 20190702 cannot be had'; return; }
+    for cpu in x86-64-v3 native; do
+        (cd "$tree/upstream" && gcc -std=c89 -O3 -pthread -march="$cpu" -Iinclude -Isrc -shared -fPIC -fvisibility=hidden \
+            -DA2_VISCTL=1 -Wl,-Bsymbolic -o "$out/upstream-${cpu#x86-64-}.so" \
+            src/{argon2,core,thread,encoding,opt}.c src/blake2/blake2b.c)
+    done
+}
+
+# A version of rust-argon2: `build_rust_argon2 VERSION`. Debian has 1.0.0 and what it needs; another version is built
+# where cargo has its source without a network.
+build_rust_argon2() {
+    local version=$1 crate=$tree/rust-$1 name=rust-argon2-$1
+    rm -f "$out/$name.so"
+    mkdir -p "$crate/.cargo"
+    cp -r "$here/rust_argon2/." "$crate"
+    sed -i "s/^rust-argon2 = .*/rust-argon2 = \"=$version\"/" "$crate/Cargo.toml"
+    [[ ! -d $crates_of_debian/$name ]] || printf '%s\n' '[source.crates-io]' 'replace-with = "debian"' '[source.debian]' \
+        "directory = \"$crates_of_debian\"" >"$crate/.cargo/config.toml"
+    if (cd "$crate" && "${cargo[@]}" build --offline --release --target-dir target) >"$out/$name.log" 2>&1; then
+        cp "$crate/target/release/libbench_rust_argon2.so" "$out/$name.so"
+    else
+        echo "$name: skipped, cargo has no source of it here"
+    fi
+}
+
+# RustCrypto's argon2, by the crates of Debian 13.
+build_rustcrypto() {
+    local crate=$tree/rustcrypto debian=$tree/debian-crates names=()
+    rm -f "$out/rustcrypto.so"
+    mkdir -p "$crate/.cargo"
+    cp -r "$here/rustcrypto/." "$crate"
+    printf '%s\n' '[source.crates-io]' 'replace-with = "debian"' '[source.debian]' \
+        "directory = \"$debian$crates_of_debian\"" >"$crate/.cargo/config.toml"
+    mapfile -t names < <(newer apt-get install -s --no-install-recommends librust-argon2-dev | awk '/^Inst librust/ { print $2 }')
+    if ((${#names[@]})) && unpack_newer "$debian" "${names[@]}" \
+        && (cd "$crate" && "${cargo[@]}" build --offline --release --target-dir target); then
+        cp "$crate/target/release/libbench_rustcrypto.so" "$out/rustcrypto.so"
+    fi >"$out/rustcrypto.log" 2>&1
+    [ -e "$out/rustcrypto.so" ] || echo 'rustcrypto: skipped, its source cannot be had'
+}
+
+# OpenSSL of Debian 13, with the C library that it is for.
+fetch_openssl() {
+    rm -rf "$out/openssl"
+    gcc -O2 -Wall -Wextra -o "$out/time_openssl" "$here/openssl.c" -ldl
+    unpack_newer "$out/openssl" libssl3t64 libc6 libzstd1 zlib1g >"$out/openssl.log" 2>&1 \
+        || { rm -rf "$out/openssl"; echo 'openssl: skipped, it cannot be had'; }
+}
+
+# Times it in a process of its own, after its tags were compared with the driver's: `measure_openssl SECONDS FILE`.
+measure_openssl() {
+    local libraries=$out/openssl/usr/lib/x86_64-linux-gnu
+    [ -d "$libraries" ] || return 0
+    "$libraries/ld-linux-x86-64.so.2" --library-path "$libraries" "$out/time_openssl" "$libraries/libcrypto.so.3" "$1" \
+        >>"$2" 2>"$out/openssl.tags"
+    diff "$out/openssl.tags" <("$out/driver" tags 0 "$out") || { echo 'openssl gives another tag' >&2; exit 1; }
+}
+
+# How many vector multiplications of 32 bits a library has, by the width of their registers. The compression has one in
+# each step, so a library with none computes it word by word: `multiplications LIBRARY [FUNCTIONS]`.
+multiplications() {
+    objdump -d --no-show-raw-insn "$1" | awk -v functions="${2:-.}" '
+        /^[0-9a-f]+ </ { is_asked = $2 ~ functions }
+        /pmuludq/ && is_asked { count[/zmm/ ? 512 : /ymm/ ? 256 : 128]++ }
+        END {
+            if (!(128 in count) && !(256 in count) && !(512 in count)) print "none"
+            else print count[128] + 0 ", " count[256] + 0 ", " count[512] + 0
+        }'
+}
+
+# A line of a peer: `describe NAME LIBRARY WHAT [FUNCTIONS]`.
+describe() {
+    [ ! -e "$2" ] || printf '%s\t%s\t%s\n' "$1" "$3" "$(multiplications "$2" "${4:-}")"
+}
+
+# A Debian package and its version.
+of_debian() {
+    dpkg-query -W -f="Debian's \${source:Package} \${Version}" "$1"
+}
+
+# The library of a package, which the driver links: `linked LIBRARY`.
+linked() {
+    ldd "$out/driver" | awk -v name="$1" '$1 ~ name { print $3 }'
+}
+
+# A line of a package whose code is in another's library: `describe_package NAME PACKAGE WHAT`.
+describe_package() {
+    ! dpkg -s "$2" >/dev/null 2>&1 || printf '%s\t%s\t%s\n' "$1" "$(of_debian "$2")$3" -
+}
+
+describe_all() {
+    local gcc rustc
+    gcc=$(gcc -dumpfullversion) rustc=$("${rustc_of_cargo[@]}" --version)
+    describe ours "$out/argon2_c.so" 'its builds for x86-64-v2 and, with AVX2, x86-64-v3, of which it chooses one'
+    describe libsodium "$(linked libsodium)" "$(of_debian libsodium23), which chooses its code by the processor; one lane only"
+    describe upstream-v3 "$out/upstream-v3.so" "the C reference of 20190702, its vector form opt.c, by gcc $gcc -O3 -march=x86-64-v3"
+    describe upstream-native "$out/upstream-native.so" "the same, by gcc $gcc -O3 -march=native"
+    describe libargon2 "$(linked libargon2)" "$(of_debian libargon2-1): the C reference, its form without vectors"
+    describe botan "$(linked libbotan)" "$(of_debian libbotan-2-19); timed with one lane only"
+    describe libgcrypt "$(linked libgcrypt)" "$(of_debian libgcrypt20)"
+    describe rust-argon2-1 "$out/rust-argon2-1.0.0.so" "cargo build --release, $rustc" argon2
+    describe rust-argon2-3 "$out/rust-argon2-3.0.0.so" "cargo build --release, $rustc" argon2
+    describe rustcrypto "$out/rustcrypto.so" "RustCrypto's argon2, Debian's $(newer_version librust-argon2-dev), cargo build --release, $rustc; one thread only" argon2
+    describe openssl "$out/openssl/usr/lib/x86_64-linux-gnu/libcrypto.so.3" "Debian's openssl $(newer_version libssl3t64), in a process of its own" argon2
+    describe_package argon2-cffi python3-argon2 ', over libargon2'
+}
+

@@ -1,0 +1,42 @@
+// Why a call is rejected: a class for each `Error` of the library, by the number that it has for C.
+
+/** A call to Argon2 was rejected. `name` is that of its class, and `code` the number of the error. */
+export class Argon2Error extends Error {}
+
+/** The class of one error. */
+function define(name, code) {
+    const error = class extends Argon2Error {};
+    Object.defineProperty(error, 'name', { value: name });
+    for (const [key, value] of Object.entries({ name, code })) {
+        Object.defineProperty(error.prototype, key, { value });
+    }
+    return error;
+}
+
+Object.defineProperty(Argon2Error.prototype, 'name', { value: 'Argon2Error' });
+
+export const OutputTooShort = define('OutputTooShort', 1);
+export const OutputTooLong = define('OutputTooLong', 2);
+export const PwdTooShort = define('PwdTooShort', 3);
+export const PwdTooLong = define('PwdTooLong', 4);
+export const SaltTooShort = define('SaltTooShort', 5);
+export const SaltTooLong = define('SaltTooLong', 6);
+export const AdTooShort = define('AdTooShort', 7);
+export const AdTooLong = define('AdTooLong', 8);
+export const SecretTooShort = define('SecretTooShort', 9);
+export const SecretTooLong = define('SecretTooLong', 10);
+export const TimeTooSmall = define('TimeTooSmall', 11);
+export const TimeTooLarge = define('TimeTooLarge', 12);
+export const MemoryTooLittle = define('MemoryTooLittle', 13);
+export const MemoryTooMuch = define('MemoryTooMuch', 14);
+export const LanesTooFew = define('LanesTooFew', 15);
+export const LanesTooMany = define('LanesTooMany', 16);
+export const IncorrectType = define('IncorrectType', 17);
+export const IncorrectVersion = define('IncorrectVersion', 18);
+export const DecodingFail = define('DecodingFail', 19);
+export const OutOfMemory = define('OutOfMemory', 20);
+export const WorkerRefused = define('WorkerRefused', 21);
+export const TooCostly = define('TooCostly', 69);
+
+/** The engine has no memories with addresses of 64 bits. The library for C has no such error. */
+export const Unsupported = define('Unsupported', 256);

@@ -1,0 +1,159 @@
+// A memory with the proved module over it: what the calls are lent, and what is overwritten behind them.
+import { OUT_OF_MEMORY, Rejected } from './codes.js';
+
+const PAGE = 65536;
+/** The stack of an instance, PROVED_ARGON2_STACK_SIZE. The default one is in front of all else. */
+export const STACK = 65536;
+/** What the module for a shared memory says that this has at most: 4 GiB. */
+const MAX_SHARED_PAGES = 65536;
+const SMALLEST = 4;
+
+/** Elements of a memory, as the calls take them: where the first one is, and how many there are. */
+export class Place {
+    constructor(at, length) {
+        this.at = at;
+        this.length = length;
+    }
+}
+
+/** Where a structure is, for the calls that take one. */
+export const pointer = (place) => BigInt(place.at);
+
+/** A memory that workers can share. Older engines name and count differently. */
+function sharedMemory() {
+    try {
+        return new WebAssembly.Memory({
+            initial: BigInt(SMALLEST), maximum: BigInt(MAX_SHARED_PAGES), shared: true, address: 'i64',
+        });
+    } catch (error) {
+        if (!(error instanceof TypeError)) {
+            throw new Rejected(OUT_OF_MEMORY);
+        }
+        return new WebAssembly.Memory({ initial: SMALLEST, maximum: MAX_SHARED_PAGES, shared: true, index: 'i64' });
+    }
+}
+
+/** Adds pages to a memory, whose number older engines do not take as a BigInt. */
+function grow(memory, pages) {
+    try {
+        memory.grow(BigInt(pages));
+    } catch (error) {
+        if (!(error instanceof TypeError)) {
+            throw error;
+        }
+        memory.grow(pages);
+    }
+}
+
+export class Room {
+    #exports;
+    #memory;
+    #base;
+    #top;
+
+    constructor(instance, memory) {
+        this.#exports = instance.exports;
+        this.#memory = memory;
+        this.#base = Math.ceil(Number(this.#exports.__heap_base.value) / 16) * 16;
+        this.#top = this.#base;
+    }
+
+    /** A memory of its own, for one thread. */
+    static async open(module) {
+        const instance = await WebAssembly.instantiate(module, {});
+        return new Room(instance, instance.exports.memory);
+    }
+
+    /** A memory that other workers can join. */
+    static async openShared(module) {
+        const memory = sharedMemory();
+        return new Room(await WebAssembly.instantiate(module, { env: { memory } }), memory);
+    }
+
+    /** The memory of another worker, with a stack of one's own in it. */
+    static async join(module, memory, stack) {
+        const instance = await WebAssembly.instantiate(module, { env: { memory } });
+        instance.exports.__stack_pointer.value = BigInt(stack.at + stack.length);
+        return new Room(instance, memory);
+    }
+
+    get memory() {
+        return this.#memory;
+    }
+
+    get isShared() {
+        return !(this.#memory.buffer instanceof ArrayBuffer);
+    }
+
+    get size() {
+        return this.#memory.buffer.byteLength;
+    }
+
+    /** Room for so many elements, of so many bytes each. It is zeros where nothing was taken before. */
+    take(length, size = 1) {
+        const alignment = size === 1 ? 16 : size;
+        const at = Math.ceil(this.#top / alignment) * alignment;
+        // (behind no bytes there is an address too)
+        this.#reach(at + length * size + 1);
+        this.#top = at + length * size;
+        return new Place(at, length);
+    }
+
+    #reach(end) {
+        const pages = Math.ceil((end - this.size) / PAGE);
+        if (pages > 0) {
+            try {
+                grow(this.#memory, pages);
+            } catch (error) {
+                throw error instanceof RangeError ? new Rejected(OUT_OF_MEMORY) : error;
+            }
+        }
+    }
+
+    write(place, bytes) {
+        this.view(place).set(bytes);
+    }
+
+    /** Room with each of these bytes in it. All of it is taken first, since an engine may copy a memory that grows. */
+    putAll(pieces) {
+        const places = pieces.map((bytes) => this.take(bytes.length));
+        places.forEach((place, i) => this.write(place, pieces[i]));
+        return places;
+    }
+
+    put(bytes) {
+        return this.putAll([bytes])[0];
+    }
+
+    /** Room with these numbers of 32 bits in it. */
+    putNumbers(numbers) {
+        return this.put(new Uint8Array(Uint32Array.from(numbers).buffer));
+    }
+
+    view(place) {
+        return new Uint8Array(this.#memory.buffer, place.at, place.length);
+    }
+
+    /** A copy of some bytes, which stays. */
+    read(place) {
+        return Uint8Array.from(this.view(place));
+    }
+
+    /** What a call returns: a place is passed as an address and a length. */
+    call(name, ...given) {
+        const passed = given.flatMap((it) => (it instanceof Place ? [BigInt(it.at), BigInt(it.length)] : it));
+        return this.#exports[`proved_argon2_${name}`](...passed);
+    }
+
+    /** Overwrites all that was lent since it was opened or cleared, and the stack. */
+    clear() {
+        this.#overwrite(0, STACK);
+        this.#overwrite(this.#base, this.#top);
+        this.#top = this.#base;
+    }
+
+    /** By words, since an engine may write to shared bytes one by one. */
+    #overwrite(from, to) {
+        new BigUint64Array(this.#memory.buffer, from, Math.ceil((to - from) / 8)).fill(0n);
+    }
+}

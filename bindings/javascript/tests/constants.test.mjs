@@ -1,0 +1,50 @@
+// The numbers that the package has beside the module are the module's.
+import assert from 'node:assert/strict';
+import { readFileSync } from 'node:fs';
+import { createRequire } from 'node:module';
+import { dirname } from 'node:path';
+import { fileURLToPath } from 'node:url';
+import { test } from 'node:test';
+import * as argon2 from 'proved-argon2';
+
+await argon2.hash('', { memoryCost: 8, timeCost: 1 }); // (64-bit memories are allowed by now)
+const source = dirname(fileURLToPath(import.meta.resolve('proved-argon2')));
+
+/** What a call writes of its structure, as numbers of 32 bits. */
+async function numbersOf(name, count) {
+    const { instance } = await WebAssembly.instantiate(readFileSync(`${source}/proved_argon2.wasm`), {});
+    const at = Number(instance.exports.__heap_base.value);
+    const { memory } = instance.exports;
+    if (memory.buffer.byteLength < at + 64) {
+        try { memory.grow(1n); } catch { memory.grow(1); }
+    }
+    instance.exports[`proved_argon2_${name}`](BigInt(at));
+    return [...new Uint32Array(memory.buffer, at, count)];
+}
+
+test('the presets are those of the module', async () => {
+    for (const [name, preset] of Object.entries(argon2.presets)) {
+        const call = name.replace('LowMem', '_low_mem');
+        const { type, version, memoryCost, timeCost, parallelism, hashLength } = preset;
+        assert.deepEqual(await numbersOf(call, 6), [type, version, memoryCost, timeCost, parallelism, hashLength], name);
+    }
+});
+
+test('the default limits are those of the module', async () => {
+    const { memoryCost, timeCost, parallelism, work } = argon2.defaultLimits;
+    assert.deepEqual(await numbersOf('default_limits', 6), [memoryCost, timeCost, parallelism, 0, work, 0]);
+});
+
+test('the version is that of the module', async () => {
+    const { version } = createRequire(import.meta.url)('proved-argon2/package.json');
+    const { instance } = await WebAssembly.instantiate(readFileSync(`${source}/proved_argon2.wasm`), {});
+    const [major, minor, patch] = version.split('.').map(Number);
+    assert.equal(instance.exports.proved_argon2_library_version(), major * 1000000 + minor * 1000 + patch);
+});
+
+test('the module imports nothing, and the shared one a memory alone', async () => {
+    const importsOf = (file) => WebAssembly.Module.imports(new WebAssembly.Module(readFileSync(`${source}/${file}`)));
+    assert.deepEqual(importsOf('proved_argon2.wasm'), []);
+    const shared = importsOf('proved_argon2_shared.wasm').map((it) => `${it.module}.${it.name} ${it.kind}`);
+    assert.deepEqual(shared, ['env.memory memory']);
+});

@@ -1,0 +1,156 @@
+// Each error by its name, before a worker is started or memory is taken.
+import assert from 'node:assert/strict';
+import { readFileSync } from 'node:fs';
+import { test } from 'node:test';
+import { countWorkers } from './watching.mjs';
+import * as argon2 from 'proved-argon2';
+
+const MOST = 0xffffffff;
+const SALT = new Uint8Array(16);
+const KEPT = '$argon2id$v=19$m=256,t=2,p=1$c29tZXNhbHQ$nf65EOgLrQMR/uIPnA4rEsF5h7TKyQwu9U1bMCHGi/4';
+
+const stringOf = (memory, time, lanes) =>
+    `$argon2id$v=19$m=${memory},t=${time},p=${lanes}$c29tZXNhbHQ$nf65EOgLrQMR/uIPnA4rEsF5h7TKyQwu9U1bMCHGi/4`;
+
+/** What a call is rejected by: the options of a hash. */
+const HASHING = [
+    ['SaltTooShort', { salt: new Uint8Array(7) }],
+    ['OutputTooShort', { hashLength: 3 }],
+    ['TimeTooSmall', { timeCost: 0 }],
+    ['MemoryTooLittle', { memoryCost: 7 }],
+    ['MemoryTooLittle', { memoryCost: 31, parallelism: 4 }],
+    ['LanesTooFew', { parallelism: 0 }],
+    ['LanesTooMany', { parallelism: 0x1000000, memoryCost: MOST }],
+    ['IncorrectType', { type: 3 }],
+    ['IncorrectVersion', { version: 18 }],
+    ['RangeError', { timeCost: 1.5 }],
+    ['RangeError', { memoryCost: -1 }],
+    ['RangeError', { hashLength: 2 ** 32 }],
+    ['RangeError', { parallelism: NaN }],
+    ['RangeError', { threads: -1 }],
+    ['TypeError', { timeCost: '2' }],
+    ['TypeError', { type: 'argon2id' }],
+    ['TypeError', { memoryCost: 256n }],
+    ['TypeError', { hashLength: null }],
+    ['TypeError', { salt: 'some salt of mine' }],
+    ['TypeError', { salt: [1, 2, 3, 4, 5, 6, 7, 8] }],
+    ['TypeError', { secret: 'pepper' }],
+    ['TypeError', { secret: null }],
+    ['TypeError', { associatedData: 5 }],
+    ['TypeError', { onProgress: 5 }],
+    ['TypeError', { signal: {} }],
+    ['TypeError', { worker: 'no' }],
+    ['TypeError', { raw: 1 }],
+    ['TypeError', { memorycost: 65536 }],
+    ['TypeError', null],
+    ['TypeError', 5],
+];
+
+/** .. a string and the options of a verification. */
+const VERIFYING = [
+    ['DecodingFail', ''],
+    ['DecodingFail', '$2b$12$R9h/cIPz0gi.URNNX3kh2OPST9/PgBkqquzi.Ss7KIUgO2t0jWMUW'],
+    ['DecodingFail', `${KEPT}\0`],
+    ['DecodingFail', `${KEPT}é`],
+    ['DecodingFail', KEPT.replace('v=19', 'v=18')],
+    ['DecodingFail', KEPT, { limits: { memoryCost: 255 } }, (text) => text.slice(1)],
+    ['TooCostly', KEPT, { limits: { memoryCost: 255 } }],
+    ['TooCostly', KEPT, { limits: { timeCost: 1 } }],
+    ['TooCostly', stringOf(256, 1, 2), { limits: { parallelism: 1 } }],
+    ['TooCostly', KEPT, { limits: { work: 511 } }],
+    ['TooCostly', stringOf(2097153, 1, 1)],
+    ['TooCostly', stringOf(256, 11, 1)],
+    ['TooCostly', stringOf(256, 1, 17)],
+    ['TooCostly', stringOf(1048576, 5, 1)],
+    ['TooCostly', stringOf(0, 11, 1)],
+    ['LanesTooMany', stringOf(MOST, 1, 0x1000000), { limits: null }],
+    ['MemoryTooLittle', stringOf(7, 1, 1)],
+    ['TypeError', 5],
+    ['TypeError', new TextEncoder().encode(KEPT)],
+    ['TypeError', KEPT, { limits: 5 }],
+    ['TypeError', KEPT, { limits: { memory: 5 } }],
+    ['TypeError', KEPT, { limits: { memoryCost: '256' } }],
+    ['RangeError', KEPT, { limits: { work: -1 } }],
+];
+
+const PASSWORDS = [5, null, undefined, {}, ['password'], true, 'half a pair \ud800', '\udc00'];
+
+/** Checks that a call is rejected by an error of this name. */
+async function rejects(name, call, what) {
+    const error = await call().then((value) => assert.fail(`${what} gave ${value}`), (it) => it);
+    assert.equal(error.name, name, `${what}: ${error.stack}`);
+    if (name in argon2) {
+        assert.ok(error instanceof argon2[name] && error instanceof argon2.Argon2Error);
+        assert.equal(error.code, argon2[name].prototype.code);
+        assert.match(error.message, /^[A-Z][\w ]+\w$/);
+    }
+}
+
+test('each error of hash has its name, and comes before a worker', async () => {
+    const started = countWorkers();
+    for (const [name, options] of HASHING) {
+        await rejects(name, () => argon2.hash('password', options), JSON.stringify(options, (_, it) => String(it)));
+    }
+    for (const password of PASSWORDS) {
+        await rejects('TypeError', () => argon2.hash(password), String(password));
+        await rejects('TypeError', () => argon2.verify(KEPT, password), String(password));
+    }
+    assert.equal(started(), 0);
+});
+
+test('each error of verify has its name, and comes before a worker', async () => {
+    const started = countWorkers();
+    for (const [name, encoded, options, change = (it) => it] of VERIFYING) {
+        await rejects(name, () => argon2.verify(change(encoded), 'password', options), `${encoded} ${JSON.stringify(options)}`);
+    }
+    assert.equal(started(), 0);
+});
+
+test('each error of needsRehash has its name', async () => {
+    await rejects('DecodingFail', () => argon2.needsRehash('$argon2id$'), 'a part');
+    await rejects('IncorrectType', () => argon2.needsRehash(KEPT, { type: 7 }), 'a type');
+    await rejects('IncorrectVersion', () => argon2.needsRehash(KEPT, { version: 0 }), 'a version');
+    await rejects('TypeError', () => argon2.needsRehash(null), 'null');
+    await rejects('TypeError', () => argon2.needsRehash(KEPT, { timeCost: '2' }), 'a string');
+});
+
+test('memory that the engine refuses is OutOfMemory, and the next call is made', async () => {
+    const most = { memoryCost: MOST, timeCost: 1 };
+    for (const running of [{ threads: 1 }, { worker: false }, { parallelism: 2 }]) {
+        await rejects('OutOfMemory', () => argon2.hash('password', { ...most, ...running }), JSON.stringify(running));
+    }
+    await rejects('OutOfMemory', () => argon2.verify(stringOf(MOST, 1, 1), 'password', { limits: null }), 'a string');
+    assert.equal(await argon2.verify(KEPT, 'password'), true);
+});
+
+test('a memory.grow that is refused in place is OutOfMemory', async () => {
+    const { grow } = WebAssembly.Memory.prototype;
+    WebAssembly.Memory.prototype.grow = () => {
+        throw new RangeError('refused');
+    };
+    try {
+        await rejects('OutOfMemory', () => argon2.hash('password', { salt: SALT, worker: false }), 'in place');
+    } finally {
+        WebAssembly.Memory.prototype.grow = grow;
+    }
+});
+
+test('the errors are those of the library for C, with their numbers', () => {
+    const [, header] = readFileSync(process.env.HEADER, 'utf8').match(/^enum proved_argon2_code \{(.*?)^\}/ms);
+    const named = (name) => name.toLowerCase().replace(/(^|_)(\w)/g, (_, __, letter) => letter.toUpperCase());
+    const numbers = [...header.matchAll(/^    PROVED_ARGON2_(\w+) = (\d+)/gm)].map(([, name, code]) => [named(name), +code]);
+    const wanted = new Map(numbers.filter(([name, code]) => (code > 0 && code < 64) || name === 'TooCostly'));
+    assert.equal(wanted.size, 22);
+    for (const [name, code] of wanted) {
+        assert.equal(argon2[name]?.prototype.code, code, name);
+        assert.equal(argon2[name].name, name);
+    }
+});
+
+test('an aborted signal rejects by its reason, before a worker', async () => {
+    const started = countWorkers();
+    const reason = new Error('no more');
+    await assert.rejects(argon2.hash('password', { signal: AbortSignal.abort(reason) }), (error) => error === reason);
+    await assert.rejects(argon2.verify(KEPT, 'password', { signal: AbortSignal.abort() }), { name: 'AbortError' });
+    assert.equal(started(), 0);
+});

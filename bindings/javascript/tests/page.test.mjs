@@ -1,0 +1,155 @@
+// docs/demo in a browser, as a visitor uses it, and the package in that page, isolated from other origins and not.
+// PICTURES names a folder for pictures.
+import assert from 'node:assert/strict';
+import { readFileSync, writeFileSync } from 'node:fs';
+import { after, before, describe, test } from 'node:test';
+import * as argon2 from 'proved-argon2';
+import { Chromium, Firefox } from './browsers.mjs';
+import { serve } from './server.mjs';
+
+const { BROWSER, PAGE, PICTURES, VECTORS } = process.env;
+const RAW = readFileSync(`${VECTORS}/raw.txt`, 'utf8');
+const SIZES = {
+    light: { width: 1040, height: 700, isDark: false },
+    dark: { width: 1040, height: 700, isDark: true },
+    phone: { width: 390, height: 844, isDark: false, isPhone: true },
+};
+
+const MEASURED = `document.getElementById('estimate').textContent.startsWith('A hash takes')`;
+
+const literal = (value) => JSON.stringify(value);
+const of = (form, part) => `document.querySelector('#${form} ${part}')`;
+
+/** Sets what a visitor would type or drag. */
+const set = (browser, id, value) => browser.evaluate(`(() => {
+    const it = document.getElementById(${literal(id)});
+    it.value = ${literal(value)};
+    it.dispatchEvent(new Event('input'));
+})()`);
+
+const press = (browser, form, part) => browser.evaluate(`${of(form, part)}.click()`);
+const textOf = (browser, form) => browser.evaluate(`${of(form, '[role=status]')}.textContent`);
+
+async function statusOf(browser, form) {
+    await browser.until(`!${of(form, '[type=submit]')}.disabled`);
+    return textOf(browser, form);
+}
+
+async function submit(browser, form) {
+    await press(browser, form, '[type=submit]');
+    return statusOf(browser, form);
+}
+
+const VECTORS_IN_PAGE = `
+    const argon2 = await import('/proved-argon2/index.js');
+    const variants = { argon2d: 0, argon2i: 1, argon2id: 2 };
+    const bytes = (hex) => Uint8Array.from(hex === '-' ? [] : hex.match(/../g), (it) => parseInt(it, 16));
+    const hex = (it) => [...it].map((byte) => byte.toString(16).padStart(2, '0')).join('');
+    const wrong = [];
+    const lines = ${literal(RAW)}.split('\\n').filter(Boolean);
+    for (const line of lines) {
+        const [type, version, timeCost, memoryCost, parallelism, hashLength, ...rest] = line.split(' ');
+        const [password, salt, secret, associatedData] = rest.slice(0, 4).map(bytes);
+        const settings = { type: variants[type], version: +version, timeCost: +timeCost, memoryCost: +memoryCost,
+            parallelism: +parallelism, hashLength: +hashLength };
+        const tag = await argon2.hash(password, { ...settings, salt, secret, associatedData, raw: true })
+            .then(hex, (error) => 'ERR ' + error.message);
+        if (tag !== rest.slice(4).join(' ')) wrong.push([line, tag]);
+    }
+    return { count: lines.length, wrong, isIsolated: crossOriginIsolated };`;
+
+const REFUSED_IN_PAGE = `
+    const argon2 = await import('/proved-argon2/index.js');
+    const names = [];
+    const tried = [
+        () => argon2.hash('password', { memoryCost: 4294967295 }),
+        () => argon2.hash('password', { memoryCost: 4294967295, parallelism: 4 }),
+        () => argon2.hash('password', { memoryCost: 4294967295, worker: false }),
+        () => argon2.hash('password', { timeCost: 0 }),
+        () => argon2.verify('$argon2id$v=19$m=4194304,t=1,p=1$c29tZXNhbHQ$nf65EOgLrQM', 'password'),
+        () => argon2.hash('password', { signal: AbortSignal.abort() }),
+    ];
+    for (const call of tried) names.push(await call().then(String, (error) => error.name));
+    return names;`;
+
+function tests(Browser, isIsolated) {
+    let browser;
+    let server;
+
+    before(async () => {
+        server = await serve(PAGE, { isIsolated });
+        browser = await new Browser().open();
+        await browser.visit(server.url);
+        await browser.until(MEASURED);
+    });
+
+    after(async () => {
+        await browser.close();
+        server.close();
+    });
+
+    const named = (what) => `${isIsolated ? 'isolated' : 'not isolated'}: ${what}`;
+
+    test(named('the outside hashes'), async () => {
+        const { count, wrong, isIsolated: found } = await browser.told(VECTORS_IN_PAGE);
+        assert.deepEqual(wrong, []);
+        assert.ok(count >= 240);
+        assert.equal(found, isIsolated);
+    });
+
+    test(named('errors have their names'), async () => {
+        assert.deepEqual(await browser.told(REFUSED_IN_PAGE),
+            ['OutOfMemory', 'OutOfMemory', 'OutOfMemory', 'TimeTooSmall', 'TooCostly', 'AbortError']);
+    });
+
+    test(named('a visitor hashes and verifies'), async () => {
+        await set(browser, 'password', 'pässwörd');
+        await set(browser, 'memory', '12');
+        await set(browser, 'lanes', '3');
+        assert.match(await submit(browser, 'hashing'), /^Hashed in /);
+        const encoded = await browser.evaluate(`document.getElementById('encoded').value`);
+        assert.match(encoded, /^\$argon2id\$v=19\$m=4096,t=2,p=3\$/);
+        assert.equal(await argon2.verify(encoded, 'pässwörd'), true);
+        assert.equal(await browser.evaluate(`${of('hashing', 'progress')}.value`), 1);
+        assert.match(await submit(browser, 'verifying'), /^This is the password /);
+        await set(browser, 'guess', 'password');
+        assert.match(await submit(browser, 'verifying'), /^This is not the password /);
+        await set(browser, 'encoded', encoded.slice(1));
+        assert.equal(await submit(browser, 'verifying'), 'DecodingFail: Decoding failed');
+        await set(browser, 'encoded', encoded.replace('m=4096', 'm=4194304'));
+        assert.match(await submit(browser, 'verifying'), /^TooCostly: /);
+    });
+
+    test(named('a visitor cancels, and the page is alive meanwhile'), async () => {
+        await set(browser, 'memory', '17');
+        await set(browser, 'passes', '20');
+        await press(browser, 'hashing', '[type=submit]');
+        await browser.until(`${of('hashing', 'progress')}.value > 0`);
+        await set(browser, 'passes', '1');
+        assert.equal(await browser.evaluate(`document.getElementById('passes-shown').value`), '1');
+        await press(browser, 'hashing', '.cancel');
+        assert.equal(await statusOf(browser, 'hashing'), 'Cancelled. The memory is overwritten.');
+        await set(browser, 'memory', '10');
+        assert.match(await submit(browser, 'hashing'), /^Hashed in /);
+    });
+
+    test(named('the page is seen'), async () => {
+        await browser.visit(server.url);
+        await browser.until(MEASURED);
+        await submit(browser, 'hashing');
+        await submit(browser, 'verifying');
+        for (const [name, size] of Object.entries(SIZES)) {
+            await browser.show(size);
+            const picture = await browser.screenshot();
+            assert.deepEqual([...picture.subarray(1, 4)], [...Buffer.from('PNG')]);
+            if (PICTURES) {
+                writeFileSync(`${PICTURES}/${Browser.name}-${isIsolated ? 'isolated-' : ''}${name}.png`, picture);
+            }
+        }
+    });
+}
+
+const Browser = [Chromium, Firefox].find((it) => it.command === BROWSER);
+for (const isIsolated of [true, false]) {
+    describe(Browser.name, () => tests(Browser, isIsolated));
+}

@@ -1,0 +1,156 @@
+// How calls run: progress, an end on demand, workers, and what is left in memory.
+import assert from 'node:assert/strict';
+import { execFile } from 'node:child_process';
+import { availableParallelism } from 'node:os';
+import { test } from 'node:test';
+import { setTimeout as sleep } from 'node:timers/promises';
+import { promisify } from 'node:util';
+import { look } from './memories.mjs';
+import { countWorkers, letStay, lookIntoWorkers, workers } from './watching.mjs';
+import * as argon2 from 'proved-argon2';
+
+const SMALL = { memoryCost: 1024, timeCost: 3, parallelism: 4, salt: new Uint8Array(16), raw: true };
+const RUNNINGS = { 'by one worker': { threads: 1 }, 'by four workers': { threads: 4 }, 'in place': { worker: false } };
+
+const hexOf = (bytes) => Buffer.from(bytes).toString('hex');
+
+async function assertNothingHeld() {
+    const found = [look(), ...await lookIntoWorkers()];
+    assert.ok(found.reduce((sum, it) => sum + it.bytes, 0) > 1024 * 1024, 'no memory was seen');
+    assert.deepEqual(found.filter((it) => it.held > 0), []);
+}
+
+for (const [name, running] of Object.entries(RUNNINGS)) {
+    test(`progress goes slice by slice to its end, ${name}`, async () => {
+        const told = [];
+        await argon2.hash('password', { ...SMALL, ...running, onProgress: (...it) => told.push(it) });
+        assert.deepEqual(told, Array.from({ length: 12 }, (_, i) => [i + 1, 12]));
+    });
+
+    test(`what is told can stop a call, ${name}`, async () => {
+        const reason = new Error('enough');
+        let told = 0;
+        const onProgress = () => {
+            told += 1;
+            if (told === 5) {
+                throw reason;
+            }
+        };
+        await assert.rejects(argon2.hash('password', { ...SMALL, ...running, onProgress }), (error) => error === reason);
+        assert.equal(told, 5);
+        await assertNothingHeld();
+    });
+
+    test(`a signal stops a hash in the middle; memory is overwritten, and the workers go on, ${name}`, async () => {
+        await argon2.hash('password', { ...SMALL, ...running });
+        const wanted = hexOf(await argon2.hash('password', { ...SMALL, worker: false }));
+        const started = countWorkers();
+        const alive = workers.length;
+        const controller = new AbortController();
+        let told = 0;
+        const onProgress = (done) => {
+            told = done;
+            if (done === 3) {
+                controller.abort();
+            }
+        };
+        const large = { ...SMALL, ...running, memoryCost: 16384 };
+        const call = argon2.hash('password', { ...large, onProgress, signal: controller.signal });
+        await assert.rejects(call, { name: 'AbortError' });
+        assert.equal(told, 3);
+        await assertNothingHeld();
+        assert.equal(workers.length, alive);
+        assert.equal(hexOf(await argon2.hash('password', { ...SMALL, ...running })), wanted);
+        assert.equal(started(), 0);
+        await assertNothingHeld();
+    });
+}
+
+test('a memory in use is seen, so that one that is overwritten is too', async () => {
+    let held = 0;
+    await argon2.hash('password', { ...SMALL, worker: false, onProgress: () => { held = Math.max(held, look().held); } });
+    assert.ok(held > 1000 * 1024, `${held} bytes`);
+    await assertNothingHeld();
+});
+
+test('a signal stops a verification too', async () => {
+    const encoded = await argon2.hash('password', { ...SMALL, raw: false });
+    const signal = AbortSignal.timeout(5);
+    const costly = { limits: null, signal };
+    await assert.rejects(argon2.verify(encoded.replace('t=3', 't=100000'), 'password', costly), { name: 'TimeoutError' });
+    assert.equal(await argon2.verify(encoded, 'password'), true);
+    await assertNothingHeld();
+});
+
+test('a signal that comes later does nothing', async () => {
+    const controller = new AbortController();
+    await argon2.hash('password', { ...SMALL, signal: controller.signal });
+    controller.abort();
+    assert.equal(await argon2.verify(await argon2.hash('password', { ...SMALL, raw: false }), 'password'), true);
+});
+
+test('many calls at once are each right, and take no more workers than there are processors', async () => {
+    const settings = Array.from({ length: 40 }, (_, i) => ({ ...SMALL, parallelism: 1 + i % 5 }));
+    const all = await Promise.all(settings.map((it, i) => argon2.hash(`${i}`, it)));
+    assert.ok(workers.length <= availableParallelism(), `${workers.length} workers`);
+    for (const [i, tag] of all.entries()) {
+        assert.deepEqual(tag, await argon2.hash(`${i}`, { ...settings[i], worker: false }), `${i}`);
+    }
+    await assertNothingHeld();
+});
+
+test('a call that waits for a worker can be stopped', async () => {
+    const controller = new AbortController();
+    const large = { ...SMALL, memoryCost: 16384 };
+    const others = Array.from({ length: availableParallelism() }, () => argon2.hash('password', large));
+    const waiting = argon2.hash('password', { ...SMALL, signal: controller.signal });
+    await sleep(1);
+    controller.abort();
+    await assert.rejects(waiting, { name: 'AbortError' });
+    await Promise.all(others);
+    await argon2.hash('password', SMALL);
+});
+
+test('a worker that fails is WorkerRefused, and the next call has another', async () => {
+    const large = { ...SMALL, memoryCost: 65536, timeCost: 20 };
+    for (const running of [{ threads: 1 }, { threads: 4 }]) {
+        const call = argon2.hash('password', { ...large, ...running });
+        const rejected = assert.rejects(call, (error) => error instanceof argon2.WorkerRefused);
+        await sleep(50);
+        await Promise.all(workers.map((it) => it.terminate()));
+        await rejected;
+        assert.equal((await argon2.hash('password', { ...SMALL, ...running })).length, 32);
+    }
+});
+
+test('inputs are taken when the call is made, and stay as they are', async () => {
+    const options = { ...SMALL, secret: Uint8Array.of(1, 2, 3), associatedData: Uint8Array.of(4) };
+    const password = new TextEncoder().encode('password');
+    const wanted = await argon2.hash('password', options);
+    const call = argon2.hash(password, options);
+    assert.deepEqual([...password], [...Buffer.from('password')]);
+    password.fill(0);
+    options.secret.fill(0);
+    assert.deepEqual(await call, wanted);
+});
+
+test('a process ends while a worker waits for work', async () => {
+    const program = `import { workers } from './watching.mjs';
+        import { hash, verify } from 'proved-argon2';
+        process.once('beforeExit', () => console.log(workers.length));
+        console.log(await verify(await hash('password', { memoryCost: 64 }), 'password'));`;
+    const words = ['--input-type=module', '--eval', program];
+    const { stdout } = await promisify(execFile)(process.execPath, words, { cwd: import.meta.dirname, timeout: 600000 });
+    assert.equal(stdout, 'true\n1\n');
+});
+
+test('workers without work go', async () => {
+    letStay(10);
+    const alone = { ...SMALL, threads: 1 };
+    await Promise.all(Array.from({ length: availableParallelism() }, () => argon2.hash('password', alone)));
+    assert.ok(workers.length > 0);
+    while (workers.length > 0) {
+        await sleep(10);
+    }
+    await argon2.hash('password', SMALL);
+});

@@ -1,0 +1,51 @@
+// What the types let through, and what they do not: tsc --noEmit --strict. It is never run.
+import argon2, {
+    Argon2Error, SaltTooShort, argon2id, defaultLimits, hash, needsRehash, presets, verify,
+} from 'proved-argon2';
+import type { HashOptions, Limits, Settings } from 'proved-argon2';
+
+export async function right(password: string, key: Uint8Array, signal: AbortSignal): Promise<boolean> {
+    const all: Settings = { type: argon2id, version: 0x13, memoryCost: 19456, timeCost: 2, parallelism: 1, hashLength: 24 };
+    const settings: Settings = { ...presets.owasp1, ...all };
+    const options: HashOptions = { ...settings, type: argon2id, secret: key, associatedData: key.buffer, signal };
+    const encoded: string = await hash(password, { ...settings, onProgress: (done, all) => console.log(done / all) });
+    const tag: Uint8Array = await hash(key, { ...settings, raw: true, salt: key, worker: false, threads: 2 });
+    const either: string | Uint8Array = await argon2.hash(password, options);
+    const limits: Limits = { ...defaultLimits, memoryCost: 65536, timeCost: 4, parallelism: 4, work: 1048576 };
+    const verdict: boolean = await verify(encoded, password, { secret: tag, limits });
+    const renewed: boolean = await needsRehash(encoded, settings);
+    try {
+        return verdict && renewed && await argon2.verify(encoded, key, { limits: null }) && either !== tag;
+    } catch (error) {
+        if (error instanceof SaltTooShort || error instanceof Argon2Error) {
+            const code: number = error.code;
+            return error.name === 'TooCostly' && code === 69;
+        }
+        throw error;
+    }
+}
+
+export async function wrong(password: string): Promise<void> {
+    // @ts-expect-error: a hash is a promise
+    const now: string = hash(password);
+    // @ts-expect-error: bytes are not a string
+    const raw: string = await hash(password, { raw: true });
+    // @ts-expect-error: there is no such option
+    await hash(password, { memorycost: 65536 });
+    // @ts-expect-error: there is no such variant
+    await hash(password, { type: 3 });
+    // @ts-expect-error: a variant is a number
+    await hash(password, { type: 'argon2id' });
+    // @ts-expect-error: passes are a number
+    await hash(password, { timeCost: '2' });
+    // @ts-expect-error: a salt is bytes
+    await hash(password, { salt: 'some salt' });
+    // @ts-expect-error: a string is verified, and not bytes
+    await verify(new Uint8Array(), password);
+    // @ts-expect-error: a salt is in the string
+    await verify('', password, { salt: new Uint8Array() });
+    // @ts-expect-error: limits have no such number
+    await verify('', password, { limits: { memory: 5 } });
+    // @ts-expect-error: presets cannot be changed
+    presets.owasp1.timeCost = 5;
+}

@@ -1,6 +1,0 @@
-use Rattle.argon2_memory.proofs.Schedules.SliceToSlice.{every_order_agrees}
-use Rattle.argon2_memory.proofs.Schedules.Entries.{no_entry_reads_others, picks_hold}
-use Rattle.argon2.proofs.parts.theorems.any_order.Goals as goal
-
-pub returns : goal.returns
-returns c = record { agrees = every_order_agrees; apart = no_entry_reads_others; picks = picks_hold }

@@ -1,0 +1,181 @@
+/*
+ * Calls of all sizes, drawn from a seed: up to a gibibyte, or a quarter of what the system has left, hundreds of lanes and
+ * threads, and a tag of a mebibyte. Each has libargon2's tag, and starts as many threads, asks as often for memory and
+ * writes as many blocks as its settings say, so that none is refused, cut or done twice from some size on. It is linked
+ * with --wrap for what it counts, and over a library in which each block that is written adds one to a number (leak.py).
+ *
+ *     sizes [SEED]     the seed is printed
+ */
+#include "calls.h"
+#include "system.h"
+
+#include <time.h>
+
+enum { DRAWS = 30, MOST_LANES = 400, MOST_PASSES = 8, MOST_TAG = 1 << 20, MOST_FOR_A_TEXT = 16, BLOCK = 1024,
+       WORDS_AT_ONCE = 128, WAYS = 6, SLACK = 4 << 20 };
+
+/* Where the library counts the blocks that it writes. */
+#define COUNTER 0x10000000
+
+static atomic_size_t *written;
+static uint8_t tag[MOST_TAG], expected[MOST_TAG], text[2 * MOST_TAG];
+static uint32_t most_memory; /* KiB */
+
+/* A number of a drawn magnitude. */
+static uint32_t drawn(uint32_t least, uint32_t most)
+{
+    uint32_t magnitudes = 0;
+    do {
+        magnitudes++;
+    } while (most >> magnitudes >= least);
+    const uint32_t from = least << below(magnitudes), to = most / 2 < from ? most : 2 * from;
+    return from + below(to - from + 1);
+}
+
+static call drawn_call(uint32_t draw)
+{
+    call it = any_call(1);
+    const uint32_t lanes = draw == 0 ? MOST_LANES : drawn(1, MOST_LANES);
+    const uint32_t memory = draw <= 1 ? most_memory : drawn(8 * lanes, most_memory);
+    const uint32_t passes = most_memory / memory < MOST_PASSES ? most_memory / memory : MOST_PASSES;
+    it.settings.lanes = lanes;
+    it.settings.mem_cost = memory;
+    it.settings.time_cost = drawn(1, passes);
+    it.settings.hash_length = draw == 2 ? MOST_TAG : drawn(4, MOST_TAG);
+    return it;
+}
+
+/* ---- what is to be counted */
+
+/* How many blocks a segment has. */
+static size_t length_of(const proved_argon2_settings *of)
+{
+    return of->mem_cost / (4 * of->lanes);
+}
+
+/* How many blocks are compressed: those of the matrix, in each pass, but for the first two of each lane; and two for each
+ * 128 numbers that are drawn from no block, for each segment (RFC 9106, 3.4.1.2) that has more than those two. */
+static size_t blocks_of(const proved_argon2_settings *of)
+{
+    const size_t all = 4 * of->lanes * length_of(of), drawing = 2 * ((length_of(of) + WORDS_AT_ONCE - 1) / WORDS_AT_ONCE);
+    const size_t slices = of->variant == PROVED_ARGON2_D ? 0
+        : (of->variant == PROVED_ARGON2_ID ? 2 : 4 * of->time_cost) - (length_of(of) == 2 ? 1 : 0);
+    return all * of->time_cost - 2 * of->lanes + drawing * slices * of->lanes;
+}
+
+/* How a call is made: as each of the four, by threads; again by the first without options; and over a memory of memory_new,
+ * twice. */
+enum way { RAW, ENCODED, VERIFY, VERIFY_ENCODED, PLAIN, KEPT };
+
+typedef struct counted {
+    size_t starts, requests, blocks, most_held;
+} counted;
+
+static counted counts_of(const call *it, enum way way, uint32_t threads)
+{
+    const proved_argon2_settings *const of = &it->settings;
+    const uint32_t most = way == PLAIN ? 1 : way == VERIFY_ENCODED && threads > MOST_FOR_A_TEXT ? MOST_FOR_A_TEXT : threads;
+    const size_t tasks = most < of->lanes ? most : of->lanes, calls_made = way == KEPT ? 2 : 1;
+    const size_t beside = way == ENCODED || way == VERIFY || way == VERIFY_ENCODED ? 1 : 0;
+    return (counted){.starts = calls_made * (tasks - 1) * (4 * of->time_cost + 1),
+                     .requests = 1 + beside + (tasks == 1 ? 0 : calls_made),
+                     .blocks = calls_made * blocks_of(of),
+                     .most_held = 4 * length_of(of) * of->lanes * BLOCK};
+}
+
+/* ---- the calls */
+
+static uint32_t hash_over_kept(const proved_argon2_options *by_threads, const call *it)
+{
+    proved_argon2_options with = *by_threads;
+    uint32_t code = proved_argon2_memory_new(&it->settings, &with.memory, &with.memory_len);
+    for (int n = 0; n < 2 && code == PROVED_ARGON2_OK; n++) {
+        memset(tag, n, it->settings.hash_length);
+        code = hash_raw(&with, it, tag);
+    }
+    proved_argon2_memory_free(with.memory, with.memory_len);
+    return code;
+}
+
+static uint32_t answer(const call *it, enum way way, uint32_t threads)
+{
+    const proved_argon2_options with = by(threads);
+    memset(tag, 0, it->settings.hash_length);
+    switch (way) {
+    case RAW: return hash_raw(&with, it, tag);
+    case ENCODED: return hash_encoded(&with, it, text, sizeof text);
+    case VERIFY: return verify_raw(&with, it, expected);
+    case VERIFY_ENCODED: return verify_encoded(&with, it, text);
+    case PLAIN:
+        return proved_argon2_hash_raw(it->pwd, it->pwd_len, it->salt, it->salt_len, it->secret, it->secret_len, it->ad,
+                                      it->ad_len, &it->settings, tag, it->settings.hash_length);
+    default: return hash_over_kept(&with, it);
+    }
+}
+
+/* Whether a call answers what it is to, and takes for it what it is to. */
+static bool is_as_counted(const call *it, enum way way, uint32_t threads)
+{
+    const counted to_be = counts_of(it, way, threads);
+    refuse_nothing();
+    held = most_held = *written = 0;
+    const uint32_t code = answer(it, way, threads);
+    const bool has_tag = way == RAW || way == PLAIN || way == KEPT;
+    const bool good = code == PROVED_ARGON2_OK && (!has_tag || memcmp(tag, expected, it->settings.hash_length) == 0)
+        && starts == to_be.starts && granted == starts && joins == starts && requests == to_be.requests
+        && *written == to_be.blocks && held == 0 && most_held >= to_be.most_held
+        && most_held <= to_be.most_held + SLACK + sizeof text;
+    if (!good) {
+        printf("%u by way %u, %u threads: %zu starts of %zu, %zu requests of %zu, %zu blocks of %zu, %zu bytes of %zu, "
+               "%zu held\n", (unsigned)code, (unsigned)way, (unsigned)threads, starts, to_be.starts, requests,
+               to_be.requests, *written, to_be.blocks, most_held, to_be.most_held, held);
+    }
+    return good;
+}
+
+static void check_draw(uint32_t draw)
+{
+    char name[128];
+    const call it = drawn_call(draw);
+    const proved_argon2_settings *const of = &it.settings;
+    const uint32_t threads = draw <= 1 ? of->lanes : drawn(1, MOST_LANES);
+    bool good = peer(&it, expected) && is_as_counted(&it, ENCODED, threads) && is_as_counted(&it, VERIFY_ENCODED, threads);
+    const enum way way = draw <= 2 ? KEPT : (enum way)below(WAYS);
+    good = good && (way == ENCODED || way == VERIFY_ENCODED || is_as_counted(&it, way, threads));
+    snprintf(name, sizeof name, "variant %u, %u KiB, %u passes, %u lanes, %u threads, a tag of %u bytes",
+             (unsigned)of->variant, (unsigned)of->mem_cost, (unsigned)of->time_cost, (unsigned)of->lanes,
+             (unsigned)threads, (unsigned)of->hash_length);
+    check(good, name);
+}
+
+/* KiB: a quarter of what the system can give, or a gibibyte. */
+static uint32_t memory_to_take(void)
+{
+    FILE *const about = fopen("/proc/meminfo", "r");
+    unsigned long kib = 0;
+    char line[128];
+    while (about != NULL && kib == 0 && fgets(line, sizeof line, about) != NULL) {
+        (void)sscanf(line, "MemAvailable: %lu kB", &kib);
+    }
+    if (about != NULL) {
+        fclose(about);
+    }
+    return kib / 4 < 1 << 20 ? (uint32_t)(kib / 4) : 1 << 20;
+}
+
+int main(int argc, char **argv)
+{
+    const uint64_t seed = argc > 1 ? strtoull(argv[1], NULL, 10) : (uint64_t)time(NULL);
+    printf("seed %llu\n", (unsigned long long)seed);
+    state = seed * 2 + 1; /* (which may not be 0) */
+    most_memory = memory_to_take();
+    written = __real_mmap((void *)COUNTER, sizeof *written, PROT_READ | PROT_WRITE,
+                          MAP_PRIVATE | MAP_ANONYMOUS | MAP_FIXED_NOREPLACE, -1, 0);
+    if (written == MAP_FAILED) {
+        return 2;
+    }
+    for (uint32_t draw = 0; draw < DRAWS; draw++) {
+        check_draw(draw);
+    }
+    return checks_failed != 0;
+}

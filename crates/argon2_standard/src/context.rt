@@ -1,0 +1,187 @@
+//! The settings table, and the inputs of an accepted call with H0, the hash of them.
+
+ghost use Rattle.std.specs.Prelude.{◌≡◌, ◌*◌, ◌/◌, ◌^◌, ◌<◌, length, IsNone, IsOkAnd, MatchOption};
+ghost use Rattle.argon2_standard.specs.Views.Presets.{workers_of};
+ghost use Rattle.argon2_standard.specs.Standard.Prehash.{prehash_of};
+ghost use Rattle.argon2_standard.specs.Standard.SettingsTable.{refusal_of};
+
+use crate::config::Config;
+use crate::error::Error;
+use crate::result::Result;
+use argon2_blocks::blake2b::blake2b;
+use argon2_blocks::common::{
+    MAX_AD_LENGTH, MAX_HASH_LENGTH, MAX_LANES, MAX_PWD_LENGTH, MAX_SALT_LENGTH, MAX_SECRET_LENGTH,
+    MIN_HASH_LENGTH, MIN_LANES, MIN_MEMORY, MIN_SALT_LENGTH, MIN_TIME, PREHASH_DIGEST_LENGTH,
+    SYNC_POINTS,
+};
+use std::fmt;
+
+/// The first refusal of the settings table for a password, a salt and a hash of these lengths. The
+/// order is the table's, since the first refusal is the only answer. Lengths are passed and no
+/// bytes, since a stored text is judged before it is decoded.
+#[tactic(auto, unfolding(crate::specs::Standard::SettingsTable::refusal_of))]
+pub fn first_refusal(config: &Config, pwd_len: u64, salt_len: u64, hash_len: u64) -> Option<Error>
+    ensures { result ≡ refusal_of config.now pwd_len salt_len hash_len }
+{
+    if config.lanes < MIN_LANES {
+        Some(Error::LanesTooFew)
+    } else if config.lanes > MAX_LANES {
+        Some(Error::LanesTooMany)
+    } else if config.mem_cost < MIN_MEMORY
+        || u64::from(config.mem_cost) < u64::from(MIN_MEMORY) * u64::from(config.lanes)
+    {
+        Some(Error::MemoryTooLittle)
+    } else if config.time_cost < MIN_TIME {
+        Some(Error::TimeTooSmall)
+    } else if pwd_len > u64::from(MAX_PWD_LENGTH) {
+        Some(Error::PwdTooLong)
+    } else if salt_len < u64::from(MIN_SALT_LENGTH) {
+        Some(Error::SaltTooShort)
+    } else if salt_len > u64::from(MAX_SALT_LENGTH) {
+        Some(Error::SaltTooLong)
+    } else if config.secret.len() > MAX_SECRET_LENGTH as usize {
+        Some(Error::SecretTooLong)
+    } else if config.ad.len() > MAX_AD_LENGTH as usize {
+        Some(Error::AdTooLong)
+    } else if hash_len < u64::from(MIN_HASH_LENGTH) {
+        Some(Error::OutputTooShort)
+    } else if hash_len > u64::from(MAX_HASH_LENGTH) {
+        Some(Error::OutputTooLong)
+    } else {
+        None
+    }
+}
+
+/// H0, the hash of all inputs (RFC 9106, 3.2, step 1). They go to BLAKE2b as pieces, so that no
+/// memory is asked for.
+#[tactic(auto, unfolding(crate::specs::Standard::Prehash::prehash_of, crate::specs::Standard::SettingsTable::refusal_of))]
+fn prehash<'a>(config: &Config<'a>, pwd: &'a [u8], salt: &'a [u8]) -> [u8; PREHASH_DIGEST_LENGTH]
+    requires { IsNone (refusal_of config.now (length pwd.now)
+        (length salt.now) config.now.hash_length) }
+    ensures { result ≡ prehash_of pwd.now salt.now config.now config.now.hash_length }
+{
+    let lanes = config.lanes.to_le_bytes();
+    let hash_length = config.hash_length.to_le_bytes();
+    let mem_cost = config.mem_cost.to_le_bytes();
+    let time_cost = config.time_cost.to_le_bytes();
+    let version = config.version.as_u32().to_le_bytes();
+    let variant = config.variant.as_u32().to_le_bytes();
+    // These casts cut nothing, since longer inputs were refused.
+    let pwd_length = (pwd.len() as u32).to_le_bytes();
+    let salt_length = (salt.len() as u32).to_le_bytes();
+    let secret_length = (config.secret.len() as u32).to_le_bytes();
+    let ad_length = (config.ad.len() as u32).to_le_bytes();
+    let mut out = [0; PREHASH_DIGEST_LENGTH];
+    blake2b(
+        &mut out,
+        &[
+            &lanes[..],
+            &hash_length[..],
+            &mem_cost[..],
+            &time_cost[..],
+            &version[..],
+            &variant[..],
+            &pwd_length[..],
+            pwd,
+            &salt_length[..],
+            salt,
+            &secret_length[..],
+            config.secret,
+            &ad_length[..],
+            config.ad,
+        ],
+    );
+    out
+}
+
+/// The accepted inputs of a call, the lengths that follow from them, and H0, the hash of all
+/// inputs. It is kept here, so that the password is hashed once per call.
+#[derive(Drop, PartialEq)]
+pub struct Context<'a> {
+    pub config: Config<'a>,
+    pub lane_length: u32,
+    pub memory_blocks: u32,
+    pub pwd: &'a [u8],
+    pub salt: &'a [u8],
+    pub segment_length: u32,
+    prehash: [u8; PREHASH_DIGEST_LENGTH],
+    ghost accepted: { IsNone (refusal_of config (length pwd.now)
+        (length salt.now) config.hash_length) },
+    ghost segment: { segment_length ≡ config.mem_cost / (4 * config.lanes) },
+    ghost lane: { lane_length ≡ 4 * segment_length },
+    ghost memory: { memory_blocks ≡ 4 * config.lanes * segment_length },
+    ghost hashed: { prehash ≡ prehash_of pwd.now salt.now config config.hash_length },
+}
+
+impl<'a> Context<'a> {
+    /// The context of a hash of `config.hash_length` bytes. It refuses what the settings table
+    /// refuses, and nothing else.
+    pub fn new(config: Config<'a>, pwd: &'a [u8], salt: &'a [u8]) -> Result<Context<'a>>
+        ensures { MatchOption (refusal_of config.entry (length pwd.entry.now)
+            (length salt.entry.now) config.entry.hash_length)
+            (IsOkAnd result (λ c. (c.config ≡ config.entry) × (c.pwd.now ≡ pwd.entry.now)
+            × (c.salt.now ≡ salt.entry.now)))
+            (λ refusal. result ≡ Err refusal) }
+    {
+        let hash_len = u64::from(config.hash_length);
+        match first_refusal(&config, pwd.len() as u64, salt.len() as u64, hash_len) {
+            None => Ok(accepted_context(config, pwd, salt)),
+            Some(refusal) => Err(refusal),
+        }
+    }
+}
+
+/// The context of settings that were judged before and not refused. The verifying calls judge them
+/// for the hash's own length, and come here without a second judgement.
+#[tactic(auto, unfolding(crate::specs::Standard::SettingsTable::refusal_of))]
+pub fn accepted_context<'a>(config: Config<'a>, pwd: &'a [u8], salt: &'a [u8]) -> Context<'a>
+    requires { IsNone (refusal_of config (length pwd.now) (length salt.now) config.hash_length) }
+    ensures config { result.config ≡ config.entry }
+    ensures pwd { result.pwd.now ≡ pwd.entry.now }
+    ensures salt { result.salt.now ≡ salt.entry.now }
+{
+    let segment_length = config.mem_cost / (SYNC_POINTS * config.lanes);
+    let lane_length = SYNC_POINTS * segment_length;
+    let memory_blocks = SYNC_POINTS * config.lanes * segment_length;
+    let prehash = prehash(&config, pwd, salt);
+    Context {
+        config,
+        lane_length,
+        memory_blocks,
+        pwd,
+        salt,
+        segment_length,
+        prehash,
+    }
+}
+
+/// H0 of a context. A function and no method, since `Context` is seen by users.
+pub fn prehash_of_context(context: &Context<'_>) -> [u8; PREHASH_DIGEST_LENGTH]
+    ensures { let c = context.now in
+        result ≡ prehash_of c.pwd.now c.salt.now c.config c.config.hash_length }
+{
+    context.prehash
+}
+
+/// Tells the prover how many workers may fill a slice: at least one, and fewer than 2^24. It is told
+/// of a context, since only accepted settings have these bounds. It does nothing else.
+pub fn recall_workers(context: &Context<'_>)
+    ensures some { 0 < workers_of context.now.config }
+    ensures few { workers_of context.now.config < 2 ^ 24 }
+{
+    let _lanes = context.config.lanes;
+}
+
+/// Shows the fields that a caller sees, the password and the secret among them.
+impl fmt::Debug for Context<'_> {
+    fn fmt<W: fmt::Write>(&self, f: &mut fmt::Formatter<W>) -> fmt::Result {
+        f.debug_struct("Context")
+            .field("config", &self.config)
+            .field("lane_length", &self.lane_length)
+            .field("memory_blocks", &self.memory_blocks)
+            .field("pwd", &self.pwd)
+            .field("salt", &self.salt)
+            .field("segment_length", &self.segment_length)
+            .finish()
+    }
+}

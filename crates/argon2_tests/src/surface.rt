@@ -1,0 +1,119 @@
+//! What a crate that has `argon2` alone of this repository can use and cite: an item of each public
+//! module, whose contract is proved anew as a clause here.
+
+ghost use Rattle.std.specs.Prelude.{◌≡◌, ◌^◌, ◌-◌, ◌<◌, ◌≤◌, ◌↔◌, IfNone, IfOk, IsTrue, length, None, Some};
+ghost use Rattle.std.specs.List.{flat_map};
+ghost use Rattle.argon2.specs.Blake2b.{blake2b};
+ghost use Rattle.argon2.specs.Block.{zero_block};
+ghost use Rattle.argon2.specs.Replay.{least_waiting};
+ghost use Rattle.argon2.specs.ErrorType.{Error};
+ghost use Rattle.argon2.specs.Grammar.{Spells};
+ghost use Rattle.argon2.specs.Laws.Definitions.{IsOnlySolution, MeetsRecurrence};
+ghost use Rattle.argon2.specs.Memories.{no_memory};
+ghost use Rattle.argon2.specs.SettingsTable.{refusal_of};
+ghost use Rattle.argon2.specs.Texts.{spelled_by};
+ghost use Rattle.argon2.specs.Tag.{tag_of};
+
+use argon2::parts::block::Block;
+use argon2::parts::board::{Board, Claim};
+use argon2::parts::common::MAX_HASH_LENGTH;
+use argon2::parts::context::{Job, first_refusal};
+use argon2::parts::decoded::Decoded;
+use argon2::parts::encoding::decode_string;
+use argon2::parts::fill::recurrence_law;
+use argon2::parts::memory::Memory;
+use argon2::parts::segment::Snapshot;
+use argon2::parts::stored::are_equal;
+use argon2::{Config, Error, Result, hash_raw_sequential};
+use std::alloc::Global;
+
+/// `argon2`: the tag of a password.
+pub fn tag(alloc: Global, password: &[u8], salt: &[u8], config: &Config) -> Result<Vec<u8>>
+    ensures { IfOk result (λ tag. tag.items
+        ≡ tag_of password.now salt.now config.now config.now.hash_length) }
+{
+    hash_raw_sequential(alloc, password, salt, config)
+}
+
+/// `argon2::parts::blake2b`: a hash of the joined pieces.
+pub fn hash(out: &mut [u8], pieces: &[&[u8]])
+    requires some { 0 < length out.old }
+    requires few { length out.old ≤ 64 }
+    ensures { out.new ≡ blake2b (length out.old) (flat_map (λ piece. piece.now) pieces.now) }
+{
+    argon2::parts::blake2b::blake2b(out, pieces);
+}
+
+/// `argon2::parts::block`: the block of zeros.
+pub fn zeros() -> Block
+    ensures { result ≡ zero_block }
+{
+    Block::zero()
+}
+
+/// `argon2::parts::board`: a lane, or none where none waits.
+pub fn claim(board: &mut Board) -> Option<Claim>
+    ensures { IfNone result (least_waiting board.old.places ≡ None) }
+{
+    board.take()
+}
+
+/// `argon2::parts::common`: the most bytes that a hash has.
+pub fn most_bytes() -> u32
+    ensures { result ≡ 2 ^ 32 - 1 }
+{
+    MAX_HASH_LENGTH
+}
+
+/// `argon2::parts::context`: the first refusal of the settings table.
+pub fn refusal(config: &Config, pwd_len: u64, salt_len: u64, hash_len: u64) -> Option<Error>
+    ensures exact { result ≡ refusal_of config.now pwd_len salt_len hash_len }
+    ensures only { (e : Error) → result ≡ Some e
+        → refusal_of config.now pwd_len salt_len hash_len ≡ Some e }
+{
+    first_refusal(config, pwd_len, salt_len, hash_len)
+}
+
+/// `argon2::parts::decoded`: the lanes that a text spells.
+pub fn lanes(decoded: &Decoded) -> u32
+    ensures { result ≡ (spelled_by decoded.now).parallelism }
+{
+    decoded.parallelism
+}
+
+/// `argon2::parts::encoding`: what a text spells.
+pub fn spelled(alloc: Global, encoded: &str) -> Result<Decoded>
+    ensures { IfOk result (λ decoded. Spells encoded.now (spelled_by decoded)) }
+{
+    decode_string(alloc, encoded)
+}
+
+/// `argon2::parts::fill`: the blocks of the contracts are the recurrence's.
+pub fn blocks_are_the_recurrence()
+    ensures meets { MeetsRecurrence }
+    ensures only { IsOnlySolution }
+{
+    recurrence_law();
+}
+
+/// `argon2::parts::memory`: a memory without lanes.
+pub fn no_lanes(alloc: Global) -> Memory
+    ensures { result ≡ no_memory }
+{
+    Memory::empty(alloc)
+}
+
+/// `argon2::parts::segment`: the job that a snapshot is of.
+pub fn job_of(snapshot: &Snapshot<'_>) -> Job
+    ensures { result ≡ snapshot.now.job }
+{
+    *snapshot.job()
+}
+
+/// `argon2::parts::stored`: whether two hashes of one length are equal.
+pub fn are_one(one: &[u8], other: &[u8]) -> bool
+    requires { length one.now ≡ length other.now }
+    ensures { IsTrue result ↔ (one.now ≡ other.now) }
+{
+    are_equal(one, other)
+}

@@ -1,0 +1,133 @@
+// The page: it hashes and verifies by the package, shows how far a call is, and stops it.
+import { hash, presets, verify } from './proved-argon2/index.js';
+
+const $ = (id) => document.getElementById(id);
+
+const processors = self.crossOriginIsolated ? navigator.hardwareConcurrency : 1;
+/** What a processor takes for a KiB and a pass, in milliseconds, as the last hash has shown. */
+let speed;
+
+const chosen = () => ({
+    memoryCost: Math.round(2 ** Number($('memory').value)),
+    timeCost: Number($('passes').value),
+    parallelism: Number($('lanes').value),
+});
+
+function sizeOf(kibibytes) {
+    const power = Math.min(2, Math.floor(Math.log2(kibibytes) / 10));
+    return `${Number((kibibytes / 1024 ** power).toPrecision(3))} ${['KiB', 'MiB', 'GiB'][power]}`;
+}
+
+function timeOf(milliseconds) {
+    const isShort = milliseconds < 1000;
+    return isShort ? `${Math.max(1, Math.round(milliseconds))} ms` : `${(milliseconds / 1000).toFixed(1)} s`;
+}
+
+/** What a hash costs on one processor, in KiB and passes. */
+const workOf = ({ memoryCost, timeCost, parallelism }) => memoryCost * timeCost / Math.min(parallelism, processors);
+
+/** The settings of a preset. Both of RFC 9106 have four lanes there. */
+function presetOf(name) {
+    const { memoryCost, timeCost } = presets[name];
+    return { memoryCost, timeCost, parallelism: name.startsWith('rfc') ? 4 : 1 };
+}
+
+function showSettings() {
+    const settings = chosen();
+    $('memory-shown').value = sizeOf(settings.memoryCost);
+    $('passes-shown').value = settings.timeCost;
+    $('lanes-shown').value = settings.parallelism;
+    const text = JSON.stringify(settings);
+    $('preset').value = Object.keys(presets).find((name) => JSON.stringify(presetOf(name)) === text) ?? '';
+    $('estimate').textContent = speed === undefined ? 'Measuring how fast this browser is…'
+        : `A hash takes about ${timeOf(speed * workOf(settings))} here.`;
+}
+
+function takePreset() {
+    if ($('preset').value) {
+        const { memoryCost, timeCost, parallelism } = presetOf($('preset').value);
+        $('memory').value = Math.log2(memoryCost);
+        $('passes').value = timeCost;
+        $('lanes').value = parallelism;
+    }
+    showSettings();
+}
+
+function tell(form, text, className = 'quiet') {
+    const status = form.querySelector('[role=status]');
+    status.textContent = text;
+    status.className = className;
+}
+
+/** Makes a call for a form, whose bar shows how far it is, and whose button stops it. */
+async function callFor(form, call) {
+    const controller = new AbortController();
+    const [submit, cancel, bar] = ['[type=submit]', '.cancel', 'progress'].map((it) => form.querySelector(it));
+    cancel.onclick = () => controller.abort();
+    submit.disabled = true;
+    cancel.disabled = false;
+    bar.value = 0;
+    tell(form, 'Computing…');
+    try {
+        await call({ signal: controller.signal, onProgress: (done, all) => { bar.value = done / all; } });
+    } catch (error) {
+        bar.value = 0;
+        const isCancelled = error.name === 'AbortError';
+        tell(form, isCancelled ? 'Cancelled. The memory is overwritten.' : `${error.name}: ${error.message}`, 'bad');
+    } finally {
+        submit.disabled = false;
+        cancel.disabled = true;
+    }
+}
+
+$('hashing').onsubmit = (event) => {
+    event.preventDefault();
+    const form = $('hashing');
+    callFor(form, async (running) => {
+        const settings = chosen();
+        const began = performance.now();
+        const encoded = await hash($('password').value, { ...settings, ...running });
+        const took = performance.now() - began;
+        speed = took / workOf(settings);
+        $('encoded').value = encoded;
+        $('guess').value = $('password').value;
+        tell(form, `Hashed in ${timeOf(took)}. The form for verifying has the string.`, 'good');
+        showSettings();
+    });
+};
+
+$('verifying').onsubmit = (event) => {
+    event.preventDefault();
+    const form = $('verifying');
+    callFor(form, async (running) => {
+        const began = performance.now();
+        const isRight = await verify($('encoded').value.trim(), $('guess').value, running);
+        const verdict = isRight ? 'This is the password' : 'This is not the password';
+        tell(form, `${verdict} of the string (${timeOf(performance.now() - began)}).`, isRight ? 'good' : 'bad');
+    });
+};
+
+$('copy').onclick = () => navigator.clipboard.writeText($('encoded').value);
+$('preset').onchange = takePreset;
+for (const name of ['memory', 'passes', 'lanes']) {
+    $(name).oninput = showSettings;
+}
+
+/** The second hash is measured: an engine compiles faster code during the first. */
+async function measure() {
+    const small = { memoryCost: 4096, timeCost: 1 };
+    await hash('', small);
+    const began = performance.now();
+    await hash('', small);
+    speed = (performance.now() - began) / workOf({ ...small, parallelism: 1 });
+}
+
+takePreset();
+$('engine').textContent = processors > 1
+    ? `Lanes are filled at the same time, by up to ${processors} workers.`
+    : 'Lanes are filled one after another: for workers to share a memory, the server has to isolate this page from ' +
+        'other origins (Cross-Origin-Opener-Policy and Cross-Origin-Embedder-Policy).';
+measure().then(showSettings, (error) => {
+    $('estimate').textContent = `${error.name}: ${error.message}`;
+    $('estimate').className = 'bad';
+});
