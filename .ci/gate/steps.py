@@ -12,6 +12,10 @@ COUNTS = re.compile(r'(\d+) passed, (\d+) failed(?:, (\d+) skipped)?')
 SKIPPED = re.compile(r'skipped: (?:.*: all (\d+) checks \()?')
 PROVED = re.compile(r'^(?:fn|struct|enum|impl|trait) \S+: proved')
 printing = threading.Lock()
+# Within so many seconds all steps have ended, or else those that have not are stopped and named: CI may have three hours, and
+# names nothing when they are over.
+LIMIT = 165 * 60
+BEGUN = time.monotonic()
 
 
 class Step(threading.Thread):
@@ -39,6 +43,11 @@ class Step(threading.Thread):
                 self.end(f'it was not run, since {step.name} failed')
                 return
         status = self.run_command()
+        if status is None:
+            self.counts[1] += 1
+            self.lines.append(f'{self.name}: FAILED: it was stopped, since CI had run for {LIMIT // 60} minutes')
+            self.end(None)
+            return
         if not self.is_counted:
             self.counts = [int(status == 0), int(status != 0), 0]
         self.judge_skips()
@@ -46,15 +55,25 @@ class Step(threading.Thread):
         self.end(None if has_ended_well else f'it ended with status {status}, and {self.counts[0]} passed')
 
     def run_command(self):
+        """Gives its status, or nothing where it had to be stopped."""
         begun = time.monotonic()
         process = subprocess.Popen(self.command, cwd=self.folder, stdin=subprocess.DEVNULL, stdout=subprocess.PIPE,
                                    stderr=subprocess.STDOUT, text=True, errors='replace')
-        for line in process.stdout:
-            self.take(line.rstrip('\n'))
+        # (what a stopped step has begun may live on, and write)
+        reader = threading.Thread(target=self.read, args=[process.stdout], daemon=True)
+        reader.start()
+        reader.join(max(0, BEGUN + LIMIT - begun))
+        is_stopped = reader.is_alive()
+        if is_stopped:
+            process.kill()
         _, status, used = os.wait4(process.pid, 0)
         process.returncode = os.waitstatus_to_exitcode(status)
         self.seconds, self.of_processors = time.monotonic() - begun, used.ru_utime + used.ru_stime
-        return process.returncode
+        return None if is_stopped else process.returncode
+
+    def read(self, said):
+        for line in said:
+            self.take(line.rstrip('\n'))
 
     def take(self, line):
         """Takes a line. The last one that counts is the step's; none may be taken for the sum of all steps."""

@@ -1,5 +1,6 @@
 """The toolchain's own code, which stands beside `rt`, and what `.ci/gate/proofs` leaves of the libraries."""
 
+import contextlib
 import importlib.machinery
 import importlib.util
 import os
@@ -26,6 +27,18 @@ def load_rt():
     found = shutil.which('rt')
     assert found, 'there is no rt, which proves and builds'
     return load(os.path.realpath(found))
+
+
+@contextlib.contextmanager
+def locked(crate):
+    """Keeps other commands of the kit out of a crate and those below it. A process that took this lock twice would wait for
+    itself."""
+    crate.held = load_rt().rtlib.lock([*crate.below(), crate])
+    try:
+        yield
+    finally:
+        for it in crate.held:
+            os.close(it)
 
 
 def kept_work(rt, crate):
