@@ -24,6 +24,7 @@ LABELS = {
 SHEET = '''text { font: 14px system-ui, sans-serif; fill: #6e7781 }
 .title { font-size: 17px; font-weight: 600 }
 .own { font-weight: 600 }
+.head { font-size: 13px; font-weight: 600 }
 .caption { font-size: 12px }
 .grid { stroke: #8b949e; stroke-opacity: 0.35 }
 @media (prefers-color-scheme: light) { text { fill: #24292f } }
@@ -74,7 +75,7 @@ class LogScale:
 
 def draw_lines(path, title, caption, below, places, series):
     """A plot: `places` are the words below, and each series has milliseconds at some of them. The axis is logarithmic."""
-    left, right, top, bottom, height = 70, 190, 66, 380, 466
+    left, right, top, bottom, height = 70, 210, 66, 380, 466
     at_x = [left + (WIDTH - left - right) * (index + 0.3) / len(places) for index in range(len(places))]
     scale = LogScale([number for points in series.values() for number in points.values()], top, bottom)
     out = [text(16, 50, 'milliseconds a hash, on a logarithmic axis'),
@@ -102,7 +103,7 @@ def draw_lines(path, title, caption, below, places, series):
 
 def draw_bars(path, title, caption, groups):
     """Bars from zero in groups, each of (words, [(label, milliseconds, whether it is ours)]), the quickest first."""
-    left, right, row, y = 200, 90, 26, 48
+    left, right, row, y = 236, 90, 26, 48
     out = []
     for words, bars in groups:
         most = max(number for _, number, _ in bars)
@@ -145,7 +146,7 @@ def size(kib):
 def draw_by_memory(path, caption, cases):
     """Two passes in one lane."""
     series = by_name(cases, lambda case, time: 2 * time * first_number(case) / 1e6)
-    draw_lines(path, 'How long does a hash take over more memory?', caption,
+    draw_lines(path, 'How long does a hash take with more memory?', caption,
                'memory, in 2 passes, 1 lane, 1 thread',
                [size(first_number(case)) for case in cases],
                {name: points for name, points in series.items() if name != 'libgcrypt'})
@@ -154,7 +155,7 @@ def draw_by_memory(path, caption, cases):
 def draw_by_threads(path, caption, cases):
     """64 MiB in three passes. libsodium has no lanes."""
     series = by_name(cases, lambda case, time: time * 3 * first_number(case) / 1e6)
-    draw_lines(path, 'How long does a hash take by more threads?', caption,
+    draw_lines(path, 'How long does a hash take with more threads?', caption,
                'threads, and as many lanes, over 64 MiB in 3 passes',
                [case.rsplit(' ', 1)[1] for case in cases],
                {name: points for name, points in series.items() if name != 'libsodium'})
