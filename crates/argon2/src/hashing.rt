@@ -1,4 +1,4 @@
-//! Hashing a password: its tag, and its text.
+//! Hashing a password, to its tag or to its encoded hash.
 
 ghost use Rattle.std.specs.Prelude.{◌≡◌, false};
 ghost use Rattle.std.specs.String.{string_bytes};
@@ -21,9 +21,9 @@ use std::thread::Threads;
 
 /// The tag of a password: `config.hash_length` bytes (RFC 9106, 3.2).
 ///
-/// Where the settings table refuses something, the first refusal is the only answer, before any
-/// memory is asked for. Else the answer is the tag, or `OutOfMemory` where memory was refused, or
-/// `WorkerRefused` where the start of a worker was.
+/// Invalid settings return the first parameter error, in the order of the settings table, before
+/// any memory is allocated. Otherwise the call returns the tag or a resource error: `OutOfMemory`,
+/// or `WorkerRefused` if a worker thread could not be started.
 pub fn hash_raw<R: Threads + Wait + Sync>(
     rt: &R,
     alloc: Global,
@@ -40,14 +40,14 @@ pub fn hash_raw<R: Threads + Wait + Sync>(
     answer
 }
 
-/// The tag of a password, as `hash_raw` gives it, computed over a memory that the caller keeps. A
-/// memory with the lanes and the lane length of the call is used as it is, whatever it holds, and
-/// no blocks are asked for. Any other gives its blocks back first and is made anew.
+/// The tag of a password, as `hash_raw` returns it, computed in a reusable buffer of the caller. A
+/// buffer with the call's lanes and lane length is used as it is, whatever its contents, and no
+/// blocks are allocated. Any other buffer is freed first and allocated anew.
 ///
-/// Where the settings table refuses something, the memory stays as it is. Else it holds the blocks
-/// of this computation after the call, until it is wiped or dropped. After a shortage it may have no
-/// lanes, but one that had those of the call loses them only to workers.
-// Its frame has H0. It is never inlined, so that a call without a memory of the caller's may
+/// On a parameter error the buffer is unchanged. Otherwise it holds the blocks of this computation
+/// until it is wiped or dropped. After a resource error it may have no lanes, but a buffer that
+/// fitted the call loses its blocks only if workers filled it.
+// Its stack frame holds H0. It is never inlined, so that a call without a caller's buffer can
 // overwrite that.
 #[inline(never)]
 pub fn hash_raw_in<'a, R: Threads + Wait + Sync>(
@@ -69,8 +69,8 @@ pub fn hash_raw_in<'a, R: Threads + Wait + Sync>(
     }
 }
 
-/// The tag of a password, as `hash_raw` gives it, computed in the caller's thread whatever the
-/// thread mode is.
+/// The tag of a password, as `hash_raw` returns it: a single-threaded call, whatever the thread
+/// mode is.
 pub fn hash_raw_sequential(
     alloc: Global,
     pwd: &[u8],
@@ -86,9 +86,9 @@ pub fn hash_raw_sequential(
     answer
 }
 
-/// The tag of a password, computed in the caller's thread over a memory that the caller keeps: see
-/// `hash_raw_in`.
-// Its frame has H0. It is never inlined, so that a call without a memory of the caller's may
+/// The tag of a password, computed by a single-threaded call in a reusable buffer of the caller:
+/// see `hash_raw_in`.
+// Its stack frame holds H0. It is never inlined, so that a call without a caller's buffer can
 // overwrite that.
 #[inline(never)]
 pub fn hash_raw_in_sequential<'a>(
@@ -109,8 +109,8 @@ pub fn hash_raw_in_sequential<'a>(
     }
 }
 
-/// The encoded text (PHC string) of a password's hash, as `encode_string` writes it. It answers as
-/// `hash_raw` does, with the text in place of the tag.
+/// The encoded hash (PHC string) of a password, as `encode_string` writes it. Its errors are those
+/// of `hash_raw`.
 pub fn hash_encoded<R: Threads + Wait + Sync>(
     rt: &R,
     alloc: Global,
@@ -127,9 +127,8 @@ pub fn hash_encoded<R: Threads + Wait + Sync>(
     answer
 }
 
-/// The encoded text of a password's hash, computed over a memory that the caller keeps: see
-/// `hash_raw_in`.
-// Its frame has H0. It is never inlined, so that a call without a memory of the caller's may
+/// The encoded hash of a password, computed in a reusable buffer of the caller: see `hash_raw_in`.
+// Its stack frame holds H0. It is never inlined, so that a call without a caller's buffer can
 // overwrite that.
 #[inline(never)]
 pub fn hash_encoded_in<'a, R: Threads + Wait + Sync>(
@@ -148,15 +147,15 @@ pub fn hash_encoded_in<'a, R: Threads + Wait + Sync>(
     match Context::new(*config, pwd, salt) {
         Ok(context) => {
             let hash = tag(rt, alloc, &context, memory)?;
-            // Unlike `is_hash`, it overwrites no tag, since the text has it.
+            // Unlike `is_hash`, it overwrites no tag, since the encoded hash contains it.
             encode_string(alloc, &context, &hash)
         }
         Err(refusal) => Err(refusal),
     }
 }
 
-/// The encoded text of a password's hash, as `hash_encoded` gives it, computed in the caller's
-/// thread whatever the thread mode is.
+/// The encoded hash of a password, as `hash_encoded` returns it: a single-threaded call, whatever
+/// the thread mode is.
 pub fn hash_encoded_sequential(
     alloc: Global,
     pwd: &[u8],
@@ -172,9 +171,9 @@ pub fn hash_encoded_sequential(
     answer
 }
 
-/// The encoded text of a password's hash, computed in the caller's thread over a memory that the
-/// caller keeps: see `hash_raw_in`.
-// Its frame has H0. It is never inlined, so that a call without a memory of the caller's may
+/// The encoded hash of a password, computed by a single-threaded call in a reusable buffer of the
+/// caller: see `hash_raw_in`.
+// Its stack frame holds H0. It is never inlined, so that a call without a caller's buffer can
 // overwrite that.
 #[inline(never)]
 pub fn hash_encoded_in_sequential<'a>(

@@ -1,5 +1,5 @@
-//! Argon2 password hashing (RFC 9106), proved: a tag that is answered is the one that the
-//! recurrence defines, and settings are refused as a table says.
+//! Argon2 password hashing (RFC 9106), proved: a returned tag is the one that the recurrence
+//! defines, and invalid settings return the error that a table names.
 #![tactic(auto)]
 
 mod ending;

@@ -1,4 +1,4 @@
-//! Verifying a password against a stored text that may not ask for more than the caller allows.
+//! Verifying a password against an encoded hash whose cost is within the caller's limits.
 
 ghost use Rattle.std.specs.Prelude.{◌≡◌, Some, false, nat_lt};
 ghost use Rattle.argon2.specs.Standard.Limits.{AnswersWithin, are_exceeded, is_too_costly};
@@ -22,7 +22,8 @@ use std::sync::Wait;
 use std::thread::Threads;
 use std::{fmt, result};
 
-/// The greatest numbers that a stored text may spell, and the greatest product of two of them.
+/// The highest memory, passes and lanes that an encoded hash may name, and the highest product of
+/// memory and passes.
 #[derive(Clone, Copy, Debug, Eq, PartialEq)]
 pub struct Limits {
     /// The memory in KiB.
@@ -68,19 +69,19 @@ impl Default for Limits {
     }
 }
 
-/// Why a text was not verified within limits. It is no `Error`, so that nobody takes a text above
-/// the limits for a wrong password or for a damaged text.
+/// Why an encoded hash was not verified within limits. It is no `Error`, so that nobody takes a
+/// hash above the limits for a wrong password or for a damaged hash.
 #[derive(Clone, Debug, Drop, PartialEq)]
 pub enum Unverified {
-    /// The text spells more than a limit.
+    /// The encoded hash exceeds a limit.
     TooCostly,
 
-    /// The call without limits refuses so.
+    /// The error of the call without limits.
     Refused(Error),
 }
 
 impl Unverified {
-    /// The reason in a few words.
+    /// The message of the error.
     pub fn message(&self) -> &'static str
         ensures { result.now ≡ message_of self.now }
     {
@@ -109,12 +110,13 @@ impl From<Error> for Unverified {
     }
 }
 
-/// Whether a stored text is the hash of a password with this secret and this associated data, where
-/// it asks for no more than the limits.
+/// Verifies a password against an encoded hash, with this secret and this associated data, if the
+/// hash is within the limits.
 ///
-/// A text that spells nothing is `Refused(DecodingFail)`. One that spells more memory, passes or
-/// lanes than its limit, or more memory times passes, is `TooCostly`, before any memory or worker is
-/// asked for. Any other text is answered as by `verify_encoded_ext`.
+/// A string that decodes to no hash returns `Refused(DecodingFail)`. A hash above a limit of
+/// memory, passes, lanes, or memory times passes returns `TooCostly`, before any memory is
+/// allocated or any worker started. For any other hash the call returns what `verify_encoded_ext`
+/// does.
 pub fn verify_encoded_within<R: Threads + Wait + Sync>(
     rt: &R,
     alloc: Global,
@@ -130,7 +132,7 @@ pub fn verify_encoded_within<R: Threads + Wait + Sync>(
         → AnswersWithin (is_too_costly limits.now d)
         (IsVerdict pwd.now d.salt d.hash config (nat_lt 1 d.parallelism)) result }
 {
-    // The call without limits reads the text again, so that it needs no other form and no other
+    // The call without limits decodes the string again, so that it needs no other form and no other
     // proof.
     let costly = is_too_costly(encoded, limits)?;
     if costly {
@@ -140,8 +142,7 @@ pub fn verify_encoded_within<R: Threads + Wait + Sync>(
     Ok(same)
 }
 
-/// Whether a stored text is the hash of a password, as `verify_encoded_within` says, computed in
-/// the caller's thread.
+/// Verifies as `verify_encoded_within` does: a single-threaded call.
 pub fn verify_encoded_within_sequential(
     alloc: Global,
     encoded: &str,
@@ -164,8 +165,8 @@ pub fn verify_encoded_within_sequential(
     Ok(same)
 }
 
-/// Whether a stored text spells more than a limit. `DecodingFail` comes first, since only a
-/// text that spells something has numbers. It takes no memory.
+/// Whether an encoded hash exceeds a limit. `DecodingFail` comes first, since only a string that
+/// decodes has numbers. It allocates nothing.
 fn is_too_costly(encoded: &str, limits: &Limits) -> Result<bool>
     ensures unspelled { SpellsNothing encoded.now → result ≡ Err Error.DecodingFail }
     ensures spelled { (d : Spelled) → Spells encoded.now d
@@ -175,7 +176,7 @@ fn is_too_costly(encoded: &str, limits: &Limits) -> Result<bool>
     Ok(is_above(&numbers, limits))
 }
 
-/// Whether numbers of a text are above their limits.
+/// Whether the numbers of an encoded hash are above their limits.
 pub fn is_above(numbers: &Numbers, limits: &Limits) -> bool
     ensures { (d : Spelled) → numbers.now ≡ numbers_of d
         → result ≡ is_too_costly limits.now d }

@@ -40,7 +40,7 @@ pub mod fill {
     pub use argon2_fill::workers::{fill_parallel, fill_parallel_with};
 }
 
-/// The encoded text, written and read.
+/// Encoded hashes (PHC strings), written and decoded.
 pub mod encoding {
     pub use argon2_text::encoding::{
         Head, base64_len, decode_string, encode_string, encoded_len, item_len, num_len, read_hash,
@@ -48,7 +48,7 @@ pub mod encoding {
     };
 }
 
-/// What a stored text and a hash are verified by.
+/// How encoded and raw hashes are verified.
 pub mod stored {
     pub use crate::limits::is_above;
     pub use crate::rehashing::agrees;

@@ -1,4 +1,4 @@
-//! Whether a stored text was made with other settings.
+//! Whether an encoded hash was made with other settings.
 
 ghost use Rattle.std.specs.Prelude.{◌≡◌, ◌↔◌, IsTrue, MatchResult};
 ghost use Rattle.argon2_standard.specs.Standard.Grammar.{Spells, SpellsNothing};
@@ -13,11 +13,12 @@ use argon2_text::encoding::decode_string;
 use argon2_text::numbers::Numbers;
 use std::alloc::Global;
 
-/// Whether a stored text was made with another variant, version, memory cost, time cost, number of
-/// lanes or length of the hash than the configuration has.
+/// Whether an encoded hash was made with another variant, version, memory cost, time cost, number
+/// of lanes or length of the hash than the configuration has.
 ///
-/// The settings table, the salt, the secret, the associated data and the thread mode are not looked
-/// at. A text that spells nothing is `DecodingFail`; where memory is refused: `OutOfMemory`.
+/// The salt, the secret, the associated data and the thread mode are ignored, and the settings
+/// table is not applied. A string that decodes to no hash returns `DecodingFail`. If memory cannot
+/// be allocated, the call returns `OutOfMemory`.
 pub fn needs_rehash(alloc: Global, encoded: &str, config: &Config) -> Result<bool>
     ensures unspelled { SpellsNothing encoded.now → result ≡ Err Error.DecodingFail }
     ensures spelled { (d : Spelled) → Spells encoded.now d
@@ -28,7 +29,7 @@ pub fn needs_rehash(alloc: Global, encoded: &str, config: &Config) -> Result<boo
     Ok(!agrees(&stored.numbers(), config))
 }
 
-/// Whether all that `needs_rehash` looks at is as in the configuration.
+/// Whether all that `needs_rehash` compares is as in the configuration.
 pub fn agrees(numbers: &Numbers, config: &Config) -> bool
     ensures { (d : Spelled) → numbers.now ≡ numbers_of d → IsTrue result ↔ Agrees d config.now }
 {

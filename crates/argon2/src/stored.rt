@@ -1,4 +1,4 @@
-//! What a stored text spells, and the settings that it is verified with.
+//! What an encoded hash decodes to, and the settings that it is verified with.
 
 ghost use Rattle.std.specs.Prelude.{◌≡◌, ℕ, List, IfOk, IsNone, false, length};
 ghost use Rattle.argon2_standard.specs.Standard.Outcome.{IsOutcome};
@@ -21,12 +21,12 @@ use argon2_text::encoding::{Head, decode, spelling_of};
 use argon2_text::numbers::Numbers;
 use std::alloc::Global;
 
-/// How many workers a stored text may ask for, however many lanes it names, since a stranger's text
-/// could name millions.
+/// The most workers that verify one encoded hash, however many lanes it names, since a stranger's
+/// hash could name millions.
 const MAX_WORKERS: u32 = 16;
 
-/// What a text spells, with the lengths of its salt and its hash in place of their bytes. It takes
-/// no memory. A text that spells nothing is `DecodingFail`.
+/// What an encoded hash decodes to, with the lengths of salt and hash in place of their bytes. It
+/// allocates nothing. A string that decodes to no hash returns `DecodingFail`.
 pub fn numbers_of_text(encoded: &str) -> Result<Numbers>
     ensures unspelled { SpellsNothing encoded.now → result ≡ Err Error.DecodingFail }
     ensures spelled { (d : Spelled) → Spells encoded.now d → result ≡ Ok (numbers_of d) }
@@ -37,8 +37,8 @@ pub fn numbers_of_text(encoded: &str) -> Result<Numbers>
     }
 }
 
-/// The head of a stored text, where its settings are accepted for a password of this length. It
-/// takes no memory.
+/// The head of an encoded hash, if its settings are accepted for a password of this length. It
+/// allocates nothing.
 pub fn accepted_spelling<'a>(
     encoded: &'a str,
     pwd_len: u64,
@@ -62,8 +62,8 @@ pub fn accepted_spelling<'a>(
     }
 }
 
-/// What a stored text spells, where its settings are accepted for a password of this length. They
-/// are judged before salt and hash are decoded, so that a refused text costs no memory.
+/// What an encoded hash decodes to, if its settings are accepted for a password of this length.
+/// They are checked before salt and hash are decoded, so that a rejected hash costs no memory.
 pub fn accepted_text(
     alloc: Global,
     encoded: &str,
@@ -83,7 +83,7 @@ pub fn accepted_text(
     decode(alloc, &head)
 }
 
-/// The first refusal of the settings of a text with this head. It takes no memory.
+/// The first parameter error of an encoded hash with this head. It allocates nothing.
 pub fn refusal(head: &Head<'_>, pwd_len: u64, secret: &[u8], ad: &[u8]) -> Option<Error>
     ensures { (config : Config) (salt hash : List ℕ) → IsItem head.now.salt.now salt
         → IsItem head.now.hash.now hash
@@ -92,18 +92,18 @@ pub fn refusal(head: &Head<'_>, pwd_len: u64, secret: &[u8], ad: &[u8]) -> Optio
 {
     let numbers = head.numbers();
     let config = config_of_numbers(&numbers, secret, ad);
-    // The length of the hash is judged apart, in 64 bits.
+    // The length of the hash is checked apart, in 64 bits.
     first_refusal(&config, pwd_len, numbers.salt_len, numbers.hash_len)
 }
 
-/// The configuration that a stored text is verified with.
+/// The configuration that an encoded hash is verified with.
 pub fn config_of<'a>(stored: &Decoded, secret: &'a [u8], ad: &'a [u8]) -> Config<'a>
     ensures { IsConfigOf (spelled_by stored.now) secret.entry.now ad.entry.now result }
 {
     config_of_numbers(&stored.numbers(), secret, ad)
 }
 
-/// The configuration that a stored text of these numbers is verified with.
+/// The configuration that an encoded hash of these numbers is verified with.
 pub fn config_of_numbers<'a>(numbers: &Numbers, secret: &'a [u8], ad: &'a [u8]) -> Config<'a>
     ensures { (d : Spelled) → numbers.now ≡ numbers_of d
         → IsConfigOf d secret.entry.now ad.entry.now result }
@@ -128,7 +128,7 @@ pub fn config_of_numbers<'a>(numbers: &Numbers, secret: &'a [u8], ad: &'a [u8]) 
     }
 }
 
-/// The context that an accepted text is verified with, by its own configuration.
+/// The context that an accepted hash is verified with, by its own configuration.
 pub fn stored_context<'a>(stored: &'a Decoded, config: &'a Config<'a>, pwd: &'a [u8]) -> Context<'a>
     requires { IsNone (refusal_of config.now (length pwd.now)
         (length stored.now.salt.items) config.now.hash_length) }

@@ -1,5 +1,5 @@
-//! What holds of the definitions: each law is a clause of a call without arguments, which does
-//! nothing when it runs.
+//! Laws of the definitions: each is a clause of a call without arguments, which does nothing when
+//! it runs.
 
 ghost use Rattle.argon2_memory.specs.Laws.AnyOrder.{EveryOrderAgrees, NoEntryReadsOthers, PicksHoldTheirBlocks};
 ghost use Rattle.argon2.specs.Laws.Definitions.{IsOnlySolution, LengthIsTheHash, MeetsRecurrence, OwnTagVerifies, TagForgetsMode};
@@ -22,11 +22,11 @@ pub fn any_order()
     ensures picks { PicksHoldTheirBlocks }
 {}
 
-/// The laws of tags, verdicts and texts. The tag does not depend on the thread mode. A verdict goes
-/// by the hash's own length. A text spells at most one value, and a written text spells its own.
-/// Where the settings are accepted, a tag and a written text verify with the same inputs, unless
-/// memory or a worker is refused. The layout of a text is stated once more by its `$`, and by two
-/// whole texts.
+/// The laws of tags, verdicts and encoded hashes. The tag does not depend on the thread mode. A
+/// verdict goes by the hash's own length. A string decodes to at most one value, and an encoded
+/// value decodes to itself. If the settings are accepted, a tag and an encoded hash verify with the
+/// same inputs, unless memory or a worker is denied. The layout of an encoded hash is stated once
+/// more by its `$`, and by two whole examples.
 pub fn laws()
     ensures mode { TagForgetsMode }
     ensures length { LengthIsTheHash }
@@ -40,10 +40,10 @@ pub fn laws()
     ensures spelled { SpellsExample }
 {}
 
-/// The definitions give what is known from outside: which blocks may be referred to in each case of
-/// RFC 9106, 3.4.2 (the first slice, the first pass and a later one, the own lane and another one,
-/// the first index of a segment), which of them the least and the greatest word pick, and a word
-/// that is drawn from no block (3.4.1.2).
+/// The definitions agree with what is known from outside: which blocks may be referred to in each
+/// case of RFC 9106, 3.4.2 (the first slice, the first pass and a later one, the own lane and
+/// another one, the first index of a segment), which of them the least and the greatest word pick,
+/// and a word that is drawn from no block (3.4.1.2).
 ///
 /// It does nothing when it runs. Its contract states the values, and the checker computes them.
 pub fn known_answers()

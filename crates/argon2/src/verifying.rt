@@ -47,7 +47,7 @@ pub fn are_equal(one: &[u8], other: &[u8]) -> bool
 }
 
 /// Whether a tag is this hash. It takes the tag and overwrites it, since only the right password
-/// gives it.
+/// produces it.
 fn is_hash(mut tag: Vec<u8>, hash: &[u8]) -> bool
     requires { length tag.items ≡ length hash.now }
     ensures { IsTrue result ↔ (tag.items ≡ hash.now) }
@@ -58,7 +58,7 @@ fn is_hash(mut tag: Vec<u8>, hash: &[u8]) -> bool
 }
 
 /// The context of a hash of this hash's own length, whatever `config.hash_length` is. The length is
-/// judged in 64 bits, since cut to 32 a longer hash could pass.
+/// checked in 64 bits, since cut to 32 a longer hash could pass.
 #[tactic(auto, unfolding(argon2_standard::specs::Standard::SettingsTable::refusal_of))]
 pub fn context_of_hash<'a>(
     config: Config<'a>,
@@ -78,7 +78,7 @@ pub fn context_of_hash<'a>(
     let hash_len = hash.len() as u64;
     match first_refusal(&config, pwd.len() as u64, salt.len() as u64, hash_len) {
         None => {
-            // This cuts nothing, since a longer hash was refused.
+            // This cuts nothing, since a longer hash was rejected.
             let hash_length = hash_len as u32;
             let config = Config {
                 hash_length,
@@ -90,8 +90,8 @@ pub fn context_of_hash<'a>(
     }
 }
 
-/// Whether a hash is the tag of an accepted call of its length, computed over a memory in the
-/// thread mode of the configuration.
+/// Whether a hash is the tag of an accepted call of its length, computed in a buffer, in the thread
+/// mode of the configuration.
 fn is_tag<R: Threads + Wait + Sync>(
     rt: &R,
     alloc: Global,
@@ -110,7 +110,7 @@ fn is_tag<R: Threads + Wait + Sync>(
     Ok(is_hash(tag, hash))
 }
 
-/// Whether a hash is the tag of an accepted call of its length, computed over a memory in the
+/// Whether a hash is the tag of an accepted call of its length, computed in a buffer, in the
 /// caller's thread.
 fn is_tag_sequential(
     alloc: Global,
@@ -131,11 +131,11 @@ fn is_tag_sequential(
 
 /// Whether a hash is the tag of its own length.
 ///
-/// The settings are judged with the length of the hash; `config.hash_length` is not looked at.
-/// Where the settings table refuses something, the first refusal is the only answer, before any
-/// memory is asked for: a hash of more than 2^32 - 1 bytes is `OutputTooLong`. Else the answer is
-/// whether the hash is the tag, or `OutOfMemory` or `WorkerRefused` where memory or the start of a
-/// worker was refused.
+/// The settings are checked with the length of the hash; `config.hash_length` is ignored. Invalid
+/// settings return the first parameter error, in the order of the settings table, before any memory
+/// is allocated: a hash of more than 2^32 - 1 bytes is `OutputTooLong`. Otherwise the call returns
+/// whether the hash is the tag, or a resource error: `OutOfMemory`, or `WorkerRefused` if a worker
+/// thread could not be started.
 pub fn verify_raw<R: Threads + Wait + Sync>(
     rt: &R,
     alloc: Global,
@@ -152,9 +152,8 @@ pub fn verify_raw<R: Threads + Wait + Sync>(
     verdict
 }
 
-/// Whether a hash is the tag of its own length, as `verify_raw` says, computed over a memory that
-/// the caller keeps: see `hash_raw_in`.
-// Its frame has H0. It is never inlined, so that a call without a memory of the caller's may
+/// Verifies as `verify_raw` does, in a reusable buffer of the caller: see `hash_raw_in`.
+// Its stack frame holds H0. It is never inlined, so that a call without a caller's buffer can
 // overwrite that.
 #[inline(never)]
 pub fn verify_raw_in<'a, R: Threads + Wait + Sync>(
@@ -176,8 +175,7 @@ pub fn verify_raw_in<'a, R: Threads + Wait + Sync>(
     }
 }
 
-/// Whether a hash is the tag of its own length, as `verify_raw` says, computed in the caller's
-/// thread whatever the thread mode is.
+/// Verifies as `verify_raw` does: a single-threaded call, whatever the thread mode is.
 pub fn verify_raw_sequential(
     alloc: Global,
     pwd: &[u8],
@@ -193,9 +191,9 @@ pub fn verify_raw_sequential(
     verdict
 }
 
-/// Whether a hash is the tag of its own length, computed in the caller's thread over a memory that
-/// the caller keeps: see `hash_raw_in`.
-// Its frame has H0. It is never inlined, so that a call without a memory of the caller's may
+/// Verifies as `verify_raw` does, by a single-threaded call in a reusable buffer of the caller: see
+/// `hash_raw_in`.
+// Its stack frame holds H0. It is never inlined, so that a call without a caller's buffer can
 // overwrite that.
 #[inline(never)]
 pub fn verify_raw_in_sequential<'a>(

@@ -103,7 +103,7 @@ impl<'a> Config<'a> {
     }
 
     /// The memory and passes that RFC 9106 recommends first (section 4): Argon2id, 2 GiB, 1 pass.
-    /// It is over one lane, where the RFC has four, since the preset of rust-argon2 is.
+    /// It has one lane, where the RFC has four, as in rust-argon2.
     pub fn rfc9106() -> Config<'a>
         ensures { IsPreset Argon2id 2097152 1 result }
     {
@@ -111,7 +111,7 @@ impl<'a> Config<'a> {
     }
 
     /// The memory and passes that RFC 9106 recommends where memory is short (section 4): Argon2id,
-    /// 64 MiB, 3 passes. It is over one lane, where the RFC has four, since that of rust-argon2 is.
+    /// 64 MiB, 3 passes. It has one lane, where the RFC has four, as in rust-argon2.
     pub fn rfc9106_low_mem() -> Config<'a>
         ensures { IsPreset Argon2id 65536 3 result }
     {

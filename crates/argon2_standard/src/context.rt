@@ -16,9 +16,9 @@ use argon2_blocks::common::{
 };
 use std::fmt;
 
-/// The first refusal of the settings table for a password, a salt and a hash of these lengths. The
-/// order is the table's, since the first refusal is the only answer. Lengths are passed and no
-/// bytes, since a stored text is judged before it is decoded.
+/// The first parameter error for a password, a salt and a hash of these lengths, in the order of
+/// the settings table: only the first error is reported. It takes lengths and no bytes, since an
+/// encoded hash is checked before its salt and hash are decoded.
 #[tactic(auto, unfolding(crate::specs::Standard::SettingsTable::refusal_of))]
 pub fn first_refusal(config: &Config, pwd_len: u64, salt_len: u64, hash_len: u64) -> Option<Error>
     ensures { result ≡ refusal_of config.now pwd_len salt_len hash_len }
@@ -52,8 +52,8 @@ pub fn first_refusal(config: &Config, pwd_len: u64, salt_len: u64, hash_len: u64
     }
 }
 
-/// H0, the hash of all inputs (RFC 9106, 3.2, step 1). They go to BLAKE2b as pieces, so that no
-/// memory is asked for.
+/// H0, the hash of all inputs (RFC 9106, 3.2, step 1). They go to BLAKE2b as pieces, so that
+/// nothing is allocated.
 #[tactic(auto, unfolding(crate::specs::Standard::Prehash::prehash_of, crate::specs::Standard::SettingsTable::refusal_of))]
 fn prehash<'a>(config: &Config<'a>, pwd: &'a [u8], salt: &'a [u8]) -> [u8; PREHASH_DIGEST_LENGTH]
     requires { IsNone (refusal_of config.now (length pwd.now)
@@ -66,7 +66,7 @@ fn prehash<'a>(config: &Config<'a>, pwd: &'a [u8], salt: &'a [u8]) -> [u8; PREHA
     let time_cost = config.time_cost.to_le_bytes();
     let version = config.version.as_u32().to_le_bytes();
     let variant = config.variant.as_u32().to_le_bytes();
-    // These casts cut nothing, since longer inputs were refused.
+    // These casts cut nothing, since longer inputs were rejected.
     let pwd_length = (pwd.len() as u32).to_le_bytes();
     let salt_length = (salt.len() as u32).to_le_bytes();
     let secret_length = (config.secret.len() as u32).to_le_bytes();
@@ -95,7 +95,7 @@ fn prehash<'a>(config: &Config<'a>, pwd: &'a [u8], salt: &'a [u8]) -> [u8; PREHA
 }
 
 /// The accepted inputs of a call, the lengths that follow from them, and H0, the hash of all
-/// inputs. It is kept here, so that the password is hashed once per call.
+/// inputs. H0 is stored here, so that the password is hashed once per call.
 #[derive(Drop, PartialEq)]
 pub struct Context<'a> {
     pub config: Config<'a>,
@@ -114,8 +114,8 @@ pub struct Context<'a> {
 }
 
 impl<'a> Context<'a> {
-    /// The context of a hash of `config.hash_length` bytes. It refuses what the settings table
-    /// refuses, and nothing else.
+    /// The context of a hash of `config.hash_length` bytes. It returns an error exactly where the
+    /// settings table has one.
     pub fn new(config: Config<'a>, pwd: &'a [u8], salt: &'a [u8]) -> Result<Context<'a>>
         ensures { MatchOption (refusal_of config.entry (length pwd.entry.now)
             (length salt.entry.now) config.entry.hash_length)
@@ -131,8 +131,8 @@ impl<'a> Context<'a> {
     }
 }
 
-/// The context of settings that were judged before and not refused. The verifying calls judge them
-/// for the hash's own length, and come here without a second judgement.
+/// The context of settings that were checked and accepted before. The verifying calls check them
+/// for the hash's own length, and come here without a second check.
 #[tactic(auto, unfolding(crate::specs::Standard::SettingsTable::refusal_of))]
 pub fn accepted_context<'a>(config: Config<'a>, pwd: &'a [u8], salt: &'a [u8]) -> Context<'a>
     requires { IsNone (refusal_of config (length pwd.now) (length salt.now) config.hash_length) }

@@ -1,4 +1,4 @@
-//! The refusals of the crate's calls, and their texts.
+//! The errors of the crate's calls, and their messages.
 
 ghost use Rattle.std.specs.Prelude.{◌≡◌, Some};
 ghost use Rattle.argon2_standard.specs.Views.Messages.{message_of};
@@ -9,7 +9,7 @@ use serde::{Deserialize, Serialize};
 use std::alloc::{AllocError, AllocFailed};
 use std::fmt;
 
-/// Why a call was refused. The cases that never come are those of rust-argon2, for programs that
+/// Why a call failed. The cases that are never returned are those of rust-argon2, for programs that
 /// name them.
 #[derive(Clone, Debug, Drop, PartialEq, Serialize, Deserialize)]
 #[serde(rename_all = "snake_case")]
@@ -20,7 +20,7 @@ pub enum Error {
     /// The length of the hash is above 2^32 - 1 bytes.
     OutputTooLong,
 
-    /// Never answered: a password may be empty.
+    /// Never returned: a password may be empty.
     PwdTooShort,
 
     /// The password is longer than 2^32 - 1 bytes.
@@ -32,13 +32,13 @@ pub enum Error {
     /// The salt is longer than 2^32 - 1 bytes.
     SaltTooLong,
 
-    /// Never answered: associated data may be empty.
+    /// Never returned: associated data may be empty.
     AdTooShort,
 
     /// The associated data is longer than 2^32 - 1 bytes.
     AdTooLong,
 
-    /// Never answered: a secret may be empty.
+    /// Never returned: a secret may be empty.
     SecretTooShort,
 
     /// The secret is longer than 2^32 - 1 bytes.
@@ -47,13 +47,13 @@ pub enum Error {
     /// The number of passes is 0.
     TimeTooSmall,
 
-    /// Never answered: each number of passes that a `u32` holds is allowed.
+    /// Never returned: each number of passes that a `u32` holds is allowed.
     TimeTooLarge,
 
     /// The memory cost is below 8 KiB, or below 8 KiB a lane.
     MemoryTooLittle,
 
-    /// Never answered: each memory cost that a `u32` holds is allowed.
+    /// Never returned: each memory cost that a `u32` holds is allowed.
     MemoryTooMuch,
 
     /// The number of lanes is 0.
@@ -68,18 +68,18 @@ pub enum Error {
     /// No version has this number.
     IncorrectVersion,
 
-    /// The text is not that of a hash, a variant or a version.
+    /// The string decodes to no hash, no variant or no version.
     DecodingFail,
 
-    /// Memory was refused.
+    /// An allocation failed.
     OutOfMemory,
 
-    /// The start of a worker was refused, or a lane was never filled.
+    /// A worker thread could not be started, or a lane was never filled.
     WorkerRefused,
 }
 
 impl Error {
-    /// The refusal in a few words.
+    /// The message of the error.
     pub fn message(&self) -> &'static str
         ensures { result.now ≡ message_of self.now }
     {

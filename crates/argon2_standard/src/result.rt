@@ -2,5 +2,5 @@
 
 use crate::error::Error;
 
-/// What a call of this crate answers: its value, or the named refusal.
+/// What a call of this crate returns: its value, or an error.
 pub type Result<T> = std::result::Result<T, Error>;

@@ -29,7 +29,7 @@ pub enum Variant {
 }
 
 impl Variant {
-    /// The name in lower case, as it is written in an encoded text.
+    /// The name in lower case, as it is written in an encoded hash.
     pub fn as_lowercase_str(&self) -> &'static str
         ensures { result.now ≡ lowercase_name self.now }
     {
@@ -65,7 +65,7 @@ impl Variant {
         *self as u64
     }
 
-    /// The variant of one of its two names, in lower case or with a capital. Any other text is
+    /// The variant of one of its two names, in lower case or with a capital. Any other string is
     /// `DecodingFail`.
     pub fn from_str(name: &str) -> Result<Variant>
         ensures read { MatchResult result (IsName name.now) (λ e. (e ≡ Error.DecodingFail)

@@ -34,7 +34,7 @@ impl Version {
         *self as u32
     }
 
-    /// The version of the text `16` or `19`. Any other text is `DecodingFail`.
+    /// The version of the string `16` or `19`. Any other string is `DecodingFail`.
     #[tactic(auto, using(crate::proofs::Versions::decimal_of_version))]
     pub fn from_str(number: &str) -> Result<Version>
         ensures read { MatchResult result (λ version. number.now ≡ version_text version)

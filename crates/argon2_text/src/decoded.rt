@@ -1,4 +1,4 @@
-//! What an encoded text spells.
+//! What an encoded hash decodes to.
 
 ghost use Rattle.std.specs.Prelude.{◌≡◌};
 
@@ -6,14 +6,14 @@ use crate::numbers::Numbers;
 use argon2_standard::variant::Variant;
 use argon2_standard::version::Version;
 
-/// What an encoded text spells: all that a hash is verified with, except the password, the secret
+/// What an encoded hash decodes to: all that it is verified with, except the password, the secret
 /// and the associated data.
 #[derive(Debug, Drop, Eq, PartialEq)]
 pub struct Decoded {
     /// The variant.
     pub variant: Variant,
 
-    /// The version; a text without one means version 0x10.
+    /// The version. A string that names none means version 0x10.
     pub version: Version,
 
     /// The memory in KiB.

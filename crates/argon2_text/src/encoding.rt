@@ -1,8 +1,8 @@
-//! The encoded text of a hash, written and read:
-//! `$argon2id$v=19$m=256,t=2,p=1$salt$hash`, with salt and hash in unpadded base64 (RFC 4648, 4).
+//! Encoded hashes (PHC strings), written and decoded: `$argon2id$v=19$m=256,t=2,p=1$salt$hash`,
+//! with salt and hash in unpadded base64 (RFC 4648, 4).
 //!
-//! A text is written to a buffer of the caller's and read into buffers of the caller's, without
-//! memory. `encode_string` and `decode_string` make these buffers themselves.
+//! They are written to and decoded into caller-provided buffers, without an allocation.
+//! `encode_string` and `decode_string` allocate these buffers themselves.
 
 ghost use Rattle.std.specs.Prelude.{◌≡◌, IfErr, IfOk};
 ghost use Rattle.std.specs.String.{string_bytes};
@@ -31,9 +31,10 @@ pub use reading::{Head, spelling_of};
 use std::alloc::Global;
 pub use writing::write_encoded;
 
-/// The text of a hash: the variant in lower case, the version, the costs and lanes as plain
+/// The encoded hash of a tag: the variant in lower case, the version, the costs and lanes as plain
 /// decimals, the memory cost as it was given, and the salt and the hash in unpadded base64. The
-/// secret and the associated data are not in it. Where memory is refused: `OutOfMemory`.
+/// secret and the associated data are not in it. If memory cannot be allocated, the call returns
+/// `OutOfMemory`.
 pub fn encode_string(alloc: Global, context: &Context<'_>, hash: &[u8]) -> Result<String>
     ensures text { let c = context.now in
         IfOk result (λ text. string_bytes text
@@ -62,23 +63,24 @@ pub fn encode_string(alloc: Global, context: &Context<'_>, hash: &[u8]) -> Resul
     Ok(unsafe { String::from_utf8_unchecked(text) })
 }
 
-/// What `encoded` spells.
+/// What `encoded` decodes to.
 ///
-/// A text that spells nothing is `DecodingFail`, even where memory is refused. Memory is asked for
-/// only once the whole text was found to spell a value; where it is refused: `OutOfMemory`.
+/// A string that decodes to no hash returns `DecodingFail`, even without memory. Memory is
+/// allocated only once the whole string is known to decode; if that fails, the call returns
+/// `OutOfMemory`.
 pub fn decode_string(alloc: Global, encoded: &str) -> Result<Decoded>
     ensures spelled { IfOk result (λ decoded. Spells encoded.now (spelled_by decoded)) }
     ensures refused { IfErr result (Refuses encoded.now) }
 {
-    // The base64 is judged here without memory and read by `decode`, so that no refusal of memory
-    // comes before `DecodingFail`.
+    // The base64 is checked here without memory and decoded by `decode`, so that `DecodingFail`
+    // comes before `OutOfMemory`.
     let head = spelling_of(encoded).ok_or(Error::DecodingFail)?;
     decode(alloc, &head)
 }
 
-/// What the text of a head spells, where its salt and its hash are items. Where memory is refused:
-/// `OutOfMemory`. It is apart, so that a stored text can be judged after it was read and before
-/// this takes memory.
+/// What an encoded hash with this head decodes to, if its salt and its hash are base64. If memory
+/// cannot be allocated, the call returns `OutOfMemory`. It is apart, so that the settings can be
+/// checked before this allocates.
 pub fn decode(alloc: Global, head: &Head<'_>) -> Result<Decoded>
     requires salt { IsSomeItem head.now.salt.now }
     requires hash { IsSomeItem head.now.hash.now }

@@ -1,4 +1,4 @@
-//! The encoded text, written and read.
+//! Encoded hashes (PHC strings), written and decoded.
 #![tactic(auto)]
 
 pub mod decoded;

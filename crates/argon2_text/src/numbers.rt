@@ -1,9 +1,9 @@
-//! What an encoded text spells, in numbers.
+//! What an encoded hash decodes to, in numbers.
 
 use argon2_standard::variant::Variant;
 use argon2_standard::version::Version;
 
-/// What an encoded text spells, with the lengths of its salt and its hash in place of their bytes.
+/// What an encoded hash decodes to, with the lengths of salt and hash in place of their bytes.
 #[derive(Clone, Copy, Debug)]
 pub struct Numbers {
     /// The variant.

@@ -1,4 +1,4 @@
-//! Verifying a password against a stored text.
+//! Verifying a password against an encoded hash.
 
 ghost use Rattle.std.specs.Prelude.{◌≡◌, ◌⊎◌, [], IsErr, false, length, nat_lt};
 ghost use Rattle.argon2_standard.specs.declared.config.Config.{Config};
@@ -19,8 +19,9 @@ use std::marker::Sync;
 use std::sync::Wait;
 use std::thread::Threads;
 
-/// Whether a stored text is the hash of a password, with no secret and no associated data. It
-/// answers as `verify_encoded_ext` does.
+/// Verifies a password against an encoded hash, with no secret and no associated data. It returns
+/// what `verify_encoded_ext` does. Memory and time are what the hash names: use
+/// `verify_encoded_within` for a hash that others may have written.
 pub fn verify_encoded<R: Threads + Wait + Sync>(
     rt: &R,
     alloc: Global,
@@ -35,13 +36,13 @@ pub fn verify_encoded<R: Threads + Wait + Sync>(
     verify_encoded_ext(rt, alloc, encoded, pwd, &[], &[])
 }
 
-/// Whether a stored text is the hash of a password with this secret and this associated data.
+/// Verifies a password against an encoded hash, with this secret and this associated data.
 ///
-/// A text that spells nothing is `DecodingFail`. Else the settings that it spells are judged, with
-/// the length of its hash, before any memory or worker is asked for. Where the settings table
-/// refuses something, the first refusal is the only answer. Else the answer is whether the text's
-/// hash is the tag, or `OutOfMemory` where memory was refused. A text of more than one lane is
-/// verified by at most 16 workers; where the start of one was refused: `WorkerRefused`.
+/// A string that decodes to no hash returns `DecodingFail`. Invalid settings, or a tag of an
+/// invalid length, return the first parameter error, before any memory is allocated or any worker
+/// started. Otherwise the call returns whether the hash is that of the password, or `OutOfMemory`.
+/// A hash of more than one lane is verified by at most 16 workers; if one could not be started, the
+/// call returns `WorkerRefused`.
 pub fn verify_encoded_ext<R: Threads + Wait + Sync>(
     rt: &R,
     alloc: Global,
@@ -61,9 +62,8 @@ pub fn verify_encoded_ext<R: Threads + Wait + Sync>(
     verdict
 }
 
-/// Whether a stored text is the hash of a password, as `verify_encoded_ext` says, computed over a
-/// memory that the caller keeps: see `hash_raw_in`.
-// Its frame has H0. It is never inlined, so that a call without a memory of the caller's may
+/// Verifies as `verify_encoded_ext` does, in a reusable buffer of the caller: see `hash_raw_in`.
+// Its stack frame holds H0. It is never inlined, so that a call without a caller's buffer can
 // overwrite that.
 #[inline(never)]
 pub fn verify_encoded_in<R: Threads + Wait + Sync>(
@@ -91,8 +91,7 @@ pub fn verify_encoded_in<R: Threads + Wait + Sync>(
     is_tag(rt, alloc, memory, &context, &stored.hash)
 }
 
-/// Whether a stored text is the hash of a password, as `verify_encoded_ext` says, computed in the
-/// caller's thread.
+/// Verifies as `verify_encoded_ext` does: a single-threaded call.
 pub fn verify_encoded_sequential(
     alloc: Global,
     encoded: &str,
@@ -111,9 +110,9 @@ pub fn verify_encoded_sequential(
     verdict
 }
 
-/// Whether a stored text is the hash of a password, computed in the caller's thread over a memory
-/// that the caller keeps: see `hash_raw_in`.
-// Its frame has H0. It is never inlined, so that a call without a memory of the caller's may
+/// Verifies as `verify_encoded_ext` does, by a single-threaded call in a reusable buffer of the
+/// caller: see `hash_raw_in`.
+// Its stack frame holds H0. It is never inlined, so that a call without a caller's buffer can
 // overwrite that.
 #[inline(never)]
 pub fn verify_encoded_in_sequential(

@@ -1,4 +1,4 @@
-//! The salt and the hash of an encoded text, written and read in buffers of the caller's.
+//! The salt and the hash in a PHC string, written to and decoded into caller-provided buffers.
 //!
 //! The salt is public, and goes by the tables of crate `base64`. The characters of the hash are
 //! secret, and go by sums.
@@ -67,7 +67,7 @@ fn put_last_letters(out: &mut [u8], at: usize, tail: &[u8])
     }
 }
 
-/// Writes the bytes of a salt's base64 to a buffer of just their length.
+/// Decodes a salt's base64 into a buffer of exactly its length.
 pub fn read_salt(text: &str, salt: &mut [u8])
     requires item { IsSomeItem text.now }
     requires length { length salt.old ≡ 3 * length text.now / 4 }
@@ -78,7 +78,7 @@ pub fn read_salt(text: &str, salt: &mut [u8])
     };
 }
 
-/// Writes the bytes of a hash's base64 to a buffer of just their length.
+/// Decodes a hash's base64 into a buffer of exactly its length.
 pub fn read_hash(text: &str, hash: &mut [u8])
     requires item { IsSomeItem text.now }
     requires length { length hash.old ≡ 3 * length text.now / 4 }

@@ -1,4 +1,4 @@
-//! The length of an encoded text and of its pieces, in bytes.
+//! The length of an encoded hash and of its pieces, in bytes.
 
 ghost use Rattle.std.specs.Prelude.{◌≡◌, ◌<◌, ◌^◌, ℕ, List, length};
 ghost use Rattle.std.specs.Fmt.{decimal};
@@ -8,7 +8,7 @@ ghost use Rattle.argon2_standard.specs.declared.version.Version.{Version};
 
 use argon2_standard::variant::Variant;
 
-/// The length of what each written text has: its marks and the digits of its version, which are two
+/// The length of what each encoded hash has: its marks and the digits of its version, which are two
 /// in both versions, so that no length depends on it.
 const FIXED_LEN: u64 = "$$v=19$m=,t=,p=$$".len() as u64;
 
@@ -43,8 +43,9 @@ pub fn num_len(number: u32) -> u32
     len
 }
 
-/// The length of the text that `encode_string` writes for a salt and a hash of these lengths in
-/// bytes, whatever the version, with no terminator. It takes no memory and always succeeds.
+/// The length of the encoded hash that `encode_string` writes for a salt and a hash of these
+/// lengths in bytes, whatever the version, without a terminator. It allocates nothing and always
+/// succeeds.
 pub fn encoded_len(
     variant: Variant,
     mem_cost: u32,
@@ -75,7 +76,7 @@ pub fn encoded_len(
     )
 }
 
-/// The length of a text whose hash may be longer than any that the settings table accepts.
+/// The length of an encoded hash whose tag may be longer than any that the settings table accepts.
 pub fn text_len(
     variant: Variant,
     mem_cost: u32,

@@ -2,7 +2,7 @@
 //!
 //! Caches show which place of a table was looked into, and times which way a branch went. So no
 //! branch looks at a character or a byte here. Whether all characters are right is gathered to the
-//! end and answered once.
+//! end and returned once.
 
 ghost use Rattle.std.specs.Prelude.{◌≡◌, ◌<◌, ◌↔◌, ◌*◌, ◌/◌, ℕ, IsTrue, List, length, ◌≤◌};
 ghost use Rattle.argon2_standard.specs.Standard.Grammar.{IsItem};
@@ -10,12 +10,12 @@ ghost use Rattle.argon2_standard.specs.Standard.Text.{base64};
 ghost use Rattle.argon2_text.specs.Views.Faults.{IsSomeItem};
 ghost use Rattle.argon2_text.specs.Views.Letters.{bits_of, bytes_read, fault_of, faults_of, letter_of, reaches};
 
-/// Whether a text is the unpadded base64 of some bytes. It goes on to the last letter, and takes no
-/// memory, so that what is no item is found even where memory is refused.
+/// Whether a string is the unpadded base64 of some bytes. It goes on to the last character, and
+/// allocates nothing, so that invalid base64 is found even without memory.
 pub fn is_item(text: &str) -> bool
     ensures { IsTrue result ↔ IsSomeItem text.now }
 {
-    // As wide as a length, since each letter may have a fault.
+    // As wide as a length, since each character may have a fault.
     let mut faults: usize = 0;
     let mut rest = text.as_bytes();
     while rest.len() >= 4 {
@@ -23,12 +23,12 @@ pub fn is_item(text: &str) -> bool
         faults += group_faults(group) as usize;
         rest = behind;
     }
-    // `&` and not `&&`, so that one branch answers for all letters.
+    // `&` and not `&&`, so that one branch decides for all characters.
     (faults == 0) & (tail_faults(rest) == 0)
 }
 
-/// The faults of the letters behind the last group of four. Bits that are left over have to be 0,
-/// so that bytes have one text alone (RFC 4648, 3.5).
+/// The faults of the characters behind the last group of four. Leftover bits have to be 0, so that
+/// bytes have one encoding alone (RFC 4648, 3.5).
 fn tail_faults(tail: &[u8]) -> u32
     requires { length tail.now < 4 }
     ensures { result ≡ faults_of tail.now }
@@ -41,8 +41,8 @@ fn tail_faults(tail: &[u8]) -> u32
     }
 }
 
-/// How many bytes an unpadded base64 text encodes. It decodes none, so that lengths can be judged
-/// before memory is taken.
+/// How many bytes an unpadded base64 string encodes. It decodes none, so that lengths can be
+/// checked before memory is allocated.
 pub fn item_len(text: &str) -> u64
     ensures value { result ≡ 3 * length text.now / 4 }
     ensures exact { (bytes : List ℕ) → IsItem text.now bytes → result ≡ length bytes }
@@ -61,7 +61,7 @@ fn reaches(byte: u32, bound: u32) -> u32
     (byte + 256 - bound) / 256
 }
 
-/// The letter of six bits, without a table, whose places the cache would show.
+/// The character of six bits, without a table, whose places the cache would show.
 pub fn letter(bits: u32) -> u8
     requires { bits < 64 }
     ensures { result ≡ letter_of bits }
@@ -72,23 +72,23 @@ pub fn letter(bits: u32) -> u8
     (ahead - 75 * reaches(bits, 52) - 15 * reaches(bits, 62)) as u8
 }
 
-/// The six bits of a letter, and some number for what is no letter. `fault` tells them apart, since
-/// a branch here would look at a letter.
+/// The six bits of a base64 character, and some number for any other byte. `fault` tells them
+/// apart, since a branch here would look at a character.
 pub fn bits(letter: u8) -> u32
     ensures { result ≡ bits_of letter }
 {
     let letter = u32::from(letter);
-    // The same stretches in the order of bytes: `+`, `/`, digits, capitals, small letters.
+    // The same ranges in the order of bytes: `+`, `/`, digits, capitals, small letters.
     let ahead = letter + 19 - 3 * reaches(letter, 47) - 12 * reaches(letter, 48);
     ahead - 69 * reaches(letter, 65) - 6 * reaches(letter, 97)
 }
 
-/// 0 for a letter, and 1 for any other byte.
+/// 0 for a base64 character, and 1 for any other byte.
 fn fault(letter: u8) -> u32
     ensures { result ≡ fault_of letter }
 {
     let letter = u32::from(letter);
-    // In a stretch of letters, one more has begun than lies behind.
+    // In a range of characters, one more has begun than lies behind.
     let behind = reaches(letter, 44)
         + reaches(letter, 58)
         + reaches(letter, 91)
@@ -100,7 +100,7 @@ fn fault(letter: u8) -> u32
     1 + behind - begun
 }
 
-/// How many of four letters are none, gathered to the end.
+/// How many of four characters are not base64, gathered to the end.
 fn group_faults(group: &[u8]) -> u32
     requires { length group.now ≡ 4 }
     ensures value { result ≡ faults_of group.now }
@@ -109,7 +109,7 @@ fn group_faults(group: &[u8]) -> u32
     fault(group[0]) + fault(group[1]) + fault(group[2]) + fault(group[3])
 }
 
-/// The three bytes of four letters.
+/// The three bytes of four characters.
 pub fn three_bytes(group: &[u8]) -> [u8; 3]
     requires { length group.now ≡ 4 }
     ensures { result ≡ bytes_read group.now }
@@ -123,7 +123,7 @@ pub fn three_bytes(group: &[u8]) -> [u8; 3]
     ]
 }
 
-/// The four letters of three bytes.
+/// The four characters of three bytes.
 pub fn four_letters(group: &[u8]) -> [u8; 4]
     requires { length group.now ≡ 3 }
     ensures { result ≡ base64 group.now }

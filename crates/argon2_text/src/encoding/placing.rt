@@ -1,4 +1,4 @@
-//! Bytes that are put into a caller's buffer, each piece behind the one before it.
+//! Bytes that are put into a caller-provided buffer, each piece behind the one before it.
 
 ghost use Rattle.std.specs.Prelude.{◌≡◌, ◌+◌, ◌++◌, ◌≤◌, length, take};
 ghost use Rattle.std.specs.Fmt.{decimal};

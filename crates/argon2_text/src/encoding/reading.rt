@@ -1,4 +1,4 @@
-//! The pieces of an encoded text, cut and read from left to right. Nothing here takes memory.
+//! The pieces of an encoded hash, cut and decoded from left to right. Nothing here allocates.
 
 ghost use Rattle.std.specs.Prelude.{◌≡◌, ◌≢◌, ◌<◌, ℕ, List, MatchOption, length, option_map, slice_index};
 ghost use Rattle.argon2_text.specs.Views.Cutting.{cut, piece, pieces_of, strip, version_piece};
@@ -13,7 +13,7 @@ use crate::numbers::Numbers;
 use argon2_standard::variant::Variant;
 use argon2_standard::version::Version;
 
-/// The pieces of a text, as they are written there.
+/// The pieces of an encoded hash, not decoded.
 #[derive(Clone, Copy)]
 struct Pieces<'a> {
     name: &'a str,
@@ -25,13 +25,13 @@ struct Pieces<'a> {
     hash: &'a str,
 }
 
-/// What a text spells before its salt and its hash, and these two as they are written there.
+/// What an encoded hash decodes to before its salt and its hash, and these two in base64.
 #[derive(Clone, Copy)]
 pub struct Head<'a> {
     /// The variant.
     pub variant: Variant,
 
-    /// The version; a text without one means version 0x10.
+    /// The version. A string that names none means version 0x10.
     pub version: Version,
 
     /// The memory in KiB.
@@ -54,7 +54,7 @@ impl Head<'_> {
     ghost use Rattle.argon2_standard.specs.Standard.Grammar.{IsItem};
     ghost use Rattle.argon2_text.specs.Views.Texts.{numbers_of, spelled_with};
 
-    /// The head with the lengths of its salt and its hash, where these are items. It decodes none.
+    /// The head with the lengths of its salt and its hash, if these are base64. It decodes neither.
     pub fn numbers(&self) -> Numbers
         ensures { (salt hash : List ℕ) → IsItem self.now.salt.now salt
             → IsItem self.now.hash.now hash
@@ -72,12 +72,12 @@ impl Head<'_> {
     }
 }
 
-/// The head of a text that spells a value. It takes no memory.
+/// The head of a string that decodes to a hash. It allocates nothing.
 pub fn spelling_of(text: &str) -> Option<Head<'_>>
     ensures { MatchOption result (SpellsNothing text.now) (IsSpellingOf text.now) }
 {
     let head = head_of(text)?;
-    // `&&` passes over the hash where the salt is no item, since no salt is a secret.
+    // `&&` skips the hash where the salt is not base64, since no salt is a secret.
     if is_item(head.salt) && is_item(head.hash) {
         Some(head)
     } else {
@@ -85,7 +85,7 @@ pub fn spelling_of(text: &str) -> Option<Head<'_>>
     }
 }
 
-/// The head of a text that has all its pieces, where those before the salt spell what they should.
+/// The head of a string that has all its pieces, if those before the salt decode.
 fn head_of(text: &str) -> Option<Head<'_>>
     ensures { MatchOption result (HasSplit text.now → ⊥) (IsHeadOf text.now) }
 {
@@ -102,7 +102,7 @@ fn head_of(text: &str) -> Option<Head<'_>>
     })
 }
 
-/// The pieces of a text, where it has all of them but the version. The hash is all that is left: no
+/// The pieces of a string, if it has all of them but the version. The hash is all that is left: no
 /// byte of it is looked at here.
 #[tactic(auto)]
 fn pieces_of(text: &str) -> Option<Pieces<'_>>
@@ -134,7 +134,7 @@ fn piece<'a>(text: &'a str, front: &str, mark: u8) -> Option<(&'a str, &'a str)>
     cut(strip(text, front)?, mark)
 }
 
-/// The version up to its `$`, where the text begins with one, and what is after it.
+/// The version up to its `$`, if the string begins with one, and what is after it.
 #[tactic(auto)]
 fn version_piece(text: &str) -> Option<(Option<&str>, &str)>
     ensures { option_map version_and_rest result ≡ version_piece text.now }
@@ -153,7 +153,7 @@ fn strip<'a>(text: &'a str, front: &str) -> Option<&'a str>
     text.strip_prefix(front)
 }
 
-/// What is before the first `mark`, and what is after it. The mark is ASCII, so that the text may
+/// What is before the first `mark`, and what is after it. The mark is ASCII, so that the string may
 /// be cut on both its sides. `split_once` of the standard library would look at bytes behind the
 /// mark.
 fn cut(text: &str, mark: u8) -> Option<(&str, &str)>
@@ -181,7 +181,7 @@ fn first(bytes: &[u8], mark: u8) -> Option<usize>
     None
 }
 
-/// The version that a piece spells; where there is no piece, version 0x10.
+/// The version that a piece names; version 0x10 if there is no piece.
 fn version_of(piece: Option<&str>) -> Option<Version>
     ensures { let text = version_text_of piece.entry in
         MatchOption result (IsNoVersion text) (IsVersion text) }
@@ -192,8 +192,8 @@ fn version_of(piece: Option<&str>) -> Option<Version>
     }
 }
 
-/// The number that a piece spells: a plus or nothing, and decimal digits. It is apart, so that
-/// other proofs go by the grammar's words and not by those of `parse`.
+/// The number that a piece names: a plus or nothing, and decimal digits. It is apart, so that other
+/// proofs go by the grammar's words and not by those of `parse`.
 fn number(text: &str) -> Option<u32>
     ensures { MatchOption result (IsNoNumber text.now) (IsNumber text.now) }
 {

@@ -1,4 +1,4 @@
-//! Writing an encoded text to a buffer of the caller's. Nothing here takes memory.
+//! Writing an encoded hash to a caller-provided buffer. Nothing here allocates.
 
 ghost use Rattle.std.specs.Prelude.{◌≡◌, ◌+◌, ◌++◌, ◌≤◌, length, take};
 ghost use Rattle.std.specs.Fmt.{decimal};
@@ -12,8 +12,8 @@ use crate::encoding::placing::{put, put_number};
 use argon2_standard::config::Config;
 use argon2_standard::version::Version;
 
-/// Writes the text that `encode_string` gives for these settings and this salt to a buffer of just
-/// its length.
+/// Writes the encoded hash that `encode_string` returns for these settings and this salt to a
+/// buffer of exactly its length.
 pub fn write_encoded(config: &Config<'_>, salt: &[u8], hash: &[u8], text: &mut [u8])
     requires { length text.old ≡ length (text_of (spelled_of config.now salt.now hash.now)) }
     ensures { text.new ≡ text_of (spelled_of config.now salt.now hash.now) }
@@ -24,7 +24,7 @@ pub fn write_encoded(config: &Config<'_>, salt: &[u8], hash: &[u8], text: &mut [
     put_hash(text, at, hash);
 }
 
-/// Puts all that stands before the salt at the front of a buffer. Returns where it ends.
+/// Puts all that comes before the salt at the front of a buffer. Returns where it ends.
 fn put_front(text: &mut [u8], config: &Config<'_>) -> usize
     requires { let c = config.now in
         16 + length (lowercase_name c.variant) + length (decimal c.mem_cost)
