@@ -1,17 +1,17 @@
-//! Writing a text, or the words of a refusal, to a buffer of the caller's.
+//! Writing an encoded hash, or an error message, to a caller-provided buffer.
 
 ghost use Rattle.argon2_c.specs.Answers.{WritesMessage};
 ghost use Rattle.argon2_c.specs.Buffer.{WritesText};
 
 use crate::refusal::Refusal;
 
-/// Writes a text to a buffer, and zeros behind it to the end. A buffer without room for the text
-/// and one zero is `WrongLength`, and stays as it was.
+/// Writes a string to a buffer, and zeros behind it to the end. A buffer without room for the
+/// string and one zero is `WrongLength`, and is unchanged.
 pub fn write_text(text: &str, buffer: &mut [u8]) -> Result<(), Refusal>
     ensures { WritesText text.now buffer.old buffer.new result }
 {
     let text = text.as_bytes();
-    // `<=`, since a zero has to fit behind the text.
+    // `<=`, since a zero has to fit behind the string.
     if buffer.len() <= text.len() {
         return Err(Refusal::WrongLength);
     }
@@ -21,7 +21,7 @@ pub fn write_text(text: &str, buffer: &mut [u8]) -> Result<(), Refusal>
     Ok(())
 }
 
-/// Writes the text of the refusal of a number to a buffer.
+/// Writes the message of the error with this number to a buffer.
 pub fn write_message(number: u32, text: &mut [u8]) -> Result<(), Refusal>
     ensures { WritesMessage number text.old text.new result }
 {

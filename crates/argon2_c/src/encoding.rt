@@ -1,4 +1,4 @@
-//! Writing the text of a tag that was computed before.
+//! Writing the encoded hash of a tag that was computed before.
 
 ghost use Rattle.std.specs.Prelude.{◌≡◌, ◌<◌, ◌^◌, ℕ, List, [], length};
 ghost use Rattle.std.specs.Borrow.{Bor};
@@ -13,10 +13,10 @@ use crate::settings::{Settings, refused, text_len};
 use argon2::Config;
 use argon2_text::encoding::write_encoded;
 
-/// Writes the text of a given tag, and zeros behind it, to a buffer with more bytes than the text.
-/// The numbers of the settings are looked at first, then the settings table; then a tag of another
-/// length than the settings' is `WrongLength`, and so is a buffer without room for the text and one
-/// zero. On a refusal the buffer is as it was.
+/// Writes the encoded hash of a given tag, and zeros behind it, to a buffer that is longer. The
+/// numbers of variant and version are checked first, then the settings table. Then a tag of another
+/// length than the settings' is `WrongLength`, and so is a buffer without room for the encoded hash
+/// and one zero. On an error the buffer is unchanged.
 pub fn encode(salt: &[u8], settings: &Settings, tag: &[u8], text: &mut [u8]) -> Result<(), Refusal>
     ensures { (secret ad : Bor (List ℕ)) → secret.now ≡ [] → ad.now ≡ []
         → WritesTagText (config_of settings.now secret ad) salt.now tag.now text.old text.new
@@ -29,7 +29,7 @@ pub fn encode(salt: &[u8], settings: &Settings, tag: &[u8], text: &mut [u8]) -> 
     }
 }
 
-/// Writes the text of a tag with accepted settings.
+/// Writes the encoded hash of a tag with accepted settings.
 fn write_tag_text(
     config: &Config<'_>,
     salt: &[u8],
@@ -45,7 +45,7 @@ fn write_tag_text(
         return Err(Refusal::WrongLength);
     }
     let len = text_len(config, salt.len() as u32);
-    // `<=`, since a zero has to fit behind the text.
+    // `<=`, since a zero has to fit behind the string.
     if text.len() as u64 <= len {
         return Err(Refusal::WrongLength);
     }

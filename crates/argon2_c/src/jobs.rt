@@ -27,7 +27,7 @@ use argon2_standard::context::{accepted_context, prehash_of_context};
 const MAX_BLOCKS_IN_SLICE: u64 = 0x3FFF_FFFF;
 
 /// A job in numbers: all that its blocks and its tag depend on. The caller holds it and may change
-/// it, so each step judges the numbers anew.
+/// it, so each step checks the numbers anew.
 #[repr(C)]
 #[derive(Clone, Copy, Debug)]
 pub struct LentJob {
@@ -116,7 +116,7 @@ impl LentJob {
         }
     }
 
-    /// The library's job of these numbers, at its first slice. Those of no job are `NoJob`.
+    /// The library's job of these numbers, at its first slice. Numbers of no job are `NoJob`.
     pub fn job(&self) -> Result<Job, Refusal>
         ensures { MatchResult result
             (λ job. setting_of_job self.now ≡ Some job.setting)
@@ -129,8 +129,8 @@ impl LentJob {
     }
 }
 
-/// Writes the job of a password. The numbers of the settings are looked at first, then the settings
-/// table; on a refusal the job is as it was.
+/// Writes the job of a password. The numbers of variant and version are checked first, then the
+/// settings table. On an error the job is unchanged.
 #[inline(never)]
 pub fn make(
     pwd: &[u8],
@@ -153,9 +153,9 @@ pub fn make(
     }
 }
 
-/// Writes the job that a stored text is verified by, and its salt and its hash, to buffers of their
-/// lengths. It refuses as `read` does; then what the text spells is judged, and last the buffers. On
-/// a refusal all are as they were.
+/// Writes the job that an encoded hash is verified by, and its salt and its hash, to buffers of
+/// their lengths. Its errors are those of `read`; then the settings are checked, and last the
+/// buffers. On an error all are unchanged.
 #[inline(never)]
 pub fn make_stored(
     text: &[u8],
@@ -176,7 +176,7 @@ pub fn make_stored(
     }
 }
 
-/// Writes the job that a text with this head is verified by, and its salt and its hash.
+/// Writes the job that an encoded hash with this head is verified by, and its salt and its hash.
 fn make_of_head(
     head: &Head<'_>,
     pwd: &[u8],
@@ -198,7 +198,7 @@ fn make_of_head(
     if let Some(error) = refusal(head, pwd.len() as u64, secret, ad) {
         return Err(Refusal::Library(error));
     }
-    // Nothing is written before all was judged, so that a refusal leaves all as it was.
+    // Nothing is written before all is checked, so that an error changes nothing.
     read_items(head, salt, hash)?;
     let config = config_of_numbers(&head.numbers(), secret, ad);
     *job = LentJob::of(&accepted_context(config, pwd, salt));

@@ -1,5 +1,5 @@
-//! The calls for a memory that C lends and fills in steps, by as many threads as it likes, since an
-//! export may start none.
+//! The calls over a caller-provided memory, which C fills in steps, by as many threads as it likes,
+//! since an export may start none.
 
 ghost use Rattle.std.specs.Prelude.{◌≡◌, ℕ, List, []};
 ghost use Rattle.std.specs.Borrow.{Bor};
@@ -16,8 +16,8 @@ use crate::settings::Settings;
 use crate::{encoding, jobs, over, steps};
 use argon2::parts::block::Block;
 
-/// Judges the settings and writes the job of a password: H0 and the numbers of its blocks. On a
-/// refusal `job` is as it was.
+/// Checks the settings and writes the job of a password: H0 and the numbers of its blocks. On an
+/// error `job` is unchanged.
 #[unsafe(no_mangle)]
 pub extern "C" fn proved_argon2_job_make(
     pwd: &[u8],
@@ -33,8 +33,8 @@ pub extern "C" fn proved_argon2_job_make(
     cleared(code_of(&jobs::make(pwd, salt, secret, ad, settings, job)))
 }
 
-/// Writes the job that a stored text is verified by, and the text's salt and hash, to buffers of
-/// their lengths. On a refusal all are as they were.
+/// Writes the job that an encoded hash is verified by, and its salt and its hash, to buffers of
+/// their lengths. On an error all are unchanged.
 #[unsafe(no_mangle)]
 pub extern "C" fn proved_argon2_job_read(
     text: &[u8],
@@ -52,7 +52,7 @@ pub extern "C" fn proved_argon2_job_read(
     cleared(code_of(&jobs::make_stored(text, pwd, secret, ad, job, salt, hash)))
 }
 
-/// Writes a lane's first two blocks into its segment of slice 0, whatever stands there.
+/// Writes a lane's first two blocks into its segment of slice 0, whatever its contents.
 #[unsafe(no_mangle)]
 pub extern "C" fn proved_argon2_job_begin(job: &LentJob, lane: u32, own: &mut [Block]) -> u32
     ensures { IsCodeOf (Begins (setting_of_job job.now) lane own.old own.new) result }
@@ -102,8 +102,8 @@ pub extern "C" fn proved_argon2_job_verify(
     cleared(code_of_verdict(&steps::verify(job, last, hash, tag)))
 }
 
-/// Writes the tag of a job to a buffer of its length, computed over just the job's blocks, whatever
-/// stands in them: all steps in one call. On a refusal both are as they were.
+/// Writes the tag of a job to a buffer of its length, computed over exactly the job's blocks,
+/// whatever their contents: all steps in one call. On an error both are unchanged.
 #[unsafe(no_mangle)]
 pub extern "C" fn proved_argon2_job_hash_over(
     job: &LentJob,
@@ -133,8 +133,8 @@ pub extern "C" fn proved_argon2_job_verify_over(
     cleared(code_of_verdict(&over::verify_job(job, blocks, hash, tag)))
 }
 
-/// Writes the text of a given tag and then zeros to `text`, which has more bytes than the text. On
-/// a refusal `text` is as it was.
+/// Writes the encoded hash of a given tag and then zeros to `text`, which has more bytes than the
+/// encoded hash. On an error `text` is unchanged.
 #[unsafe(no_mangle)]
 pub extern "C" fn proved_argon2_encode(
     salt: &[u8],
@@ -150,8 +150,8 @@ pub extern "C" fn proved_argon2_encode(
 }
 
 /// Whatever the order of the lanes within each slice, and also at the same time: where each step of
-/// a hash answered 0, what is finished then is the tag, and what is verified is whether a hash is
-/// it. The calls that take all steps in one order answer the same. It does nothing when it runs.
+/// a hash returned 0, what is finished then is the tag, and what is verified is whether a hash is
+/// it. The calls that take all steps in one order return the same. It does nothing when it runs.
 pub fn any_order_of_steps()
     ensures tag { EveryRunGivesTheTag }
     ensures verdict { EveryRunGivesTheVerdict }

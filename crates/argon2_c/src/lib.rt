@@ -1,8 +1,8 @@
-//! A C face of `argon2`: what is proved for C. It takes no memory, keeps no state and starts no
-//! thread; the caller lends all that is written to.
+//! A C interface of `argon2`: what is proved for C. It allocates nothing, keeps no state and starts
+//! no thread; the caller provides all memory that is written to.
 //!
-//! A call that may refuse returns one number: 0, or that of the refusal. `include/proved_argon2.h`
-//! is the header, and docs/C.md says how to build and link. In C a slice is a pointer and then a
+//! A call that can fail returns one number: 0, or that of the error. `include/proved_argon2.h` is
+//! the header, and docs/C.md says how to build and link. In C a slice is a pointer and then a
 //! length.
 #![tactic(auto)]
 
@@ -47,8 +47,8 @@ use refusal::{code_of, code_of_verdict};
 pub use settings::Settings;
 
 /// Writes the tag of a password (RFC 9106, 3.2) to `out`, which has `settings.hash_length` bytes,
-/// computed over just the blocks of the settings, whatever stands in them. On a refusal both are as
-/// they were.
+/// computed over exactly the blocks of the settings, whatever their contents. On an error both are
+/// unchanged.
 #[unsafe(no_mangle)]
 pub extern "C" fn proved_argon2_hash_over(
     pwd: &[u8],
@@ -67,8 +67,7 @@ pub extern "C" fn proved_argon2_hash_over(
 }
 
 /// Returns 0 only where `hash` is the tag of a password, and 64 only where it is not;
-/// `settings.hash_length` is not looked at. The tag is then in `tag`, which has the length of
-/// `hash`.
+/// `settings.hash_length` is ignored. The tag is then in `tag`, which has the length of `hash`.
 #[unsafe(no_mangle)]
 pub extern "C" fn proved_argon2_verify_over(
     pwd: &[u8],
@@ -87,8 +86,7 @@ pub extern "C" fn proved_argon2_verify_over(
     cleared(code_of_verdict(&over::verify(pwd, salt, secret, ad, settings, blocks, hash, tag)))
 }
 
-/// Writes what a stored text spells to `stored`, and verifies nothing. On a refusal `stored` is as
-/// it was.
+/// Decodes an encoded hash to `stored`, and verifies nothing. On an error `stored` is unchanged.
 #[unsafe(no_mangle)]
 pub extern "C" fn proved_argon2_read(text: &[u8], stored: &mut Stored) -> u32
     ensures { IsCodeOf (ReadsText text.now stored.old stored.new) result }
@@ -96,8 +94,7 @@ pub extern "C" fn proved_argon2_read(text: &[u8], stored: &mut Stored) -> u32
     code_of(&reading::read(text, stored))
 }
 
-/// `proved_argon2_read` for a text that asks for no more than the limits. Returns 69 only where the
-/// text spells more than one of them.
+/// `proved_argon2_read` within limits. Returns 69 only where the encoded hash exceeds one of them.
 #[unsafe(no_mangle)]
 pub extern "C" fn proved_argon2_read_within(
     text: &[u8],
@@ -110,8 +107,8 @@ pub extern "C" fn proved_argon2_read_within(
     code_of(&reading::read_within(text, limits, stored))
 }
 
-/// Writes the salt and the hash of a stored text to buffers of their lengths. On a refusal both are
-/// as they were.
+/// Writes the salt and the hash of an encoded hash to buffers of their lengths. On an error both
+/// are unchanged.
 #[unsafe(no_mangle)]
 pub extern "C" fn proved_argon2_read_bytes(text: &[u8], salt: &mut [u8], hash: &mut [u8]) -> u32
     ensures { IsCodeOf (ReadsBytes text.now (record { salt = salt.old; hash = hash.old })
@@ -120,7 +117,7 @@ pub extern "C" fn proved_argon2_read_bytes(text: &[u8], salt: &mut [u8], hash: &
     code_of(&reading::read_bytes(text, salt, hash))
 }
 
-/// Returns 0 only where a stored text was made with these settings, whatever its salt is, and 68
+/// Returns 0 only where an encoded hash was made with these settings, whatever its salt is, and 68
 /// only where it was made with others.
 #[unsafe(no_mangle)]
 pub extern "C" fn proved_argon2_needs_rehash(text: &[u8], settings: &Settings) -> u32
@@ -130,8 +127,8 @@ pub extern "C" fn proved_argon2_needs_rehash(text: &[u8], settings: &Settings) -
     code_of(&reading::needs_rehash(text, settings))
 }
 
-/// The length of the text that `proved_argon2_encode` writes, without the zero behind it, or
-/// 0 where no variant or no version has the given number, since no text has that length.
+/// The length of the encoded hash that `proved_argon2_encode` writes, without the zero behind it,
+/// or 0 where no variant or no version has the given number, since no encoded hash has that length.
 #[unsafe(no_mangle)]
 pub extern "C" fn proved_argon2_encoded_len(settings: &Settings, salt_len: u32) -> u64
     ensures { (secret ad : Bor (List ℕ)) → IsTextLength
@@ -141,7 +138,7 @@ pub extern "C" fn proved_argon2_encoded_len(settings: &Settings, salt_len: u32) 
 }
 
 /// How many bytes the blocks of these settings have, 1,024 each, or 0 where no call with these
-/// settings is accepted. No length of an input is judged.
+/// settings is accepted. The lengths of the inputs are not checked.
 #[unsafe(no_mangle)]
 pub extern "C" fn proved_argon2_memory_len(settings: &Settings) -> u64
     ensures { (secret ad : Bor (List ℕ)) → secret.now ≡ [] → ad.now ≡ []
@@ -150,8 +147,8 @@ pub extern "C" fn proved_argon2_memory_len(settings: &Settings) -> u64
     settings.memory_len()
 }
 
-/// Writes the text of the refusal of a number and then zeros to `text`, which has more bytes than
-/// the text: 64 are enough for each. On a refusal `text` is as it was.
+/// Writes the message of the error with this number and then zeros to `text`, which has more bytes
+/// than the message: 64 are enough for each. On an error `text` is unchanged.
 #[unsafe(no_mangle)]
 pub extern "C" fn proved_argon2_message(number: u32, text: &mut [u8]) -> u32
     ensures { IsCodeOf (WritesMessage number text.old text.new) result }

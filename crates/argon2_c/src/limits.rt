@@ -1,11 +1,11 @@
-//! What a stored text may ask for at most.
+//! The most that an encoded hash may cost.
 
 ghost use Rattle.std.specs.Prelude.{◌≡◌};
 ghost use Rattle.argon2.specs.Views.Limits.{default_limits};
 ghost use Rattle.argon2_c.specs.Limits.{limits_from, limits_of};
 
-/// The greatest numbers that a stored text may spell, and the greatest product of two of them, in a
-/// layout that C knows.
+/// The highest memory, passes and lanes that an encoded hash may name, and the highest product of
+/// memory and passes, in a layout that C knows.
 #[repr(C)]
 #[derive(Clone, Copy, Debug)]
 pub struct Limits {

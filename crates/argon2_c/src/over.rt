@@ -1,4 +1,5 @@
-//! Whole hashes in the caller's thread, over blocks that C lends: all steps of a hash in one call.
+//! Whole hashes in the caller's thread, over caller-provided blocks: all steps of a hash in one
+//! call.
 
 ghost use Rattle.std.specs.Prelude.{◌≡◌, ◌↔◌, IsTrue, length};
 ghost use Rattle.argon2.specs.Tag.{tag_of};
@@ -16,9 +17,9 @@ use argon2::parts::context::{Context, Job};
 use argon2::parts::stored::{are_equal, context_of_hash};
 use argon2_fill::lent::{hash_lent, hash_lent_job};
 
-/// Writes the tag of a password to a buffer of `settings.hash_length` bytes. The numbers of the
-/// settings are looked at first, then the settings table, then how many blocks there are, and last
-/// the length of the buffer.
+/// Writes the tag of a password to a buffer of `settings.hash_length` bytes. The numbers of variant
+/// and version are checked first, then the settings table, then the number of blocks, and last the
+/// length of the buffer.
 #[inline(never)]
 pub fn hash(
     pwd: &[u8],
@@ -57,9 +58,9 @@ fn hash_context(context: &Context<'_>, blocks: &mut [Block], out: &mut [u8]) -> 
     Ok(())
 }
 
-/// Whether a hash is the tag of its own length, which is then in a buffer of that length; the
-/// settings are judged with it, and `settings.hash_length` is not looked at. It refuses as `hash`
-/// does.
+/// Whether a hash is the tag of its own length, which is then in a buffer of that length. The
+/// settings are checked with it, and `settings.hash_length` is ignored. Its errors are those of
+/// `hash`.
 #[inline(never)]
 pub fn verify(
     pwd: &[u8],
@@ -151,7 +152,7 @@ pub fn verify_job(
     }
 }
 
-/// Whether there are just as many blocks as the job has.
+/// Whether there are exactly as many blocks as the job has.
 fn is_memory(job: &Job, blocks: &[Block]) -> bool
     ensures { IsTrue result ↔ (length blocks.now ≡ memory_blocks job.now.setting) }
 {

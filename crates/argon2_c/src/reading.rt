@@ -1,4 +1,4 @@
-//! Looking at a stored text without verifying it.
+//! Decoding an encoded hash without verifying it.
 
 ghost use Rattle.std.specs.Prelude.{◌≡◌, ℕ, List, OnOk};
 ghost use Rattle.std.specs.Borrow.{Bor};
@@ -18,7 +18,7 @@ use crate::stored_text::head_of;
 use argon2::parts::stored::{Numbers, agrees, is_above};
 use argon2_text::encoding::{Head, item_len, read_hash, read_salt};
 
-/// What a stored text spells, in numbers.
+/// What an encoded hash decodes to, in numbers.
 #[repr(C)]
 #[derive(Clone, Copy, Debug)]
 pub struct Stored {
@@ -30,7 +30,7 @@ pub struct Stored {
 }
 
 impl Stored {
-    /// What a text with these numbers spells.
+    /// What an encoded hash with these numbers decodes to.
     fn of(numbers: &Numbers) -> Stored
         ensures { (d : Spelled) → numbers.now ≡ numbers_of d → result ≡ stored_of d }
     {
@@ -48,16 +48,16 @@ impl Stored {
     }
 }
 
-/// A length as far as a field of 32 bits holds it. A longer one is told as the greatest, since only
-/// a text of 5 GiB has one, which verifying refuses.
+/// A length, in a field of 32 bits. A longer one is reported as 2^32 - 1: only an encoded hash of 5
+/// GiB has one, and verifying rejects it.
 fn held_len(len: u64) -> u32
     ensures { result ≡ held len }
 {
     len.min(u64::from(u32::MAX)) as u32
 }
 
-/// Writes what a stored text spells. A text that is not UTF-8 is `NotUtf8`, one that spells nothing
-/// `DecodingFail`. On a refusal `stored` is as it was.
+/// Decodes an encoded hash. A string that is not UTF-8 is `NotUtf8`, one that decodes to no hash is
+/// `DecodingFail`. On an error `stored` is unchanged.
 pub fn read(text: &[u8], stored: &mut Stored) -> Result<(), Refusal>
     ensures { ReadsText text.now stored.old stored.new result }
 {
@@ -70,8 +70,8 @@ pub fn read(text: &[u8], stored: &mut Stored) -> Result<(), Refusal>
     }
 }
 
-/// Writes what a stored text spells, where that is within the limits; else it is `TooCostly`. It
-/// refuses as `read` does before.
+/// Decodes an encoded hash that is within the limits; any other is `TooCostly`. The errors of
+/// `read` come first.
 pub fn read_within(text: &[u8], limits: &Limits, stored: &mut Stored) -> Result<(), Refusal>
     ensures { ReadsTextWithin (limits_of limits.now) text.now stored.old stored.new result }
 {
@@ -88,8 +88,8 @@ pub fn read_within(text: &[u8], limits: &Limits, stored: &mut Stored) -> Result<
     }
 }
 
-/// Writes the salt and the hash of a stored text to buffers of their lengths. It refuses as `read`
-/// does; another length of a buffer is `WrongLength`. On a refusal both are as they were.
+/// Writes the salt and the hash of an encoded hash to buffers of their lengths. The errors of
+/// `read` come first; another length of a buffer is `WrongLength`. On an error both are unchanged.
 pub fn read_bytes(text: &[u8], salt: &mut [u8], hash: &mut [u8]) -> Result<(), Refusal>
     ensures { ReadsBytes text.now (record { salt = salt.old; hash = hash.old })
         (record { salt = salt.new; hash = hash.new }) result }
@@ -100,7 +100,7 @@ pub fn read_bytes(text: &[u8], salt: &mut [u8], hash: &mut [u8]) -> Result<(), R
     }
 }
 
-/// Writes the salt and the hash of a text with this head to buffers of their lengths.
+/// Writes the salt and the hash of an encoded hash with this head to buffers of their lengths.
 pub fn read_items(head: &Head<'_>, salt: &mut [u8], hash: &mut [u8]) -> Result<(), Refusal>
     requires salt_item { IsSomeItem head.now.salt.now }
     requires hash_item { IsSomeItem head.now.hash.now }
@@ -120,8 +120,8 @@ pub fn read_items(head: &Head<'_>, salt: &mut [u8], hash: &mut [u8]) -> Result<(
     Ok(())
 }
 
-/// Whether a stored text was made with these settings: `Ok` where it was, `NeedsRehash` where it
-/// was not. The numbers of the settings are looked at first; then it refuses as `read` does.
+/// Whether an encoded hash was made with these settings: `Ok` if it was, `NeedsRehash` if not. The
+/// numbers of variant and version are checked first; then come the errors of `read`.
 pub fn needs_rehash(text: &[u8], settings: &Settings) -> Result<(), Refusal>
     ensures { (secret ad : Bor (List ℕ))
         → ComparesSettings (config_of settings.now secret ad) text.now result }

@@ -1,4 +1,4 @@
-//! The refusals of the C calls, their numbers and their texts.
+//! The errors of the C calls, their numbers and their messages.
 
 ghost use Rattle.std.specs.Prelude.{◌≡◌, IfSome};
 ghost use Rattle.argon2.specs.ErrorType.{Error};
@@ -9,28 +9,28 @@ ghost use Rattle.argon2_c.specs.declared.refusal.Refusal.TheVariants.{Library};
 
 use argon2::Error;
 
-/// Why a C call was refused.
+/// Why a C call failed.
 #[derive(Debug, Drop, PartialEq)]
 pub enum Refusal {
-    /// The library refused.
+    /// The library returned this error.
     Library(Error),
 
     /// The password, the secret or the associated data is not the one of the hash.
     Mismatch,
 
-    /// The buffer has another length than the tag, or no more bytes than the text.
+    /// The buffer has another length than the tag, or no more bytes than the encoded hash.
     WrongLength,
 
-    /// The text is not UTF-8.
+    /// The string is not UTF-8.
     NotUtf8,
 
-    /// No refusal has this number.
+    /// No error has this number.
     UnknownNumber,
 
-    /// The text was made with other settings.
+    /// The encoded hash was made with other settings.
     NeedsRehash,
 
-    /// The text spells a number above its limit.
+    /// The encoded hash exceeds a limit.
     TooCostly,
 
     /// The numbers are those of no job.
@@ -51,8 +51,8 @@ impl From<Error> for Refusal {
     }
 }
 
-/// The number of a refusal of the library: its place among them, from 1. It is written out and
-/// never changes, since programs in C are compiled with the numbers.
+/// The number of an error of the library: its place among them, from 1. It is written out and never
+/// changes, since programs in C are compiled with the numbers.
 fn library_number(error: &Error) -> u32
     ensures { result ≡ library_number error.now }
 {
@@ -81,7 +81,7 @@ fn library_number(error: &Error) -> u32
     }
 }
 
-/// The refusal of the library that has a number.
+/// The error of the library that has a number.
 fn library_refusal(number: u32) -> Option<Error>
     ensures read { IfSome result (λ e. library_number e ≡ number) }
     ensures undoes { (e : Error) → library_number e ≡ number → result ≡ Some e }
@@ -113,7 +113,7 @@ fn library_refusal(number: u32) -> Option<Error>
 }
 
 impl Refusal {
-    /// The number of the refusal, as C sees it.
+    /// The number of the error, as C sees it.
     pub fn number(&self) -> u32
         ensures { result ≡ number_of self.now }
     {
@@ -131,7 +131,7 @@ impl Refusal {
         }
     }
 
-    /// The refusal that has a number.
+    /// The error that has a number.
     pub fn from_number(number: u32) -> Option<Refusal>
         ensures read { IfSome result (λ refusal. number_of refusal ≡ number) }
         ensures undoes { (refusal : Refusal) → number_of refusal ≡ number → result ≡ Some refusal }
@@ -150,7 +150,7 @@ impl Refusal {
         }
     }
 
-    /// The refusal in a few words.
+    /// The message of the error.
     pub fn message(&self) -> &'static str
         ensures { result.now ≡ message_of self.now }
     {
@@ -169,7 +169,7 @@ impl Refusal {
     }
 }
 
-/// What a call returns to C: 0, or the number of the refusal.
+/// What a call returns to C: 0, or the number of the error.
 pub fn code_of(answer: &Result<(), Refusal>) -> u32
     ensures { result ≡ code_of answer.now }
 {

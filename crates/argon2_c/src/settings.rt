@@ -69,7 +69,7 @@ impl Settings {
         }
     }
 
-    /// The length of the text of a hash with a salt of this length, or 0 where the settings have no
+    /// The length of the encoded hash with a salt of this length, or 0 where the settings have no
     /// configuration.
     pub fn encoded_len(&self, salt_len: u32) -> u64
         ensures { (secret ad : Bor (List ℕ)) → IsTextLength
@@ -82,7 +82,7 @@ impl Settings {
     }
 }
 
-/// The bytes of the blocks of a configuration, or 0 where the settings table refuses it.
+/// The bytes of the blocks of a configuration, or 0 where the settings table has an error for it.
 fn memory_len(config: &Config<'_>) -> u64
     ensures { result ≡ memory_len_of (Ok config.now) }
 {
@@ -95,15 +95,15 @@ fn memory_len(config: &Config<'_>) -> u64
     }
 }
 
-/// The first refusal of the settings table for a salt of this length and a hash of the settings'
-/// own. An empty password stands for any, since none is too short.
+/// The first parameter error for a salt of this length and a hash of the settings' own. An empty
+/// password stands for any, since none is too short.
 pub fn refused(config: &Config<'_>, salt_len: u64) -> Option<Error>
     ensures { result ≡ refusal_of config.now 0 salt_len config.now.hash_length }
 {
     first_refusal(config, 0, salt_len, u64::from(config.hash_length))
 }
 
-/// The length of the text of a hash by a configuration, with a salt of this length.
+/// The length of the encoded hash of a configuration, with a salt of this length.
 pub fn text_len(config: &Config<'_>, salt_len: u32) -> u64
     ensures { IsTextLength (Ok config.now) salt_len result }
 {

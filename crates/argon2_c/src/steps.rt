@@ -1,5 +1,5 @@
-//! The steps of a hash over blocks that are lent, each judged by itself: C may take them in any
-//! order, with any numbers and lengths, so none trusts that another was taken.
+//! The steps of a hash over caller-provided blocks. Each checks its arguments itself: C may take
+//! the steps in any order, with any numbers and lengths, so none trusts that another was taken.
 
 ghost use Rattle.std.specs.Prelude.{◌≡◌, ◌*◌, IsTrue, ◌↔◌, MatchResult, length};
 ghost use Rattle.argon2_c.specs.Answers.{judgement_of};

@@ -1,4 +1,4 @@
-//! A stored text as C passes it.
+//! An encoded hash as C passes it.
 
 ghost use Rattle.std.specs.Prelude.{◌≡◌, IsUtf8, MatchResult, bit_or};
 ghost use Rattle.std.specs.List.{fold};
@@ -9,8 +9,8 @@ use crate::refusal::Refusal;
 use argon2::Error;
 use argon2_text::encoding::{Head, spelling_of};
 
-/// The head of a stored text. Bytes that are not UTF-8 are `NotUtf8`, a text that spells nothing is
-/// `DecodingFail`.
+/// The head of an encoded hash. Bytes that are not UTF-8 are `NotUtf8`, a string that decodes to no
+/// hash is `DecodingFail`.
 pub fn head_of(bytes: &[u8]) -> Result<Head<'_>, Refusal>
     ensures { MatchResult result (HasHead bytes.now) (HasNone bytes.now) }
 {
@@ -23,10 +23,11 @@ pub fn head_of(bytes: &[u8]) -> Result<Head<'_>, Refusal>
     }
 }
 
-/// The text of some bytes. Bytes that are not UTF-8 are `NotUtf8`.
+/// The string of some bytes. Bytes that are not UTF-8 are `NotUtf8`.
 ///
-/// Whether all bytes are ASCII is gathered to the last byte and answered once, so that no branch
-/// looks at a letter of the hash. Only other bytes, which spell nothing, are looked at one by one.
+/// Whether all bytes are ASCII is gathered to the last byte and decided once, so that no branch
+/// looks at a character of the hash. Only other bytes, which decode to no hash, are looked at one
+/// by one.
 fn text_of(bytes: &[u8]) -> Result<&str, Refusal>
     ensures cases { MatchResult result (λ text. (text.now ≡ bytes.now) × IsUtf8 bytes.now)
         (λ refusal. (refusal ≡ NotUtf8) × (IsUtf8 bytes.now → ⊥)) }
@@ -41,7 +42,7 @@ fn text_of(bytes: &[u8]) -> Result<&str, Refusal>
     }
 }
 
-/// The bits that any byte has, so that one comparison judges all bytes.
+/// The bits that any byte has, so that one comparison decides for all bytes.
 fn all_bits(bytes: &[u8]) -> u8
     ensures { result ≡ fold (λ bits byte. bit_or bits byte) 0 bytes.now }
 {

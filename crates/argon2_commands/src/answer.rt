@@ -1,4 +1,4 @@
-//! What a command answers.
+//! What a command prints and returns.
 
 ghost use Rattle.std.specs.Prelude.{◌≡◌, [], IfErr, IfOk, IsNone, OnOk, length, string_bytes};
 ghost use Rattle.std.specs.Io.KnownBytes.{Keeps};
@@ -25,18 +25,18 @@ use std::result;
 use std::sync::Wait;
 use std::thread::Threads;
 
-/// What a command answers where nothing went wrong.
+/// What a command prints where nothing went wrong.
 #[derive(Debug, Drop)]
 pub enum Answer {
-    /// The tag in lower-case hexadecimal and the encoded text, a line each.
+    /// The tag in lower-case hexadecimal and the encoded hash, a line each.
     Hashed(String),
 
-    /// Whether the password is that of the text, or a new hash is needed.
+    /// Whether the password matches the encoded hash, or whether a rehash is needed.
     Verdict(bool),
 }
 
 impl Answer {
-    /// The answer of a command, which reads the password from all of the input where it needs one.
+    /// The output of a command, which reads the password from all of the input where it needs one.
     pub fn to<R: Threads + Wait + Sync, I: Read>(
         rt: &R,
         alloc: Global,
@@ -50,7 +50,7 @@ impl Answer {
         ensures stops { ReadsUpTo (most_read command.now) (I.remaining input.old)
             (I.remaining input.new) }
     {
-        // The input first, since its fault is told before any of the call.
+        // The input first, since its fault is reported before any of the call.
         match command {
             Command::Hash { config, salt } => {
                 let password = read_password(alloc, input)?;
@@ -59,7 +59,7 @@ impl Answer {
             }
             Command::Verify { encoded } => {
                 let password = read_password(alloc, input)?;
-                // Without limits, since it answers for every text, as the library's call.
+                // Without limits, since it verifies every hash, as the library's call does.
                 let verdict = verify_encoded(rt, alloc, encoded, password.as_slice())?;
                 Ok(Answer::Verdict(verdict))
             }
@@ -101,7 +101,7 @@ impl Answer {
     }
 }
 
-/// Whether a password is that of a text that asks for no more than the default limits.
+/// Whether a password matches an encoded hash that is within the default limits.
 fn verify_within<R: Threads + Wait + Sync>(
     rt: &R,
     alloc: Global,
@@ -114,8 +114,8 @@ fn verify_within<R: Threads + Wait + Sync>(
     verify_encoded_within(rt, alloc, encoded, password, &[], &[], &limits)
 }
 
-/// The tag of an accepted call in lower-case hexadecimal and its encoded text, a line each. It goes
-/// by `tag` and not by `hash_encoded`, so that one computation gives both lines.
+/// The tag of an accepted call in lower-case hexadecimal and its encoded hash, a line each. It
+/// calls `tag` and not `hash_encoded`, so that one computation yields both lines.
 fn tag_lines<R: Threads + Wait + Sync>(
     rt: &R,
     alloc: Global,
@@ -134,7 +134,7 @@ fn tag_lines<R: Threads + Wait + Sync>(
     Ok(format!(in alloc; "{hexadecimal}\n{text}\n")?)
 }
 
-/// The same of a password, whose settings are judged first.
+/// The same of a password, whose settings are checked first.
 fn hash_lines<R: Threads + Wait + Sync>(
     rt: &R,
     alloc: Global,
@@ -154,7 +154,7 @@ fn hash_lines<R: Threads + Wait + Sync>(
     }
 }
 
-/// The same where the text of the hash is within the default limits.
+/// The same where the encoded hash is within the default limits.
 fn new_lines<R: Threads + Wait + Sync>(
     rt: &R,
     alloc: Global,
@@ -173,7 +173,7 @@ fn new_lines<R: Threads + Wait + Sync>(
     Ok(hash_lines(rt, alloc, password, salt.as_slice(), config)?)
 }
 
-/// Whether the text of a hash with these settings is above a limit.
+/// Whether an encoded hash with these settings is above a limit.
 fn is_above(config: &Config<'_>, limits: &Limits) -> bool
     ensures { result ≡ is_too_costly limits.now (spelled_of config.now [] []) }
 {

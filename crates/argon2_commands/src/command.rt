@@ -1,4 +1,4 @@
-//! The commands, and how they are read from the words.
+//! The commands, and how they are read from the arguments.
 
 ghost use Rattle.std.specs.Prelude.{◌≡◌, ◌≤◌, ℕ, length, IfSome, IfNone, MatchOption};
 ghost use Rattle.argon2.specs.ConfigType.{Config};
@@ -8,7 +8,7 @@ ghost use Rattle.argon2_commands.specs.Words.{AreSettings, IsCommand, IsMode, Is
 use crate::salt::Salt;
 use argon2::{Config, ThreadMode, Variant, Version};
 
-/// A program, each with words of its own.
+/// A program, each with commands of its own.
 #[derive(Clone, Copy, Debug, Eq, PartialEq)]
 pub enum Program {
     /// `argon2`: `hash`, `verify` and `rehash`.
@@ -21,40 +21,40 @@ pub enum Program {
 /// What a program does.
 #[derive(Debug, Drop)]
 pub enum Command<'a> {
-    /// `hash VARIANT VERSION T M P LEN MODE SALT`: the tag of the password, and its encoded text.
-    /// The salt is the bytes of its word.
+    /// `hash VARIANT VERSION T M P LEN MODE SALT`: the tag of the password, and its encoded hash.
+    /// The salt is the bytes of its argument.
     Hash {
         config: Config<'a>,
         salt: &'a str,
     },
 
-    /// `verify TEXT`: whether the password is that of an encoded text.
+    /// `verify TEXT`: whether the password matches an encoded hash.
     Verify {
         encoded: &'a str,
     },
 
-    /// `rehash VARIANT VERSION T M P LEN TEXT`: whether an encoded text was made with other
+    /// `rehash VARIANT VERSION T M P LEN TEXT`: whether an encoded hash was made with other
     /// settings.
     Rehash {
         config: Config<'a>,
         encoded: &'a str,
     },
 
-    /// `new VARIANT VERSION T M P LEN MODE DIGITS`: as `hash`, with a salt in hexadecimal, where
-    /// `check` takes the text.
+    /// `new VARIANT VERSION T M P LEN MODE DIGITS`: as `hash`, with a salt in hexadecimal, if
+    /// `check` accepts the encoded hash.
     New {
         config: Config<'a>,
         salt: Salt<'a>,
     },
 
-    /// `check TEXT`: as `verify`, where the text asks for no more than the default limits.
+    /// `check TEXT`: as `verify`, if the encoded hash is within the default limits.
     Check {
         encoded: &'a str,
     },
 }
 
 impl<'a> Command<'a> {
-    /// A program's command of these words, those after its name; None where they are none.
+    /// A program's command of these arguments, those after its name; None if they are no command.
     pub fn from_words(program: Program, words: &'a [String]) -> Option<Command<'a>>
         ensures { MatchOption result (IsNoCommand program (texts_of words.now)) (IsCommand program
             (texts_of words.now)) }
@@ -109,7 +109,7 @@ impl<'a> Command<'a> {
     }
 }
 
-/// The settings of the words `VARIANT VERSION T M P LEN`, which follow the command's name.
+/// The settings of the arguments `VARIANT VERSION T M P LEN`, which follow the command's name.
 fn settings_of<'a>(words: &[String], thread_mode: ThreadMode) -> Option<Config<'a>>
     requires { 7 ≤ length words.now }
     ensures settings { IfSome result (AreSettings (texts_of words.now)) }

@@ -1,4 +1,4 @@
-//! The words that the program is started with.
+//! The arguments that the program is started with.
 
 ghost use Rattle.std.specs.Prelude.{◌≡◌, ◌⊎◌, ℕ, IfErr, IfOk, List, None, Option};
 ghost use Rattle.argon2.specs.ErrorType.TheVariants.{OutOfMemory};
@@ -10,8 +10,8 @@ use argon2::Error;
 use std::alloc::Global;
 use std::env::{Env, FillError};
 
-/// What a program is started with. It is a trait, since the kit's `Env` promises nothing of a
-/// process's arguments: what is proved is of any line whose arguments are known.
+/// What a program is started with. It is a trait, since the toolchain's `Env` promises nothing of a
+/// process's arguments: what is proved is of any command line whose arguments are known.
 pub trait CommandLine {
     /// The bytes of the arguments, the program's name first, where they are known.
     ghost arguments: { Self → Option (List (List ℕ)) } = { λ _. None };
@@ -22,7 +22,7 @@ pub trait CommandLine {
         ensures fault { IfErr result (λ fault. fault ≡ Fault.Refused OutOfMemory) };
 }
 
-/// The command line of the process, whose arguments the kit does not know.
+/// The command line of the process, whose arguments the toolchain does not know.
 #[derive(Drop)]
 pub struct OfProcess<'a, R>(pub &'a R);
 
@@ -45,7 +45,7 @@ impl<R: Env> CommandLine for OfProcess<'_, R> {
     }
 }
 
-/// All arguments after the program's name, in their order. One that is not UTF-8 is no word:
+/// All arguments after the program's name, in their order. One that is not UTF-8 is a usage error:
 /// `Fault::Usage`.
 pub fn arguments<L: CommandLine>(line: &L, alloc: Global) -> Result<Vec<String>, Fault>
     ensures all { IfOk result (λ words. AreWords (L.arguments line.now) (texts_of words.items)) }

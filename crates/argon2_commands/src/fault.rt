@@ -12,32 +12,32 @@ use std::alloc::{AllocError, AllocFailed};
 use std::io;
 use std::io::{ErrorKind, Write};
 
-/// Why the program has no answer, or could not write it.
+/// Why the program has no result, or could not write it.
 #[derive(Debug, Drop, PartialEq)]
 pub enum Fault {
-    /// The words are those of no command.
+    /// The arguments are those of no command.
     Usage,
 
     /// The password could not be read.
     Input,
 
-    /// The call was refused, or memory was before there was an answer.
+    /// The call returned this error, or memory was denied before there was a result.
     Refused(Error),
 
-    /// The text asks for more than the limits.
+    /// The encoded hash is above the limits.
     TooCostly,
 
-    /// The answer could not be written.
+    /// The result could not be written.
     Output,
 
-    /// The output lacked memory to take all of the answer. It is not `Refused`, since some of the
-    /// answer may be written.
+    /// The output lacked memory to take all of the result. It is not `Refused`, since some of the
+    /// result may be written.
     OutputShort,
 }
 
 impl Fault {
-    /// The fault of a stream that failed, of two that are given: one for want of memory, and one
-    /// for anything else.
+    /// The fault of a stream that failed, one of two that are passed: one for lack of memory, and
+    /// one for anything else.
     pub fn of_stream(error: &io::Error, short: Fault, other: Fault) -> Fault
         ensures short { error_kind error.now ≡ ErrorKind.OutOfMemory → result ≡ short }
         ensures other { error_kind error.now ≢ ErrorKind.OutOfMemory → result ≡ other }
@@ -48,8 +48,8 @@ impl Fault {
         }
     }
 
-    /// The exit status: 2 for a refusal and for want of memory, 3 for wrong words, 4 where a stream
-    /// failed for another reason, 5 for a text above the limits.
+    /// The exit status: 2 for an error of the call and for lack of memory, 3 for wrong arguments, 4
+    /// where a stream failed for another reason, 5 for an encoded hash above the limits.
     pub fn status(&self) -> u8
         ensures { result ≡ fault_status self.now }
     {
@@ -61,7 +61,7 @@ impl Fault {
         }
     }
 
-    /// Writes the fault's line, where it has one, and gives the exit status, which does not depend
+    /// Writes the fault's line, if it has one, and returns the exit status, which does not depend
     /// on whether the line could be written.
     pub fn report<W: Write>(&self, errors: &mut W) -> u8
         ensures { result ≡ fault_status self.now }
@@ -70,7 +70,7 @@ impl Fault {
         self.status()
     }
 
-    /// Writes the fault's line, where it has one.
+    /// Writes the fault's line, if it has one.
     fn write_line<W: Write>(&self, errors: &mut W) -> io::Result<()>
         ensures { OnOk result (Appends (W.contents errors.old) (W.contents errors.new)
             (line_of self.now)) }

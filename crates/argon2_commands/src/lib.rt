@@ -1,4 +1,4 @@
-//! The commands of the program `argon2` and of the shell's tool: words, what is done for them,
+//! The commands of the program `argon2` and of the shell's tool: arguments, what is done for them,
 //! faults and exit statuses.
 #![tactic(auto)]
 

@@ -16,7 +16,8 @@ use std::io::{ErrorKind, Read};
 pub const LONGEST_PASSWORD: usize = 65536;
 
 /// All of the input, so that a password may have any bytes, a newline at its end too. It stops
-/// behind the first byte that no call accepts, and the call refuses what was read for its length.
+/// behind the first byte that makes the password too long for every call, and the call rejects what
+/// was read for its length.
 pub(crate) fn read_password<I: Read>(alloc: Global, input: &mut I) -> Result<Vec<u8>, Fault>
     ensures bytes { IfOk result (λ password. IfSome (I.remaining input.old) (λ bytes.
         password.items ≡ take (max_length + 1) bytes)) }
@@ -45,7 +46,7 @@ pub(crate) fn read_short_password<I: Read>(alloc: Global, input: &mut I) -> Resu
 }
 
 /// The first bytes of the input, at most so many, and all where there are fewer. A reader that
-/// lacked memory is told apart, since that is a shortage and no fault of the input.
+/// lacked memory is told apart, since that is a resource error and no fault of the input.
 fn read_up_to<I: Read>(alloc: Global, input: &mut I, most: usize) -> Result<Vec<u8>, Fault>
     ensures bytes { IfOk result (λ password. IfSome (I.remaining input.old) (λ bytes.
         password.items ≡ take most bytes)) }
@@ -70,7 +71,7 @@ fn read_up_to<I: Read>(alloc: Global, input: &mut I, most: usize) -> Result<Vec<
     Err(Fault::Input)
 }
 
-/// The fault of a read that failed. One that a signal interrupted is made again.
+/// The fault of a read that failed. One that a signal interrupted is repeated.
 fn fault_of_read(error: &io::Error) -> Result<(), Fault>
     ensures { IfErr result (λ fault. (fault ≡ Fault.Input) ⊎ (fault ≡ Fault.Refused OutOfMemory)) }
 {

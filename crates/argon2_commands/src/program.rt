@@ -21,8 +21,8 @@ use std::process::ExitCode;
 use std::sync::Wait;
 use std::thread::Threads;
 
-/// Runs the program on the words of a command line, and ends with the run's status. Words that are
-/// not UTF-8 are those of no command.
+/// Runs the program on a command line, and ends with the run's status. Arguments that are not UTF-8
+/// are those of no command.
 pub fn start<R: Threads + Wait + Sync, L: CommandLine, I: Read, O: Write, E: Write>(
     rt: &R,
     alloc: Global,
@@ -53,22 +53,22 @@ pub fn start<R: Threads + Wait + Sync, L: CommandLine, I: Read, O: Write, E: Wri
     ExitCode::from(status)
 }
 
-/// Does what the words after the program's name say, and gives the exit status.
+/// Does what the arguments after the program's name say, and returns the exit status.
 ///
-/// | The words | The answer |
+/// | Arguments | Output |
 /// |---|---|
-/// | `hash VARIANT VERSION T M P LEN MODE SALT` | the tag in lower-case hexadecimal and the encoded text, a line each |
-/// | `verify TEXT` | `true` or `false`: whether the input is the password of the text |
-/// | `rehash VARIANT VERSION T M P LEN TEXT` | `true` or `false`: whether the text was made with other settings |
+/// | `hash VARIANT VERSION T M P LEN MODE SALT` | the tag in lower-case hexadecimal and the encoded hash, a line each |
+/// | `verify TEXT` | `true` or `false`: whether the input is the password of the encoded hash |
+/// | `rehash VARIANT VERSION T M P LEN TEXT` | `true` or `false`: whether the encoded hash was made with other settings |
 ///
-/// The salt is the bytes of its word. The password is all of `input`; `rehash` does not read it.
-/// The answer is written to `output`, with status 0, or 1 for `false`. Else a line is written to
-/// `errors`: a refusal (status 2), `usage` for words that are none of these (3), or `input` where
-/// the input cannot be read (4). Where the output cannot be written, the status is 4 and no line is
-/// added; where it lacked memory for that, the status is 2, and the line that of a refusal for want
-/// of memory. A fault of an earlier kind in the order words, input, call, output is told first, and
-/// nothing is written to `output` before the answer is whole. Behind the first byte that makes a
-/// password too long for every call, the input is not read on.
+/// The salt is the bytes of its argument. The password is all of `input`; `rehash` does not read
+/// it. The result is written to `output`, with status 0, or 1 for `false`. Otherwise a line is
+/// written to `errors`: the message of the call's error (status 2), `usage` for arguments that are
+/// none of these (3), or `input` if the input cannot be read (4). If the output cannot be written,
+/// the status is 4 and no line is added; if it lacked memory for that, the status is 2, and the
+/// line is the message of `OutOfMemory`. Faults are reported in the order arguments, input, call,
+/// output, only the first one, and nothing is written to `output` before the result is whole.
+/// Behind the first byte that makes a password too long for every call, the input is not read on.
 // Its frames have H0. It is never inlined, so that `start` may overwrite them.
 #[inline(never)]
 pub fn run<R: Threads + Wait + Sync, I: Read, O: Write, E: Write>(

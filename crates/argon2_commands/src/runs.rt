@@ -18,7 +18,7 @@ use std::marker::Sync;
 use std::sync::Wait;
 use std::thread::Threads;
 
-/// Does what the words of a program say, and gives the exit status. Of an attempt that fails it
+/// Does what the arguments of a program say, and returns the exit status. If the attempt fails, it
 /// writes the fault's line.
 pub(crate) fn conclude<R: Threads + Wait + Sync, I: Read, O: Write, E: Write>(
     rt: &R,
@@ -51,8 +51,8 @@ pub(crate) fn conclude<R: Threads + Wait + Sync, I: Read, O: Write, E: Write>(
     }
 }
 
-/// Writes the answer of the words' command, and gives the exit status. It tells the call's refusals
-/// from an output that lacked memory, which have one exit status: nothing was written where
+/// Writes the result of the arguments' command, and returns the exit status. It tells the call's
+/// errors from an output that lacked memory, which have one exit status: nothing was written where
 /// anything but the output failed.
 pub fn attempt<R: Threads + Wait + Sync, I: Read, O: Write>(
     rt: &R,

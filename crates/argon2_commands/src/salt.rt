@@ -7,9 +7,9 @@ ghost use Rattle.hex.specs.Hex.{decode_of};
 use std::alloc::{AllocError, Global};
 use std::marker::Model;
 
-/// The salt whose bytes a word's hexadecimal digits are, two of either case for each. A word alone
-/// could not be random bytes, since it is UTF-8 without zeros. The bytes are made late, so that
-/// reading the words takes no memory.
+/// The salt that an argument's hexadecimal digits encode, two of either case a byte. The argument
+/// itself could not be random bytes, since it is UTF-8 without zeros. The bytes are made late, so
+/// that reading the arguments allocates nothing.
 #[derive(Debug, Drop)]
 pub struct Salt<'a> {
     digits: &'a str,
@@ -24,7 +24,7 @@ impl<'a> Model for Salt<'a> {
 }
 
 impl<'a> Salt<'a> {
-    /// The salt of a word; None where it is anything but pairs of hexadecimal digits.
+    /// The salt of an argument; None if it is anything but pairs of hexadecimal digits.
     pub fn from_digits(word: &'a str) -> Option<Salt<'a>>
         ensures { result ≡ result_ok (decode_of word.entry.now) }
     {
@@ -39,13 +39,13 @@ impl<'a> Salt<'a> {
     pub fn to_bytes(&self, alloc: Global) -> Result<Vec<u8>, AllocError>
         ensures { IfOk result (λ bytes. bytes.items ≡ self.now) }
     {
-        // `from_digits` judged the digits, so that memory alone can fail.
+        // `from_digits` checked the digits, so that memory alone can fail.
         hex::decode(alloc, self.digits).map_err(|_| AllocError)
     }
 }
 
-/// Whether a text is pairs of hexadecimal digits. It takes no memory, so that words are refused
-/// whatever memory there is.
+/// Whether a string is pairs of hexadecimal digits. It allocates nothing, so that arguments are
+/// rejected whatever memory there is.
 fn are_pairs(text: &str) -> bool
     ensures { result ≡ is_ok (decode_of text.now) }
 {

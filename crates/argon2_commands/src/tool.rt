@@ -20,8 +20,8 @@ use std::process::ExitCode;
 use std::sync::Wait;
 use std::thread::Threads;
 
-/// Runs the tool on the words of a command line, and ends with the run's status. Words that are
-/// not UTF-8 are those of no command.
+/// Runs the tool on a command line, and ends with the run's status. Arguments that are not UTF-8
+/// are those of no command.
 pub fn start<R: Threads + Wait + Sync, L: CommandLine, I: Read, O: Write, E: Write>(
     rt: &R,
     alloc: Global,
@@ -54,17 +54,17 @@ pub fn start<R: Threads + Wait + Sync, L: CommandLine, I: Read, O: Write, E: Wri
     ExitCode::from(status)
 }
 
-/// Does what the words after the tool's name say, and gives the exit status.
+/// Does what the arguments after the tool's name say, and returns the exit status.
 ///
-/// | The words | The answer |
+/// | Arguments | Output |
 /// |---|---|
-/// | `new VARIANT VERSION T M P LEN MODE DIGITS` | the tag in lower-case hexadecimal and the encoded text, a line each |
-/// | `check TEXT` | `true` or `false`: whether the input is the password of the text |
+/// | `new VARIANT VERSION T M P LEN MODE DIGITS` | the tag in lower-case hexadecimal and the encoded hash, a line each |
+/// | `check TEXT` | `true` or `false`: whether the input is the password of the encoded hash |
 ///
-/// The salt is the bytes of its hexadecimal digits, two of either case for each. The password is
-/// all of `input`, and at most 65536 bytes, else it is refused as too long before the call. A text
-/// that asks for more than the default limits is not checked, and settings whose text would are not
-/// hashed with: status 5, and a line on `errors`. All else is as for the program.
+/// The salt is given in hexadecimal digits, two of either case a byte. The password is all of
+/// `input`, and at most 65536 bytes; a longer one is rejected as too long before the call. A hash
+/// above the default limits is not checked, and none is made with settings above them: status 5,
+/// and a line on `errors`. All else is as for the program.
 // Its frames have H0. It is never inlined, so that `start` may overwrite them.
 #[inline(never)]
 pub fn run<R: Threads + Wait + Sync, I: Read, O: Write, E: Write>(

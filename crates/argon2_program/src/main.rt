@@ -1,4 +1,4 @@
-//! The program `argon2`: hashes a password, verifies one, or says whether a new hash is needed.
+//! The program `argon2`: hashes a password, verifies one, or says whether a rehash is needed.
 #![tactic(auto)]
 
 pub use argon2_commands::{Answer, Command, CommandLine, Fault, OfProcess, run, start};
