@@ -22,7 +22,7 @@ pub mod segment {
     pub use argon2_memory::segment::{Snapshot, fill_segment, reference_positions};
 }
 
-/// The lanes of one slice, which workers claim and give back.
+/// The lanes of one slice, which workers claim and put back.
 pub mod board {
     pub use argon2_fill::workers::{
         AllPermitted, Board, Claim, Event, Filled, Gate, NoGate, Permit, Place, fill_slice,

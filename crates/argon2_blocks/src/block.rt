@@ -18,8 +18,8 @@ use std::fmt;
 use std::marker::Model;
 use std::ops::{BitXorAssign, Index, IndexMut};
 
-/// A block of memory: 128 words of 64 bits, which are 1024 bytes (RFC 9106, 3.2). It lies as C lays
-/// it out, so that slices of blocks may be lent from there.
+/// A block of memory: 128 words of 64 bits, which are 1024 bytes (RFC 9106, 3.2). It has the layout
+/// of C, so that C may pass slices of blocks.
 #[derive(Drop)]
 #[repr(C)]
 pub struct Block {

@@ -39,7 +39,8 @@ pub const MIN_AD_LENGTH: u32 = 0;
 /// The greatest length of the associated data, in bytes.
 pub const MAX_AD_LENGTH: u32 = 0xFFFF_FFFF;
 
-/// The least length of a salt, in bytes: a limit of this crate, since RFC 9106 gives a salt none.
+/// The least length of a salt, in bytes: a limit of this crate, since RFC 9106 sets none for a
+/// salt.
 pub const MIN_SALT_LENGTH: u32 = 8;
 
 /// The greatest length of a salt, in bytes.

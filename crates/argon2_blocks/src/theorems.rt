@@ -1,9 +1,9 @@
-//! What holds of the definitions that contracts cite.
+//! Laws of the definitions that contracts cite.
 
 ghost use Rattle.argon2_blocks.specs.Laws.KnownAnswers.{CompressesOneBit, CompressesZeros, HashesAbc, HashesNothing, HashesTo100Bytes, HashesTo16Bytes, HashesTwoBlocks};
 
-/// The definitions give what other programs give: BLAKE2b of `abc` (RFC 7693, appendix A), of the
-/// empty message and of two blocks, H' of a short and of a long length (RFC 9106, 3.3), and the
+/// The definitions agree with other programs: BLAKE2b of `abc` (RFC 7693, appendix A), of the empty
+/// message and of two blocks, H' of a short and of a long length (RFC 9106, 3.3), and the
 /// compression G of zeros and of one bit (RFC 9106, 3.5).
 ///
 /// It does nothing when it runs. Its contract states the values, and the checker computes them.

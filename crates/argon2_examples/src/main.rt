@@ -1,4 +1,4 @@
-//! A login service in small: it registers a user, lets her in, and renews what it keeps of her password.
+//! A small login service: it registers a user, verifies her password, and renews its hash.
 #![tactic(auto)]
 
 mod keys;
@@ -7,15 +7,15 @@ mod service;
 
 use argon2::{Config, Variant};
 
-/// A text of Argon2i in 3 passes over 4 MiB, as it was kept years ago.
+/// An encoded hash of Argon2i in 3 passes over 4 MiB, as it was stored years ago.
 const OLD: &str =
     "$argon2i$v=19$m=4096,t=3,p=1$c29tZXNhbHQ$iWh06vD8Fy27wf9npn6FXWiCX4K6pW6Ue1Bnzz07Z8A";
 
-/// The same as somebody changed it who wants the service to spend 4 TiB.
+/// The same, changed by somebody who wants the service to allocate 4 TiB.
 const COSTLY: &str =
     "$argon2i$v=19$m=4294967295,t=3,p=1$c29tZXNhbHQ$iWh06vD8Fy27wf9npn6FXWiCX4K6pW6Ue1Bnzz07Z8A";
 
-/// A text of Argon2i that was made with the secret `secret` and the associated data `ad`.
+/// An encoded hash of Argon2i that was made with the secret `secret` and the associated data `ad`.
 const PEPPERED: &str =
     "$argon2i$v=19$m=4096,t=3,p=1$c29tZXNhbHQ$OlcSvlN20Lz43sK3jhCJ9K04oejhiY0AmI+ck6nuETo";
 

@@ -13,7 +13,7 @@ use std::marker::Sync;
 use std::sync::Wait;
 use std::thread::Threads;
 
-/// Whether the password is the one whose text was made with this pepper and for this user.
+/// Whether the password matches the encoded hash that was made with this pepper and for this user.
 pub fn log_in_with_pepper<R: Threads + Wait + Sync>(
     rt: &R,
     alloc: Global,

@@ -22,8 +22,8 @@ use std::random::RandomSource;
 use std::sync::Wait;
 use std::thread::Threads;
 
-/// The text to keep of a password, with 16 random bytes of salt, which stand in it. No clause says that they are random:
-/// a body with a fixed salt would be proved too.
+/// The encoded hash of a password, to be stored, with 16 random bytes of salt. No clause says that
+/// they are random: a body with a fixed salt would be proved too.
 pub fn register<R: RandomSource + Threads + Wait + Sync>(
     rt: &R,
     alloc: Global,
@@ -37,7 +37,7 @@ pub fn register<R: RandomSource + Threads + Wait + Sync>(
     Ok(hash_encoded(rt, alloc, password, &salt, today)?)
 }
 
-/// Whether a password is let in: its hash is the kept one, which costs no more than `Limits::default()`.
+/// Whether a password matches the stored hash, which may cost no more than `Limits::default()`.
 pub fn log_in<R: Threads + Wait + Sync>(
     rt: &R,
     alloc: Global,
@@ -54,7 +54,8 @@ pub fn log_in<R: Threads + Wait + Sync>(
     verify_encoded_within(rt, alloc, kept, password, &[], &[], &limits)
 }
 
-/// The text to keep from now on, where the kept one was made with other settings than those of today.
+/// The encoded hash to store from then on, if the stored one was made with other settings than
+/// today's.
 pub fn renew<R: RandomSource + Threads + Wait + Sync>(
     rt: &R,
     alloc: Global,

@@ -36,8 +36,8 @@ use std::marker::Sync;
 use std::sync::Wait;
 use std::thread::Threads;
 
-/// Gives a memory the context's lanes and lane length. One that has them stays as it is. Any other
-/// gives its blocks back and is made anew, of zeros. Where memory is refused, the answer is
+/// Makes a memory fit the context's lanes and lane length. One that fits is unchanged. Any other is
+/// freed and allocated anew, of zeros. If memory cannot be allocated, the call returns
 /// `OutOfMemory`, and the memory has no lanes.
 pub fn prepare_memory(alloc: Global, context: &Context<'_>, memory: &mut Memory) -> Result<()>
     ensures shape { OnOk result (HasShape (setting_of_context context.now) memory.new) }
@@ -52,7 +52,7 @@ pub fn prepare_memory(alloc: Global, context: &Context<'_>, memory: &mut Memory)
         // Not wiped, since a hash reads no block that it has not written.
         return Ok(());
     }
-    // The old blocks go before the new ones are asked for, so that both are never held at once.
+    // The old blocks are freed before the new ones are allocated, so that both never exist at once.
     *memory = Memory::empty(alloc);
     *memory = Memory::new(alloc, lanes, context.lane_length)?;
     Ok(())
@@ -105,7 +105,7 @@ pub fn write_first_block(job: &Job, lane: u32, column: u32, block: &mut Block)
     wipe(&mut bytes, 0);
 }
 
-/// Writes a lane's first two blocks. The memory lends none to be written, so they are copied.
+/// Writes a lane's first two blocks. The memory hands out none to be written, so they are copied.
 fn write_first(job: &Job, lane: u32, memory: &mut Memory)
     requires shape { HasShape job.now.setting memory.old }
     requires lane_fits { lane < job.now.setting.lanes }
@@ -130,7 +130,7 @@ fn write_first(job: &Job, lane: u32, memory: &mut Memory)
 
 /// Fills all slices of all passes in the caller's thread, lane after lane. The memory has the
 /// context's lanes and lane length, and the first two blocks of each lane as `initialize` leaves
-/// them. It takes no memory and always succeeds.
+/// them. It allocates nothing and always succeeds.
 pub fn fill_sequential(context: &Context<'_>, memory: &mut Memory)
     requires shape { HasShape (setting_of_context context.now) memory.old }
     requires begun { IsBegun (setting_of_context context.now) (block_of memory.old) }
@@ -209,10 +209,10 @@ fn fill_lanes(snapshot: &Snapshot<'_>, segments: &mut [Segment])
 }
 
 /// Fills all slices of all passes in the context's thread mode: in the caller's thread where
-/// `uses_sequential` says so, and else by workers. The memory has the context's lanes and lane
+/// `uses_sequential` says so, and otherwise by workers. The memory has the context's lanes and lane
 /// length, and the first two blocks of each lane as `initialize` leaves them.
 ///
-/// With workers, memory or the start of a worker can be refused: `OutOfMemory` or `WorkerRefused`.
+/// With workers, memory or the start of a worker can be denied: `OutOfMemory` or `WorkerRefused`.
 /// The memory then has no lanes.
 pub fn fill_memory_blocks<R: Threads + Wait + Sync>(
     rt: &R,
@@ -265,8 +265,8 @@ pub(crate) fn write_tag(block: &mut Block, out: &mut [u8])
 }
 
 /// The hash of the last blocks of all lanes, combined (RFC 9106, 3.2, steps 7 and 8): the tag,
-/// where the memory is filled. The memory has the context's lanes and lane length. Where memory is
-/// refused: `OutOfMemory`.
+/// where the memory is filled. The memory has the context's lanes and lane length. If memory cannot
+/// be allocated, the call returns `OutOfMemory`.
 #[tactic(auto, unfolding(argon2_standard::specs::Standard::SettingsTable::refusal_of))]
 pub fn finalize(alloc: Global, context: &Context<'_>, memory: &Memory) -> Result<Vec<u8>>
     requires shape { HasShape (setting_of_context context.now) memory.now }
@@ -286,12 +286,13 @@ pub fn finalize(alloc: Global, context: &Context<'_>, memory: &Memory) -> Result
     Ok(tag)
 }
 
-/// The tag of an accepted call, computed over a memory in the thread mode of the configuration: all
-/// stages of a hash, one after another. Any memory serves. One with the context's lanes and lane
-/// length is used as it is, and any other gives its blocks back first and is made anew.
+/// The tag of an accepted call, computed in a reusable buffer in the thread mode of the
+/// configuration: all stages of a hash, one after another. Any memory serves. One with the
+/// context's lanes and lane length is used as it is, and any other is freed first and allocated
+/// anew.
 ///
-/// The memory then holds the blocks of this computation. Where memory is refused (`OutOfMemory`) or
-/// the start of a worker is (`WorkerRefused`), it may have no lanes.
+/// The memory then holds the blocks of this computation. After a resource error (`OutOfMemory`, or
+/// `WorkerRefused` if a worker could not be started) it may have no lanes.
 pub fn tag<R: Threads + Wait + Sync>(
     rt: &R,
     alloc: Global,
@@ -312,8 +313,8 @@ pub fn tag<R: Threads + Wait + Sync>(
     finalize(alloc, context, memory)
 }
 
-/// The tag of an accepted call, computed over a memory in the caller's thread: as `tag` does it,
-/// but no worker is asked for, and blocks that fit are never lost.
+/// The tag of an accepted call, computed in a reusable buffer in the caller's thread: as `tag` does
+/// it, but no worker is started, and blocks that fit are never lost.
 pub fn tag_sequential(alloc: Global, context: &Context<'_>, memory: &mut Memory) -> Result<Vec<u8>>
     ensures tag { let c = context.now in
         IfOk result (λ tag. tag.items ≡ tag_of c.pwd.now c.salt.now c.config c.config.hash_length) }

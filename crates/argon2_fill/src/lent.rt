@@ -1,4 +1,4 @@
-//! The steps of a hash over a memory that is lent, whatever stands in it: four slices of blocks,
+//! The steps of a hash over a caller-provided memory, whatever its contents: four slices of blocks,
 //! each lane after lane.
 
 ghost use Rattle.std.specs.Prelude.{◌≡◌, ◌≢◌, ℕ, ◌+◌, ◌-◌, ◌*◌, ◌^◌, ◌<◌, ◌≤◌, [], ◌∷◌, length};
@@ -39,8 +39,8 @@ fn place_of_lane(job: &Job, lane: u32) -> usize
     (lane * job.segment_length()) as usize
 }
 
-/// Writes a lane's first two blocks into slice 0. It is apart from the loop over lanes, which rests
-/// on the clause that the other lanes stay.
+/// Writes a lane's first two blocks into slice 0. It is apart from the loop over lanes, which
+/// relies on the clause that the other lanes are unchanged.
 fn begin_lane(job: &Job, lane: u32, slice: &mut [Block])
     requires lane_fits { lane < job.now.setting.lanes }
     requires slice_fits { length slice.old ≡ job.now.setting.lanes * job.now.setting.segment_length }
@@ -64,8 +64,8 @@ pub fn initialize_lent(job: &Job, slice: &mut [Block])
     }
 }
 
-/// Fills a lane's segment of a slice that is lent whole. It is apart from the loop over lanes,
-/// which rests on the clause that the other lanes stay.
+/// Fills a lane's segment of a slice that the caller provides whole. It is apart from the loop over
+/// lanes, which relies on the clause that the other lanes are unchanged.
 fn fill_lane(
     job: &Job,
     lane: u32,
@@ -203,9 +203,9 @@ pub fn finalize_lent(job: &Job, slice: &[Block], out: &mut [u8])
     write_tag(&mut block, out);
 }
 
-/// The hash of a job, computed in the caller's thread over a memory that is lent whole, slice after
-/// slice: the tag of the length of `out`. The job's pass and slice are not looked at. It takes no
-/// memory and always succeeds.
+/// The hash of a job, computed in the caller's thread over a memory that the caller provides whole,
+/// slice after slice: the tag of the length of `out`. The job's pass and slice are ignored. It
+/// allocates nothing and always succeeds.
 pub fn hash_lent_job(job: &Job, blocks: &mut [Block], out: &mut [u8])
     requires blocks_fit { length blocks.old ≡ memory_blocks job.now.setting }
     requires some { 0 < length out.old }

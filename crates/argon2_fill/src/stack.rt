@@ -1,4 +1,4 @@
-//! What calls leave on the stack.
+//! Wiping what calls wrote to the stack.
 
 use argon2_blocks::blake2b::wipe;
 
@@ -9,8 +9,8 @@ const WORDS: usize = 16;
 /// most 16.
 const PIECES_BELOW: usize = 128;
 
-/// Overwrites the stack below its caller, where the frames of calls that have returned had H0.
-/// It is never inlined, so that it stands where they stood.
+/// Overwrites the stack below its caller, where the frames of calls that have returned held H0. It
+/// is never inlined, so that its frame lies where theirs lay.
 #[inline(never)]
 pub fn wipe_stack() {
     // A compiler may drop these zeros, which nobody reads, but not those that `wipe` writes.

@@ -1,4 +1,4 @@
-//! What holds of the definitions that contracts cite.
+//! Laws of the definitions that contracts cite.
 
 ghost use Rattle.argon2_fill.specs.Laws.Lanes.{EveryRunOfLanesAgrees};
 

@@ -1,5 +1,5 @@
 //! The fill of all slices by workers, one slice after another. They claim the lanes of a slice and
-//! give them back under one lock (`board`), and fill them outside it (`crew`).
+//! put them back under one lock (`board`), and fill them outside it (`crew`).
 
 ghost use Rattle.std.specs.Prelude.{◌≡◌, ◌+◌, ◌*◌, ◌^◌, ◌<◌, [], IfErr, IfOk, OnErr, OnOk, replicate, slice_set, true};
 ghost use Rattle.std.specs.List.{remove};
@@ -56,7 +56,7 @@ pub fn board_of(alloc: Global, job: &Job, slices: &mut Slices) -> Result<Board>
 
 /// Fills the job's slice by `workers` workers, at least one. They have the numbers from `first` on,
 /// all of which have to be permitted. The slice moves onto a board and back, and no block is
-/// copied. After a refusal the slice is lost.
+/// copied. After an error the slice is lost.
 fn fill_slice_by_workers<R: Threads + Wait + Sync, G: Gate, P: Permit>(
     rt: &R,
     alloc: Global,
@@ -81,7 +81,7 @@ fn fill_slice_by_workers<R: Threads + Wait + Sync, G: Gate, P: Permit>(
     ensures refused { IfErr result (IsShortage true) }
 {
     let slice = job.slice();
-    // All memory is asked for here, so that no refusal comes while workers run.
+    // All memory is allocated here, so that no allocation fails while workers run.
     let board = board_of(alloc, job, slices)?;
     let snapshot = Snapshot::new(*job, others(slices, slice));
     let board = fill_slice_with(rt, board, &snapshot, gate, permit, first, workers)?;
@@ -89,12 +89,13 @@ fn fill_slice_by_workers<R: Threads + Wait + Sync, G: Gate, P: Permit>(
     Ok(())
 }
 
-/// Fills all slices of all passes by as many workers as the context's configuration asks for, which
-/// go through the gate. The memory has the context's lanes and lane length, and the first two
-/// blocks of each lane as `initialize` leaves them.
+/// Fills all slices of all passes by as many workers as the context's configuration names, which go
+/// through the gate. The memory has the context's lanes and lane length, and the first two blocks
+/// of each lane as `initialize` leaves them.
 ///
-/// All memory of a slice is asked for before its first worker starts. Where it is refused:
-/// `OutOfMemory`; where the start of a worker is: `WorkerRefused`. The memory then has no lanes.
+/// All memory of a slice is allocated before its first worker starts. If that fails, the call
+/// returns `OutOfMemory`; if a worker cannot be started, `WorkerRefused`. The memory then has no
+/// lanes.
 pub fn fill_parallel<R: Threads + Wait + Sync, G: Gate>(
     rt: &R,
     alloc: Global,
@@ -138,7 +139,7 @@ pub fn fill_parallel_with<R: Threads + Wait + Sync, G: Gate, P: Permit>(
     recall_workers(context);
     let workers = context.config.workers();
     let first_job = Job::new(context);
-    // Moved out, as in `fill_sequential`. Where memory or a worker is refused, they are lost.
+    // Moved out, as in `fill_sequential`. If memory or a worker is denied, they are lost.
     let mut slices = take_slices(memory);
     for n in 0..slice_count(&first_job) {
         let job = numbered_job(&first_job, n);

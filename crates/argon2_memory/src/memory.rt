@@ -26,7 +26,7 @@ pub fn take_slice(slices: &mut Slices, slice: u32) -> Vec<Segment>
     ensures left { segments_of slices.new ≡ slice_set (segments_of slices.old) slice [] }
 {
     let slice = slice as usize;
-    // An empty vector takes no memory, so nothing can be refused.
+    // An empty vector allocates nothing, so nothing can fail.
     let alloc = *slices[slice].allocator();
     mem::replace(&mut slices[slice], Vec::new(alloc))
 }
@@ -45,9 +45,9 @@ pub fn others(slices: &Slices, slice: u32) -> [&[Segment]; 3]
     }
 }
 
-/// Asks for the room of a whole matrix at once, and gives it back. A system that grants more memory
-/// than it has refuses one request that it can never meet. In parts it may grant the same amount,
-/// and kill the process that writes there.
+/// Allocates the room of a whole matrix at once, and frees it. A system that overcommits memory
+/// denies one request that it can never meet. In parts it may grant the same amount, and kill the
+/// process that writes there.
 fn ask_for_room(alloc: Global, lanes: u32, lane_length: u32) -> std::result::Result<(), AllocError>
     requires fits { lanes * lane_length < 2 ^ 32 }
 {
@@ -125,7 +125,7 @@ fn tally(slices: &Slices) -> u64
 /// The matrix of blocks of 1 KiB: a row for each lane. Column c of a lane of 4 L columns is the
 /// block at index c mod L of the lane's segment in slice c / L (RFC 9106, 3.4).
 ///
-/// Where it is dropped, its blocks are overwritten with zeros first: whoever reads them can try
+/// When it is dropped, its blocks are overwritten with zeros first: whoever reads them can try
 /// passwords at a lower cost.
 pub struct Memory {
     lanes: u32,
@@ -182,8 +182,8 @@ fn put_among(slices: &mut [Vec<Segment>], slice: usize, lane: usize, index: usiz
 }
 
 impl Memory {
-    /// A memory of zeros, with `lanes` lanes of `lane_length` blocks each. Where memory is refused:
-    /// `OutOfMemory`.
+    /// A memory of zeros, with `lanes` lanes of `lane_length` blocks each. If memory cannot be
+    /// allocated, the call returns `OutOfMemory`.
     pub fn new(alloc: Global, lanes: u32, lane_length: u32) -> Result<Memory>
         requires some_lane { 0 < lanes }
         requires whole_slices { lane_length % 4 ≡ 0 }
@@ -208,7 +208,7 @@ impl Memory {
         })
     }
 
-    /// A memory without lanes, which takes no memory.
+    /// A memory without lanes. It allocates nothing.
     pub fn empty(alloc: Global) -> Memory
         ensures { result ≡ no_memory }
     {
@@ -288,7 +288,7 @@ pub fn take_slices(memory: &mut Memory) -> Slices
     ensures memory { IsMemory memory.old }
     ensures left { memory.new ≡ no_memory }
 {
-    // Vectors without elements take no memory, so nothing can be refused.
+    // Vectors without elements allocate nothing, so nothing can fail.
     let alloc = *memory.slices[0].allocator();
     memory.lanes = 0;
     memory.segment_length = 0;

@@ -65,7 +65,7 @@ pub fn most_bytes() -> u32
     MAX_HASH_LENGTH
 }
 
-/// `argon2::parts::context`: the first refusal of the settings table.
+/// `argon2::parts::context`: the first parameter error.
 pub fn refusal(config: &Config, pwd_len: u64, salt_len: u64, hash_len: u64) -> Option<Error>
     ensures exact { result ≡ refusal_of config.now pwd_len salt_len hash_len }
     ensures only { (e : Error) → result ≡ Some e
@@ -74,14 +74,14 @@ pub fn refusal(config: &Config, pwd_len: u64, salt_len: u64, hash_len: u64) -> O
     first_refusal(config, pwd_len, salt_len, hash_len)
 }
 
-/// `argon2::parts::decoded`: the lanes that a text spells.
+/// `argon2::parts::decoded`: the lanes that an encoded hash names.
 pub fn lanes(decoded: &Decoded) -> u32
     ensures { result ≡ (spelled_by decoded.now).parallelism }
 {
     decoded.parallelism
 }
 
-/// `argon2::parts::encoding`: what a text spells.
+/// `argon2::parts::encoding`: what an encoded hash decodes to.
 pub fn spelled(alloc: Global, encoded: &str) -> Result<Decoded>
     ensures { IfOk result (λ decoded. Spells encoded.now (spelled_by decoded)) }
 {

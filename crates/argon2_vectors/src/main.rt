@@ -5,15 +5,15 @@
 //! | Line | Answer |
 //! |---|---|
 //! | `hash_raw INPUTS` | the tag in hexadecimal |
-//! | `hash_encoded INPUTS` | the text |
+//! | `hash_encoded INPUTS` | the encoded hash |
 //! | `verify_raw INPUTS HASH` | `true` or `false` |
-//! | `verify_encoded TEXT` | `true` or `false` for the password `password`, and the text as it is written anew |
+//! | `verify_encoded TEXT` | `true` or `false` for the password `password`, and the encoded hash as it is written anew |
 //! | `verify_encoded_ext PASSWORD SECRET DATA TEXT` | `true` or `false` |
 //! | `needs_rehash INPUTS TEXT` | `true` or `false` |
-//! | `decode_string TEXT` | what the text spells |
-//! | `encode_string INPUTS HASH` | the text of a hash |
+//! | `decode_string TEXT` | what the string decodes to |
+//! | `encode_string INPUTS HASH` | the encoded hash of a tag |
 //! | `encoded_len VARIANT M T P SALT_LEN HASH_LEN`, `base64_len LEN`, `num_len NUMBER` | the length |
-//! | `first_refusal INPUTS PASSWORD_LEN SALT_LEN HASH_LEN` | `None`, or the refusal |
+//! | `first_refusal INPUTS PASSWORD_LEN SALT_LEN HASH_LEN` | `None`, or the error |
 //! | `Context::new INPUTS`, `Job::new INPUTS` | what is shown of it |
 //! | `fill_sequential INPUTS` | how many blocks are written before the fill, and by it |
 //! | `reference_positions INPUTS PASS SLICE LANE FIRST COUNT` | `LANE,COLUMN` of each |
@@ -21,14 +21,15 @@
 //! | `hprime LENGTHS MESSAGE` | the hash, cut into pieces of these lengths |
 //! | `Config::NAME` | the preset, and whether it uses one thread |
 //! | `ThreadMode::from_threads N`, `Variant::from_u32 N`, `Version::from_str WORD`, .. | the value and its names |
-//! | `Error NAME` | the refusal that `serde` reads from this name: its case, what `serde` writes, its text |
+//! | `Error NAME` | the error that `serde` reads from this name: its case, what `serde` writes, its message |
 //! | `common` | the constants |
 //! | `run INPUT WORDS`, `run/broken`, `run/full`, `run/without_memory`, `arguments`, `start`, `tool INPUT WORDS`, .. | see `program.rt` |
 //!
-//! INPUTS are `VARIANT VERSION T M P LEN MODE PASSWORD SALT SECRET DATA`. MODE is `seq`, `par`, `max`
-//! and a number, or `all`: then all thread modes, and the call that goes by no mode, have to give the
-//! same. Bytes are `-` for none, text behind a `'`, or hexadecimal (`words.rt`). TEXT is the rest of the line, or
-//! behind `hex` its bytes in hexadecimal. For a refusal the answer is `ERR` and its text.
+//! INPUTS are `VARIANT VERSION T M P LEN MODE PASSWORD SALT SECRET DATA`. MODE is `seq`, `par`,
+//! `max` and a number, or `all`: then all thread modes, and the call that goes by no mode, have to
+//! return the same. Bytes are `-` for none, text behind a `'`, or hexadecimal (`words.rt`). TEXT is
+//! the rest of the line, or behind `hex` its bytes in hexadecimal. For an error the answer is `ERR`
+//! and its message.
 #![tactic(auto)]
 
 mod hashes;

@@ -32,7 +32,7 @@ pub enum Asked<'a> {
 }
 
 impl Asked<'_> {
-    /// The answer in the mode of the inputs, or in all modes, which have to give the same.
+    /// The answer in the mode of the inputs, or in all modes, which have to return the same.
     pub fn answer<R: Threads + Wait + Sync>(
         &self,
         rt: &R,

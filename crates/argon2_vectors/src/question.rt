@@ -91,7 +91,7 @@ pub fn told_bytes(alloc: Global, answer: argon2::Result<Vec<u8>>) -> Result<Stri
     }
 }
 
-/// How a text is printed, or why there is none.
+/// How an encoded hash is printed, or why there is none.
 pub fn told_text(alloc: Global, answer: argon2::Result<String>) -> Result<String> {
     match answer {
         Ok(text) => Ok(text),

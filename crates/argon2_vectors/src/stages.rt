@@ -1,4 +1,5 @@
-//! Questions on the stages of a hash: what is refused, the context, its job, and what blocks refer to.
+//! Questions on the stages of a hash: which settings are rejected, the context, its job, and what
+//! blocks refer to.
 
 use crate::inputs::Inputs;
 use crate::question::refused;
@@ -10,7 +11,7 @@ use argon2::parts::memory::Memory;
 use argon2::parts::segment::reference_positions;
 use std::alloc::Global;
 
-/// The first refusal of settings for a password, a salt and a hash of these lengths.
+/// The first parameter error of settings for a password, a salt and a hash of these lengths.
 pub fn refusal(alloc: Global, words: &mut Words<'_>) -> Result<String> {
     let inputs = Inputs::read(alloc, words)?;
     let (password, salt) = (words.long_number()?, words.long_number()?);

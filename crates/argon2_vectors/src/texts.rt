@@ -1,4 +1,4 @@
-//! Questions on encoded texts.
+//! Questions on encoded hashes.
 
 use crate::inputs::Inputs;
 use crate::question::{refused, told_text, told_verdict};
@@ -16,10 +16,10 @@ use std::marker::Sync;
 use std::sync::Wait;
 use std::thread::Threads;
 
-/// The password of texts that name none.
+/// The password of encoded hashes that name none.
 const PASSWORD: &[u8; 8] = b"password";
 
-/// The verdict on a text and, where there is one, the text that its decoded value is written as.
+/// The verdict on an encoded hash and, if it decodes, how its decoded value is encoded again.
 pub fn verdict_and_text<R: Threads + Wait + Sync>(
     rt: &R,
     alloc: Global,
@@ -52,7 +52,7 @@ pub fn verdict_and_text<R: Threads + Wait + Sync>(
     }
 }
 
-/// The text that a decoded value is written as.
+/// The encoded hash that a decoded value is written as.
 fn rewritten(alloc: Global, decoded: &Decoded) -> Result<String> {
     let config = Config {
         ad: &[],
@@ -74,7 +74,7 @@ fn rewritten(alloc: Global, decoded: &Decoded) -> Result<String> {
     ))
 }
 
-/// The verdict on a text with a password, a secret and associated data.
+/// The verdict on an encoded hash with a password, a secret and associated data.
 pub fn verdict<R: Threads + Wait + Sync>(
     rt: &R,
     alloc: Global,
@@ -110,7 +110,7 @@ pub fn verdict<R: Threads + Wait + Sync>(
     told_verdict(alloc, verdict)
 }
 
-/// Whether a text was made with other settings.
+/// Whether an encoded hash was made with other settings.
 pub fn rehash(alloc: Global, words: &mut Words<'_>) -> Result<String> {
     let inputs = Inputs::read(alloc, words)?;
     let text = words.text(alloc)?;

@@ -1,4 +1,4 @@
-//! Questions on the small types: presets, names, numbers, refusals and constants.
+//! Questions on the small types: presets, names, numbers, errors and constants.
 
 use crate::question::refused;
 use crate::words::Words;
@@ -55,12 +55,12 @@ fn mode(alloc: Global, mode: ThreadMode) -> Result<String> {
     Ok(format!(in alloc; "{mode:?}")?)
 }
 
-/// The text of any value that is a `std::error::Error`.
+/// The message of any value that is a `std::error::Error`.
 fn text_of<E: std::error::Error>(alloc: Global, error: &E) -> Result<String, AllocError> {
     format!(in alloc; "{error}")
 }
 
-/// The refusal that `serde` reads from a name, how it is shown, what `serde` writes and its text.
+/// The error that `serde` reads from a name, how it is shown, what `serde` writes and its message.
 fn error(alloc: Global, name: &str) -> Result<String> {
     let quoted = format!(in alloc; "\"{name}\"")?;
     let error: Error = serde_json::from_str(alloc, quoted.as_str()).map_err(|_| anyhow!(

@@ -28,8 +28,8 @@ fn write_half_block(block: &mut [u64; 16], v: &[u8; BLAKE2B_OUT_LENGTH])
     rest.fill(0);
 }
 
-/// A chain's V, and what the next one is hashed by. It is kept over the whole chain and overwritten at
-/// its end, since that takes longer than a link.
+/// A chain's V, and what the next one is hashed by. It lives for the whole chain and is overwritten
+/// at its end, since wiping takes longer than a link.
 #[derive(Drop)]
 struct Link {
     /// V.
@@ -103,7 +103,7 @@ fn write_chain(out: &mut [u8], link: &mut Link)
 }
 
 /// H' (RFC 9106, 3.3): fills `out`, of 1 to 2^32 - 1 bytes, with the hash of that length of
-/// `input`. It takes no memory.
+/// `input`. It allocates nothing.
 pub fn hprime(out: &mut [u8], input: &[u8])
     requires some { 0 < length out.old }
     requires few { length out.old < 2 ^ 32 }

@@ -131,7 +131,7 @@ fn restore_row_diagonals(v: [u64x8; 8]) -> [u64x8; 8]
     ]
 }
 
-/// Permutes four rows, of two vectors each, and leaves them spread.
+/// Permutes four rows, of two vectors each, which stay spread.
 #[inline(always)]
 fn permute_four_rows(v: [u64x8; 8]) -> [u64x8; 8]
     ensures { (j : ℕ) → j < 4 → spread_row result j ≡ permute_p (vector_pair v j) }
@@ -359,7 +359,7 @@ fn fill_words(
 }
 
 /// Makes `next` the compression G of two blocks (RFC 9106, 3.5), or with `with_xor` the exclusive
-/// or of that and the old `next`. It takes no memory.
+/// or of that and the old `next`. It allocates nothing.
 pub fn fill_block(prev: &Block, reference: &Block, next: &mut Block, with_xor: bool)
     ensures { let g = compress_g prev.now reference.now in
         next.new ≡ (if with_xor then xor g next.old else g) }

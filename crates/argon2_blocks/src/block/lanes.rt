@@ -129,7 +129,7 @@ fn round(v: [u64x8; 16]) -> [u64x8; 16]
 }
 
 /// Runs the permutation P (RFC 9106, 3.6) in each of the eight lanes, on the sixteen words that the
-/// vectors have there. Sums and products wrap. It takes no memory.
+/// vectors have there. Sums and products wrap. It allocates nothing.
 #[inline(always)]
 pub fn permute_lanes(v: &mut [u64x8; 16])
     ensures { (i : ℕ) → i < 8 → lane i v.new ≡ permute_p (lane i v.old) }

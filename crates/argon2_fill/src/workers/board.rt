@@ -1,9 +1,8 @@
-//! The lanes of one slice, which workers claim and give back under one lock, and fill outside it.
+//! The lanes of one slice, which workers claim and put back under one lock, and fill outside it.
 //! Each lane is in exactly one state: it waits, is out, or is done.
 //!
-//! Of what comes through a lock only the type's own facts are known. So claims, filled lanes and
-//! boards say by their types what the fill rests on, and what no type says is looked at when it
-//! runs.
+//! Of what comes through a lock only the type's own facts are known. So the types of claims, filled
+//! lanes and boards state what the fill relies on, and what no type states is checked when it runs.
 
 ghost use Rattle.std.specs.Prelude.{◌≡◌, ◌<◌, ◌↔◌, IfErr, IfOk, IsOk, ◌+◌, ◌*◌, ◌^◌, ◌≤◌, ◌++◌, ◌∷◌, [], IfNone, IfSome, IsTrue, None, OnErr, OnOk, Some, length, map, replicate, slice_get, slice_set, true};
 ghost use Rattle.argon2_fill.specs.Views.Boards.{IsReady-prop, AllDone, AreReady, HoldSlice, NoneOut};
@@ -50,7 +49,7 @@ pub(crate) enum Slot {
     Done(Segment),
 }
 
-/// A lane that is out: its segment is as `fill_segment` asks for it.
+/// A lane that is out: its segment is as `fill_segment` requires.
 #[derive(Drop)]
 pub struct Claim {
     pub(super) job: Job,
@@ -127,15 +126,15 @@ impl Filled {
 /// What each worker calls around its work. All workers share it, so it can hold one back until
 /// another has reached some point.
 pub trait Gate: Sync {
-    /// Fills the claim, and answers as `Claim::fill` does.
+    /// Fills the claim, and returns what `Claim::fill` does.
     fn fill(&self, claim: Claim, snapshot: &Snapshot<'_>) -> std::result::Result<Filled, Claim>
         ensures exact { IsOk result ↔ (claim.job ≡ snapshot.now.job) }
         ensures filled { IfOk result (λ filled. (filled.job ≡ claim.job)
             × (filled.lane ≡ claim.lane)) }
         ensures unchanged { IfErr result (λ back. back ≡ claim) };
 
-    /// Is called for each lane that the board took back, after the lock was released, so that a
-    /// gate that waits here holds up no other worker.
+    /// Is called for each lane that was put back on the board, after the lock was released, so that
+    /// a gate that waits here delays no other worker.
     fn put(&self, lane: u32);
 }
 
@@ -156,12 +155,12 @@ impl Gate for NoGate {
 #[derive(Drop)]
 pub struct Board {
     job: Job,
-    // The least lane that waits, kept so that a take looks at one slot alone, under the lock.
+    // The least lane that waits, stored so that a take looks at one slot alone, under the lock.
     next: u32,
     slots: Vec<Slot>,
-    // Kept so that contracts can say in which order lanes went out and came back.
+    // Stored so that contracts can say in which order lanes went out and came back.
     log: Vec<Event>,
-    // Room for `finish`, asked for by `new`, so that no filled slice is lost for want of memory.
+    // Room for `finish`, reserved by `new`, so that no filled slice is lost for lack of memory.
     finished: Vec<Segment>,
 }
 
@@ -178,7 +177,7 @@ impl Model for Board {
 }
 
 /// A slot for each segment, which waits. The slots are reserved and then filled, since `collect`
-/// would try again with less where memory is refused.
+/// would try again with less where memory is denied.
 fn waiting_slots(
     alloc: Global,
     segments: Vec<Segment>,
@@ -192,8 +191,8 @@ fn waiting_slots(
 
 impl Board {
     /// A board on which all lanes of the job wait, with a segment for each. All memory that the
-    /// board ever needs is taken here: where it is refused, the segments are dropped, and the
-    /// answer is `OutOfMemory`.
+    /// board ever needs is allocated here: if that fails, the segments are dropped, and the call
+    /// returns `OutOfMemory`.
     pub fn new(alloc: Global, job: Job, segments: Vec<Segment>) -> Result<Board>
         requires ready { AreReady job segments.items }
         ensures board { IfOk result (λ board. board
@@ -235,7 +234,7 @@ impl Board {
         }
     }
 
-    /// What happened so far: an event for each take that gave a claim and each put that was
+    /// What happened so far: an event for each take that returned a claim and each put that was
     /// accepted. The states of the lanes follow from these events.
     pub fn log(&self) -> &[Event]
         ensures log { result.now ≡ self.now.log }
@@ -275,8 +274,8 @@ impl Board {
         }
     }
 
-    /// Takes a filled lane back, which is then done. It is handed back, and the board stays as it
-    /// was, exactly where it is of another job or its lane is not out.
+    /// Puts a filled lane back, which is then done. It is handed back to the caller, and the board
+    /// is unchanged, exactly where it is of another job or its lane is not out.
     pub fn put(&mut self, filled: Filled) -> std::result::Result<(), Filled>
         ensures exact { IsOk result
             ↔ ((filled.job ≡ self.old.job) × (slice_get self.old.places filled.lane
@@ -331,13 +330,14 @@ impl Board {
     }
 }
 
-/// Takes a lane. It is a function of its own, so that the lock is let go before the lane is filled.
+/// Takes a lane. It is a function of its own, so that the lock is released before the lane is
+/// filled.
 pub(super) fn take_lane<R: Wait>(rt: &R, board: &Mutex<Option<Board>>) -> Option<Claim> {
     board.lock(rt).as_mut()?.take()
 }
 
 /// Puts a lane, and says whether it was accepted. It is a function of its own, so that the lock is
-/// let go before a gate is called.
+/// released before a gate is called.
 pub(super) fn put_lane<R: Wait>(rt: &R, board: &Mutex<Option<Board>>, filled: Filled) -> bool {
     let mut guard = board.lock(rt);
     guard

@@ -15,7 +15,7 @@ use std::thread::{Builder, JoinHandle, Parker, Scope, Threads};
 use std::time::Duration;
 use std::{array, thread};
 
-/// A set of numbers: the workers that may be started. It is asked where one is started, so that
+/// A set of numbers: the workers that may be started. It is consulted where one is started, so that
 /// threads need not share it.
 pub trait Permit {
     ghost use Rattle.std.specs.Prelude.{ℕ, Bool};
@@ -49,10 +49,10 @@ fn all_permitted<P: Permit>(permit: &P, first: u64, count: u32) -> bool
     (0..count).all(|k| permit.may_start(first + u64::from(k)))
 }
 
-/// How many handles one call of `run_workers` keeps on its stack. For more workers it calls itself.
+/// How many handles one call of `run_workers` has on its stack. For more workers it calls itself.
 const ROOM: usize = 32;
 
-/// Up to 32 handles. They take no memory from the heap, so none can be refused.
+/// Up to 32 handles. They are not on the heap, so no allocation can fail.
 #[derive(Drop)]
 struct Handles {
     slots: [Option<JoinHandle<()>>; ROOM],
@@ -100,7 +100,7 @@ impl Handles {
 const STACK: usize = 256 * 1024;
 
 /// One worker: it takes, fills and puts one lane after another, until none waits or a filling or a
-/// put is refused.
+/// put is rejected.
 // Its frames have H0. It is never inlined, so that `work_and_wipe` may overwrite them.
 #[inline(never)]
 fn work<R: Wait, G: Gate>(rt: &R, board: &Mutex<Option<Board>>, snapshot: &Snapshot<'_>, gate: &G) {
@@ -111,7 +111,7 @@ fn work<R: Wait, G: Gate>(rt: &R, board: &Mutex<Option<Board>>, snapshot: &Snaps
             return;
         };
         let lane = claim.lane();
-        // A lane that is given up here stays out, so `is_filled` is false in the end.
+        // A lane that is dropped here stays out, so `is_filled` is false in the end.
         let Ok(filled) = gate.fill(claim, snapshot) else {
             return;
         };
@@ -152,8 +152,8 @@ fn try_to_start<'s, E, R: Wait + Sync, G: Gate, P: Permit>(
         .ok()
 }
 
-/// How often a start is tried before it counts as refused. Linux counts a thread off a moment
-/// after its joiner goes on, so a start may be refused although there will be leave for it.
+/// How often a start is tried before it counts as denied. Linux uncounts a thread a moment after
+/// its joiner goes on, so a start may be denied although the limit will allow it.
 const TRIES: u32 = 100;
 
 /// The time between two tries, in milliseconds. A signal may end it early.
@@ -185,8 +185,8 @@ fn start<'s, E, R: Wait + Sync, G: Gate, P: Permit>(
 }
 
 /// Starts the workers of `count` numbers from `first` on, waits for the end of each that was
-/// started, and says whether all were. If one is refused or not permitted, the others are still
-/// started, but those of this call are tried once each, since the answer is a refusal anyway. Where
+/// started, and says whether all were. If one is denied or not permitted, the others are still
+/// started, but those of this call are tried once each, since the result is an error anyway. Where
 /// there is no room for more handles, the remaining numbers get a call of their own.
 fn run_workers<'s, E, R: Threads + Wait + Sync, G: Gate, P: Permit>(
     scope: &Scope<'s, E>,
@@ -205,7 +205,7 @@ fn run_workers<'s, E, R: Threads + Wait + Sync, G: Gate, P: Permit>(
     for k in 0..count {
         let number = first + u64::from(k);
         // The others start before any of these is joined, so that all work at the same time. `&=`
-        // and not `&&`, since they start after a refusal too.
+        // and not `&&`, since they start after a denied start too.
         if handles.are_full() {
             all &= run_workers(scope, rt, board, snapshot, gate, permit, number, count - k);
             break;
@@ -226,9 +226,9 @@ fn run_workers<'s, E, R: Threads + Wait + Sync, G: Gate, P: Permit>(
 /// Fills the lanes of a board by `workers` workers, at least one, and joins them. The board and the
 /// snapshot are of one job, and no lane is out, since nobody could put it back. The workers take
 /// and put lanes under one lock, and fill them outside it. The board comes back with all lanes
-/// done. A start that is refused is tried again, 100 times in all, a millisecond apart. Where all
-/// tries were refused, the answer is `WorkerRefused`, even if the others finished the slice. It
-/// takes no memory of its own.
+/// done. A start that is denied is tried again, 100 times in all, a millisecond apart. If all tries
+/// were denied, the call returns `WorkerRefused`, even if the others finished the slice. It
+/// allocates nothing of its own.
 pub fn fill_slice<R: Threads + Wait + Sync, G: Gate>(
     rt: &R,
     board: Board,
@@ -247,7 +247,7 @@ pub fn fill_slice<R: Threads + Wait + Sync, G: Gate>(
 }
 
 /// Fills the lanes of a board as `fill_slice` does, by workers that have to be permitted: they have
-/// the numbers from `first` on. A worker that is not permitted counts as refused; the others are
+/// the numbers from `first` on. A worker that is not permitted counts as denied; the others are
 /// still started.
 pub fn fill_slice_with<R: Threads + Wait + Sync, G: Gate, P: Permit>(
     rt: &R,
@@ -267,7 +267,7 @@ pub fn fill_slice_with<R: Threads + Wait + Sync, G: Gate, P: Permit>(
     ensures permitted { IfOk result (λ _. PermitsAll (P.permits permit.now) first workers) }
     ensures refused { IfErr result (λ e. e ≡ Error.WorkerRefused) }
 {
-    // All numbers are asked for here, since `run_workers` promises nothing of its answer.
+    // All numbers are checked here, since `run_workers` promises nothing of its result.
     let permitted = all_permitted(permit, first, workers);
     // An `Option`, so that the board can be moved out of the lock when the workers have ended.
     let board = Mutex::new(Some(board));

@@ -1,4 +1,4 @@
-//! The compression beside a plain form of it, and what blocks look like from outside.
+//! The compression beside a simple form of it, and what blocks look like from outside.
 
 mod plain;
 
@@ -38,7 +38,7 @@ fn short_hash_of(block: &Block) -> u128 {
     u128::from_be_bytes(hash)
 }
 
-// Compares the compression with the plain one.
+// Compares the compression with the simple one.
 fn check_fill(rt: &impl Abort, prev: &Block, reference: &Block, old: &Block) {
     for with_xor in [false, true] {
         let mut expected = Block::zero();

@@ -1,4 +1,4 @@
-//! A hash over a memory that is lent, whatever stands in it.
+//! A hash over a caller-provided memory, whatever its contents.
 
 use super::orders::config;
 use argon2_blocks::block::Block;

@@ -1,4 +1,4 @@
-//! The board by hand, permits, and refusals.
+//! The board by hand, permits, and resource errors.
 
 ghost use Rattle.std.specs.Prelude.{◌≡◌, IfOk};
 ghost use Rattle.std.specs.List.{remove};
@@ -277,7 +277,7 @@ fn starts_permitted_workers_alone(rt: HostRuntime) -> std::result::Result<(), Fa
     Ok(())
 }
 
-// Whatever memory is refused, the answer is the board or that refusal.
+// Whatever allocation is denied, the result is the board or that error.
 #[test]
 fn board_new_refused_in_turn(rt: HostRuntime) -> std::result::Result<(), Fail> {
     let alloc = rt.alloc();
@@ -305,7 +305,7 @@ fn second_slice<R: Threads + Wait + Sync>(rt: &R, alloc: Global) -> Result<Vec<S
     fill_slice(rt, board, &snapshot, &NoGate, 4)?.finish()
 }
 
-// Whatever memory or worker is refused, the answer is the slice or that refusal.
+// Whatever allocation or worker is denied, the result is the slice or that error.
 #[test]
 fn fill_slice_refused_in_turn(rt: HostRuntime) -> std::result::Result<(), Fail> {
     match second_slice(&rt, rt.alloc()) {

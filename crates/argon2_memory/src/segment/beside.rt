@@ -1,4 +1,4 @@
-//! The slices beside the one that is filled: segments of a memory, or blocks that are lent.
+//! The slices beside the one that is filled: segments of a memory, or caller-provided blocks.
 
 ghost use Rattle.std.specs.Prelude.{◌≡◌, ◌*◌, ◌^◌, ◌<◌, [], map, slice_index_or, ◌≢◌, ℕ, ◌+◌, ◌/◌, ◌%◌, ◌≤◌, List, length};
 ghost use Rattle.std.specs.List.{remove};
@@ -47,7 +47,7 @@ impl<'a> OtherBlocks for [&'a [Segment]; 4] {
     }
 }
 
-/// The place of a block in a slice that is lent, lane after lane.
+/// The place of a block in a caller-provided slice, lane after lane.
 fn place_in_slice(job: &Job, lane: u32, index: u32) -> usize
     requires lane_fits { lane < job.now.setting.lanes }
     requires index_fits { index < job.now.setting.segment_length }
@@ -58,7 +58,7 @@ fn place_in_slice(job: &Job, lane: u32, index: u32) -> usize
     (lane * job.segment_length() + index) as usize
 }
 
-/// Blocks that are lent, lane after lane.
+/// Caller-provided blocks, lane after lane.
 impl<'a> OtherBlocks for [&'a [Block]; 4] {
     ghost seen = { λ setting slices. lent_slices setting slices };
 
@@ -70,8 +70,8 @@ impl<'a> OtherBlocks for [&'a [Block]; 4] {
     }
 }
 
-/// A job and the slices by their numbers, whatever they hold. Another slice stands in for the job's
-/// own, so that a block is found by the number alone, which may be drawn from the blocks.
+/// A job and the slices by their numbers, whatever their contents. Another slice stands in for the
+/// job's own, so that a block is found by the number alone, which may be drawn from the blocks.
 #[derive(Drop)]
 pub(crate) struct Beside<S: OtherBlocks> {
     job: Job,

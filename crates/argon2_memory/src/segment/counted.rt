@@ -1,5 +1,5 @@
-//! The two kinds of segment: the blocks of one lane in one slice, in a memory or lent. Their fields
-//! are private to this file, so that no block of theirs is written uncounted.
+//! The two kinds of segment: the blocks of one lane in one slice, in a memory or caller-provided.
+//! Their fields are private to this file, so that no block of theirs is written uncounted.
 
 ghost use Rattle.std.specs.Prelude.{◌≡◌, ◌+◌, ◌%◌, ◌^◌, ◌<◌, ◌≤◌, [], IfOk, length, replicate, slice_index_or, slice_set, vec_capacity, vec_len};
 ghost use Rattle.argon2_blocks.specs.Standard.Block.{zero_block};
@@ -58,7 +58,7 @@ fn make_up_to(blocks: &mut Vec<Block>, zeros: &mut usize, index: usize)
     ensures next { 0 < zeros.new → index + 1 < vec_len blocks.new }
 {
     while *zeros > 0 && blocks.len() < index + 2 {
-        // Into room that `Segment::new` asked for: a fill asks for no memory.
+        // Into room that `Segment::new` reserved: a fill allocates nothing.
         blocks.push_reserved(Block::zero());
         *zeros -= 1;
     }
@@ -239,7 +239,7 @@ impl OwnBlocks for Segment {
     }
 }
 
-/// A segment whose blocks are lent, and how many were written, modulo 2^64.
+/// A segment whose blocks the caller provides, and how many were written, modulo 2^64.
 #[derive(Drop)]
 pub(crate) struct LentSegment<'a> {
     blocks: &'a mut [Block],
@@ -247,7 +247,7 @@ pub(crate) struct LentSegment<'a> {
 }
 
 impl<'a> LentSegment<'a> {
-    /// The blocks, whatever they hold, of which none was written yet.
+    /// The blocks, whatever their contents, of which none was written yet.
     pub(super) fn new(blocks: &'a mut [Block]) -> LentSegment<'a>
         ensures same { result.blocks.ghost_name ≡ blocks.entry.ghost_name }
         ensures blocks { result.blocks.now ≡ blocks.old }

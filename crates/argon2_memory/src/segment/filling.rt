@@ -1,4 +1,4 @@
-//! The fill of one segment, block after block, whether it is a memory's or lent.
+//! The fill of one segment, block after block, whether it is a memory's or the caller provides it.
 
 ghost use Rattle.std.specs.Prelude.{◌≡◌, ℕ, ◌+◌, ◌-◌, ◌*◌, ◌%◌, ◌^◌, ◌<◌, ◌≤◌, [], ◌∷◌, length, slice_index_or, true, false};
 ghost use Rattle.argon2_memory.specs.Laws.Schedule.{blocks_in_slice};
@@ -157,7 +157,7 @@ fn fill_independent<S: OtherBlocks, O: OwnBlocks>(
     ensures tally { (O.seen own.new).tally ≡ ((O.seen own.old).tally + count) % 2 ^ 64 }
     ensures same { O.loan own.new ≡ O.loan own.old }
 {
-    // On the stack, since a fill asks for no memory. All are drawn before the first write, so that
+    // On the stack, since a fill allocates nothing. All are drawn before the first write, so that
     // one block of addresses serves them.
     let mut references = [(0, 0); QWORDS_IN_BLOCK];
     let some = &mut references[..count as usize];
@@ -229,12 +229,12 @@ pub fn fill_segment(snapshot: &Snapshot<'_>, lane: u32, segment: &mut Segment)
     fill_own(snapshot.beside(), lane, segment);
 }
 
-/// Fills a lane's segment of the job's slice. The other three slices are lent in rising order, each
-/// lane after lane, and so is the segment, whatever they hold.
+/// Fills a lane's segment of the job's slice. The caller provides the segment and the other three
+/// slices, in rising order and each lane after lane, whatever their contents.
 ///
-/// Where the slices below the job's hold the blocks of its pass and those above it the blocks of
-/// the pass before, and the segment is as a fill of the job asks for it, the segment then holds the
-/// blocks of the job's pass.
+/// If the slices below the job's hold the blocks of its pass and those above it the blocks of the
+/// pass before, and the segment is as a fill of the job requires, the segment then holds the blocks
+/// of the job's pass.
 pub fn fill_lent_segment(
     job: &Job,
     lane: u32,

@@ -1,4 +1,4 @@
-//! The slices of a memory beside one that is filled, with the blocks that its fill asks for.
+//! The slices of a memory beside one that is filled, with the blocks that its fill requires.
 
 ghost use Rattle.std.specs.Prelude.{◌≡◌, map};
 ghost use Rattle.argon2_memory.specs.Views.Filling.{IsSnapshot, SnapshotValue};

@@ -1,5 +1,5 @@
-//! Reading and writing a text, and what comes where memory is refused. The texts of the format's freedoms and
-//! faults are rows of `argon2_vectors`.
+//! Decoding and writing an encoded hash, and what comes where memory is denied. The strings of the
+//! format's freedoms and faults are rows of `argon2_vectors`.
 
 use crate::tests::refused::tell;
 use crate::tests::settings::small;
@@ -37,8 +37,9 @@ fn encode_string_refused_in_turn(rt: HostRuntime) -> Result<(), Fail> {
     tell(&rt, answer.map(|text| text.as_str() == TEXT))
 }
 
-// Each fault before the salt, the missing or added `$` among them, as in the rows. For these no memory is
-// asked for: whatever request is refused, the answer is `DecodingFail` and not `OutOfMemory`.
+// Each fault before the salt, the missing or added `$` among them, as in the rows. For these
+// nothing is allocated: whatever request is denied, the result is `DecodingFail` and not
+// `OutOfMemory`.
 const HEAD_FAULTS: [&str; 34] = [
     "",
     "$$$$$",

@@ -32,7 +32,7 @@ impl Permit for AllBut {
     }
 }
 
-/// All numbers; it keeps those below 128 that it was asked for, and whether it was asked for
+/// All numbers; it records those below 128 that it was asked for, and whether it was asked for
 /// another.
 #[derive(Drop)]
 struct Asked {
@@ -78,7 +78,7 @@ fn tag_with<R: Threads + Wait + Sync, P: Permit>(
     finalize(alloc, context, memory)
 }
 
-/// Checks that a fill is refused, and leaves no memory, where this start is.
+/// Checks that a fill fails, and leaves no memory, where this start is denied.
 fn check_refused<R: Abort + Threads + Wait + Sync>(
     rt: &R,
     alloc: Global,
@@ -93,7 +93,7 @@ fn check_refused<R: Abort + Threads + Wait + Sync>(
     Ok(())
 }
 
-// Each start of a fill is refused alone: 12 slices with 4 workers, or with 2.
+// Each start of a fill is denied alone: 12 slices with 4 workers, or with 2.
 #[test]
 fn refuses_a_fill_with_any_start_missing(rt: HostRuntime) -> std::result::Result<(), Fail> {
     let alloc = rt.alloc();
@@ -114,8 +114,8 @@ fn refuses_a_fill_with_any_start_missing(rt: HostRuntime) -> std::result::Result
     Ok(())
 }
 
-// A text of 20 lanes, as it is verified: 2 passes of 4 slices with 16 workers ask for the numbers from 0 to
-// 127 and for no other.
+// An encoded hash of 20 lanes, as it is verified: 2 passes of 4 slices with 16 workers use the
+// numbers from 0 to 127 and no other.
 #[test]
 fn starts_sixteen_workers_for_twenty_lanes(rt: HostRuntime) -> std::result::Result<(), Fail> {
     let alloc = rt.alloc();

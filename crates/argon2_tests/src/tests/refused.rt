@@ -1,8 +1,8 @@
-//! Each request for memory and each start of a worker refused in turn.
+//! Each allocation and each start of a worker denied in turn.
 //!
-//! A test here makes one call, or calls that have to ask for nothing, and prints what came: `value`
-//! for the stated value, else the refusal. `.ci/faults/refusals` runs each of them again and again, with
-//! another request or start refused each time.
+//! A test here makes one call, or calls that have to allocate nothing, and prints what came:
+//! `value` for the stated value, else the error. `.ci/faults/refusals` runs each of them again and
+//! again, with another allocation or start denied each time.
 
 mod asks_for_nothing;
 mod hashing;
@@ -33,7 +33,7 @@ const ARGON2ID: [u8; 32] = [
     0xd0, 0x1e, 0xf0, 0x45, 0x2d, 0x75, 0xb6, 0x5e, 0xb5, 0x25, 0x20, 0xe9, 0x6b, 0x01, 0xe6, 0x59,
 ];
 
-// The text of RFC 9106's tag of Argon2id, in 4 lanes.
+// The encoded hash of RFC 9106's tag of Argon2id, in 4 lanes.
 const TEXT: &str =
     "$argon2id$v=19$m=32,t=3,p=4$AgICAgICAgICAgICAgICAg$DWQN9Y14dmwIwDejSotTydAe8EUtdbZetSUg6WsB5lk";
 
@@ -54,7 +54,7 @@ fn in_mode(variant: Variant, thread_mode: ThreadMode) -> Config<'static> {
     }
 }
 
-/// Prints what came, which is the stated value or a refusal of memory or of a worker.
+/// Prints what came, which is the stated value or a resource error.
 pub fn tell<R: Abort + Print>(rt: &R, answer: argon2::Result<bool>) -> Result<(), Fail> {
     match answer {
         Ok(is_stated) => {

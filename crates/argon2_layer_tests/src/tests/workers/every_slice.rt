@@ -21,7 +21,7 @@ use std::sync::atomic::{AtomicU64, Ordering};
 use std::test::Fail;
 use std::thread::Threads;
 
-/// Keeps lane 0 of each slice in its filling until lane 1 was put, and lane 1 in its own until lane
+/// Holds lane 0 of each slice in its filling until lane 1 was put, and lane 1 in its own until lane
 /// 0's was called: so two workers are in the filling of each slice at once.
 #[derive(Drop)]
 struct EachSlice {

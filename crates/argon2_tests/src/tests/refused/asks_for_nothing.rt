@@ -1,4 +1,4 @@
-//! Refusals that come before any memory is asked for, so that each comes whatever is refused.
+//! Errors that come before any memory is allocated, so that each comes whatever is denied.
 
 use super::tell;
 use crate::tests::settings::small;
@@ -13,7 +13,7 @@ use std::sync::Wait;
 use std::test::Fail;
 use std::thread::Threads;
 
-/// Lanes, memory cost, time cost, salt and length of the hash, and the first refusal.
+/// Lanes, memory cost, time cost, salt and length of the hash, and the first error.
 type Row = (u32, u32, u32, &'static [u8], u32, Error);
 
 const ROWS: [Row; 8] = [
@@ -34,7 +34,7 @@ const ROWS: [Row; 8] = [
     ),
 ];
 
-// Texts that spell nothing.
+// Strings that decode to no hash.
 const UNSPELLED: [&str; 21] = [
     "$argon2i$v=19$m=++256,t=2,p=1$c29tZXNhbHQ$iekCn0Y3spW+sCcFanM2xBT63UP2sghkUoHLIUpWRS8",
     "$argon2i$v=19$m=-0,t=2,p=1$c29tZXNhbHQ$iekCn0Y3spW+sCcFanM2xBT63UP2sghkUoHLIUpWRS8",
@@ -59,7 +59,7 @@ const UNSPELLED: [&str; 21] = [
     "$$$$$",
 ];
 
-// Texts that spell settings which are refused, and the first refusal.
+// Encoded hashes whose settings are rejected, and the first error.
 const REFUSED: [(&str, Error); 11] = [
     (
         "$argon2i$v=19$m=256,t=2,p=16777216$c29tZXNhbHQ$iekCn0Y3spW+sCcFanM2xBT63UP2sghkUoHLIUpWRS8",
@@ -95,7 +95,7 @@ const REFUSED: [(&str, Error); 11] = [
     ),
 ];
 
-/// Whether the answer is this refusal.
+/// Whether the result is this error.
 fn is<T: Drop>(refusal: &Error, answer: argon2::Result<T>) -> bool {
     match answer {
         Ok(_) => false,
@@ -169,7 +169,7 @@ fn verifying_an_empty_tag_asks_for_nothing_refused_in_turn(rt: HostRuntime) -> R
     tell(&rt, Ok(true))
 }
 
-/// Whether each call that verifies a text refuses this one so.
+/// Whether each call that verifies an encoded hash returns this error for it.
 fn is_text_refused<R: Threads + Wait + Sync>(
     rt: &R,
     alloc: Global,

@@ -1,4 +1,4 @@
-//! Hashing, to a tag and to a text.
+//! Hashing, to a tag and to an encoded hash.
 
 use super::{ARGON2D, ARGON2I, ARGON2ID, PASSWORD, SALT, TEXT, in_mode, tell};
 use crate::tests::settings::small;
@@ -37,7 +37,7 @@ fn hash_sequential(alloc: Global, variant: Variant, tag: &[u8]) -> argon2::Resul
     Ok(raw.as_slice() == tag)
 }
 
-/// Whether the text of RFC 9106's tag comes.
+/// Whether the encoded hash of RFC 9106's tag comes.
 fn encode<R: Threads + Wait + Sync>(
     rt: &R,
     alloc: Global,

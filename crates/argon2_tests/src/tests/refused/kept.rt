@@ -1,5 +1,5 @@
-//! Each call twice over a memory that the caller keeps: the second asks for no blocks, and each writes
-//! each block once a pass.
+//! Each call twice in a reusable buffer of the caller: the second allocates no blocks, and each
+//! writes each block once a pass.
 
 use super::{AD, ARGON2ID, PASSWORD, SALT, SECRET, TEXT, in_mode, tell};
 use argon2::parts::memory::Memory;
@@ -52,7 +52,7 @@ fn hash_raw_in_sequential_twice_refused_in_turn(rt: HostRuntime) -> Result<(), F
     tell(&rt, hash_sequential(rt.alloc()))
 }
 
-/// Whether the text comes twice.
+/// Whether the encoded hash comes twice.
 fn encode<R: Threads + Wait + Sync>(rt: &R, alloc: Global) -> argon2::Result<bool> {
     let (config, mut memory) = (by_workers(), Memory::empty(alloc));
     let first = hash_encoded_in(rt, alloc, &mut memory, &PASSWORD, &SALT, &config)?;
@@ -65,7 +65,7 @@ fn hash_encoded_in_twice_refused_in_turn(rt: HostRuntime) -> Result<(), Fail> {
     tell(&rt, encode(&rt, rt.alloc()))
 }
 
-/// Whether the text comes twice, in the caller's thread.
+/// Whether the encoded hash comes twice, in the caller's thread.
 fn encode_sequential(alloc: Global) -> argon2::Result<bool> {
     let (config, mut memory) = (by_workers(), Memory::empty(alloc));
     let first = hash_encoded_in_sequential(alloc, &mut memory, &PASSWORD, &SALT, &config)?;
@@ -104,7 +104,7 @@ fn verify_raw_in_sequential_twice_refused_in_turn(rt: HostRuntime) -> Result<(),
     tell(&rt, verify_sequential(rt.alloc()))
 }
 
-/// Whether the text is the password's twice.
+/// Whether the password matches the encoded hash twice.
 fn verify_text<R: Threads + Wait + Sync>(rt: &R, alloc: Global) -> argon2::Result<bool> {
     let mut memory = Memory::empty(alloc);
     let first = verify_encoded_in(rt, alloc, &mut memory, TEXT, &PASSWORD, &SECRET, &AD)?;
@@ -117,7 +117,7 @@ fn verify_encoded_in_twice_refused_in_turn(rt: HostRuntime) -> Result<(), Fail> 
     tell(&rt, verify_text(&rt, rt.alloc()))
 }
 
-/// Whether the text is the password's twice, in the caller's thread.
+/// Whether the password matches the encoded hash twice, in the caller's thread.
 fn verify_text_sequential(alloc: Global) -> argon2::Result<bool> {
     let mut memory = Memory::empty(alloc);
     let first = verify_encoded_in_sequential(alloc, &mut memory, TEXT, &PASSWORD, &SECRET, &AD)?;

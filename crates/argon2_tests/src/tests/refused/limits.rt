@@ -1,4 +1,5 @@
-//! Verifying within limits: what is too costly is so before any memory or worker is asked for.
+//! Verifying within limits: what is too costly is rejected before any memory is allocated or any
+//! worker started.
 
 use super::{AD, PASSWORD, SECRET, TEXT, tell};
 use argon2::{Error, Limits, Unverified, verify_encoded_within, verify_encoded_within_sequential};
@@ -8,7 +9,7 @@ use std::sync::Wait;
 use std::test::Fail;
 use std::thread::Threads;
 
-// Just what the text of RFC 9106's tag spells.
+// Exactly what the encoded hash of RFC 9106's tag names.
 const OF_TEXT: Limits = Limits {
     mem_cost: 32,
     time_cost: 3,
@@ -23,7 +24,7 @@ const NONE: Limits = Limits {
     work: 0,
 };
 
-// Limits of which one is below what that text spells.
+// Limits of which one is below what that encoded hash names.
 const BELOW: [Limits; 5] = [
     Limits {
         mem_cost: 31,
@@ -52,8 +53,9 @@ const BELOW: [Limits; 5] = [
     NONE,
 ];
 
-// Texts of the two recommendations of RFC 9106, the five of OWASP, libsodium's three for Argon2id and its greatest for
-// Argon2i, and Django's; and one at all default limits but that of the passes.
+// Encoded hashes of the two recommendations of RFC 9106, the five of OWASP, libsodium's three for
+// Argon2id and its greatest for Argon2i, and Django's; and one at all default limits but that of
+// the passes.
 const WITHIN: [&str; 13] = [
     "$argon2id$v=19$m=2097152,t=1,p=4$AAAAAAA$AAAAAAA",
     "$argon2id$v=19$m=65536,t=3,p=4$AAAAAAA$AAAAAAA",
@@ -70,7 +72,7 @@ const WITHIN: [&str; 13] = [
     "$argon2id$v=19$m=2097152,t=2,p=16$AAAAAAA$AAAAAAA",
 ];
 
-// Texts above one default limit, above all, and above that of the memory without passes.
+// Encoded hashes above one default limit, above all, and above that of the memory without passes.
 const ABOVE: [&str; 8] = [
     "$argon2id$v=19$m=2097153,t=1,p=4$AAAAAAA$AAAAAAA",
     "$argon2id$v=19$m=65536,t=11,p=4$AAAAAAA$AAAAAAA",
@@ -82,7 +84,7 @@ const ABOVE: [&str; 8] = [
     "$argon2d$m=4294967295,t=0,p=0$$",
 ];
 
-/// Whether both calls answer so without a secret and associated data.
+/// Whether both calls return this without a secret and associated data.
 fn both_answer<R: Threads + Wait + Sync>(
     rt: &R,
     alloc: Global,
@@ -95,7 +97,7 @@ fn both_answer<R: Threads + Wait + Sync>(
     is(unverified, by_workers) && is(unverified, alone)
 }
 
-/// Whether the answer is this one.
+/// Whether the result is this one.
 fn is(unverified: &Unverified, answer: Result<bool, Unverified>) -> bool {
     match answer {
         Ok(_) => false,

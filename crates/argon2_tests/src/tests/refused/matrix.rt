@@ -42,8 +42,8 @@ fn filled(alloc: Global, variant: Variant) -> Result<bool> {
     Ok(memory.writes() == 96 && stretched != [0; 100])
 }
 
-// Each has to ask for what `memory_new` asks for, and for nothing else. Argon2i's references depend
-// on no block, Argon2d's on blocks, Argon2id's first on none and then on blocks.
+// Each has to allocate what `memory_new` does, and nothing else. Argon2i's references depend on no
+// block, Argon2d's on blocks, Argon2id's first on none and then on blocks.
 #[test]
 fn memory_new_and_filled_argon2d_refused_in_turn(rt: HostRuntime) -> std::result::Result<(), Fail> {
     tell(&rt, filled(rt.alloc(), Variant::Argon2d))

@@ -1,4 +1,4 @@
-//! Verifying, against a tag and against a text, and what a stored text was made with.
+//! Verifying, against a tag and against an encoded hash, and what an encoded hash was made with.
 
 use super::{AD, ARGON2ID, PASSWORD, SALT, SECRET, TEXT, in_mode, tell};
 use crate::tests::settings::small;
@@ -94,7 +94,7 @@ fn verify_encoded_sequential_refused_in_turn(rt: HostRuntime) -> Result<(), Fail
     tell(&rt, answer)
 }
 
-// Another password than the text's: no refused request turns the answer into `true`.
+// Another password than the encoded hash's: no denied request turns the result into `true`.
 #[test]
 fn verify_encoded_of_another_password_refused_in_turn(rt: HostRuntime) -> Result<(), Fail> {
     let answer = verify_encoded(&rt, rt.alloc(), OF_16_LANES, b"passwore");
