@@ -69,9 +69,9 @@ static void check_longest(void)
     check(peer(&it, expected) && hash_raw(&one, &it, tag) == PROVED_ARGON2_OK, "both have a tag of 2^32 - 1 bytes");
     check(memcmp(tag, expected, LONGEST_TAG) == 0 && tag[LONGEST_TAG] == 0, "it is the same, and no more is written");
     munmap(expected, size);
+    check_code(verify_raw(&one, &it, tag), PROVED_ARGON2_OK, "it is verified");
     tag[LONGEST_TAG - 1] ^= 1;
-    check_code(proved_argon2_verify_raw_with(&one, it.pwd, 8, it.salt, 8, NULL, 0, NULL, 0, &it.settings, tag, LONGEST_TAG),
-               PROVED_ARGON2_MISMATCH, "its last byte counts");
+    check_code(verify_raw(&one, &it, tag), PROVED_ARGON2_MISMATCH, "its last byte counts");
 }
 
 int main(int argc, char **argv)
