@@ -1,14 +1,21 @@
-"""The parts of pages that scripts of pages/ write, between `<!-- NAME, by SCRIPT -->` and `<!-- end -->`."""
+"""The parts of files that scripts of pages/ write, between lines with the comments `NAME, by SCRIPT` and `end`, as
+`<!-- NAME, by SCRIPT -->` and `<!-- end -->` in a page."""
 
 import re
 
+OPENS, CLOSES = r'[ \t]*(?:<!--|//|/\*|\.\\") ', r'(?: -->| \*/)?'
+
 
 def marked(text, name, script):
-    """Where a page has a part, as a match whose first group is what stands there, or None."""
-    return re.search(rf'<!-- {re.escape(name)}, by {re.escape(script)} -->\n(.*?)\n?<!-- end -->', text, re.S)
+    """Where a file has a part, as a match whose first group is what stands there, or None."""
+    begin = rf'^{OPENS}{re.escape(name)}, by {re.escape(script)}{CLOSES}\n'
+    return re.search(rf'{begin}(.*?)\n?^{OPENS}end{CLOSES}$', text, re.M | re.S)
 
 
 def filled(text, name, script, part):
-    """The page with another part; the same, where it has no such part."""
+    """The file with another part; the same, where it has no such part."""
     found = marked(text, name, script)
-    return text[:found.start(1)] + part.rstrip('\n') + text[found.end(1):] if found else text
+    if not found:
+        return text
+    end = text[found.end(1):]
+    return text[:found.start(1)] + part.rstrip('\n') + ('' if end.startswith('\n') else '\n') + end

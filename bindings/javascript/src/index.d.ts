@@ -85,13 +85,27 @@ export function verify(encoded: string, password: string | Bytes, options?: Veri
 /** Whether a PHC string has other settings than these, or than the default ones where they are left out. */
 export function needsRehash(encoded: string, options?: Settings): Promise<boolean>;
 
+export type Preset = Readonly<Required<Settings>>;
+
 /** Recommended settings. OWASP holds its five to be equal in strength; RFC 9106, 4, takes its own with four lanes. */
-export const presets: Readonly<
-    Record<
-        'owasp1' | 'owasp2' | 'owasp3' | 'owasp4' | 'owasp5' | 'rfc9106' | 'rfc9106LowMem',
-        Readonly<Required<Settings>>
-    >
->;
+export const presets: {
+    // presets, by .ci/pages/presets
+    /** OWASP's first recommendation: 46 MiB, 1 pass. */
+    readonly owasp1: Preset;
+    /** OWASP's second recommendation: 19 MiB, 2 passes. */
+    readonly owasp2: Preset;
+    /** OWASP's third recommendation: 12 MiB, 3 passes. */
+    readonly owasp3: Preset;
+    /** OWASP's fourth recommendation: 9 MiB, 4 passes. */
+    readonly owasp4: Preset;
+    /** OWASP's fifth recommendation: 7 MiB, 5 passes. */
+    readonly owasp5: Preset;
+    /** RFC 9106's first recommendation (section 4): 2 GiB, 1 pass. */
+    readonly rfc9106: Preset;
+    /** RFC 9106's recommendation for little memory (section 4): 64 MiB, 3 passes. */
+    readonly rfc9106LowMem: Preset;
+    // end
+};
 
 /** The limits of `verify` that is given none: 2 GiB, 10 passes, 16 lanes, and the work of 4 GiB in one pass. */
 export const defaultLimits: Readonly<Required<Limits>>;

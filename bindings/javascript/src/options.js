@@ -17,6 +17,7 @@ const preset = (memoryCost, timeCost) => Object.freeze({ ...DEFAULTS, memoryCost
 
 /** The recommended settings. OWASP holds its five to be equal in strength; RFC 9106 takes four lanes. */
 export const presets = Object.freeze({
+    // presets, by .ci/pages/presets
     owasp1: preset(47104, 1),
     owasp2: preset(19456, 2),
     owasp3: preset(12288, 3),
@@ -24,6 +25,7 @@ export const presets = Object.freeze({
     owasp5: preset(7168, 5),
     rfc9106: preset(2097152, 1),
     rfc9106LowMem: preset(65536, 3),
+    // end
 });
 
 /** The greatest numbers that a string may ask for that is verified. */

@@ -24,7 +24,7 @@ async function numbersOf(name, count) {
 
 test('the presets are those of the module', async () => {
     for (const [name, preset] of Object.entries(argon2.presets)) {
-        const call = name.replace('LowMem', '_low_mem');
+        const call = name.replace(/[A-Z]/g, (letter) => `_${letter.toLowerCase()}`);
         const { type, version, memoryCost, timeCost, parallelism, hashLength } = preset;
         assert.deepEqual(await numbersOf(call, 6), [type, version, memoryCost, timeCost, parallelism, hashLength], name);
     }

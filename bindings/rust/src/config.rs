@@ -50,46 +50,49 @@ pub struct Config<'a> {
     pub version: Version,
 }
 
+/// The presets are of one lane; RFC 9106 takes four with its own.
 impl<'a> Config<'a> {
-    /// The default of the C program of Argon2's authors: Argon2i, 3 passes over 4 MiB.
+    // presets, by .ci/pages/presets
+    /// The defaults of the original C program: Argon2i, 4 MiB, 3 passes.
     pub fn original() -> Config<'a> {
-        Config { variant: Variant::Argon2i, ..Config::argon2id(4096, 3) }
+        Config::preset(Variant::Argon2i, 4096, 3)
     }
 
-    /// The first of OWASP's equal choices: 1 pass over 46 MiB.
+    /// OWASP's first recommendation: Argon2id, 46 MiB, 1 pass.
     pub fn owasp1() -> Config<'a> {
-        Config::argon2id(47104, 1)
+        Config::preset(Variant::Argon2id, 47104, 1)
     }
 
-    /// The second of OWASP's equal choices, and the default: 2 passes over 19 MiB.
+    /// OWASP's second recommendation: Argon2id, 19 MiB, 2 passes.
     pub fn owasp2() -> Config<'a> {
-        Config::argon2id(19456, 2)
+        Config::preset(Variant::Argon2id, 19456, 2)
     }
 
-    /// The third of OWASP's equal choices: 3 passes over 12 MiB.
+    /// OWASP's third recommendation: Argon2id, 12 MiB, 3 passes.
     pub fn owasp3() -> Config<'a> {
-        Config::argon2id(12288, 3)
+        Config::preset(Variant::Argon2id, 12288, 3)
     }
 
-    /// The fourth of OWASP's equal choices: 4 passes over 9 MiB.
+    /// OWASP's fourth recommendation: Argon2id, 9 MiB, 4 passes.
     pub fn owasp4() -> Config<'a> {
-        Config::argon2id(9216, 4)
+        Config::preset(Variant::Argon2id, 9216, 4)
     }
 
-    /// The fifth of OWASP's equal choices: 5 passes over 7 MiB.
+    /// OWASP's fifth recommendation: Argon2id, 7 MiB, 5 passes.
     pub fn owasp5() -> Config<'a> {
-        Config::argon2id(7168, 5)
+        Config::preset(Variant::Argon2id, 7168, 5)
     }
 
-    /// RFC 9106's first choice, in one lane where the standard has four: 1 pass over 2 GiB.
+    /// RFC 9106's first recommendation (section 4): Argon2id, 2 GiB, 1 pass.
     pub fn rfc9106() -> Config<'a> {
-        Config::argon2id(2097152, 1)
+        Config::preset(Variant::Argon2id, 2097152, 1)
     }
 
-    /// RFC 9106's choice for little memory, in one lane where the standard has four: 3 passes over 64 MiB.
+    /// RFC 9106's recommendation for little memory (section 4): Argon2id, 64 MiB, 3 passes.
     pub fn rfc9106_low_mem() -> Config<'a> {
-        Config::argon2id(65536, 3)
+        Config::preset(Variant::Argon2id, 65536, 3)
     }
+    // end
 
     /// Whether the caller's thread computes all lanes.
     pub fn uses_sequential(&self) -> bool {
@@ -109,8 +112,8 @@ impl<'a> Config<'a> {
         }
     }
 
-    /// Argon2id in one lane, with a hash of 32 bytes.
-    fn argon2id(mem_cost: u32, time_cost: u32) -> Config<'a> {
+    /// One lane in the caller's thread, with a hash of 32 bytes.
+    fn preset(variant: Variant, mem_cost: u32, time_cost: u32) -> Config<'a> {
         Config {
             ad: &[],
             hash_length: 32,
@@ -119,7 +122,7 @@ impl<'a> Config<'a> {
             secret: &[],
             thread_mode: ThreadMode::Sequential,
             time_cost,
-            variant: Variant::Argon2id,
+            variant,
             version: Version::Version13,
         }
     }
@@ -158,6 +161,7 @@ mod tests {
     #[test]
     fn the_presets_are_those_that_the_library_recommends() {
         let presets = [
+            // recommended presets, by .ci/pages/presets
             Config::owasp1(),
             Config::owasp2(),
             Config::owasp3(),
@@ -165,6 +169,7 @@ mod tests {
             Config::owasp5(),
             Config::rfc9106(),
             Config::rfc9106_low_mem(),
+            // end
         ];
         for (preset, settings) in presets.into_iter().zip(face::recommended()) {
             let config = Config {

@@ -79,6 +79,7 @@ pub enum Error {
 impl Error {
     /// The errors in the order of their numbers, which begin with 1.
     const NUMBERED: [Error; 21] = [
+        // errors, by .ci/pages/presets
         Error::OutputTooShort,
         Error::OutputTooLong,
         Error::PwdTooShort,
@@ -100,6 +101,7 @@ impl Error {
         Error::DecodingFail,
         Error::OutOfMemory,
         Error::WorkerRefused,
+        // end
     ];
 
     /// The error of a refusal's number.
@@ -119,6 +121,7 @@ impl Error {
 
     fn text(&self) -> &'static str {
         match self {
+            // words, by .ci/pages/presets
             Error::OutputTooShort => "Output is too short",
             Error::OutputTooLong => "Output is too long",
             Error::PwdTooShort => "Password is too short",
@@ -140,6 +143,7 @@ impl Error {
             Error::DecodingFail => "Decoding failed",
             Error::OutOfMemory => "Out of memory",
             Error::WorkerRefused => "A worker was refused",
+            // end
             Error::Stopped => "The call was stopped",
             Error::OldProcessor => "The processor is too old",
         }

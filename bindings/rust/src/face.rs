@@ -47,12 +47,14 @@ const MESSAGE_SIZE: usize = 64;
 #[repr(C)]
 #[derive(Default)]
 pub struct Settings {
+    // settings, by .ci/pages/presets
     pub variant: u32,
     pub version: u32,
     pub mem_cost: u32,
     pub time_cost: u32,
     pub lanes: u32,
     pub hash_length: u32,
+    // end
 }
 
 /// `proved_argon2_stored` of the header.
@@ -66,10 +68,12 @@ pub struct Stored {
 /// `proved_argon2_limits` of the header.
 #[repr(C)]
 pub struct Limits {
+    // limits, by .ci/pages/presets
     pub mem_cost: u32,
     pub time_cost: u32,
     pub lanes: u32,
     pub work: u64,
+    // end
 }
 
 /// `proved_argon2_options` of the header. The threads are the call's own.
@@ -187,6 +191,7 @@ extern "C" {
     fn proved_argon2_message(number: u32, text: *mut u8, text_len: usize) -> u32;
     #[cfg(test)]
     fn proved_argon2_library_version() -> u32;
+    // presets, by .ci/pages/presets
     #[cfg(test)]
     fn proved_argon2_owasp1() -> Settings;
     #[cfg(test)]
@@ -201,6 +206,7 @@ extern "C" {
     fn proved_argon2_rfc9106() -> Settings;
     #[cfg(test)]
     fn proved_argon2_rfc9106_low_mem() -> Settings;
+    // end
 }
 
 /// Judges the settings of a tag, without room to write to: `WRONG_LENGTH` says that none is refused.
@@ -386,11 +392,11 @@ fn library_version() -> u32 {
 
 /// The settings that the library recommends.
 #[cfg(test)]
-#[rustfmt::skip]
-pub fn recommended() -> [Settings; 7] {
+pub fn recommended() -> Vec<Settings> {
     // SAFETY: the calls take nothing.
     unsafe {
-        [
+        vec![
+            // calls of presets, by .ci/pages/presets
             proved_argon2_owasp1(),
             proved_argon2_owasp2(),
             proved_argon2_owasp3(),
@@ -398,6 +404,7 @@ pub fn recommended() -> [Settings; 7] {
             proved_argon2_owasp5(),
             proved_argon2_rfc9106(),
             proved_argon2_rfc9106_low_mem(),
+            // end
         ]
     }
 }

@@ -198,6 +198,7 @@ fn a_new_hash_is_needed_where_a_setting_differs() {
 #[test]
 fn presets_names_and_numbers() {
     for (preset, variant, mem_cost, time_cost) in [
+        // presets, by .ci/pages/presets
         (Config::original(), Argon2i, 4096, 3),
         (Config::owasp1(), Argon2id, 47104, 1),
         (Config::owasp2(), Argon2id, 19456, 2),
@@ -206,6 +207,7 @@ fn presets_names_and_numbers() {
         (Config::owasp5(), Argon2id, 7168, 5),
         (Config::rfc9106(), Argon2id, 2097152, 1),
         (Config::rfc9106_low_mem(), Argon2id, 65536, 3),
+        // end
         (Config::default(), Argon2id, 19456, 2),
     ] {
         assert_eq!(preset, Config { variant, mem_cost, time_cost, ..Config::default() });

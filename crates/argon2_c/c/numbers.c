@@ -18,6 +18,7 @@ typedef struct refusal {
 } refusal;
 
 static const refusal refusals[] = {
+    /* errors, by .ci/pages/presets */
     {PROVED_ARGON2_OUTPUT_TOO_SHORT, "Output is too short"},
     {PROVED_ARGON2_OUTPUT_TOO_LONG, "Output is too long"},
     {PROVED_ARGON2_PWD_TOO_SHORT, "Password is too short"},
@@ -48,6 +49,7 @@ static const refusal refusals[] = {
     {PROVED_ARGON2_NO_JOB, "The job is none"},
     {PROVED_ARGON2_NO_PLACE, "The job has no such pass, slice or lane"},
     {PROVED_ARGON2_WRONG_BLOCKS, "There are too many or too few blocks"},
+    /* end */
     {PROVED_ARGON2_NULL_POINTER, "A pointer is null"},
     {PROVED_ARGON2_NO_RANDOM_BYTES, "There are no random bytes"},
     {PROVED_ARGON2_STOPPED, "The hash was stopped"},
@@ -199,13 +201,15 @@ int main(int count, char **words)
                   "version 0x13");
     check_limits_of_settings();
     check_limits_of_inputs(has_time);
+    /* presets, by .ci/pages/presets */
     check_recommended(proved_argon2_owasp1(), 46, 1, "OWASP's first recommendation");
     check_recommended(proved_argon2_owasp2(), 19, 2, "OWASP's second recommendation");
     check_recommended(proved_argon2_owasp3(), 12, 3, "OWASP's third recommendation");
     check_recommended(proved_argon2_owasp4(), 9, 4, "OWASP's fourth recommendation");
     check_recommended(proved_argon2_owasp5(), 7, 5, "OWASP's fifth recommendation");
-    check_recommended(proved_argon2_rfc9106(), 2048, 1, "RFC 9106's first recommendation");
-    check_recommended(proved_argon2_rfc9106_low_mem(), 64, 3, "RFC 9106's second recommendation");
+    check_recommended(proved_argon2_rfc9106(), 2048, 1, "RFC 9106's first recommendation (section 4)");
+    check_recommended(proved_argon2_rfc9106_low_mem(), 64, 3, "RFC 9106's recommendation for little memory (section 4)");
+    /* end */
     check(proved_argon2_library_version() == PROVED_ARGON2_LIBRARY_VERSION_NUMBER, "the version of the library");
     printf("version %s %u\n", PROVED_ARGON2_LIBRARY_VERSION, (unsigned)PROVED_ARGON2_LIBRARY_VERSION_NUMBER);
     return checks_failed != 0;

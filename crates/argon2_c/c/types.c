@@ -108,6 +108,7 @@ static void check_proved(void)
 
 static void check_presets(void)
 {
+    /* presets, by .ci/pages/presets */
     IS(owasp1, proved_argon2_settings, void);
     IS(owasp2, proved_argon2_settings, void);
     IS(owasp3, proved_argon2_settings, void);
@@ -115,6 +116,7 @@ static void check_presets(void)
     IS(owasp5, proved_argon2_settings, void);
     IS(rfc9106, proved_argon2_settings, void);
     IS(rfc9106_low_mem, proved_argon2_settings, void);
+    /* end */
 }
 
 int main(void)

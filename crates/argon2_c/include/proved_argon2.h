@@ -161,13 +161,15 @@ typedef struct proved_argon2_stored {
  * Storage Cheat Sheet holds its five to be equal in strength; proved_argon2_owasp2 is the one to begin
  * with. RFC 9106, section 4, recommends its memory and passes with four lanes: set lanes to 4 for those.
  */
-proved_argon2_settings proved_argon2_owasp1(void);          /* 46 MiB, 1 pass */
-proved_argon2_settings proved_argon2_owasp2(void);          /* 19 MiB, 2 passes */
-proved_argon2_settings proved_argon2_owasp3(void);          /* 12 MiB, 3 passes */
-proved_argon2_settings proved_argon2_owasp4(void);          /* 9 MiB, 4 passes */
-proved_argon2_settings proved_argon2_owasp5(void);          /* 7 MiB, 5 passes */
-proved_argon2_settings proved_argon2_rfc9106(void);         /* 2 GiB, 1 pass */
+/* presets, by .ci/pages/presets */
+proved_argon2_settings proved_argon2_owasp1(void); /* 46 MiB, 1 pass */
+proved_argon2_settings proved_argon2_owasp2(void); /* 19 MiB, 2 passes */
+proved_argon2_settings proved_argon2_owasp3(void); /* 12 MiB, 3 passes */
+proved_argon2_settings proved_argon2_owasp4(void); /* 9 MiB, 4 passes */
+proved_argon2_settings proved_argon2_owasp5(void); /* 7 MiB, 5 passes */
+proved_argon2_settings proved_argon2_rfc9106(void); /* 2 GiB, 1 pass */
 proved_argon2_settings proved_argon2_rfc9106_low_mem(void); /* 64 MiB, 3 passes */
+/* end */
 
 /* PROVED_ARGON2_LIBRARY_VERSION_NUMBER, as the archive has it. */
 uint32_t proved_argon2_library_version(void);

@@ -39,10 +39,12 @@ pub use lending::{
 };
 pub use limits::{Limits, proved_argon2_default_limits};
 pub use reading::Stored;
+// presets, by .ci/pages/presets
 pub use recommended::{
     proved_argon2_owasp1, proved_argon2_owasp2, proved_argon2_owasp3, proved_argon2_owasp4,
     proved_argon2_owasp5, proved_argon2_rfc9106, proved_argon2_rfc9106_low_mem,
 };
+// end
 use refusal::{code_of, code_of_verdict};
 pub use settings::Settings;
 

@@ -22,6 +22,8 @@ fn settings_of(config: &Config<'_>) -> Settings
     }
 }
 
+// presets, by .ci/pages/presets
+
 /// OWASP's first recommendation: 46 MiB, 1 pass.
 #[unsafe(no_mangle)]
 pub extern "C" fn proved_argon2_owasp1() -> Settings
@@ -62,7 +64,7 @@ pub extern "C" fn proved_argon2_owasp5() -> Settings
     settings_of(&Config::owasp5())
 }
 
-/// The memory and passes that RFC 9106 recommends first (section 4), over one lane: 2 GiB, 1 pass.
+/// RFC 9106's first recommendation (section 4): 2 GiB, 1 pass.
 #[unsafe(no_mangle)]
 pub extern "C" fn proved_argon2_rfc9106() -> Settings
     ensures { result ≡ recommended 2097152 1 }
@@ -70,11 +72,11 @@ pub extern "C" fn proved_argon2_rfc9106() -> Settings
     settings_of(&Config::rfc9106())
 }
 
-/// The memory and passes that RFC 9106 recommends where memory is short (section 4), over one lane:
-/// 64 MiB, 3 passes.
+/// RFC 9106's recommendation for little memory (section 4): 64 MiB, 3 passes.
 #[unsafe(no_mangle)]
 pub extern "C" fn proved_argon2_rfc9106_low_mem() -> Settings
     ensures { result ≡ recommended 65536 3 }
 {
     settings_of(&Config::rfc9106_low_mem())
 }
+// end

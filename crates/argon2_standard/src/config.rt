@@ -102,16 +102,16 @@ impl<'a> Config<'a> {
         preset(Variant::Argon2id, 7168, 5)
     }
 
-    /// The memory and passes that RFC 9106 recommends first (section 4): Argon2id, 2 GiB, 1 pass.
-    /// It has one lane, where the RFC has four, as in rust-argon2.
+    /// RFC 9106's first recommendation (section 4): Argon2id, 2 GiB, 1 pass. It has one lane, where
+    /// the RFC has four, as in rust-argon2.
     pub fn rfc9106() -> Config<'a>
         ensures { IsPreset Argon2id 2097152 1 result }
     {
         preset(Variant::Argon2id, 2097152, 1)
     }
 
-    /// The memory and passes that RFC 9106 recommends where memory is short (section 4): Argon2id,
-    /// 64 MiB, 3 passes. It has one lane, where the RFC has four, as in rust-argon2.
+    /// RFC 9106's recommendation for little memory (section 4): Argon2id, 64 MiB, 3 passes. It has one
+    /// lane, where the RFC has four, as in rust-argon2.
     pub fn rfc9106_low_mem() -> Config<'a>
         ensures { IsPreset Argon2id 65536 3 result }
     {

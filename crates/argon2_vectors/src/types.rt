@@ -74,6 +74,7 @@ fn error(alloc: Global, name: &str) -> Result<String> {
 /// A preset, and whether it uses one thread.
 fn preset(alloc: Global, call: &str) -> Result<String> {
     let config = match call {
+        // presets, by .ci/pages/presets
         "Config::original" => Config::original(),
         "Config::owasp1" => Config::owasp1(),
         "Config::owasp2" => Config::owasp2(),
@@ -82,6 +83,7 @@ fn preset(alloc: Global, call: &str) -> Result<String> {
         "Config::owasp5" => Config::owasp5(),
         "Config::rfc9106" => Config::rfc9106(),
         "Config::rfc9106_low_mem" => Config::rfc9106_low_mem(),
+        // end
         "Config::default" => Config::default(),
         _ => bail!("there is no call of this name"),
     };
