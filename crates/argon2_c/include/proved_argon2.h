@@ -1,36 +1,34 @@
 /*
  * Argon2 password hashing (RFC 9106) for C, over the proved Rattle crate `argon2_c`.
  *
- * Argon2d, Argon2i and Argon2id, versions 0x10 and 0x13, with a secret and associated data. The calls here compute in
- * the caller's thread, whatever the number of lanes; those of proved_argon2_threads.h by several threads, over a memory
- * that is kept, or so that they can be stopped. Both are a driver in C around what is proved, which takes no memory and
- * starts no thread: proved_argon2_jobs.h has those calls too. This header includes all.
+ * Argon2d, Argon2i and Argon2id, versions 0x10 and 0x13, with a secret and associated data. The calls here are
+ * single-threaded, whatever the number of lanes. Those of proved_argon2_threads.h use several threads or a reusable
+ * buffer, or can be stopped. Both are C code around the proved calls, which allocate no memory and start no thread:
+ * proved_argon2_jobs.h has those. This header includes all others.
  *
- * Passing bytes. A pointer and then a length pass bytes; a null pointer with the length 0 passes none. Any other
- * null pointer is PROVED_ARGON2_NULL_POINTER, before all other refusals.
- * The caller owns all memory that it passes; no call keeps a pointer to it. What a call writes to overlaps
- * nothing else that it is passed.
+ * Passing bytes. Bytes are passed as a pointer and then a length; a null pointer with the length 0 passes none. Any
+ * other null pointer returns PROVED_ARGON2_NULL_POINTER, before all other errors. The caller owns all memory that it
+ * passes, and no call keeps a pointer to it. Memory that a call writes to must overlap no other argument.
  *
- * Answers. A call that may be refused returns PROVED_ARGON2_OK (0) or the number of one refusal, and
- * on a refusal what it would have written to is as it was, byte for byte. What is refused first is the
- * only answer: the variant's number, the version's number, the settings in the order in which the limits
- * stand below, the length of the buffer, and only then memory. No call prints, waits, ends the process,
- * changes errno or reads anything but what it is passed, but the first one: it asks the processor which of the
- * library's builds it can run, and the environment variable PROVED_ARGON2_CPU, for tests, which one it is to be. Where
- * there is none, each call that may be refused is PROVED_ARGON2_OLD_PROCESSOR, after null pointers, and each other one
- * gives zeros.
+ * Errors. A call that can fail returns PROVED_ARGON2_OK (0) or the number of one error, and on an error its outputs are
+ * unchanged, byte for byte. Only the first error is reported: the number of the variant, the number of the version, the
+ * settings in the order of the limits below, the length of the buffer, and only then memory. No call prints, waits,
+ * ends the process, changes errno or reads anything but its arguments, except the first call: it asks the processor
+ * which of the library's builds it can run, and the environment variable PROVED_ARGON2_CPU, for tests, which one to
+ * take. If the processor can run none, each call that can fail returns PROVED_ARGON2_OLD_PROCESSOR, after null
+ * pointers, and each other call returns zeros.
  *
- * Memory. A call that hashes or verifies asks for at most the settings' mem_cost KiB for its blocks, in whole huge
- * pages where that is 2 MiB or more, and for the tag and the hash and salt of a text; no other call asks for any. All
- * of it is given back before the call returns, after it was overwritten, or to the system, which clears it. Such a
- * call overwrites the stack below and the vector registers too.
+ * Memory. A call that hashes or verifies allocates at most the settings' mem_cost KiB for its blocks, in whole huge
+ * pages if that is 2 MiB or more, and memory for the tag, and for the hash and the salt of an encoded hash. No other
+ * call allocates. All of it is freed before the call returns: it is overwritten first, or returned to the system, which
+ * clears it. Such a call also overwrites the stack below it and the vector registers.
  *
- * Threads. The library keeps no state but which build it runs. Calls may run in several threads at once, as long as
- * none writes to what another one is passed. A thread is not cancelled within a call. No call may come from a signal
- * handler. In the forked child of a process with threads calls may be made where malloc may be called, as with the GNU
- * C library.
+ * Threads. Calls are thread-safe, as long as none writes to what another one is passed: the library has no state but
+ * which build it runs. A thread is not cancelled within a call. Calls are not async-signal-safe: make none from a
+ * signal handler. In the forked child of a process with threads, calls may be made wherever malloc may be called, as
+ * with the GNU C library.
  *
- * Symbols. Each of the library's begins with proved_argon2_, so that a program may link libargon2 too.
+ * Symbols. Each symbol of the library begins with proved_argon2_, so that a program may link libargon2 too.
  */
 #ifndef PROVED_ARGON2_H
 #define PROVED_ARGON2_H
@@ -73,7 +71,7 @@ extern "C" {
 #define PROVED_ARGON2_MAX_AD_LENGTH UINT32_C(0xFFFFFFFF)
 #define PROVED_ARGON2_MIN_HASH_LENGTH UINT32_C(4)
 #define PROVED_ARGON2_MAX_HASH_LENGTH UINT32_C(0xFFFFFFFF)
-/* A buffer of this many bytes has room for the text of each refusal, and a zero behind it. */
+/* A buffer of this many bytes has room for each error message and a zero behind it. */
 #define PROVED_ARGON2_MESSAGE_SIZE 64
 
 /* The variants (RFC 9106, 1): where a block's reference is drawn from. */
@@ -110,22 +108,22 @@ enum proved_argon2_code {
     PROVED_ARGON2_LANES_TOO_MANY = 16,
     PROVED_ARGON2_INCORRECT_TYPE = 17,    /* no variant has this number */
     PROVED_ARGON2_INCORRECT_VERSION = 18, /* no version has this number */
-    PROVED_ARGON2_DECODING_FAIL = 19,     /* the text spells no hash */
+    PROVED_ARGON2_DECODING_FAIL = 19,     /* the string decodes to no hash */
     PROVED_ARGON2_OUT_OF_MEMORY = 20,
     PROVED_ARGON2_WORKER_REFUSED = 21,    /* only of proved_argon2_threads.h: a pool did not run its tasks */
-    PROVED_ARGON2_MISMATCH = 64,       /* a verifying call: the password is not the hash's */
-    PROVED_ARGON2_WRONG_LENGTH = 65,   /* the buffer does not fit */
-    PROVED_ARGON2_NOT_UTF8 = 66,       /* the text is not UTF-8 */
-    PROVED_ARGON2_UNKNOWN_NUMBER = 67, /* proved_argon2_message: no refusal has this number */
-    PROVED_ARGON2_NEEDS_REHASH = 68,   /* proved_argon2_needs_rehash: the text has other settings */
-    PROVED_ARGON2_TOO_COSTLY = 69,     /* the text is above the limits */
+    PROVED_ARGON2_MISMATCH = 64,       /* a verifying call: the password does not match */
+    PROVED_ARGON2_WRONG_LENGTH = 65,   /* a buffer has the wrong length */
+    PROVED_ARGON2_NOT_UTF8 = 66,       /* the string is not UTF-8 */
+    PROVED_ARGON2_UNKNOWN_NUMBER = 67, /* proved_argon2_message: no error has this number */
+    PROVED_ARGON2_NEEDS_REHASH = 68,   /* proved_argon2_needs_rehash: the settings differ */
+    PROVED_ARGON2_TOO_COSTLY = 69,     /* the encoded hash is above the limits */
     PROVED_ARGON2_NO_JOB = 70,         /* proved_argon2_jobs.h: no accepted call has a job of these numbers */
     PROVED_ARGON2_NO_PLACE = 71,       /* the job has no such pass, slice or lane */
     PROVED_ARGON2_WRONG_BLOCKS = 72,   /* there are more or fewer blocks, or they are at no multiple of 8 */
-    /* Answered in C alone, and by nothing that is proved: */
+    /* Returned by C code alone, and by nothing that is proved: */
     PROVED_ARGON2_NULL_POINTER = 128,    /* a pointer is null, and its length is not 0 */
-    PROVED_ARGON2_NO_RANDOM_BYTES = 129, /* proved_argon2_password_hash: the system gave no salt */
-    PROVED_ARGON2_STOPPED = 130,         /* proved_argon2_threads.h: what the call tells how far it is has stopped it */
+    PROVED_ARGON2_NO_RANDOM_BYTES = 129, /* proved_argon2_password_hash: the system had no random bytes */
+    PROVED_ARGON2_STOPPED = 130,         /* proved_argon2_threads.h: the progress callback stopped the call */
     PROVED_ARGON2_OLD_PROCESSOR = 131    /* the library has no build for a processor as old as this one */
 };
 
@@ -140,8 +138,8 @@ typedef struct proved_argon2_settings {
 } proved_argon2_settings;
 
 /*
- * The greatest numbers that a stored text may spell, and the greatest product of two of them. A field that is left out of
- * an initializer is 0, within which no text of a hash is.
+ * The highest memory, passes and lanes that an encoded hash may name, and the highest product of memory and passes. A
+ * field that is left out of an initializer is 0, and no encoded hash is within that.
  */
 typedef struct proved_argon2_limits {
     uint32_t mem_cost;  /* the memory in KiB */
@@ -150,16 +148,16 @@ typedef struct proved_argon2_limits {
     uint64_t work;      /* the memory in KiB times the passes, by which the time grows */
 } proved_argon2_limits;
 
-/* What a stored text spells. */
+/* What an encoded hash decodes to. */
 typedef struct proved_argon2_stored {
     proved_argon2_settings settings; /* hash_length is the length of its hash */
     uint32_t salt_length;            /* the length of its salt in bytes */
 } proved_argon2_stored;
 
 /*
- * The recommended settings: Argon2id, version 0x13, one lane and a tag of 32 bytes. OWASP's Password
- * Storage Cheat Sheet holds its five to be equal in strength; proved_argon2_owasp2 is the one to begin
- * with. RFC 9106, section 4, recommends its memory and passes with four lanes: set lanes to 4 for those.
+ * The recommended settings: Argon2id, version 0x13, one lane and a tag of 32 bytes. OWASP's Password Storage Cheat
+ * Sheet calls its five equal in strength; begin with proved_argon2_owasp2. RFC 9106, section 4, recommends its memory
+ * and passes with four lanes: set lanes to 4 for those two.
  */
 /* presets, by .ci/pages/presets */
 proved_argon2_settings proved_argon2_owasp1(void); /* 46 MiB, 1 pass */
@@ -171,14 +169,14 @@ proved_argon2_settings proved_argon2_rfc9106(void); /* 2 GiB, 1 pass */
 proved_argon2_settings proved_argon2_rfc9106_low_mem(void); /* 64 MiB, 3 passes */
 /* end */
 
-/* PROVED_ARGON2_LIBRARY_VERSION_NUMBER, as the archive has it. */
+/* PROVED_ARGON2_LIBRARY_VERSION_NUMBER, as the library that runs has it. */
 uint32_t proved_argon2_library_version(void);
 
 /*
  * Writes the tag of a password (RFC 9106, 3.2) to out.
  *
- * out_len is settings->hash_length: any other length is PROVED_ARGON2_WRONG_LENGTH. The salt has at least
- * 8 bytes, which is this library's own limit; for a password RFC 9106, 3.1, recommends 16.
+ * out_len must be settings->hash_length: any other length returns PROVED_ARGON2_WRONG_LENGTH. The salt must have at
+ * least 8 bytes, which is this library's own limit; for passwords RFC 9106, 3.1, recommends 16.
  */
 PROVED_ARGON2_CHECKED
 uint32_t proved_argon2_hash_raw(
@@ -190,12 +188,12 @@ uint32_t proved_argon2_hash_raw(
     uint8_t *out, size_t out_len);
 
 /*
- * Writes the text of a password's hash, as `$argon2id$v=19$m=256,t=2,p=1$salt$hash`, with the salt and
- * the tag in unpadded base64 (RFC 4648), and then zeros up to text_len.
+ * Writes the encoded hash (PHC string) of a password, `$argon2id$v=19$m=256,t=2,p=1$salt$hash` with the salt and the
+ * tag in unpadded base64 (RFC 4648), and then zeros up to text_len.
  *
- * text_len is greater than proved_argon2_encoded_len(settings, salt_len), so that one zero at least ends
- * the text: any other length is PROVED_ARGON2_WRONG_LENGTH. The secret and the associated data are not in
- * the text.
+ * text_len must be greater than proved_argon2_encoded_len(settings, salt_len), so that at least one zero ends the
+ * string: any other length returns PROVED_ARGON2_WRONG_LENGTH. The secret and the associated data are not in the
+ * encoded hash.
  */
 PROVED_ARGON2_CHECKED
 uint32_t proved_argon2_hash_encoded(
@@ -207,12 +205,11 @@ uint32_t proved_argon2_hash_encoded(
     uint8_t *text, size_t text_len);
 
 /*
- * Whether hash is the tag of hash_len bytes: PROVED_ARGON2_OK only where it is, PROVED_ARGON2_MISMATCH
- * only where it is not, and any other number says that nothing was compared.
+ * Verifies a password against a raw hash of hash_len bytes. It returns PROVED_ARGON2_OK only if hash is the tag, and
+ * PROVED_ARGON2_MISMATCH only if it is not; any other number says that nothing was compared.
  *
- * Compare the answer with PROVED_ARGON2_OK and accept nothing else: there is no second answer.
- * settings->hash_length is not looked at, and a hash of fewer than 4 bytes is
- * PROVED_ARGON2_OUTPUT_TOO_SHORT.
+ * Compare the result with PROVED_ARGON2_OK and accept nothing else. settings->hash_length is ignored, and a hash of
+ * fewer than 4 bytes returns PROVED_ARGON2_OUTPUT_TOO_SHORT.
  */
 PROVED_ARGON2_CHECKED
 uint32_t proved_argon2_verify_raw(
@@ -224,13 +221,13 @@ uint32_t proved_argon2_verify_raw(
     const uint8_t *hash, size_t hash_len);
 
 /*
- * Whether a stored text is the hash of a password with this secret and this associated data:
- * PROVED_ARGON2_OK only where it is and PROVED_ARGON2_MISMATCH only where it is not, as above.
+ * Verifies a password against an encoded hash, with this secret and this associated data: PROVED_ARGON2_OK only if it
+ * matches, and PROVED_ARGON2_MISMATCH only if it does not, as above.
  *
- * text_len is the length of the text alone, without a zero behind it. A text that is not UTF-8 is
- * PROVED_ARGON2_NOT_UTF8, and one that spells no hash is PROVED_ARGON2_DECODING_FAIL. Else its settings
- * are judged before any memory is taken. The memory and the passes are those that the text names, up to
- * 4 TiB and 2^32 - 1: verify a text from outside with proved_argon2_verify_encoded_within.
+ * text_len is the length of the string alone, without a zero behind it. A string that is not UTF-8 returns
+ * PROVED_ARGON2_NOT_UTF8, and one that decodes to no hash PROVED_ARGON2_DECODING_FAIL. Then its settings are checked,
+ * before any memory is allocated. Memory and passes are those that the encoded hash names, up to 4 TiB and 2^32 - 1:
+ * for a hash that others may have written use proved_argon2_verify_encoded_within.
  */
 PROVED_ARGON2_CHECKED
 uint32_t proved_argon2_verify_encoded(
@@ -239,14 +236,16 @@ uint32_t proved_argon2_verify_encoded(
     const uint8_t *secret, size_t secret_len,
     const uint8_t *ad, size_t ad_len);
 
-/* 2 GiB, 10 passes, 16 lanes, and the work of 4 GiB in one pass: the settings of RFC 9106, section 4, OWASP, libsodium and
- * Django are within. */
+/*
+ * 2 GiB, 10 passes, 16 lanes, and the work of 4 GiB in one pass: the settings of RFC 9106, section 4, OWASP, libsodium
+ * and Django are within.
+ */
 proved_argon2_limits proved_argon2_default_limits(void);
 
 /*
- * The same for a text that may be costly: PROVED_ARGON2_TOO_COSTLY only where it spells more memory, passes or lanes
- * than its limit, or more memory times passes. What spells no hash is refused first, as above; then nothing is compared
- * and no memory is taken where the text is too costly; and any other text is answered as above.
+ * The same within limits. It returns PROVED_ARGON2_TOO_COSTLY only if the encoded hash names more memory, passes or
+ * lanes than its limit, or more memory times passes: then no memory is allocated and nothing is compared. A string that
+ * decodes to no hash returns its error first, as above, and a hash within the limits is verified as above.
  */
 PROVED_ARGON2_CHECKED
 uint32_t proved_argon2_verify_encoded_within(
@@ -257,46 +256,46 @@ uint32_t proved_argon2_verify_encoded_within(
     const proved_argon2_limits *limits);
 
 /*
- * Writes what a stored text spells to stored, and verifies nothing: settings that no hash is made with
- * are read too. What spells no hash is refused as above. A length above 2^32 - 1 is read as 2^32 - 1.
+ * Decodes an encoded hash to stored, and verifies nothing: settings that no hash is made with are decoded too. A string
+ * that decodes to no hash returns its error as above. A length above 2^32 - 1 is reported as 2^32 - 1.
  */
 PROVED_ARGON2_CHECKED PROVED_ARGON2_NONNULL
 uint32_t proved_argon2_read(const uint8_t *text, size_t text_len, proved_argon2_stored *stored);
 
-/* The same within limits: a text that spells more is PROVED_ARGON2_TOO_COSTLY. */
+/* The same within limits: an encoded hash above them returns PROVED_ARGON2_TOO_COSTLY. */
 PROVED_ARGON2_CHECKED PROVED_ARGON2_NONNULL
 uint32_t proved_argon2_read_within(
     const uint8_t *text, size_t text_len, const proved_argon2_limits *limits, proved_argon2_stored *stored);
 
 /*
- * Writes the salt and the hash of a stored text, whose lengths proved_argon2_read tells: any other is
- * PROVED_ARGON2_WRONG_LENGTH. What spells no hash is refused as above.
+ * Writes the salt and the hash of an encoded hash to buffers of the lengths that proved_argon2_read reports: any other
+ * length returns PROVED_ARGON2_WRONG_LENGTH. A string that decodes to no hash returns its error as above.
  */
 PROVED_ARGON2_CHECKED PROVED_ARGON2_NONNULL
 uint32_t proved_argon2_read_bytes(
     const uint8_t *text, size_t text_len, uint8_t *salt, size_t salt_len, uint8_t *hash, size_t hash_len);
 
 /*
- * Whether a stored text has these settings: PROVED_ARGON2_OK only where its variant, version, memory
- * cost, passes, lanes and length of the hash are the given ones, and PROVED_ARGON2_NEEDS_REHASH only
- * where one is not. The numbers of variant and version are judged first, then the text as above; no other
- * setting is judged. Call it once the password has matched.
+ * Whether an encoded hash was made with these settings: PROVED_ARGON2_OK only if its variant, version, memory cost,
+ * passes, lanes and length of the hash are the given ones, and PROVED_ARGON2_NEEDS_REHASH only if one differs. The
+ * numbers of variant and version are checked first, then the string as above; no other setting is checked. Call it once
+ * the password has matched.
  */
 PROVED_ARGON2_CHECKED PROVED_ARGON2_NONNULL
 uint32_t proved_argon2_needs_rehash(
     const uint8_t *text, size_t text_len, const proved_argon2_settings *settings);
 
 /*
- * The length in bytes of the text that proved_argon2_hash_encoded writes for a salt of salt_len bytes,
- * without the zero behind it. 0 where no variant or no version has the given number, and for no settings.
+ * The length in bytes of the encoded hash that proved_argon2_hash_encoded writes for a salt of salt_len bytes, without
+ * the zero behind it. It returns 0 if no variant or no version has the given number, and for null settings.
  */
 PROVED_ARGON2_CHECKED PROVED_ARGON2_NONNULL
 uint64_t proved_argon2_encoded_len(const proved_argon2_settings *settings, uint32_t salt_len);
 
 /*
- * Writes the text of the refusal with this number, and then zeros up to text_len. A buffer without room
- * for the text and one zero is PROVED_ARGON2_WRONG_LENGTH, and a number that no refusal has, such as
- * PROVED_ARGON2_OK, is PROVED_ARGON2_UNKNOWN_NUMBER.
+ * Writes the message of the error with this number, and then zeros up to text_len. A buffer without room for the
+ * message and one zero returns PROVED_ARGON2_WRONG_LENGTH, and a number that no error has, such as PROVED_ARGON2_OK,
+ * returns PROVED_ARGON2_UNKNOWN_NUMBER.
  */
 PROVED_ARGON2_CHECKED PROVED_ARGON2_NONNULL
 uint32_t proved_argon2_message(uint32_t number, uint8_t *text, size_t text_len);

@@ -1,33 +1,33 @@
 /*
- * What is proved: a hash over a memory of the caller's, in one call or in steps by threads of the caller's. A part of
- * proved_argon2.h, which includes it. None of these calls takes memory, starts a thread or keeps a state.
+ * The proved calls: a hash over caller-provided memory, in one call or in steps by the caller's threads. A part of
+ * proved_argon2.h, which includes it. None of these calls allocates memory, starts a thread or keeps a state.
  *
  * The memory is four slices, each of job.lanes segments, lane after lane, and each segment of job.segment_length
- * blocks: 4 * lanes * segment_length blocks in all, whatever stands in them. The steps are
+ * blocks: 4 * lanes * segment_length blocks in all, whatever their contents. The steps are
  *
  *     proved_argon2_job_make or proved_argon2_job_read
  *     for each lane: proved_argon2_job_begin
  *     for each pass from 0 to job.passes - 1, for each slice from 0 to 3, for each lane: proved_argon2_job_fill
  *     proved_argon2_job_finish or proved_argon2_job_verify
  *
- * The lanes of one slice, and those that are begun, may be filled in any order and at the same time; the next slice
- * begins once all of them are there. Where each step answered PROVED_ARGON2_OK, what is finished is the tag of RFC
- * 9106, and what is verified is whether the hash is that tag: this is proved (EveryRunGivesTheTag and
- * EveryRunGivesTheVerdict). After other steps, or other blocks than these steps left, nothing is said of the tag.
- * proved_argon2_job_hash_over and proved_argon2_job_verify_over are all steps but the first in one call, lane by lane,
- * and proved_argon2_hash_over and proved_argon2_verify_over the first one too.
+ * Lanes may be begun in any order and at the same time, and so may the lanes of one slice be filled; start the next
+ * slice once all of them are filled. If each step returned PROVED_ARGON2_OK, proved_argon2_job_finish writes the tag of
+ * RFC 9106, and proved_argon2_job_verify returns whether the hash is that tag: this is proved (EveryRunGivesTheTag and
+ * EveryRunGivesTheVerdict). After other steps, or over other blocks than these steps wrote, nothing is said of the tag.
+ * proved_argon2_job_hash_over and proved_argon2_job_verify_over do all steps but the first in one call, lane by lane;
+ * proved_argon2_hash_over and proved_argon2_verify_over do the first one too.
  *
- * Each call judges all numbers and lengths that it is given. Numbers that no accepted call has are
- * PROVED_ARGON2_NO_JOB, a pass, slice or lane that the job does not have is PROVED_ARGON2_NO_PLACE, a memory, slice or
- * segment of more or fewer blocks is PROVED_ARGON2_WRONG_BLOCKS, and a tag of another length
- * PROVED_ARGON2_WRONG_LENGTH, in this order; what would have been written is as it was then, but the memory of a call
- * that is done. Blocks at an address that is no multiple of 8 are PROVED_ARGON2_WRONG_BLOCKS before these, which the
- * header's inline functions answer. No call can see that blocks are there, and that none is written by another thread
- * meanwhile.
+ * Each call checks all numbers and lengths that it is passed, in this order: numbers that no accepted call has return
+ * PROVED_ARGON2_NO_JOB; a pass, slice or lane that the job does not have, PROVED_ARGON2_NO_PLACE; a memory, slice or
+ * segment of more or fewer blocks, PROVED_ARGON2_WRONG_BLOCKS; a tag of another length, PROVED_ARGON2_WRONG_LENGTH. On
+ * each of these errors the outputs are unchanged. Before them, the header's inline functions return
+ * PROVED_ARGON2_WRONG_BLOCKS for blocks at an address that is not a multiple of 8. No call can check that the blocks
+ * exist, and that no other thread writes to them meanwhile.
  *
- * Each call that computes overwrites the stack below it before it returns. What it is lent is the caller's to clear: the
- * job holds H0, from which a password can be tried by one BLAKE2b, and so do the blocks. proved_argon2_job_run
- * (proved_argon2_threads.h) lends a job memory and threads, and clears them and the vector registers.
+ * Each call that computes overwrites the stack below it before it returns. The caller clears the memory that it
+ * provided: with H0, which the job contains, a password guess is tested by one BLAKE2b, and the blocks can be tested
+ * against too. proved_argon2_job_run (proved_argon2_threads.h) provides memory and threads for a job, and clears them
+ * and the vector registers.
  */
 #ifndef PROVED_ARGON2_JOBS_H
 #define PROVED_ARGON2_JOBS_H
@@ -54,7 +54,7 @@ typedef struct proved_argon2_job {
     uint32_t hash_length;    /* the length of the tag in bytes */
 } proved_argon2_job;
 
-/* Judges the settings as proved_argon2_hash_raw does, and writes their job. */
+/* Checks the settings as proved_argon2_hash_raw does, and writes their job. */
 PROVED_ARGON2_CHECKED PROVED_ARGON2_NONNULL
 uint32_t proved_argon2_job_make(
     const uint8_t *pwd, size_t pwd_len,
@@ -65,9 +65,9 @@ uint32_t proved_argon2_job_make(
     proved_argon2_job *job);
 
 /*
- * Judges a stored text as proved_argon2_verify_encoded does, and writes the job that it is verified by, its salt and
- * its hash. proved_argon2_read tells their lengths: any other is PROVED_ARGON2_WRONG_LENGTH, after all other refusals
- * of the text.
+ * Checks an encoded hash as proved_argon2_verify_encoded does, and writes the job that it is verified by, its salt and
+ * its hash. proved_argon2_read reports their lengths: any other length returns PROVED_ARGON2_WRONG_LENGTH, after all
+ * other errors of the encoded hash.
  */
 PROVED_ARGON2_CHECKED PROVED_ARGON2_NONNULL
 uint32_t proved_argon2_job_read(
@@ -102,8 +102,8 @@ uint32_t proved_argon2_job_finish(
     const proved_argon2_job *job, const proved_argon2_block *last, size_t last_len, uint8_t *out, size_t out_len);
 
 /*
- * Whether hash is the tag, as proved_argon2_verify_raw answers it. The tag is then in tag, which the caller clears;
- * hash_len and tag_len are job->hash_length.
+ * Whether hash is the tag, as proved_argon2_verify_raw returns it. The tag is then in tag, which the caller clears;
+ * hash_len and tag_len must be job->hash_length.
  */
 PROVED_ARGON2_CHECKED PROVED_ARGON2_NONNULL
 uint32_t proved_argon2_job_verify(
@@ -115,23 +115,23 @@ PROVED_ARGON2_CHECKED PROVED_ARGON2_NONNULL
 uint32_t proved_argon2_job_hash_over(
     const proved_argon2_job *job, proved_argon2_block *blocks, size_t blocks_len, uint8_t *out, size_t out_len);
 
-/* Whether hash is the tag of a job, over all its blocks, as proved_argon2_job_verify answers it. */
+/* Whether hash is the tag of a job, over all its blocks, as proved_argon2_job_verify returns it. */
 PROVED_ARGON2_CHECKED PROVED_ARGON2_NONNULL
 uint32_t proved_argon2_job_verify_over(
     const proved_argon2_job *job, proved_argon2_block *blocks, size_t blocks_len,
     const uint8_t *hash, size_t hash_len, uint8_t *tag, size_t tag_len);
 
 /*
- * The bytes of the blocks that a hash with these settings wants, 1024 for each. 0 where none is accepted with them,
- * whatever it is of, and for no settings.
+ * The bytes of the blocks that a hash with these settings needs, 1024 a block. It returns 0 if no call with these
+ * settings is accepted, and for null settings.
  */
 PROVED_ARGON2_CHECKED PROVED_ARGON2_NONNULL
 uint64_t proved_argon2_memory_len(const proved_argon2_settings *settings);
 
 /*
- * Writes the tag of a password as proved_argon2_hash_raw does, over blocks of the caller's, and so is never out of
- * memory. Blocks of another number than the settings want are PROVED_ARGON2_WRONG_BLOCKS, before the length of the
- * buffer.
+ * Writes the tag of a password as proved_argon2_hash_raw does, over caller-provided blocks, and so is never out of
+ * memory. More or fewer blocks than the settings need return PROVED_ARGON2_WRONG_BLOCKS, before the length of the
+ * buffer is checked.
  */
 PROVED_ARGON2_CHECKED PROVED_ARGON2_NONNULL
 uint32_t proved_argon2_hash_over(
@@ -156,8 +156,9 @@ uint32_t proved_argon2_verify_over(
     uint8_t *tag, size_t tag_len);
 
 /*
- * Writes the text of a tag as proved_argon2_hash_encoded does, and judges the settings as it does, but for the lengths
- * of the other inputs. A tag of another length than settings->hash_length is PROVED_ARGON2_WRONG_LENGTH too.
+ * Writes the encoded hash of a given tag as proved_argon2_hash_encoded does, and checks the settings as it does, but
+ * not the lengths of the other inputs. A tag of another length than settings->hash_length returns
+ * PROVED_ARGON2_WRONG_LENGTH too.
  */
 PROVED_ARGON2_CHECKED PROVED_ARGON2_NONNULL
 uint32_t proved_argon2_encode(

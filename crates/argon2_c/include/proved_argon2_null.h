@@ -1,11 +1,12 @@
 /*
  * Null pointers, and blocks that are not aligned: a part of proved_argon2.h, which includes it.
  *
- * What is proved takes no null pointer. Each such call that takes a pointer goes through a function below, which
- * puts the address of a byte that nobody reads in place of a pointer with the length 0, and answers
- * PROVED_ARGON2_NULL_POINTER for any other null pointer, before the library is called. Blocks that are lent at an
- * address that is no multiple of 8 are PROVED_ARGON2_WRONG_BLOCKS next. A program that loads the library without
- * the header has to do the same. The calls that are C themselves see to both.
+ * The proved calls take no null pointer. Each of them that takes a pointer goes through an inline function below, which
+ * passes the address of a byte that nobody reads in place of a pointer with the length 0, and returns
+ * PROVED_ARGON2_NULL_POINTER for any other null pointer, before it calls the library. Then it returns
+ * PROVED_ARGON2_WRONG_BLOCKS for caller-provided blocks at an address that is not a multiple of 8. A program that calls
+ * the symbols without the header (dlsym, ctypes) has to do the same, and never pass a null pointer. The calls that are
+ * C code handle both themselves.
  */
 #ifndef PROVED_ARGON2_NULL_H
 #define PROVED_ARGON2_NULL_H
@@ -46,7 +47,7 @@ static inline int proved_argon2_are_missing(
         || proved_argon2_is_missing(secret, secret_len) || proved_argon2_is_missing(ad, ad_len) || settings == NULL;
 }
 
-/* Without settings there is no text, and so no length. */
+/* Without settings there is no encoded hash, and so no length. */
 PROVED_ARGON2_CHECKED
 static inline uint64_t proved_argon2_nullable_encoded_len(const proved_argon2_settings *settings, uint32_t salt_len)
 {
@@ -105,7 +106,7 @@ static inline uint32_t proved_argon2_nullable_needs_rehash(
     return proved_argon2_needs_rehash(proved_argon2_readable(text, text_len), text_len, settings);
 }
 
-/* The text of a number that nothing proved answers, or null. */
+/* The message of a number that nothing proved returns, or null. */
 static inline const char *proved_argon2_header_message(uint32_t number)
 {
     return number == PROVED_ARGON2_NULL_POINTER ? "A pointer is null"

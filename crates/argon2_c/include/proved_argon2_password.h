@@ -14,7 +14,7 @@
 #include <string.h>
 #include <sys/random.h>
 
-/* Room for a text that proved_argon2_password_hash writes, and for the zero behind it. */
+/* Room for an encoded hash that proved_argon2_password_hash writes, and for the zero behind it. */
 #define PROVED_ARGON2_TEXT_SIZE 128
 
 /* The bytes of a salt (RFC 9106, 3.1). */
@@ -40,7 +40,7 @@ static inline uint8_t *proved_argon2_room(char *text)
 #endif
 }
 
-/* Whether the system gives a salt. */
+/* Whether the system wrote the random bytes of a salt. */
 static inline int proved_argon2_has_salt(uint8_t *salt)
 {
     const int error = errno;
@@ -53,9 +53,9 @@ static inline int proved_argon2_has_salt(uint8_t *salt)
 }
 
 /*
- * Writes the text to keep of a password of length bytes, and zeros behind it, up to PROVED_ARGON2_TEXT_SIZE bytes:
- * the settings are proved_argon2_owasp2's, and the salt is 16 random bytes of the system. The password may hold
- * zero bytes. Where it answers another number than PROVED_ARGON2_OK, text is as it was.
+ * Writes the encoded hash of a password of length bytes, to be stored, and zeros behind it, up to
+ * PROVED_ARGON2_TEXT_SIZE bytes. The settings are proved_argon2_owasp2's, and the salt is 16 random bytes of the
+ * system. The password may contain zero bytes. On an error text is unchanged.
  */
 PROVED_ARGON2_CHECKED
 static inline uint32_t proved_argon2_password_hash(
@@ -75,9 +75,9 @@ static inline uint32_t proved_argon2_password_hash(
 }
 
 /*
- * Whether a stored text, which a zero ends, is that of a password of length bytes: PROVED_ARGON2_OK only where it
- * is, and PROVED_ARGON2_MISMATCH only where it is not. The settings are those of the text, and a text above
- * proved_argon2_default_limits is PROVED_ARGON2_TOO_COSTLY, as with proved_argon2_verify_encoded_within.
+ * Verifies a password of length bytes against an encoded hash, which a zero ends: PROVED_ARGON2_OK only if it matches,
+ * and PROVED_ARGON2_MISMATCH only if it does not. The settings are those of the encoded hash; one above
+ * proved_argon2_default_limits returns PROVED_ARGON2_TOO_COSTLY, as with proved_argon2_verify_encoded_within.
  */
 PROVED_ARGON2_CHECKED
 static inline uint32_t proved_argon2_password_verify(const char *text, const char *password, size_t length)

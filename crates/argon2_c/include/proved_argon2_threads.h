@@ -1,14 +1,15 @@
 /*
- * The calls of proved_argon2.h with options: by several threads or a pool of the caller's, over a memory that is kept,
- * and telling how far they are; and the run of a job. A part of proved_argon2.h, which includes it.
+ * The calls of proved_argon2.h with options: multi-threaded, by the caller's thread pool, in a reusable buffer, or with
+ * a progress callback. The run of a job takes options too. A part of proved_argon2.h, which includes it.
  *
- * These calls are C that is only tested, around what is proved (proved_argon2_jobs.h). Each answers as the one without
- * _with does; where memory is short it is PROVED_ARGON2_OUT_OF_MEMORY, and where the system refuses a thread, the
- * caller's own does its work.
+ * These calls are C code that is tested, not proved, around the proved calls (proved_argon2_jobs.h). Each returns what
+ * the call without _with does. If memory cannot be allocated, it returns PROVED_ARGON2_OUT_OF_MEMORY; if the system
+ * denies a thread, the caller's thread does its work.
  *
- * What a secret went into is not left when a call returns, whatever it answers: the blocks go back to the system, which
- * clears them, or are cleared, and so are H0, a tag that was computed to compare, and the stack that the calls used. A
- * core dump leaves the blocks out while they are there, where they are the call's own and of 2 MiB or more.
+ * Before a call returns, whatever it returns, it clears what depends on secrets: the blocks are overwritten, or
+ * returned to the system, which clears them, and H0, a tag that was computed to compare, and the stack that the calls
+ * used are overwritten. Core dumps exclude the blocks while a call runs, if it allocated them itself and they are 2 MiB
+ * or more.
  */
 #ifndef PROVED_ARGON2_THREADS_H
 #define PROVED_ARGON2_THREADS_H
@@ -20,33 +21,35 @@ extern "C" {
 #endif
 
 /*
- * What runs tasks in place of threads of the call's own: it calls task(arg, i) once for each i below tasks, in any
- * threads, in any order or at the same time, and returns 0 once all have returned. Any other answer, with no task
- * running any more, is PROVED_ARGON2_WORKER_REFUSED, and so is a task that was left out, run twice or not there.
+ * Runs tasks in place of the call's own threads: it calls task(arg, i) once for each i below tasks, in any threads, in
+ * any order or at the same time, and returns 0 once all have returned. If it returns another number, with no task
+ * running any more, the call returns PROVED_ARGON2_WORKER_REFUSED, and so it does if a task was left out, run twice or
+ * does not exist.
  */
 typedef int proved_argon2_run(void *pool, uint32_t tasks, void (*task)(void *arg, uint32_t i), void *arg);
 
 /*
- * What is told how far a call is, in the caller's thread: that done slices of all are filled, from 1 on. Where it
- * answers another number than 0, the call stops with PROVED_ARGON2_STOPPED. It returns, and does not jump.
+ * The progress callback, which the call makes in the caller's thread: done slices of all are filled, from 1 on. If it
+ * returns another number than 0, the call stops and returns PROVED_ARGON2_STOPPED. It must return, and not jump.
  */
 typedef int proved_argon2_tell(void *arg, uint64_t done, uint64_t all);
 
 /* How a call computes. A field that is left out of an initializer is 0, and then the call chooses. */
 typedef struct proved_argon2_options {
     size_t size;            /* sizeof(proved_argon2_options), so that later fields may be added */
-    uint32_t threads;       /* at most so many at once, and at most one a lane, or 16 for a stored text; 0 is 1 */
-    void *memory;           /* of the caller's, at a multiple of 8, and best of 64; or null. It is cleared at the end */
-    size_t memory_len;      /* its bytes: fewer than the settings' blocks are PROVED_ARGON2_OUT_OF_MEMORY */
+    uint32_t threads;       /* the most at once, at most one a lane, and 16 for an encoded hash; 0 is 1 */
+    void *memory;           /* caller-provided, at a multiple of 8, and best of 64; or null. It is cleared at the end */
+    size_t memory_len;      /* its bytes: fewer than the settings need return PROVED_ARGON2_OUT_OF_MEMORY */
     proved_argon2_run *run; /* runs the tasks of a slice, one for each of the threads; or null */
     void *pool;             /* what run is passed */
-    const proved_argon2_limits *limits; /* of a stored text, which is PROVED_ARGON2_TOO_COSTLY above them; or null */
-    proved_argon2_tell *tell; /* is told how far the call is, and can stop it; or null */
+    const proved_argon2_limits *limits; /* of an encoded hash, PROVED_ARGON2_TOO_COSTLY above them; or null */
+    proved_argon2_tell *tell; /* the progress callback, which can stop the call; or null */
     void *arg;                /* what tell is passed */
 } proved_argon2_options;
 
 #define PROVED_ARGON2_OPTIONS {sizeof(proved_argon2_options), 0, NULL, 0, NULL, NULL, NULL, NULL, NULL}
 
+/* proved_argon2_hash_raw with options. */
 PROVED_ARGON2_CHECKED
 uint32_t proved_argon2_hash_raw_with(
     const proved_argon2_options *options,
@@ -57,6 +60,7 @@ uint32_t proved_argon2_hash_raw_with(
     const proved_argon2_settings *settings,
     uint8_t *out, size_t out_len);
 
+/* proved_argon2_hash_encoded with options. */
 PROVED_ARGON2_CHECKED
 uint32_t proved_argon2_hash_encoded_with(
     const proved_argon2_options *options,
@@ -67,6 +71,7 @@ uint32_t proved_argon2_hash_encoded_with(
     const proved_argon2_settings *settings,
     uint8_t *text, size_t text_len);
 
+/* proved_argon2_verify_raw with options. */
 PROVED_ARGON2_CHECKED
 uint32_t proved_argon2_verify_raw_with(
     const proved_argon2_options *options,
@@ -77,6 +82,7 @@ uint32_t proved_argon2_verify_raw_with(
     const proved_argon2_settings *settings,
     const uint8_t *hash, size_t hash_len);
 
+/* proved_argon2_verify_encoded with options, limits among them. */
 PROVED_ARGON2_CHECKED
 uint32_t proved_argon2_verify_encoded_with(
     const proved_argon2_options *options,
@@ -86,27 +92,27 @@ uint32_t proved_argon2_verify_encoded_with(
     const uint8_t *ad, size_t ad_len);
 
 /*
- * Writes the tag of a job, which proved_argon2_job_make or proved_argon2_job_read made: once it is there, the password
- * can be cleared, before the memory is filled. tag_len is job->hash_length. The job is the caller's to clear.
+ * Writes the tag of a job, which proved_argon2_job_make or proved_argon2_job_read made: once the job exists, the
+ * password can be cleared, before the memory is filled. tag_len must be job->hash_length. The caller clears the job.
  */
 PROVED_ARGON2_CHECKED
 uint32_t proved_argon2_job_run(
     const proved_argon2_options *options, const proved_argon2_job *job, uint8_t *tag, size_t tag_len);
 
-/* Whether hash is the tag of a job, as proved_argon2_verify_raw answers it. hash_len is job->hash_length. */
+/* Whether hash is the tag of a job, as proved_argon2_verify_raw returns it. hash_len must be job->hash_length. */
 PROVED_ARGON2_CHECKED
 uint32_t proved_argon2_job_run_verify(
     const proved_argon2_options *options, const proved_argon2_job *job, const uint8_t *hash, size_t hash_len);
 
 /*
- * A memory to keep, as options.memory and options.memory_len, which fits the settings and all that want less: in huge
- * pages where the system has them, and in no core dump, where it is 2 MiB or more. The settings are judged as
- * proved_argon2_hash_raw judges them. Use it for one call at a time.
+ * Allocates a reusable buffer, for options.memory and options.memory_len, which fits the settings and all that need
+ * less. If it is 2 MiB or more, it uses huge pages where the system has them, and is in no core dump. The settings are
+ * checked as by proved_argon2_hash_raw. Use it for one call at a time.
  */
 PROVED_ARGON2_CHECKED
 uint32_t proved_argon2_memory_new(const proved_argon2_settings *settings, void **memory, size_t *memory_len);
 
-/* Clears a memory that proved_argon2_memory_new made, and gives it back. A null pointer is none. */
+/* Clears and frees a buffer of proved_argon2_memory_new. A null pointer does nothing. */
 void proved_argon2_memory_free(void *memory, size_t memory_len);
 
 #ifdef __cplusplus
