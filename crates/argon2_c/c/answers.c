@@ -1,6 +1,6 @@
 /*
- * The answers of the calls by the inputs of RFC 9106, section 5, and over texts of rust-argon2's tests; each
- * refusal by its number, with what the caller passed left as it was.
+ * What the calls return for the inputs of RFC 9106, section 5, and for encoded hashes of rust-argon2's tests; each
+ * error by its number, with the outputs unchanged.
  */
 #include "checks.h"
 

@@ -1,5 +1,5 @@
-/* What docs/C.md shows: a text is made of a password, and the password verifies; the same in a call each; and a password
- * that is cleared before the memory is filled, over a memory that is kept. */
+/* What docs/C.md shows: a password is hashed to a PHC string and verified; the same in a call each; and a password that
+ * is cleared before the memory is filled, in a reusable buffer. */
 #include "proved_argon2.h"
 
 #include <string.h>

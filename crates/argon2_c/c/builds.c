@@ -1,6 +1,7 @@
 /*
- * Which build the library takes: the newest that the processor has, as the compiler's own look at it says, or the one that
- * the environment names; or none, and then each call is refused. Each choice is made in a process of its own.
+ * Which build the library takes: the newest that the processor has, as the compiler's own look at it says, or the one
+ * that the environment names; or none, and then each call returns an error. Each choice is made in a process of its
+ * own.
  *
  *     builds             the checks
  *     builds --name      says the number of the build that is taken
@@ -17,7 +18,7 @@ enum { THREADS = 8 };
 
 static const char variable[] = "PROVED_ARGON2_CPU";
 
-/* Whether a hash is an outside tag, or is refused where there is no build. */
+/* Whether a hash is an outside tag, or an error where there is no build. */
 static bool hashes(int build)
 {
     const proved_argon2_settings settings = {PROVED_ARGON2_D, PROVED_ARGON2_VERSION_13, 256, 2, 2, 32};

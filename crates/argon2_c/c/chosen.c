@@ -1,4 +1,4 @@
-/* Says what a hash of an outside vector answers here: `0 TAG`, or the number and the words of its error. */
+/* Prints what a hash of an outside vector returns here: `0 TAG`, or the number and the message of its error. */
 #include "proved_argon2.h"
 
 #include <stdio.h>

@@ -1,7 +1,7 @@
 /*
- * Hashes a password, writes, reads and verifies its text, meets a wrong password and a refusal. It exits
- * with 1 where an answer is not the one that another implementation gave: the tag is an answer of
- * libargon2 (Debian's libargon2-dev 0~20171227-0.3+deb12u1). c/run builds and runs it.
+ * Hashes a password, encodes and verifies its hash, meets a wrong password and an error. It exits with 1 if a
+ * result differs from that of another implementation: the tag is what libargon2 returns (Debian's libargon2-dev
+ * 0~20171227-0.3+deb12u1). c/run builds and runs it.
  */
 #include "proved_argon2.h"
 
@@ -27,7 +27,7 @@ static const uint8_t expected_tag[24] = {
 static const char expected_text[] =
     "$argon2id$v=19$m=64,t=3,p=4$AgICAgICAgICAgICAgICAg$sAU4m83VOu+55GrqMQTgpHHg3m5vYMuy";
 
-/* A text of rust-argon2's tests, of the password `password`, with no secret and no associated data. */
+/* An encoded hash of rust-argon2's tests, of the password `password`, with no secret and no associated data. */
 static const char stored_text[] =
     "$argon2id$v=19$m=256,t=2,p=16$c29tZXNhbHQ$0gasyPnKXiBHQ5bft/bd4jrmy2DdtrLTX3JR9co7fRY";
 
@@ -46,8 +46,8 @@ static void expect(bool holds, const char *what)
     }
 }
 
-/* Verifies a text that may come from anybody: no more than 64 MiB, 10 passes and 16 lanes, and the work of 64 MiB in
- * three passes. */
+/* Verifies an encoded hash that may come from anybody: at most 64 MiB, 10 passes and 16 lanes, and the work of 64 MiB
+ * in three passes. */
 static uint32_t verify(const char *text, const char *guess)
 {
     const proved_argon2_limits limits = {.mem_cost = 65536, .time_cost = 10, .lanes = 16, .work = 196608};
@@ -73,18 +73,18 @@ static void show_text(void)
 {
     uint64_t len = proved_argon2_encoded_len(&settings, sizeof salt);
     char *text = malloc(len + 1);
-    expect(text != NULL, "memory for the text");
+    expect(text != NULL, "memory for the encoded hash");
     uint32_t code = proved_argon2_hash_encoded(password, sizeof password, salt, sizeof salt, secret, sizeof secret, ad,
                                                sizeof ad, &settings, (uint8_t *)text, len + 1);
-    expect(code == PROVED_ARGON2_OK && strcmp(text, expected_text) == 0, "the text has that tag and that salt");
+    expect(code == PROVED_ARGON2_OK && strcmp(text, expected_text) == 0, "the encoded hash has that tag and that salt");
     code = proved_argon2_verify_encoded(bytes(text), strlen(text), password, sizeof password, secret, sizeof secret, ad,
                                         sizeof ad);
-    expect(code == PROVED_ARGON2_OK, "the text verifies");
+    expect(code == PROVED_ARGON2_OK, "the encoded hash verifies");
     code = proved_argon2_needs_rehash(bytes(text), strlen(text), &settings);
-    expect(code == PROVED_ARGON2_OK, "the text has these settings");
+    expect(code == PROVED_ARGON2_OK, "the encoded hash has these settings");
     const proved_argon2_settings recommended = proved_argon2_owasp2();
     code = proved_argon2_needs_rehash(bytes(text), strlen(text), &recommended);
-    expect(code == PROVED_ARGON2_NEEDS_REHASH, "the text has other settings than OWASP's second");
+    expect(code == PROVED_ARGON2_NEEDS_REHASH, "the encoded hash has other settings than OWASP's second");
     free(text);
 }
 
@@ -93,12 +93,12 @@ static void show_refusals(void)
     uint8_t tag[sizeof expected_tag], message[PROVED_ARGON2_MESSAGE_SIZE];
     uint32_t code = proved_argon2_hash_raw(password, sizeof password, salt, 7, NULL, 0, NULL, 0, &settings, tag,
                                            sizeof tag);
-    expect(code == PROVED_ARGON2_SALT_TOO_SHORT, "a salt of 7 bytes is refused");
+    expect(code == PROVED_ARGON2_SALT_TOO_SHORT, "a salt of 7 bytes is an error");
     expect(proved_argon2_message(code, message, sizeof message) == PROVED_ARGON2_OK &&
                strcmp((const char *)message, "Salt is too short") == 0,
-           "the refusal says so");
+           "the message of the error says so");
     code = proved_argon2_hash_raw(password, sizeof password, salt, sizeof salt, NULL, 0, NULL, 0, &settings, tag, 16);
-    expect(code == PROVED_ARGON2_WRONG_LENGTH, "a buffer of 16 bytes is refused");
+    expect(code == PROVED_ARGON2_WRONG_LENGTH, "a buffer of 16 bytes is an error");
 }
 
 int main(void)
@@ -112,7 +112,7 @@ int main(void)
     expect(verify(stored_text, "password") == PROVED_ARGON2_OK, "the right password matches");
     expect(verify(stored_text, "Password") == PROVED_ARGON2_MISMATCH, "a wrong password does not match");
     expect(verify("$argon2id$v=19$m=4294967295,t=1,p=1$c29tZXNhbHQ$c29tZWhhc2g", "password") == PROVED_ARGON2_TOO_COSTLY,
-           "a text that asks for 4 TiB is too costly");
+           "an encoded hash of 4 TiB is too costly");
     show_refusals();
     return EXIT_SUCCESS;
 }

@@ -1,7 +1,7 @@
 """Hashes and verifies passwords by the shared object that c/run makes: example.py FILE.
 
-It exits with 1 where an answer is not the one that another implementation gave: the tags are answers of
-libargon2 (Debian's libargon2-dev 0~20171227-0.3+deb12u1). c/run runs it.
+It exits with 1 if a result differs from that of another implementation: the tags are what libargon2 returns
+(Debian's libargon2-dev 0~20171227-0.3+deb12u1). c/run runs it.
 """
 import ctypes
 import sys
@@ -28,8 +28,8 @@ class Stored(ctypes.Structure):
     _fields_ = [("settings", Settings), ("salt_length", ctypes.c_uint32)]
 
 
-class Refused(Exception):
-    """A call was refused, with the number of the refusal."""
+class Failed(Exception):
+    """A call failed, with the number of the error."""
 
     def __init__(self, number, text):
         super().__init__(text)
@@ -59,15 +59,15 @@ class Argon2:
             setattr(self, f"_{name}", call)
 
     def message(self, number):
-        """The text of a refusal."""
+        """The message of an error."""
         text = ctypes.create_string_buffer(MESSAGE_SIZE)
         if self._message(number, text, MESSAGE_SIZE) != OK:
-            return f"Refusal {number}"
+            return f"Error {number}"
         return text.value.decode()
 
     def _checked(self, code):
         if code != OK:
-            raise Refused(code, self.message(code))
+            raise Failed(code, self.message(code))
 
     def hash_raw(self, password, salt, settings, secret=b"", ad=b""):
         """The tag of a password."""
@@ -76,14 +76,14 @@ class Argon2:
         return tag.raw
 
     def hash_encoded(self, password, salt, settings, secret=b"", ad=b""):
-        """The text of a password's hash."""
+        """The encoded hash of a password."""
         size = self._encoded_len(settings, len(salt)) + 1
         text = ctypes.create_string_buffer(size)
         self._checked(self._hash_encoded(*_slices(password, salt, secret, ad), settings, text, size))
         return text.value.decode()
 
     def verify_encoded(self, text, password, secret=b"", ad=b""):
-        """Whether a stored text is the hash of a password."""
+        """Verifies a password against an encoded hash."""
         code = self._verify_encoded(*_slices(text.encode(), password, secret, ad))
         if code == MISMATCH:
             return False
@@ -91,13 +91,13 @@ class Argon2:
         return True
 
     def read(self, text):
-        """What a stored text spells."""
+        """What an encoded hash decodes to."""
         stored = Stored()
         self._checked(self._read(*_slices(text.encode()), stored))
         return stored
 
     def needs_rehash(self, text, settings):
-        """Whether a stored text was made with other settings."""
+        """Whether an encoded hash was made with other settings."""
         code = self._needs_rehash(*_slices(text.encode()), settings)
         if code == NEEDS_REHASH:
             return True
@@ -132,21 +132,21 @@ def main():
         expect(hashed.hex() == tag, f"the tag of {variant} is libargon2's")
 
     text = argon2.hash_encoded(password, salt, settings, secret, ad)
-    expect(argon2.verify_encoded(text, password, secret, ad), "the text verifies")
+    expect(argon2.verify_encoded(text, password, secret, ad), "the encoded hash verifies")
     expect(not argon2.verify_encoded(text, password, ad, secret), "with the secret and the associated data swapped it does not match")
     read = argon2.read(text)
     numbers = [getattr(read.settings, name) for name, _ in Settings._fields_] + [read.salt_length]
-    expect(numbers == [2, 0x13, 64, 3, 4, 24, 16], "the text is read")
-    expect(not argon2.needs_rehash(text, settings), "the text has these settings")
-    expect(argon2.needs_rehash(text, argon2.recommended()), "the text has other settings than OWASP's second")
+    expect(numbers == [2, 0x13, 64, 3, 4, 24, 16], "the encoded hash is decoded")
+    expect(not argon2.needs_rehash(text, settings), "the encoded hash has these settings")
+    expect(argon2.needs_rehash(text, argon2.recommended()), "the encoded hash has other settings than OWASP's second")
     stored = "$argon2d$m=256,t=2,p=1$c29tZXNhbHQ$vUBIaP8AxS51Q8gzLmp3KlckiS1+Mo1c8lO7yOcms3E"
     expect(argon2.verify_encoded(stored, b"password"), "the right password matches")
     expect(not argon2.verify_encoded(stored, b"Password"), "a wrong password does not match")
     try:
         argon2.verify_encoded("$argon2id$", password)
-        expect(False, "what is no text is refused")
-    except Refused as refused:
-        expect((refused.number, str(refused)) == (19, "Decoding failed"), "what is no text is refused")
+        expect(False, "a string that decodes to no hash is an error")
+    except Failed as failed:
+        expect((failed.number, str(failed)) == (19, "Decoding failed"), "a string that decodes to no hash is an error")
 
 
 main()

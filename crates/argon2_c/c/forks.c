@@ -1,6 +1,6 @@
 /*
- * The forked children of a process with threads, over a memory that the parent keeps: while two threads hash, the
- * parent forks one child after another, and each child hashes over its own copy of the memory, as the parent does.
+ * The forked children of a process with threads, in a reusable buffer of the parent: while two threads hash, the parent
+ * forks one child after another, and each child hashes in its own copy of the buffer, as the parent does.
  */
 #include "checks.h"
 
@@ -16,7 +16,7 @@ static const char expected[] = "89e9029f4637b295beb027056a7336c414fadd43f6b20864
 static atomic_bool ends;
 static atomic_uint hashed;
 
-/* Options with a memory that is kept. */
+/* Options with a reusable buffer. */
 static proved_argon2_options with_memory(void)
 {
     proved_argon2_options with = PROVED_ARGON2_OPTIONS;

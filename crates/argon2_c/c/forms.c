@@ -1,9 +1,9 @@
 /*
- * The forms of libargon2's tests, over a few lines that give its two calls the library's: hashes and their texts, texts
- * that are no hash's, and what is refused by a number of its own. libargon2 itself is asked the same beside it, so that
- * the table and the numbers stand for what its users have.
+ * The forms of libargon2's tests, over a few lines that implement its two calls by the library's: tags, encoded hashes,
+ * strings that decode to no hash, and errors with a number of their own. libargon2 itself is asked the same beside it,
+ * so that the table and the numbers stand for what its users have.
  *
- * The tags and texts are answers of libargon2 (Debian's libargon2-dev 0~20171227-0.3+deb12u1).
+ * The tags and encoded hashes are what libargon2 returns (Debian's libargon2-dev 0~20171227-0.3+deb12u1).
  */
 #include "checks.h"
 

@@ -1,6 +1,6 @@
 /*
- * One call of the header, CALL, with its answer looked at or, with IGNORED, not: that must not compile. With PLAIN it
- * is the library's own function and not the inline one.
+ * One call of the header, CALL, with its result used or, with IGNORED, ignored: that must not compile. With PLAIN it is
+ * the library's own function and not the inline one.
  */
 #ifdef PLAIN
 #include "plain.h"

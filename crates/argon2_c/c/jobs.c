@@ -1,6 +1,6 @@
 /*
- * The steps of a hash over blocks that are lent: tags by lanes in two orders, and the job of a stored text. unfit.c has
- * the numbers, lengths and addresses that do not fit a job.
+ * The steps of a hash over caller-provided blocks: tags by lanes in two orders, and the job of an encoded hash. unfit.c
+ * has the numbers, lengths and addresses that do not fit a job.
  *
  * The tags are those of RFC 9106, section 5, and of the tests of the C reference implementation.
  */
@@ -15,7 +15,7 @@ static const char stored[] = "$argon2i$v=19$m=256,t=2,p=2$c29tZXNhbHQ$T/XOJ2mh1/
 enum { MOST = 256 };
 static proved_argon2_block blocks[MOST];
 
-/* The answer of a step for a lane; step 0 begins it, and step n + 1 fills its segment of slice number n. */
+/* What a step returns for a lane; step 0 begins it, and step n + 1 fills its segment of slice number n. */
 static uint32_t take_step(const proved_argon2_job *job, uint32_t n, uint32_t lane)
 {
     const size_t length = job->segment_length, whole = job->lanes * length;

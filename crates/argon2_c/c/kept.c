@@ -1,6 +1,6 @@
 /*
- * A memory that is kept: how large it is and where, that calls over it ask for no blocks, and that it is given back.
- * It is linked with --wrap for what it counts and refuses.
+ * A reusable buffer: how large it is and where, that calls in it allocate no blocks, and that it is freed. It is linked
+ * with --wrap for what it counts and denies.
  */
 #include "calls.h"
 #include "system.h"

@@ -1,6 +1,6 @@
 /*
- * What the calls that are proved leave of secrets in what the caller lends them, who clears it, and what they overwrite:
- * SECURITY.md says so. Each call is made in a child, which has none of it before. left.c has the driver's calls; c/run compares the
+ * What the proved calls leave of secrets in caller-provided memory, who clears it, and what they overwrite: SECURITY.md
+ * says so. Each call is made in a child, which has none of it before. left.c has the driver's calls; c/run compares the
  * calls that are named in both with those of the headers, and runs this over a library that overwrites nothing, where
  * each check of that has to fail. It is linked with --wrap for what it looks at.
  */

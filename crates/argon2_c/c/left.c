@@ -1,7 +1,7 @@
 /*
- * What the calls that hash or verify leave of secrets: nothing but what SECURITY.md names, whatever they answer. What
- * is given to free is looked through, and after a call the vector registers and all memory of the process that can be
- * written. leaves.c has the calls that are proved. It is linked with --wrap for what it looks at and refuses.
+ * What the calls that hash or verify leave of secrets: nothing but what SECURITY.md names, whatever they return. What
+ * is passed to free is searched, and after a call the vector registers and all memory of the process that can be
+ * written. leaves.c has the calls that are proved. It is linked with --wrap for what it looks at and denies.
  *
  *     left            all checks
  *     left unwiped    what is left where nothing is cleared: each call has to fail

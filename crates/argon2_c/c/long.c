@@ -1,6 +1,6 @@
 /*
- * Lengths of 2^32 bytes and more, which no 32 bits hold: each is refused by name, and nothing behind its pointer is read
- * or written.
+ * Lengths of 2^32 bytes and more, which no 32 bits hold: each is an error of its own, and nothing behind its pointer is
+ * read or written.
  *
  *     long             lengths that are refused
  *     long whole       the longest tag, of 2^32 - 1 bytes, beside libargon2's: it takes 9 GiB, so it is run alone

@@ -1,13 +1,13 @@
 /*
- * Memory: what each call asks for, that each of its requests may be refused, that no more is held than the blocks and a
- * little, and that all is given back. It is linked with --wrap for what it counts and refuses.
+ * Memory: what each call allocates, that each allocation may fail, that no more is held than the blocks and a little,
+ * and that all is freed. It is linked with --wrap for what it counts and denies.
  */
 #include "calls.h"
 #include "system.h"
 
 enum { TAG = 32, SMALL = 256, LARGE = 3072 };
 
-/* What a call may write to, which a refusal leaves as it was. */
+/* What a call may write to, which an error leaves unchanged. */
 static uint8_t buffer[256], before[256];
 
 /* The call, of so many KiB by 4 lanes, its tag, its text and its job. */

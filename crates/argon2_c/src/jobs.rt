@@ -1,4 +1,4 @@
-//! A job as C keeps it: H0 and the numbers that the blocks and the tag depend on.
+//! A job as C stores it: H0 and the numbers that the blocks and the tag depend on.
 
 ghost use Rattle.std.specs.Prelude.{◌≡◌, ◌*◌, ℕ, List, MatchResult, None, Some};
 ghost use Rattle.argon2.specs.ConfigType.{Config};

@@ -57,8 +57,8 @@ impl Settings {
         })
     }
 
-    /// How many bytes the blocks of a hash with these settings have, or 0 where no call with them is
-    /// accepted. No length of an input is judged.
+    /// How many bytes the blocks of a hash with these settings have, or 0 where no call with them
+    /// is accepted. The lengths of the inputs are not checked.
     pub fn memory_len(&self) -> u64
         ensures { (secret ad : Bor (List ℕ)) → secret.now ≡ [] → ad.now ≡ []
             → result ≡ memory_len_of (config_of self.now secret ad) }

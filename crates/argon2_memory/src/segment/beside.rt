@@ -131,7 +131,7 @@ pub(super) fn beside_segments<'a>(
     }
 }
 
-/// The slices beside the job's, in rising order, each lent lane after lane.
+/// The slices beside the job's, in rising order, each caller-provided, lane after lane.
 pub(super) fn beside_blocks<'a>(job: Job, others: [&'a [Block]; 3]) -> Beside<[&'a [Block]; 4]>
     requires { IsBeside (record { job = job; others = lent_slices job.setting others }) }
     ensures { result ≡ record { job = job; others = lent_slices job.setting others.entry } }
