@@ -64,6 +64,7 @@ const VERIFYING = [
     ['TooCostly', stringOf(1048576, 5, 1)],
     ['TooCostly', stringOf(0, 11, 1)],
     ['LanesTooMany', stringOf(MOST, 1, 0x1000000), { limits: null }],
+    ['LanesTooMany', stringOf(MOST, MOST, 0x1000000), { limits: null }],
     ['MemoryTooLittle', stringOf(7, 1, 1)],
     ['TypeError', 5],
     ['TypeError', new TextEncoder().encode(KEPT)],
@@ -71,6 +72,8 @@ const VERIFYING = [
     ['TypeError', KEPT, { limits: { memory: 5 } }],
     ['TypeError', KEPT, { limits: { memoryCost: '256' } }],
     ['RangeError', KEPT, { limits: { work: -1 } }],
+    ['RangeError', KEPT, { limits: { work: 2 ** 53 } }],
+    ['DecodingFail', '', { limits: { work: 2 ** 53 - 1 } }],
 ];
 
 const PASSWORDS = [5, null, undefined, {}, ['password'], true, 'half a pair \ud800', '\udc00'];
