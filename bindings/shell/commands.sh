@@ -6,9 +6,10 @@
 #     help        the file help.txt, in which NAME is replaced by that name
 #     prepare     a function that makes a program ready, argon2_program or argon2_tool, and sets `program` to its file
 #
-# The words `--help` and `--version` are answered here. `new`, `check` and `tune` are done by argon2_tool: it gets the
-# salt and the settings from here, or a text that is read from a descriptor. All other words go to argon2_program as they
-# are, with its standard streams and its exit status. On a terminal a password is asked for without an echo. Where either says `usage` or `Decoding failed`, a line on standard error may be added, which names what looks wrong.
+# `--help` and `--version` are done here. argon2_tool does `new`, `check` and `tune`: it gets the salt and the settings
+# from here, or an encoded hash that is read from a descriptor. All other arguments go to argon2_program as they are, with
+# its standard streams and its exit status. On a terminal a password is asked for without an echo. If either program
+# prints `usage` or `Decoding failed`, a line on standard error may be added, which names what looks wrong.
 # shellcheck shell=sh disable=SC2154
 
 newline='
@@ -48,7 +49,7 @@ main() {
     case $#:${1-} in
     1:--version | 1:-V) printf 'proved-argon2 %s\n' "$version" || exit 4 ;;
     1:new)
-        # The settings are words, to be split.
+        # The settings are arguments, to be split.
         # shellcheck disable=SC2086
         new_text $owasp_settings
         ;;
@@ -60,7 +61,7 @@ main() {
     esac
 }
 
-# `--help`, alone or behind one of the words.
+# `--help`, alone or behind one of the commands.
 asks_for_help() {
     case $#:${1-} in
     1:--help | 1:-h | 1:help) return ;;
@@ -79,8 +80,8 @@ fail() {
     exit "$1"
 }
 
-# Runs a program in place of this shell, so that signals reach it: `run_program NAME WORD..`. Where it may refuse the
-# words themselves, the shell stays and says which of them looks wrong.
+# Runs a program in place of this shell, so that signals reach it: `run_program NAME ARGUMENT..`. If it may reject the
+# arguments themselves, the shell stays and says which of them looks wrong.
 run_program() {
     make_ready "$1"
     shift
@@ -140,22 +141,22 @@ refuse_processor() {
 /proc/cpuinfo"
 }
 
-# Ends with the status of the program, which had these words: `end_with STATUS WORD..`.
+# Ends with the status of the program, which had these arguments: `end_with STATUS ARGUMENT..`.
 end_with() {
     status=$1
     shift
     case $status:${1-} in
     2:verify | 2:check) hint_at_text "$2" ;;
     2:rehash) hint_at_text "$8" ;;
-    5:new) add 'such settings make a text that check does not take: it may ask for at most 2 GiB, 10 passes, 16 lanes and the work of 4 GiB in one pass' ;;
+    5:new) add 'check rejects hashes with such settings: it takes at most 2 GiB, 10 passes, 16 lanes and the work of 4 GiB in one pass' ;;
     3:*) name_wrong_word "$@" ;;
     esac
     exit "$status"
 }
 
-# ---- words that look wrong
+# ---- arguments that look wrong
 
-# Whether words look like a command of the program. Only the program decides whether they are one.
+# Whether arguments look like a command of the program. Only the program decides whether they are one.
 looks_right() {
     case $#:${1-} in
     9:hash) looks_like_settings "$@" && looks_like_mode "$8" && is_plain "$9" ;;
@@ -165,7 +166,7 @@ looks_right() {
     esac
 }
 
-# Whether the words after the first look like `VARIANT VERSION T M P LEN`.
+# Whether the arguments after the first look like `VARIANT VERSION T M P LEN`.
 looks_like_settings() {
     is_variant "$2" && is_version "$3" && looks_like_number "$4" && looks_like_number "$5" \
         && looks_like_number "$6" && looks_like_number "$7"
@@ -185,7 +186,7 @@ is_version() {
     esac
 }
 
-# Whether a word is a number of at most nine digits. The program takes some longer ones too.
+# Whether an argument is a number of at most nine digits. The program takes some longer ones too.
 looks_like_number() {
     case $1 in
     '' | *[!0-9]* | ??????????*) return 1 ;;
@@ -200,7 +201,7 @@ looks_like_mode() {
     esac
 }
 
-# Whether a word has letters, digits and the signs of base64 and of texts alone. Other words may be no UTF-8.
+# Whether an argument has letters, digits and the signs of base64 and of PHC strings alone. Others may not be UTF-8.
 is_plain() {
     case $1 in
     *[!A-Za-z0-9+/=,.:_\$-]*) return 1 ;;
@@ -219,37 +220,37 @@ add() {
     printf '%s: %s\n' "$name" "$1" >&2
 }
 
-# Names the first word of a command that looks wrong, where the program has said `usage`.
+# Names the first argument of a command that looks wrong, where the program has printed `usage`.
 name_wrong_word() {
     case ${1-} in
-    new) name_wrong_setting 7 8 'SETTINGS, or no word' "$@" ;;
+    new) name_wrong_setting 7 8 'SETTINGS, or none' "$@" ;;
     hash) name_wrong_setting 8 9 'SETTINGS SALT' "$@" ;;
     rehash) name_wrong_setting 7 8 'VARIANT VERSION T M P LEN TEXT' "$@" ;;
     verify | check)
         if [ $# = 2 ]; then
-            add 'the text is not UTF-8'
+            add 'the encoded hash is not UTF-8'
         else
-            add "$1 takes one word, the text, and here are $(($# - 1))"
+            add "$1 takes one argument, the encoded hash, and here are $(($# - 1))"
         fi
         ;;
     tune) name_wrong_bound "$@" ;;
-    -h | --help | help | -V | --version) add "$1 takes no word, and here are $(($# - 1))" ;;
-    '') add 'there is no word' ;;
-    *) add "there is no word '$1'" ;;
+    -h | --help | help | -V | --version) add "$1 takes no argument, and here are $(($# - 1))" ;;
+    '') add 'there is no command' ;;
+    *) add "there is no command '$1'" ;;
     esac
-    add "what the words are: $name --help"
+    add "see $name --help"
 }
 
-# `name_wrong_setting WORDS COUNT FORM WORD..`
+# `name_wrong_setting ARGUMENTS COUNT FORM ARGUMENT..`
 name_wrong_setting() {
     words=$1 count=$2 form=$3
     shift 3
     if [ $# != "$count" ]; then
-        add "$1 takes the $words words $form, and here are $(($# - 1))"
+        add "$1 takes the $words arguments $form, and here are $(($# - 1))"
     elif ! is_variant "$2"; then
-        add "'$2' is no variant: argon2id, argon2i or argon2d"
+        add "'$2' is not a variant: argon2id, argon2i or argon2d"
     elif ! is_version "$3"; then
-        add "'$3' is no version: 19 or 16"
+        add "'$3' is not a version: 19 or 16"
     else
         name_wrong_number "$@"
     fi
@@ -259,14 +260,14 @@ name_wrong_number() {
     for place in 4 5 6 7; do
         eval "number=\${$place}"
         case ${number#+} in
-        '' | *[!0-9]*) add "'$number' is no number, of digits alone" && return ;;
+        '' | *[!0-9]*) add "'$number' is not a number of digits alone" && return ;;
         esac
         is_below_2_to_32 "${number#+}" || { add "'$number' is too large: the greatest number is 4294967295" && return; }
     done
     if [ "$1" = rehash ]; then
-        add 'the text is not UTF-8'
+        add 'the encoded hash is not UTF-8'
     elif ! looks_like_mode "$8"; then
-        add "'$8' is no mode: seq, par, or max and a number, as max4"
+        add "'$8' is not a mode: seq, par, or max and a number, as max4"
     else
         add 'the salt is not UTF-8'
     fi
@@ -280,24 +281,24 @@ is_below_2_to_32() {
 
 name_wrong_bound() {
     if [ $# -gt 3 ] || [ $# -lt 2 ]; then
-        add "tune takes MILLISECONDS, or MILLISECONDS KIB, and here are $(($# - 1)) words"
+        add "tune takes MILLISECONDS, or MILLISECONDS KIB, and here are $(($# - 1)) arguments"
     elif ! is_number "$2"; then
-        add "'$2' is no number of milliseconds, of digits alone"
+        add "'$2' is not a number of milliseconds, of digits alone"
     else
-        add "'$3' is no number of KiB, of digits alone"
+        add "'$3' is not a number of KiB, of digits alone"
     fi
 }
 
-# Says what a refused text looks like, where it is no text of Argon2: `hint_at_text TEXT`.
+# Says what a string looks like that does not decode and is no hash of Argon2: `hint_at_text TEXT`.
 hint_at_text() {
     case $1 in
     [\$][Aa]rgon2*) ;;
-    [\$]2[abxy][\$]*) add 'the text looks like one of bcrypt, not of Argon2' ;;
-    [\$][1567y][\$]*) add 'the text looks like one of crypt(3), not of Argon2' ;;
-    [\$]scrypt[\$]* | [\$]pbkdf2*) add 'the text looks like one of another function, not of Argon2' ;;
-    \{*\}[\$][Aa]rgon2*) add 'the text has a scheme in braces in front: leave it out' ;;
-    argon2[\$]argon2*) add "the text looks like one of Django: leave out 'argon2' in front of the first \$" ;;
-    *) add "the text does not begin with \$argon2: put single quotes around it, since a shell replaces each \$.." ;;
+    [\$]2[abxy][\$]*) add 'this looks like a hash of bcrypt, not of Argon2' ;;
+    [\$][1567y][\$]*) add 'this looks like a hash of crypt(3), not of Argon2' ;;
+    [\$]scrypt[\$]* | [\$]pbkdf2*) add 'this looks like a hash of another function, not of Argon2' ;;
+    \{*\}[\$][Aa]rgon2*) add 'the encoded hash has a scheme in braces in front: remove it' ;;
+    argon2[\$]argon2*) add "this looks like a hash of Django: remove 'argon2' in front of the first \$" ;;
+    *) add "the encoded hash does not begin with \$argon2: put single quotes around it, since a shell expands each \$.." ;;
     esac
 }
 
@@ -332,7 +333,7 @@ new_salt() {
 }
 
 # Passes standard input on, and says on standard error where it ends with a newline, which `echo` adds. Where it
-# cannot be read to its end, this shell is told to end, so that no text of a part is printed.
+# cannot be read to its end, this shell is told to end, so that no hash of a part is printed.
 watch_for_newline() {
     { pass_on 3>&1 | tell_of_newline; } 4>&1
 }
@@ -348,7 +349,7 @@ tell_of_newline() {
     [ "$(tail -c 1 | od -An -tx1)" != ' 0a' ] || add 'the password ends with a newline, as echo adds one: use printf'
 }
 
-# Prints the text of a password: `new_text VARIANT VERSION T M P LEN MODE`. The password is typed twice, or it
+# Prints the encoded hash of a password: `new_text VARIANT VERSION T M P LEN MODE`. The password is typed twice, or it
 # is all of standard input where that is no terminal.
 new_text() {
     make_ready argon2_tool
@@ -356,8 +357,8 @@ new_text() {
     if [ -t 0 ]; then
         ask 'Password: '
         password=$answer
-        ask 'The same once more: '
-        [ "$password" = "$answer" ] || fail 1 'the two are not the same'
+        ask 'Password again: '
+        [ "$password" = "$answer" ] || fail 1 'the two passwords are not the same'
         lines=$(printf '%s' "$password" | call new "$@" "$salt") || end_with "$?" new "$@"
     else
         [ -e /dev/fd/0 ] || fail 4 'there is no input'
@@ -370,7 +371,7 @@ new_text() {
     printf '%s\n' "$text" || exit 4
 }
 
-# Ends if a text is that of the empty password. That password comes from a command that failed, as in
+# Ends if an encoded hash is that of the empty password. That password comes from a command that failed, as in
 # `failing | proved-argon2 new`, and would let in anyone who types nothing.
 refuse_empty_password() {
     call check "$1" </dev/null >/dev/null
@@ -381,12 +382,12 @@ refuse_empty_password() {
     esac
 }
 
-# Whether a password is that of a text, with the tool's lines and statuses: `check TEXT`.
+# Whether a password matches an encoded hash, with the tool's lines and statuses: `check TEXT`.
 check() {
     if [ -t 0 ]; then typed argon2_tool check "$1"; else run_program argon2_tool check "$1"; fi
 }
 
-# Runs a program on a password that is typed: `typed NAME WORD..`.
+# Runs a program on a password that is typed: `typed NAME ARGUMENT..`.
 typed() {
     make_ready "$1"
     shift
@@ -395,8 +396,8 @@ typed() {
     end_with "$?" "$@"
 }
 
-# Whether words are those of argon2_program that take a password, as far as can be told. Where the words are refused, no
-# password is asked for.
+# Whether arguments are those of argon2_program that take a password, as far as can be told. If the program rejects
+# them, no password is asked for.
 takes_password() {
     case $#:${1-} in
     9:hash) looks_like_settings "$@" && looks_like_mode "$8" ;;
@@ -405,11 +406,11 @@ takes_password() {
     esac
 }
 
-# The same for the text that is the first line of descriptor 3: `check - 3<FILE`.
+# The same for the encoded hash that is the first line of descriptor 3: `check - 3<FILE`.
 check_described() {
     described=
     { IFS= read -r described <&3; } 2>/dev/null || [ -n "$described" ] \
-        || fail 4 'check -: there is no text on descriptor 3, as in 3<FILE'
+        || fail 4 'check -: there is no encoded hash on descriptor 3, as in 3<FILE'
     exec 3<&-
     check "$described"
 }
@@ -431,7 +432,7 @@ least_passes() {
     fi
 }
 
-# Whether a word is a positive number of at most nine digits, without a zero in front.
+# Whether an argument is a positive number of at most nine digits, without a zero in front.
 is_number() {
     case $1 in
     '' | 0* | *[!0-9]* | ??????????*) return 1 ;;
@@ -444,7 +445,7 @@ progress() {
 }
 
 # Sets `took` to the milliseconds of a hash, the least of three: `measure PASSES MEMORY`. It fails where `check` would
-# not take the text.
+# reject the hash.
 measure() {
     took=
     for turn in 1 2 3; do
@@ -464,7 +465,7 @@ measure() {
     done
 }
 
-# Whether a word is the nanoseconds that `date` counts.
+# Whether a string is the nanoseconds that `date` counts.
 is_clock() {
     case $1 in
     '' | *[!0-9]*) return 1 ;;
@@ -481,7 +482,7 @@ tune() {
     passes=$(least_passes "$2")
     [ -n "$passes" ] || fail 2 'tune: less than 7168 KiB are too little for passwords'
     make_ready argon2_tool
-    measure "$passes" "$2" || { progress '' && fail 5 "tune: check takes no text of $2 KiB"; }
+    measure "$passes" "$2" || { progress '' && fail 5 "tune: check takes no hash of $2 KiB"; }
     if [ "$took" -gt "$1" ]; then
         progress ''
         fail 1 "tune: $passes passes over $2 KiB, the least for passwords, take $took milliseconds"
@@ -492,7 +493,7 @@ tune() {
     printf 'argon2id 19 %s %s 1 32 seq\n' "$passes" "$2" || exit 4
 }
 
-# Raises `passes`, which were measured as `took`, as far as the hash takes no longer and `check` takes its text:
+# Raises `passes`, which were measured as `took`, as far as the hash takes no longer and `check` takes it:
 # `add_passes MILLISECONDS KIB`.
 add_passes() {
     fitting=$passes

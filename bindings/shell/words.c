@@ -1,5 +1,6 @@
-/* The words of docs/SHELL.md over the library for C, for processors for which the kit links no program: argon2_program,
- * and with OF_TOOL argon2_tool. Each tag and each verdict is the library's; what is here is tested, and not proved. */
+/* The commands of docs/SHELL.md over the library for C, for processors for which the toolchain links no program:
+ * argon2_program, and with OF_TOOL argon2_tool. Each tag and each verdict is the library's; the code here is tested, not
+ * proved. */
 #define _GNU_SOURCE
 #include <errno.h>
 #include <proved_argon2.h>
