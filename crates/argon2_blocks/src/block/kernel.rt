@@ -6,7 +6,7 @@
 //! The steps are inlined: a call for the permutation alone takes 15 to 20 % more time.
 
 ghost use Rattle.std.specs.Prelude.{◌≡◌, ◌<◌, ◌≤◌, ◌+◌, ◌*◌, ℕ, length, take, if◌then◌else◌, bit_xor};
-ghost use Rattle.std.specs.Simd.Lanes.{zip2, Each1};
+ghost use Rattle.std.specs.Simd.Lanes.{zip2, Each1, chunk, put_chunk};
 ghost use Rattle.argon2_blocks.specs.Standard.Block.{xor};
 ghost use Rattle.argon2_blocks.specs.Standard.Compression.{block_of_registers, compress_g, permute_p, permute_rows, registers_of, transpose};
 ghost use Rattle.argon2_blocks.specs.Views.Lane.{column, vector_pair, vector_words};
@@ -273,20 +273,53 @@ fn first_sum(x: &[u64; QWORDS_IN_BLOCK], y: &[u64; QWORDS_IN_BLOCK]) -> u64x8
     )
 }
 
+// The exclusive or of the vectors at one place of two blocks.
+#[inline(always)]
+fn sum_at(x: &[u64; QWORDS_IN_BLOCK], y: &[u64; QWORDS_IN_BLOCK], k: usize) -> u64x8
+    requires { k < 16 }
+    ensures { result ≡ chunk (8 * k) 8 (xor x.now y.now) }
+{
+    let left = u64x8::from_slice(&x[LANES * k..LANES * k + LANES]);
+    let right = u64x8::from_slice(&y[LANES * k..LANES * k + LANES]);
+    xor_lanes(left, right)
+}
+
 // The exclusive or of two blocks, eight words to a vector.
+//
+// Neither this nor what stores the vectors has a loop: LLVM unrolls one for x86-64 alone, and keeps
+// what a loop goes through in memory, of which it makes copies (docs/DECISIONS.md has the times).
 #[inline(always)]
 fn sum(x: &[u64; QWORDS_IN_BLOCK], y: &[u64; QWORDS_IN_BLOCK]) -> [u64x8; VECTORS]
     ensures value { vector_words result ≡ xor x.now y.now }
     ensures long { Each1 (λ a. length a ≡ 8) result }
 {
-    // The loop overwrites all but the first.
-    let mut all = [first_sum(x, y); VECTORS];
-    for k in 1..VECTORS {
-        let left = u64x8::from_slice(&x[LANES * k..LANES * k + LANES]);
-        let right = u64x8::from_slice(&y[LANES * k..LANES * k + LANES]);
-        all[k] = xor_lanes(left, right);
-    }
-    all
+    [
+        first_sum(x, y),
+        sum_at(x, y, 1),
+        sum_at(x, y, 2),
+        sum_at(x, y, 3),
+        sum_at(x, y, 4),
+        sum_at(x, y, 5),
+        sum_at(x, y, 6),
+        sum_at(x, y, 7),
+        sum_at(x, y, 8),
+        sum_at(x, y, 9),
+        sum_at(x, y, 10),
+        sum_at(x, y, 11),
+        sum_at(x, y, 12),
+        sum_at(x, y, 13),
+        sum_at(x, y, 14),
+        sum_at(x, y, 15),
+    ]
+}
+
+// Writes the exclusive or of the vectors at one place of two lists.
+#[inline(always)]
+fn store_at(x: &[u64x8; VECTORS], y: &[u64x8; VECTORS], w: &mut [u64; QWORDS_IN_BLOCK], k: usize)
+    requires { k < 16 }
+    ensures { w.new ≡ put_chunk (8 * k) w.old (zip2 bit_xor (nth_vector x.now k) (nth_vector y.now k)) }
+{
+    xor_lanes(x[k], y[k]).copy_to_slice(&mut w[LANES * k..LANES * k + LANES]);
 }
 
 // Writes the exclusive or of two lists of vectors.
@@ -296,9 +329,39 @@ fn store(x: &[u64x8; VECTORS], y: &[u64x8; VECTORS], w: &mut [u64; QWORDS_IN_BLO
     requires right { Each1 (λ a. length a ≡ 8) y.now }
     ensures { w.new ≡ xor (vector_words x.now) (vector_words y.now) }
 {
-    for k in 0..VECTORS {
-        xor_lanes(x[k], y[k]).copy_to_slice(&mut w[LANES * k..LANES * k + LANES]);
-    }
+    store_at(x, y, w, 0);
+    store_at(x, y, w, 1);
+    store_at(x, y, w, 2);
+    store_at(x, y, w, 3);
+    store_at(x, y, w, 4);
+    store_at(x, y, w, 5);
+    store_at(x, y, w, 6);
+    store_at(x, y, w, 7);
+    store_at(x, y, w, 8);
+    store_at(x, y, w, 9);
+    store_at(x, y, w, 10);
+    store_at(x, y, w, 11);
+    store_at(x, y, w, 12);
+    store_at(x, y, w, 13);
+    store_at(x, y, w, 14);
+    store_at(x, y, w, 15);
+}
+
+// Writes the exclusive or of the vectors at one place of two lists and of the old words there.
+#[inline(always)]
+fn store_onto_at(
+    x: &[u64x8; VECTORS],
+    y: &[u64x8; VECTORS],
+    w: &mut [u64; QWORDS_IN_BLOCK],
+    k: usize,
+)
+    requires { k < 16 }
+    ensures { w.new ≡ put_chunk (8 * k) w.old
+        (zip2 bit_xor (zip2 bit_xor (nth_vector x.now k) (nth_vector y.now k))
+        (chunk (8 * k) 8 w.old)) }
+{
+    let old = u64x8::from_slice(&w[LANES * k..LANES * k + LANES]);
+    xor_lanes(xor_lanes(x[k], y[k]), old).copy_to_slice(&mut w[LANES * k..LANES * k + LANES]);
 }
 
 // Writes the exclusive or of two lists of vectors and of the old words. It is apart from `store`,
@@ -309,10 +372,22 @@ fn store_onto(x: &[u64x8; VECTORS], y: &[u64x8; VECTORS], w: &mut [u64; QWORDS_I
     requires right { Each1 (λ a. length a ≡ 8) y.now }
     ensures { w.new ≡ xor (xor (vector_words x.now) (vector_words y.now)) w.old }
 {
-    for k in 0..VECTORS {
-        let old = u64x8::from_slice(&w[LANES * k..LANES * k + LANES]);
-        xor_lanes(xor_lanes(x[k], y[k]), old).copy_to_slice(&mut w[LANES * k..LANES * k + LANES]);
-    }
+    store_onto_at(x, y, w, 0);
+    store_onto_at(x, y, w, 1);
+    store_onto_at(x, y, w, 2);
+    store_onto_at(x, y, w, 3);
+    store_onto_at(x, y, w, 4);
+    store_onto_at(x, y, w, 5);
+    store_onto_at(x, y, w, 6);
+    store_onto_at(x, y, w, 7);
+    store_onto_at(x, y, w, 8);
+    store_onto_at(x, y, w, 9);
+    store_onto_at(x, y, w, 10);
+    store_onto_at(x, y, w, 11);
+    store_onto_at(x, y, w, 12);
+    store_onto_at(x, y, w, 13);
+    store_onto_at(x, y, w, 14);
+    store_onto_at(x, y, w, 15);
 }
 
 // Permutes the rows of a block, and then the columns.
