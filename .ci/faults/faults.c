@@ -1,7 +1,8 @@
 /* What goes wrong in a program that this is preloaded into. It says on standard error what it met, a line each, so that
    a run that met nothing is seen to have tested nothing. What no variable asks for is left alone.
 
-   REFUSE_REQUEST N      refuses the N-th request for memory, none for 0: each says `request` or `refused`
+   REFUSE_REQUEST N      refuses the N-th request for memory, none for 0: each says `request` or `refused`, and each
+                         block that is freed `freed`
    REFUSE_START N        the same of starts of threads: each says `start`, `refused` or, by the system, `denied`
    REFUSE_TRIES N        refuses so many in a row, since what is refused is tried again; else one
    REFUSE_IN NAME        refuses in the program of this name alone
@@ -41,6 +42,7 @@ struct start {
 static void *const NEXT = (void *)-1l;
 static void *(*next_malloc)(size);
 static void *(*next_realloc)(void *, size);
+static void (*next_free)(void *);
 static create *next_create;
 static int tells_requests;
 static unsigned long refused_request, refused_start, tries, most, linger; /* 0 for none */
@@ -60,6 +62,7 @@ __attribute__((constructor)) static void begin(void) {
   const char *name = getenv("REFUSE_IN");
   next_malloc = (void *(*)(size))dlsym(NEXT, "malloc");
   next_realloc = (void *(*)(void *, size))dlsym(NEXT, "realloc");
+  next_free = (void (*)(void *))dlsym(NEXT, "free");
   next_create = (create *)dlsym(NEXT, "pthread_create");
   tells_requests = getenv("REFUSE_REQUEST") && (!name || strcmp(name, program_invocation_short_name) == 0);
   refused_request = tells_requests ? number_in("REFUSE_REQUEST", 0) : 0;
@@ -90,7 +93,21 @@ static int is_refused_memory(void) {
 
 void *malloc(size bytes) { return is_refused_memory() ? 0 : next_malloc(bytes); }
 
-void *realloc(void *block, size bytes) { return is_refused_memory() ? 0 : next_realloc(block, bytes); }
+static void tell_of_freed(const void *block) {
+  if (tells_requests && block) say("freed\n");
+}
+
+void *realloc(void *block, size bytes) {
+  if (is_refused_memory()) return 0;
+  tell_of_freed(block);
+  return next_realloc(block, bytes);
+}
+
+void free(void *block) {
+  if (!next_free) begin();
+  tell_of_freed(block);
+  next_free(block);
+}
 
 static void *wait_and_run(void *given) {
   struct start *start = given;

@@ -13,7 +13,7 @@ PASSWORD = b'password'
 SECONDS = 600  # after which a run hangs
 TRIES = 100  # of a start, before it counts as refused (`TRIES` of argon2_fill/src/workers/crew.rt)
 SLICES = 4  # of a pass
-NOTE = re.compile(r'request|start|refused|denied|late|lingered|VmHWM:.*')
+NOTE = re.compile(r'request|freed|start|refused|denied|late|lingered|VmHWM:.*')
 NO_MEMORY, NO_WORKER = 'Out of memory', 'A worker was refused'
 
 
