@@ -6,8 +6,8 @@
     >>> hasher.verify(text, "correct horse battery staple")
     True
 
-`low_level` has the calls that take bytes and settings, `profiles` recommended settings, and `exceptions` what
-is raised.
+`text` is an encoded hash (PHC string), to be stored. `low_level` has the calls that take bytes and settings,
+`profiles` recommended settings, and `exceptions` what is raised.
 """
 from . import exceptions, low_level, profiles
 from ._legacy import hash_password, hash_password_raw, verify_password

@@ -11,7 +11,7 @@ if TYPE_CHECKING:
 
 
 def _positive(word: str) -> int:
-    """The number that a word spells, where it is one above 0."""
+    """The number of an argument, which has to be above 0."""
     number = int(word)
     if number < 1:
         raise argparse.ArgumentTypeError(f"{word} is not above 0")
@@ -40,7 +40,7 @@ def _hasher(given: argparse.Namespace) -> PasswordHasher:
 
 
 def main(words: "Optional[List[str]]" = None) -> None:
-    """Verifies a password of these settings so many times, and prints the mean."""
+    """Verify a password with these settings so many times, and print the mean."""
     parser = _parser()
     given = parser.parse_args(words)
     hasher = _hasher(given)

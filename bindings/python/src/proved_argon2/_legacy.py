@@ -17,7 +17,7 @@ if TYPE_CHECKING:
 
 
 def _warn(name: str) -> None:
-    """Warns in the words of argon2-cffi, by which programs choose the warnings that they ignore."""
+    """Warn in the words of argon2-cffi, by which programs choose the warnings that they ignore."""
     warnings.warn(f"argon2.{name} is deprecated, use argon2.PasswordHasher instead", DeprecationWarning, stacklevel=3)
 
 
@@ -34,7 +34,7 @@ def hash_password(
     hash_len: int = DEFAULT_HASH_LENGTH,
     type: Type = Type.I,
 ) -> bytes:
-    """`low_level.hash_secret` with defaults, and a random salt where none is given. Its variant is Argon2i."""
+    """Call `low_level.hash_secret` with defaults, and with a random salt if none is passed. Its variant is Argon2i."""
     _warn("hash_password")
     return hash_secret(password, _salt_or_random(salt), time_cost, memory_cost, parallelism, hash_len, type)
 
@@ -48,12 +48,12 @@ def hash_password_raw(
     hash_len: int = DEFAULT_HASH_LENGTH,
     type: Type = Type.I,
 ) -> bytes:
-    """`low_level.hash_secret_raw` with defaults, and a random salt where none is given."""
+    """Call `low_level.hash_secret_raw` with defaults, and with a random salt if none is passed."""
     _warn("hash_password_raw")
     return hash_secret_raw(password, _salt_or_random(salt), time_cost, memory_cost, parallelism, hash_len, type)
 
 
 def verify_password(hash: bytes, password: bytes, type: Type = Type.I) -> "Literal[True]":
-    """`low_level.verify_secret`, of Argon2i where no variant is named."""
+    """Call `low_level.verify_secret`, with Argon2i if no variant is named."""
     _warn("verify_password")
     return verify_secret(hash, password, type)

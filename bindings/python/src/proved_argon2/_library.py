@@ -15,11 +15,11 @@ if TYPE_CHECKING:
 SONAME = "libproved_argon2.so.1"
 VARIABLE = "PROVED_ARGON2_LIBRARY"
 
-# Where this file's folder stands in the repository.
+# Where this file's folder is in the repository.
 IN_REPOSITORY = "/bindings/python/src/proved_argon2"
 
-# What a call answers: done or a match, another password, a buffer that does not fit, a text that is not UTF-8 or
-# is above the limits.
+# What a call returns: done or a match, a wrong password, a buffer of the wrong length, a string that is not UTF-8, a
+# hash above the limits.
 OK = 0
 DECODING_FAIL = 19
 OUT_OF_MEMORY = 20
@@ -28,10 +28,10 @@ WRONG_LENGTH = 65
 NOT_UTF8 = 66
 TOO_COSTLY = 69
 
-# A buffer of this many bytes has room for the text of each refusal.
+# A buffer of this many bytes has room for the message of each error.
 MESSAGE_SIZE = 64
 
-# As many threads as the library itself has at most for a stored text.
+# The most threads that the library uses for an encoded hash.
 MOST_FOR_A_TEXT = 16
 
 # The greatest number that a setting has.
@@ -69,7 +69,7 @@ _Tell = ctypes.CFUNCTYPE(ctypes.c_int, ctypes.c_void_p)
 
 
 class Options(ctypes.Structure):
-    """`proved_argon2_options` of the header. The threads are the call's own."""
+    """`proved_argon2_options` of the header. The call starts its own threads."""
 
     _fields_ = [
         ("size", ctypes.c_size_t),
@@ -85,7 +85,7 @@ class Options(ctypes.Structure):
 
 
 class Refused(Exception):
-    """The library refused a call, with this number."""
+    """The library returned an error, with this number."""
 
     def __init__(self, number: int) -> None:
         super().__init__(message(number))
@@ -93,8 +93,9 @@ class Refused(Exception):
 
 
 def _files() -> "Iterator[str]":
-    """Where the shared object may be: where the environment says, or else in the wheel, where the loader looks, beside
-    this Python, or in the repository's build where this file stands in the repository."""
+    """Where the shared object may be: where the environment says; otherwise in the wheel, where the loader looks,
+    beside this Python, or in the repository's build if this file is in the repository.
+    """
     named = os.environ.get(VARIABLE)
     if named:
         yield named
@@ -160,7 +161,7 @@ _library = _load()
 
 
 def require_number(name: str, number: object, refusal: "Type[Exception]", bits: int = 32) -> None:
-    """Raises where a number is no integer, or has more bits: `ctypes` would pass its lowest ones."""
+    """Raise if a number is no integer, or has more bits: `ctypes` would pass its lowest ones."""
     if not isinstance(number, int) or isinstance(number, bool):
         raise TypeError(f"'{name}' must be int, not {number.__class__.__name__}")
     if not 0 <= number < 1 << bits:
@@ -191,7 +192,7 @@ def _room(length: int) -> "ctypes.Array[ctypes.c_char]":
 def _options(
     threads: int, limits: "Optional[NumberLimits]", pages: "Optional[Pages]", telling: "Optional[Telling]"
 ) -> Options:
-    """Options of at most so many threads. They keep the limits and what is told alive, and not the pages."""
+    """Options of at most so many threads. They keep the limits and the progress callback alive, but not the pages."""
     options = Options(ctypes.sizeof(Options), threads)
     if pages is not None:
         options.memory, options.memory_len = pages.address, pages.length
@@ -210,7 +211,7 @@ def _compute(
     progress: "Optional[Progress]",
     limits: "Optional[NumberLimits]" = None,
 ) -> None:
-    """Makes a call over pages of a memory, or over its own, and tells whom there is to be told."""
+    """Make a call in the pages of a memory, or in its own, with a progress callback if there is one."""
     if progress is None and not runs_handlers():
         _require(_over_memory(lambda pages: call(_options(threads, limits, pages, None)), settings, memory))
         return
@@ -220,8 +221,9 @@ def _compute(
 
 
 def _over_memory(call: "Callable[[Optional[Pages]], Any]", settings: Settings, memory: "Optional[Memory]") -> int:
-    """What a call answers. One that finds the pages of a memory too small is made again over what its settings want:
-    only then are they known to be accepted."""
+    """What a call returns. A call that finds the pages of a memory too small is repeated in pages that fit its
+    settings: only then are they known to be accepted.
+    """
     number: int
     if memory is None:
         number = call(None)
@@ -242,8 +244,9 @@ def hash_raw(
     memory: "Optional[Memory]" = None,
     progress: "Optional[Progress]" = None,
 ) -> bytes:
-    """The tag, by a thread for each lane. The settings are judged without room to write to first, before any memory is
-    asked for."""
+    """The tag, computed by a thread a lane. The settings are checked first, without room to write to, before any memory
+    is allocated.
+    """
     given = [*_slices(pwd, salt, secret, ad), settings]
     _require(_library.proved_argon2_hash_raw(*given, b"", 0), WRONG_LENGTH)
     tag = _room(settings.hash_length)
@@ -266,8 +269,9 @@ def hash_encoded(
     memory: "Optional[Memory]" = None,
     progress: "Optional[Progress]" = None,
 ) -> bytes:
-    """The text, by a thread for each lane. The settings are judged without room to write to first, before any memory is
-    asked for."""
+    """The encoded hash, computed by a thread a lane. The settings are checked first, without room to write to, before
+    any memory is allocated.
+    """
     given = [*_slices(pwd, salt, secret, ad), settings]
     _require(_library.proved_argon2_hash_encoded(*given, b"", 0), WRONG_LENGTH)
     text = _room(_library.proved_argon2_encoded_len(settings, len(salt)) + 1)
@@ -291,8 +295,9 @@ def verify_encoded(
     memory: "Optional[Memory]" = None,
     progress: "Optional[Progress]" = None,
 ) -> None:
-    """Returns where the text of these settings is the hash of the password and asks for no more than the limits, and
-    else raises `Refused`. There are as many threads as the text has lanes, and at most 16."""
+    """Return if the encoded hash of these settings matches the password and is within the limits, and otherwise raise
+    `Refused`. There are as many threads as the hash has lanes, and at most 16.
+    """
     given = _slices(text, pwd, secret, ad)
     _compute(
         lambda options: _library.proved_argon2_verify_encoded_with(options, *given),
@@ -305,7 +310,7 @@ def verify_encoded(
 
 
 def memory_len(settings: Settings) -> int:
-    """The bytes that a call with these settings wants for its blocks."""
+    """The bytes that a call with these settings needs for its blocks."""
     length: int = _library.proved_argon2_memory_len(settings)
     return length
 
@@ -318,7 +323,7 @@ def memory_new(settings: Settings) -> "Tuple[int, int]":
 
 
 def memory_free(address: int, length: int, library: ctypes.CDLL = _library) -> None:
-    """Clears a memory and gives it back, also where Python ends and its modules have gone."""
+    """Clear a memory and free it, also when Python ends and its modules are gone."""
     library.proved_argon2_memory_free(address, length)
 
 
@@ -329,14 +334,14 @@ def default_limits() -> NumberLimits:
 
 
 def read(text: bytes) -> Stored:
-    """What a text spells."""
+    """What an encoded hash decodes to."""
     stored = Stored()
     _require(_library.proved_argon2_read(text, len(text), stored))
     return stored
 
 
 def message(number: int) -> str:
-    """The text of a refusal's number, which has 32 bits."""
+    """The message of an error's number, which has 32 bits."""
     text = ctypes.create_string_buffer(MESSAGE_SIZE)
     if _library.proved_argon2_message(number, text, len(text)) != OK:
         return f"There is no refusal {number}"

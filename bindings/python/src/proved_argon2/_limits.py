@@ -1,4 +1,4 @@
-"""What a stored text may ask for."""
+"""What an encoded hash may cost at most."""
 from ._library import MAX_NUMBER, default_limits, require_number
 from ._record import Record
 
@@ -10,11 +10,12 @@ _DEFAULT = default_limits()
 
 
 class Limits(Record):
-    """The greatest numbers that a text may spell: the memory in KiB, the passes over it, and the lanes; and the greatest
-    `work`, the memory in KiB times the passes, by which the time grows.
+    """The highest memory in KiB, passes and lanes that an encoded hash may name, and the highest `work`: the memory in
+    KiB times the passes, by which the time grows.
 
     The defaults are the library's: 2 GiB, 10 passes, 16 lanes, and the work of 4 GiB in one pass. The recommendations
-    of RFC 9106, OWASP, libsodium and Django are within. No field can be changed: `dataclasses.replace` makes others.
+    of RFC 9106, OWASP, libsodium and Django are within. No field can be changed: `dataclasses.replace` makes another
+    `Limits`.
     """
 
     __slots__ = ("memory_cost", "time_cost", "parallelism", "work")
@@ -48,7 +49,7 @@ class Limits(Record):
         return Limits, self._values()
 
 
-#: The limits of a hasher that is given none: these, or its own settings where they are greater.
+#: The limits of a hasher that is passed none: these, raised to its own settings.
 DEFAULT_LIMITS = Limits()
 
 

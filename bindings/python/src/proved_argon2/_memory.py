@@ -1,4 +1,4 @@
-"""The memory of hashes that is kept from call to call."""
+"""Reusable buffers: the memory of hashes."""
 import ctypes
 from collections import deque
 
@@ -8,13 +8,13 @@ TYPE_CHECKING = False
 if TYPE_CHECKING:
     from typing import Callable, Deque, Tuple, Type
 
-# Where a memory of no bytes is: a call without an address would take memory of its own.
+# Where a memory of no bytes is: a call without an address would allocate memory of its own.
 _NOTHING = ctypes.c_uint64()
 _NOWHERE = ctypes.addressof(_NOTHING)
 
 
 class Pages:
-    """A memory of the library's, or none yet. Each call clears what it uses of it."""
+    """A memory that the library allocated, or none yet. Each call clears what it uses of it."""
 
     __slots__ = ("address", "length")
 
@@ -22,7 +22,7 @@ class Pages:
         self.address, self.length = _NOWHERE, 0
 
     def grow(self, settings: Settings) -> bool:
-        """Whether it was too small for settings, and now has what they want. What it had is given back first."""
+        """Whether it was too small for settings, and was grown to what they need. The old memory is freed first."""
         if self.length >= memory_len(settings):
             return False
         self.give_back()
@@ -33,7 +33,7 @@ class Pages:
         return True
 
     def give_back(self, free: "Callable[[int, int], None]" = memory_free) -> None:
-        """Has none any more."""
+        """Clear and free the memory."""
         if self.length:
             address, length = self.address, self.length
             self.address, self.length = _NOWHERE, 0
@@ -44,10 +44,10 @@ class Pages:
 
 
 class Memory:
-    """The memory of hashes, kept from call to call. Calls that run at once have one each, so that as many are kept as
-    have run at once, each of the most that a call over it asked for.
+    """Reusable buffers: the memory of hashes. There is one buffer a concurrent call: as many as have run at once, each
+    as large as the largest call in it needed.
 
-    A copy begins anew, and so does what is unpickled.
+    A copy starts without buffers, and so does an unpickled one.
     """
 
     __slots__ = ("_free",)
@@ -59,12 +59,12 @@ class Memory:
         return Memory, ()
 
     def lent(self) -> "_Lent":
-        """For `with`: pages that nobody else uses meanwhile."""
+        """For `with`: pages that no other call uses meanwhile."""
         return _Lent(self._free)
 
 
 class _Lent:
-    """Pages that are taken from those that are free, and given back."""
+    """Pages that are taken from the free ones, and put back."""
 
     __slots__ = ("_free", "_pages")
 

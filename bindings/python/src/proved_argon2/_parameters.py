@@ -1,4 +1,4 @@
-"""The settings of a hash, and what they are in a text."""
+"""The settings of a hash, and what an encoded hash has of them."""
 from ._library import Refused, read
 from ._record import Record
 from .low_level import Type, reading_error
@@ -36,10 +36,10 @@ class Parameters(Record):
 
 
 def extract_parameters(hash: "Union[str, bytes]") -> Parameters:
-    """What a text spells. It raises `InvalidHashError` where that is nothing, `MemoryError` where there is no memory
-    to read it, and verifies nothing.
+    """Decode the settings of an encoded hash, and verify nothing.
 
-    A text without a version is of version 16, which is 0x10.
+    Raises `InvalidHashError` if the string decodes to no hash, and `MemoryError` if there is no memory to decode it. An
+    encoded hash that names no version has version 16, which is 0x10.
     """
     text = hash.encode("utf-8", "surrogatepass") if isinstance(hash, str) else hash
     try:

@@ -1,4 +1,4 @@
-"""Passwords as texts to keep."""
+"""Passwords as encoded hashes, to be stored."""
 import os
 
 from ._library import require_number
@@ -25,7 +25,7 @@ _BEGINNINGS = (b"$argon2i$", b"$argon2d$", b"$argon2id")
 
 
 def _require_types(settings: "Dict[str, Tuple[Any, Any]]") -> None:
-    """Names all settings of another type than theirs. A bool is no number."""
+    """Name all settings of another type than theirs. A bool is no number."""
     wrong = [
         f"'{name}' must be {wanted.__name__}, not {value.__class__.__name__}"
         for name, (value, wanted) in settings.items()
@@ -36,13 +36,15 @@ def _require_types(settings: "Dict[str, Tuple[Any, Any]]") -> None:
 
 
 class PasswordHasher:
-    """Hashes passwords with these settings, and verifies those of any settings within limits.
+    """Hashes passwords with these settings, and verifies encoded hashes of any settings within limits.
 
-    `time_cost` is the passes over the memory; `memory_cost` is in KiB, at least 8 for each of the lanes, which
-    `parallelism` says. The lengths are in bytes: `hash_len` is at least 4 and `salt_len` at least 8. A password
-    that is a `str` is encoded in `encoding`. `limits` is what a text may ask for that is verified: those given, `None`
-    for whatever the text names, or else `DEFAULT_LIMITS` and no less than these settings. With `keep_memory` the memory
-    of a hash is kept for the next one, as `low_level.Memory` says, until the hasher goes.
+    `time_cost` is the passes over the memory, `memory_cost` the memory in KiB, at least 8 a lane, and `parallelism` the
+    lanes. The lengths are in bytes: `hash_len` is at least 4 and `salt_len` at least 8. A password that is a `str` is
+    encoded in `encoding`.
+
+    `limits` are what an encoded hash may cost that is verified: the given ones; `None` for whatever the hash names;
+    without the argument `DEFAULT_LIMITS`, raised to these settings. With `keep_memory` the hasher reuses the buffers of
+    its calls, as `low_level.Memory` does, until it is deleted.
     """
 
     __slots__ = ("_limits", "_memory", "_parameters", "encoding")
@@ -132,12 +134,12 @@ class PasswordHasher:
 
     @property
     def keep_memory(self) -> bool:
-        """Whether the memory of a hash is kept for the next one."""
+        """Whether the hasher reuses the buffers of its calls."""
         return self._memory is not None
 
     @property
     def limits(self) -> "Optional[Limits]":
-        """What a text may ask for that is verified, or `None` for whatever it names."""
+        """What an encoded hash may cost that is verified, or `None` for whatever it names."""
         return self._limits
 
     @limits.setter
@@ -158,10 +160,10 @@ class PasswordHasher:
         salt: "Optional[bytes]" = None,
         progress: "Optional[Progress]" = None,
     ) -> str:
-        """Hash a password to a text to keep, with a random salt where none is given. `low_level` says what `progress`
-        is.
+        """Hash a password to an encoded hash (PHC string), to be stored, with a random salt if none is passed.
+        `low_level` says what `progress` is.
 
-        Raises `HashingError` where the settings are refused or there is no memory.
+        Raises `HashingError` if the settings are rejected or memory cannot be allocated.
         """
         if salt is None:
             require_number("salt_len", self.salt_len, HashingError)
@@ -180,27 +182,27 @@ class PasswordHasher:
     def verify(
         self, hash: "Union[str, bytes]", password: "Union[str, bytes]", *, progress: "Optional[Progress]" = None
     ) -> "Literal[True]":
-        """Return `True` where a text is that of a password, and raise where it is not. `low_level` says what `progress`
-        is.
+        """Return `True` if a password matches an encoded hash, and raise if it does not. `low_level` says what
+        `progress` is.
 
-        Raises `VerifyMismatchError` where it is that of another password, `TooCostlyError` where it asks for
-        more than `limits`, `InvalidHashError` where it does not begin as a hash, and `VerificationError` where
-        it spells none, its settings are refused or there is no memory.
+        Raises `VerifyMismatchError` if the password is wrong, `TooCostlyError` if the hash is above `limits`,
+        `InvalidHashError` if the string does not begin as a hash, and `VerificationError` if it decodes to none, its
+        settings are rejected or memory cannot be allocated.
         """
         text = self._text_bytes(hash)
         secret, variant = self._password_bytes(password), self._variant_of(text)
         return verify_secret(text, secret, variant, limits=self.limits, memory=self._memory, progress=progress)
 
     def check_needs_rehash(self, hash: "Union[str, bytes]") -> bool:
-        """Whether a text was made with other settings than these, also with another length of the salt.
+        """Whether an encoded hash was made with other settings than these, or with a salt of another length.
 
-        Raises `InvalidHashError` where it spells no hash.
+        Raises `InvalidHashError` if the string decodes to no hash.
         """
         return self._parameters != extract_parameters(self._text_bytes(hash))
 
     @staticmethod
     def _variant_of(text: bytes) -> Type:
-        """The variant of a text. One that begins as a hash and spells none cannot be verified."""
+        """The variant of an encoded hash. A string that begins as a hash and decodes to none cannot be verified."""
         try:
             return extract_parameters(text).type
         except InvalidHashError as error:

@@ -1,4 +1,4 @@
-"""Records that `dataclasses` works with, made without it: to import it takes longer than this whole package."""
+"""Records that `dataclasses` works with, made without it: importing it takes longer than this whole package."""
 
 TYPE_CHECKING = False
 if TYPE_CHECKING:

@@ -1,4 +1,4 @@
-"""How far a call is, and what stops it."""
+"""The progress of a call, and what stops it."""
 import sys
 
 TYPE_CHECKING = False
@@ -15,11 +15,11 @@ def runs_handlers() -> bool:
 
 
 class Telling:
-    """What a call tells how far it is, where there is somebody to be told: `progress`, and handlers of signals. What
-    they raise stops it, and comes out of `with`.
+    """The progress callback of a call, if there is anything to call: `progress`, and handlers of signals. What they
+    raise stops the call, and is raised out of `with`.
 
-    It is told by a generator, since handlers run where that is resumed, which is within its `try`. In a function they
-    would run before its first line, and what they raise would be lost.
+    The callback resumes a generator, since handlers run when that is resumed, which is within its `try`. In a function
+    they would run before its first line, and what they raise would be lost.
     """
 
     def __init__(self, progress: "Optional[Progress]", slices: int) -> None:

@@ -2,7 +2,7 @@
 
 
 class Argon2Error(Exception):
-    """A call to Argon2 was refused. `args[0]` says why."""
+    """A call to Argon2 failed. `args[0]` is the message."""
 
 
 class VerificationError(Argon2Error):
@@ -10,11 +10,11 @@ class VerificationError(Argon2Error):
 
 
 class VerifyMismatchError(VerificationError):
-    """The password is not that of the hash."""
+    """The password does not match the hash."""
 
 
 class TooCostlyError(VerificationError):
-    """The hash asks for more memory, passes, lanes or work than the limits. No password was looked at."""
+    """The hash is above the limits of memory, passes, lanes or work. No password was compared."""
 
 
 class HashingError(Argon2Error):
@@ -22,7 +22,7 @@ class HashingError(Argon2Error):
 
 
 class InvalidHashError(ValueError):
-    """The text spells no hash."""
+    """The string decodes to no hash."""
 
 
 InvalidHash = InvalidHashError

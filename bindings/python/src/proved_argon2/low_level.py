@@ -1,13 +1,13 @@
 """The calls that take bytes and settings.
 
-`secret` is the password here, as in argon2-cffi. A key (also called pepper) and associated data, which
-RFC 9106 calls secret value and associated data, are `key` and `associated_data`. A hash is computed by as
-many threads as it has lanes, of which one is the caller's; a stored text is verified by at most 16. With a `Memory`
-it is computed over that, and what it took is kept for the next call.
+`secret` is the password here, as in argon2-cffi. A key (also called pepper) and associated data, which RFC 9106 calls
+secret value and associated data, are `key` and `associated_data`. A hash is computed by as many threads as it has
+lanes, of which one is the caller's; an encoded hash is verified by at most 16. With a `Memory` a call reuses a buffer,
+and allocates none if that is large enough.
 
-A call is stopped by what is raised meanwhile: by the handler of a signal in the main thread, as `KeyboardInterrupt` is
-at Ctrl-C, or by `progress`, which is called as `progress(done, all)` each time that one of all slices is filled, four in
-a pass. It comes out of the call once the slice at work is filled.
+An exception that is raised meanwhile stops a call: by the handler of a signal in the main thread, as
+`KeyboardInterrupt` at Ctrl-C, or by `progress`, which is called as `progress(done, all)` each time that one of all
+slices is filled, four in a pass. The call raises it once the slice at work is filled.
 """
 from enum import Enum
 
@@ -75,7 +75,7 @@ class Type(Enum):
 def _settings(
     time_cost: int, memory_cost: int, parallelism: int, hash_len: int, type: Type, version: int
 ) -> Settings:
-    """The settings, where each is a number of 32 bits."""
+    """The settings, if each is a number of 32 bits."""
     names = ("version", "memory_cost", "time_cost", "parallelism", "hash_len")
     numbers = (version, memory_cost, time_cost, parallelism, hash_len)
     for name, number in zip(names, numbers):
@@ -104,9 +104,9 @@ def hash_secret(
     memory: "Optional[Memory]" = None,
     progress: "Optional[Progress]" = None,
 ) -> bytes:
-    """Hash the password `secret` to a text, in `memory_cost` KiB.
+    """Hash the password `secret` to an encoded hash (PHC string), in `memory_cost` KiB.
 
-    Raises `HashingError` where the settings are refused or there is no memory.
+    Raises `HashingError` if the settings are rejected or memory cannot be allocated.
     """
     _require_bytes(secret=secret, salt=salt, key=key, associated_data=associated_data)
     settings = _settings(time_cost, memory_cost, parallelism, hash_len, type, version)
@@ -131,9 +131,9 @@ def hash_secret_raw(
     memory: "Optional[Memory]" = None,
     progress: "Optional[Progress]" = None,
 ) -> bytes:
-    """Hash the password `secret` to `hash_len` bytes, in `memory_cost` KiB.
+    """Hash the password `secret` to a raw hash of `hash_len` bytes, in `memory_cost` KiB.
 
-    Raises `HashingError` where the settings are refused or there is no memory.
+    Raises `HashingError` if the settings are rejected or memory cannot be allocated.
     """
     _require_bytes(secret=secret, salt=salt, key=key, associated_data=associated_data)
     settings = _settings(time_cost, memory_cost, parallelism, hash_len, type, version)
@@ -154,11 +154,11 @@ def verify_secret(
     memory: "Optional[Memory]" = None,
     progress: "Optional[Progress]" = None,
 ) -> "Literal[True]":
-    """Return `True` where the text `hash` is that of the password `secret`, and is of this type.
+    """Return `True` if the password `secret` matches the encoded hash `hash`, and that is of this type.
 
-    Raises `VerifyMismatchError` where it is that of another password, `TooCostlyError` where it asks for more
-    than the limits, and `VerificationError` where it spells no hash of this type, its settings are refused or
-    there is no memory. Without limits the memory and the passes are those that the text names.
+    Raises `VerifyMismatchError` if the password is wrong, `TooCostlyError` if the hash is above the limits, and
+    `VerificationError` if the string decodes to no hash of this type, its settings are rejected or memory cannot be
+    allocated. Without limits, memory and passes are those that the hash names.
     """
     _require_bytes(hash=hash, secret=secret, key=key, associated_data=associated_data)
     numbers = None if limits is None else _numbers(limits)
@@ -183,7 +183,7 @@ def _numbers(limits: Limits) -> NumberLimits:
 
 
 def error_to_str(error: int) -> str:
-    """The text of a refusal's number, which is the library's own and not libargon2's."""
+    """The message of an error's number, which is the library's own and not libargon2's."""
     try:
         require_number("error", error, ValueError)
     except ValueError:
@@ -192,7 +192,7 @@ def error_to_str(error: int) -> str:
 
 
 def reading_error(refused: Refused) -> Exception:
-    """What is raised where a text is read and refused: it spells no hash, or there is no memory to read it."""
+    """What is raised if an encoded hash cannot be decoded: it is none, or there is no memory to decode it."""
     if refused.number in (DECODING_FAIL, NOT_UTF8):
         return InvalidHashError(str(refused))
     return MemoryError(str(refused)) if refused.number == OUT_OF_MEMORY else Argon2Error(str(refused))
