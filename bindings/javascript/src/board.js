@@ -26,7 +26,7 @@ export class Board {
         Atomics.notify(this.#words, word);
     }
 
-    /** Waits until a word is above a number, or has no further step. Gives it. */
+    /** Waits until a word is above a number, or has no further step. Returns it. */
     #waitFor(word, below) {
         for (;;) {
             const value = Atomics.load(this.#words, word);

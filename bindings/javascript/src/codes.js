@@ -15,7 +15,7 @@ export class Rejected extends Error {
     }
 }
 
-/** Goes on where a call was done. */
+/** Throws unless a call was done. */
 export function check(code) {
     if (code !== OK) {
         throw new Rejected(code);

@@ -26,7 +26,7 @@ function limitsAsBytes({ memoryCost, timeCost, parallelism, work }) {
     return new Uint8Array(view.buffer);
 }
 
-/** The characters of a text that zeros end. */
+/** The characters of a string that zeros end. */
 function textIn(room, place) {
     const text = new TextDecoder().decode(room.read(place));
     return text.slice(0, text.indexOf('\0'));
@@ -48,7 +48,7 @@ export class Desk {
         return opened;
     }
 
-    /** Lends the memory, and overwrites it. One that has grown much, or whose instance has failed, is not kept. */
+    /** Hands out the memory, and overwrites it after. One that has grown much, or whose instance failed, is dropped. */
     #lend(work) {
         let isKept = false;
         try {
@@ -72,7 +72,7 @@ export class Desk {
         });
     }
 
-    /** H0 and the numbers of a hash, whose settings are judged here. */
+    /** H0 and the numbers of a hash, whose settings are checked here. */
     makeJob({ password, salt, secret, associatedData }, settings) {
         return this.#lend((room) => {
             const job = room.take(JOB);
@@ -83,7 +83,7 @@ export class Desk {
         });
     }
 
-    /** The job and the hash that a string is verified by. It is judged here, by the limits first. */
+    /** The job and the hash that a PHC string is verified by. It is checked here, against the limits first. */
     readJob(encoded, { password, secret, associatedData }, limits) {
         return this.#lend((room) => {
             const text = room.put(encoded);

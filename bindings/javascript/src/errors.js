@@ -1,6 +1,6 @@
-// Why a call is rejected: a class for each `Error` of the library, by the number that it has for C.
+// Why a call fails: a class for each `Error` of the library, by the number that it has for C.
 
-/** A call to Argon2 was rejected. `name` is that of its class, and `code` the number of the error. */
+/** A call to Argon2 failed. `name` is that of its class, and `code` the number of the error. */
 export class Argon2Error extends Error {}
 
 /** The class of one error. */

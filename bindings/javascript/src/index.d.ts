@@ -1,21 +1,26 @@
 /** Argon2 password hashing (RFC 9106) by a WebAssembly module that is proved. */
 
-/** The variants (RFC 9106, 1): where a block's reference is drawn from. */
+/** The variant whose references are drawn from the blocks, and so from the password (RFC 9106, 1). */
 export const argon2d: 0;
+/** The variant whose references are drawn from no block. */
 export const argon2i: 1;
-/** The one to choose. */
+/** The variant to choose: no block in the first half of the first pass, and then the blocks. */
 export const argon2id: 2;
 
+/** The number of a variant: `argon2d`, `argon2i` or `argon2id`. */
 export type Type = 0 | 1 | 2;
+/** The versions of Argon2: 0x13 is that of RFC 9106, 0x10 an older one. */
 export type Version = 0x10 | 0x13;
 /** Bytes. They are copied when the call is made. */
 export type Bytes = ArrayBuffer | ArrayBufferView;
 
 /** The settings of a hash. Those that are left out are OWASP's: Argon2id, version 0x13, 19 MiB, 2 passes, 1 lane. */
 export interface Settings {
+    /** The variant. */
     type?: Type;
+    /** The version. */
     version?: Version;
-    /** The memory in KiB, at least 8 for each lane. */
+    /** The memory in KiB, at least 8 a lane. */
     memoryCost?: number;
     /** The passes over the memory. */
     timeCost?: number;
@@ -27,31 +32,33 @@ export interface Settings {
 
 /** How a call runs. */
 export interface Running {
-    /** Is told after each slice how many are filled, of how many: four in a pass. What it throws stops the call. */
+    /** The progress callback: `done` of `all` slices are filled, four in a pass. What it throws stops the call. */
     onProgress?: (done: number, all: number) => void;
     /** Stops the call once the slice at work is filled. The call is rejected by the signal's reason. */
     signal?: AbortSignal;
-    /** `false` computes in the caller's thread, which takes a turn after each slice. */
+    /** `false` computes in the caller's thread, which yields to other tasks after each slice. */
     worker?: boolean;
-    /** At most so many workers for the lanes of a slice. Else there is one for each, if there are enough processors. */
+    /** The most workers for the lanes of a slice. Without it there is one a lane, if there are enough processors. */
     threads?: number;
 }
 
-/** What a hash depends on besides the password and the salt. It is not in the PHC string. */
+/** What a hash depends on besides the password, the salt and the settings. It is not in the PHC string. */
 export interface Keys {
-    /** A key that is kept apart from the strings (a pepper). */
+    /** A key that is stored apart from the encoded hashes (a pepper). */
     secret?: Bytes;
+    /** Data that the hash is bound to, such as the user's name. */
     associatedData?: Bytes;
 }
 
+/** The options of `hash`. */
 export interface HashOptions extends Settings, Keys, Running {
-    /** At least 8 bytes. Else there are 16 random ones. */
+    /** At least 8 bytes. Without it there are 16 random ones. */
     salt?: Bytes;
-    /** `true` gives the hash as bytes. */
+    /** `true` returns the raw hash as bytes, in place of the PHC string. */
     raw?: boolean;
 }
 
-/** The greatest numbers that a string may ask for. Those that are left out are `defaultLimits`'. */
+/** The highest costs that a PHC string may name. Those that are left out are `defaultLimits`'. */
 export interface Limits {
     /** The memory in KiB. */
     memoryCost?: number;
@@ -63,31 +70,35 @@ export interface Limits {
     work?: number;
 }
 
+/** The options of `verify`. */
 export interface VerifyOptions extends Keys, Running {
-    /** `null` sets none. */
+    /** The limits of what the PHC string may cost; `null` sets none. */
     limits?: Limits | null;
 }
 
-/**
- * The PHC string to keep of a password, with a random salt unless one is given; or, with `raw`, the hash as bytes.
- * A password that is a string is UTF-8.
- */
+/** Hashes a password to a raw hash, as bytes. A password that is a string is encoded in UTF-8. */
 export function hash(password: string | Bytes, options: HashOptions & { raw: true }): Promise<Uint8Array>;
+/**
+ * Hashes a password to an encoded hash (PHC string), to be stored. The salt is random unless one is passed. A password
+ * that is a string is encoded in UTF-8.
+ */
 export function hash(password: string | Bytes, options?: HashOptions & { raw?: false }): Promise<string>;
+/** Hashes a password to a PHC string or, if `raw` is true, to bytes. */
 export function hash(password: string | Bytes, options?: HashOptions): Promise<string | Uint8Array>;
 
 /**
- * Whether a PHC string is that of a password. It is rejected by `DecodingFail` where it is no PHC string of Argon2, by
- * `TooCostly` where it is above the limits, and by other errors where its settings are wrong or memory is short.
+ * Verifies a password against a PHC string. It rejects with `DecodingFail` if the string decodes to no hash, with
+ * `TooCostly` if it is above the limits, and with other errors if its settings are invalid or memory is denied.
  */
 export function verify(encoded: string, password: string | Bytes, options?: VerifyOptions): Promise<boolean>;
 
-/** Whether a PHC string has other settings than these, or than the default ones where they are left out. */
+/** Whether a PHC string was made with other settings than these; those that are left out are the defaults. */
 export function needsRehash(encoded: string, options?: Settings): Promise<boolean>;
 
+/** Settings of which none is left out. */
 export type Preset = Readonly<Required<Settings>>;
 
-/** Recommended settings. OWASP holds its five to be equal in strength; RFC 9106, 4, takes its own with four lanes. */
+/** Recommended settings. OWASP calls its five equal in strength; RFC 9106, 4, recommends its own with four lanes. */
 export const presets: {
     // presets, by .ci/pages/presets
     /** OWASP's first recommendation: 46 MiB, 1 pass. */
@@ -107,10 +118,10 @@ export const presets: {
     // end
 };
 
-/** The limits of `verify` that is given none: 2 GiB, 10 passes, 16 lanes, and the work of 4 GiB in one pass. */
+/** The limits of `verify` without `limits`: 2 GiB, 10 passes, 16 lanes, and the work of 4 GiB in one pass. */
 export const defaultLimits: Readonly<Required<Limits>>;
 
-/** A call to Argon2 was rejected. */
+/** A call to Argon2 failed. */
 export class Argon2Error extends Error {
     /** The name of its class. */
     readonly name: string;
@@ -154,17 +165,18 @@ export class LanesTooMany extends Argon2Error {}
 export class IncorrectType extends Argon2Error {}
 /** No version has this number. */
 export class IncorrectVersion extends Argon2Error {}
-/** No PHC string of Argon2. */
+/** The string decodes to no hash of Argon2. */
 export class DecodingFail extends Argon2Error {}
-/** The engine gave no memory. */
+/** The engine denied the memory. */
 export class OutOfMemory extends Argon2Error {}
 /** A worker could not be started, or has failed. `cause` says why. */
 export class WorkerRefused extends Argon2Error {}
-/** The string is above the limits. No password was looked at. */
+/** The PHC string is above the limits. No password was compared. */
 export class TooCostly extends Argon2Error {}
 /** The engine has no WebAssembly memories with addresses of 64 bits. */
 export class Unsupported extends Argon2Error {}
 
+/** The same by one name, for `import argon2 from`. */
 declare const argon2: {
     hash: typeof hash;
     verify: typeof verify;

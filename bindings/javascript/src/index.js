@@ -37,7 +37,7 @@ async function runHere(task, progress) {
     return run(room, task, { tell });
 }
 
-/** The code and the tag of a job that the library has judged. */
+/** The code and the tag of a job that the library has checked. */
 async function compute(task, { worker, threads }, progress) {
     try {
         progress.throwIfStopped();
@@ -56,7 +56,7 @@ async function compute(task, { worker, threads }, progress) {
     }
 }
 
-/** What a call gives. An error's number becomes the error of that name. */
+/** What a call returns. An error's number becomes the error of that name. */
 async function callWith(inputs, work) {
     try {
         const desk = await Desk.open();
@@ -70,7 +70,7 @@ async function callWith(inputs, work) {
     }
 }
 
-/** The PHC string to keep of a password, or its hash as bytes. */
+/** Hashes a password to a PHC string, or to bytes. */
 export async function hash(password, options = {}) {
     requireOptions(options);
     const settings = settingsOf(options);
@@ -85,7 +85,7 @@ export async function hash(password, options = {}) {
     });
 }
 
-/** Whether a PHC string is that of a password. Where this cannot be told, it is rejected. */
+/** Verifies a password against a PHC string. If that cannot be decided, it rejects. */
 export async function verify(encoded, password, options = {}) {
     requireOptions(options);
     const text = encodedOf(encoded);

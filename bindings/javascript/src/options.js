@@ -1,4 +1,4 @@
-// What a caller passes: judged, and copied at once, since it may change what it has passed.
+// What a caller passes: checked, and copied at once, since it may change what it has passed.
 
 /** The variants: where a block's reference is drawn from (RFC 9106, 1). */
 export const argon2d = 0;
@@ -28,7 +28,7 @@ export const presets = Object.freeze({
     // end
 });
 
-/** The greatest numbers that a string may ask for that is verified. */
+/** The highest costs of a PHC string that is verified. */
 export const defaultLimits = Object.freeze({ memoryCost: 2097152, timeCost: 10, parallelism: 16, work: 4194304 });
 
 const NO_LIMITS = Object.freeze({

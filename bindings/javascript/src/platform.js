@@ -76,5 +76,5 @@ function startOfPage({ onMessage, onEnd }) {
     };
 }
 
-/** Starts a worker. `onEnd` is told when it has failed or is gone. */
+/** Starts a worker. `onEnd` is called when it has failed or is gone. */
 export const startWorker = threads ? startThread : startOfPage;

@@ -43,7 +43,7 @@ class Hand {
         return this;
     }
 
-    /** Gives it to a call that waits, or has it wait for one. */
+    /** Hands it to a call that waits, or has it wait for one. */
     rest() {
         this.call = undefined;
         if (this.#isOver) {
@@ -191,7 +191,7 @@ class Call {
     }
 }
 
-/** Runs a job by at most so many workers, and gives its code and its tag. */
+/** Runs a job by at most so many workers, and returns its code and its tag. */
 export async function runByWorkers(task, most, progress) {
     const hands = await takeHands(most, progress);
     try {

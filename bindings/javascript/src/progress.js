@@ -1,4 +1,4 @@
-// How far a call is: whom it tells, and what stops it.
+// The progress of a call: the callback, and what stops it.
 
 export class Progress {
     #onProgress;
@@ -19,7 +19,7 @@ export class Progress {
         return this.#thrown !== undefined || this.#signal?.aborted === true;
     }
 
-    /** Tells that some slices of all are filled, and says whether to stop. */
+    /** Reports that some slices of all are filled, and returns whether to stop. */
     tell(done, all) {
         if (!this.isStopped) {
             try {

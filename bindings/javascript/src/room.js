@@ -1,4 +1,4 @@
-// A memory with the proved module over it: what the calls are lent, and what is overwritten behind them.
+// A memory with the proved module over it: what the calls are passed, and what is overwritten after them.
 import { OUT_OF_MEMORY, Rejected } from './codes.js';
 
 const PAGE = 65536;
@@ -145,7 +145,7 @@ export class Room {
         return this.#exports[`proved_argon2_${name}`](...passed);
     }
 
-    /** Overwrites all that was lent since it was opened or cleared, and the stack. */
+    /** Overwrites all that was handed out since it was opened or cleared, and the stack. */
     clear() {
         this.#overwrite(0, STACK);
         this.#overwrite(this.#base, this.#top);

@@ -4,7 +4,7 @@ import { Rejected, STOPPED, check } from './codes.js';
 import { sliceOf, slicesOf, takeFor, takeStep } from './job.js';
 import { pointer, STACK } from './room.js';
 
-/** Has helpers take each step, and takes it too. `tell` is told how far it is, and says whether to stop. */
+/** Has helpers take each step, and takes it too. `tell` is called with the progress, and returns whether to stop. */
 async function fill(room, lent, board, helpers, tell) {
     const slices = slicesOf(lent);
     for (let step = 0; step <= slices; step++) {
