@@ -11,16 +11,16 @@
 
 /* ---- what is looked for */
 
-enum { PART = 16, PARTS = 64, MASK = 0x5A, TAG = 32, LONG_TAG = 100, TEXT = 256 };
+enum { PART = 16, PARTS = 64, MASK = 0x5A, TAG = 32, TEXT = 256 };
 enum kind { OF_H0, OF_SEED, OF_FIRST, OF_CHAIN, OF_BLOCKS, OF_LAST, OF_TAG, OF_INPUTS, KINDS };
 
 static const char *const of_kinds[KINDS] = {
     "H0", "what a first block is hashed from", "first blocks of the first pass", "the last hashes of a first block's chain",
     "blocks", "the combined last blocks", "the tag", "the inputs"};
 
-/* The calls: over a mapping, over less than that takes, what password_hash computes, and one whose tag is a chain of
- * hashes. Their inputs are where nobody can write, and so are not found there. */
-enum { MAPPED, SMALL, ALONE, LONG, CALLS };
+/* The calls: over a mapping, over less than that takes, and what password_hash computes. Their inputs are where nobody
+ * can write, and so are not found there. */
+enum { MAPPED, SMALL, ALONE, CALLS };
 
 static const call calls[CALLS] = {
     {{PROVED_ARGON2_ID, 0x13, 2048, 2, 4, TAG}, "the password that is looked for", "a salt of 16 byt",
@@ -30,8 +30,6 @@ static const call calls[CALLS] = {
     {{PROVED_ARGON2_ID, 0x13, 19456, 2, 1, TAG}, "the password that is looked for",
      {0x80, 0x81, 0x82, 0x83, 0x84, 0x85, 0x86, 0x87, 0x88, 0x89, 0x8a, 0x8b, 0x8c, 0x8d, 0x8e, 0x8f}, "", "", 31, 16,
      0, 0},
-    {{PROVED_ARGON2_ID, 0x13, 64, 2, 4, LONG_TAG}, "the password that is looked for", "a salt of 16 byt",
-     "the secret that is looked for", "data", 31, 16, 29, 4},
 };
 
 #define BYTES(it, what) (it).what, (it).what##_len
@@ -39,7 +37,7 @@ static const call calls[CALLS] = {
 
 /* A call's tag, its text, a text of zeros, and what is looked for, each byte with MASK so that it is not found here. */
 typedef struct known {
-    uint8_t tag[LONG_TAG], text[TEXT], other[TEXT];
+    uint8_t tag[TAG], text[TEXT], other[TEXT];
     size_t count;
     struct {
         enum kind kind;
@@ -48,7 +46,7 @@ typedef struct known {
 } known;
 
 static known *all_known, *sought;
-static const uint8_t zeros[LONG_TAG];
+static const uint8_t zeros[TAG];
 
 static inline void keep(known *to, enum kind kind, const void *bytes)
 {
@@ -241,7 +239,7 @@ static uint8_t registers[32][32];
 
 /* Makes a call with so much room above it that what looks afterwards has its frames there, and not where the call's
  * frames were. */
-__attribute__((noinline, unused)) static uint32_t far_below(uint32_t (*does)(const void *), const void *arg)
+__attribute__((noinline)) static uint32_t far_below(uint32_t (*does)(const void *), const void *arg)
 {
     volatile uint8_t room[1 << 16];
     room[0] = 0;
