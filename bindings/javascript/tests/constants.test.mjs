@@ -2,9 +2,11 @@
 import assert from 'node:assert/strict';
 import { readFileSync } from 'node:fs';
 import { createRequire } from 'node:module';
+import os from 'node:os';
 import { dirname } from 'node:path';
 import { fileURLToPath } from 'node:url';
 import { test } from 'node:test';
+import { workers } from './watching.mjs';
 import * as argon2 from 'proved-argon2';
 
 await argon2.hash('', { memoryCost: 8, timeCost: 1 }); // (64-bit memories are allowed by now)
@@ -47,4 +49,18 @@ test('the module imports nothing, and the shared one a memory alone', async () =
     assert.deepEqual(importsOf('proved_argon2.wasm'), []);
     const shared = importsOf('proved_argon2_shared.wasm').map((it) => `${it.module}.${it.name} ${it.kind}`);
     assert.deepEqual(shared, ['env.memory memory']);
+});
+
+test('a string is verified by 16 workers at most, and a password hashed by more', async () => {
+    const { availableParallelism } = os;
+    os.availableParallelism = () => 20;
+    try {
+        const encoded = '$argon2id$v=19$m=256,t=2,p=20$c29tZXNhbHQ$zuWsx5SW6qv+2xEgzAPJ2yaCCn9xi6Aq48Uvm9in6ao';
+        assert.equal(await argon2.verify(encoded, 'password', { limits: { parallelism: 20 } }), true);
+        assert.equal(workers.length, 16);
+        await argon2.hash('password', { memoryCost: 256, parallelism: 18 });
+        assert.equal(workers.length, 18);
+    } finally {
+        os.availableParallelism = availableParallelism;
+    }
 });

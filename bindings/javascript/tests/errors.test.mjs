@@ -157,3 +157,27 @@ test('an aborted signal rejects by its reason, before a worker', async () => {
     await assert.rejects(argon2.verify(KEPT, 'password', { signal: AbortSignal.abort() }), { name: 'AbortError' });
     assert.equal(started(), 0);
 });
+
+test('a job is overwritten where a call is stopped before it runs', async () => {
+    const JOB = 88; // bytes, of which the first 64 are H0
+    const { from } = Uint8Array;
+    const made = [];
+    Uint8Array.from = (...given) => {
+        made.push(from.apply(Uint8Array, given));
+        return made.at(-1);
+    };
+    try {
+        const calls = [(options) => argon2.hash('password', options), (options) => argon2.verify(KEPT, 'password', options)];
+        for (const call of calls) {
+            const controller = new AbortController();
+            const stopped = call({ signal: controller.signal });
+            controller.abort();
+            await assert.rejects(stopped, { name: 'AbortError' });
+        }
+    } finally {
+        Uint8Array.from = from;
+    }
+    const jobs = made.filter((it) => it.length === JOB);
+    assert.equal(jobs.length, 2);
+    assert.ok(jobs.every((job) => job.every((byte) => byte === 0)));
+});
