@@ -1,6 +1,8 @@
 /*
  * What does not fit a job: each number, length and address that a step of a hash is given, with others that are wrong
  * too. It is refused by name, in the order of the header, and nothing is written.
+ *
+ *     unfit few       one in 17 of the combinations that a segment is filled with, where all take too long
  */
 #include "given.h"
 
@@ -55,11 +57,11 @@ static void check_begin(void)
     check(good, "job_begin at lanes and with lengths");
 }
 
-static void check_fill(void)
+static void check_fill(size_t step)
 {
     static const size_t passes[] = {0, PASSES - 1, PASSES, UINT32_MAX}, slices[] = {0, 1, 2, 3, 4, 5, UINT32_MAX};
     bool good = true;
-    for (size_t n = 0; n < 4 * 7 * 5 * 5 * 5 * 5 * 4; n++) {
+    for (size_t n = 0; n < 4 * 7 * 5 * 5 * 5 * 5 * 4; n += step) {
         size_t number = n;
         give_what_fits();
         pass = (uint32_t)NEXT(passes, &number);
@@ -245,11 +247,11 @@ static void check_addresses(void)
     check_alignment(job_verify_over, BLOCKS, "job_verify_over");
 }
 
-int main(void)
+int main(int argc, char **argv)
 {
     check_what_fits();
     check_begin();
-    check_fill();
+    check_fill(argc > 1 && strcmp(argv[1], "few") == 0 ? 17 : 1);
     check_ends();
     check_over();
     check_jobs();
