@@ -1,7 +1,7 @@
 use crate::face::{OLD_PROCESSOR, STOPPED};
 use std::fmt;
 
-/// Why a call was refused.
+/// Why a call failed.
 #[derive(Clone, Debug, PartialEq)]
 #[cfg_attr(feature = "serde", derive(serde::Serialize, serde::Deserialize))]
 #[cfg_attr(feature = "serde", serde(rename_all = "snake_case"))]
@@ -12,7 +12,7 @@ pub enum Error {
     /// The hash is longer than 2^32 - 1 bytes.
     OutputTooLong,
 
-    /// Never answered: no password is too short.
+    /// Never returned: no password is too short.
     PwdTooShort,
 
     /// The password is longer than 2^32 - 1 bytes.
@@ -24,13 +24,13 @@ pub enum Error {
     /// The salt is longer than 2^32 - 1 bytes.
     SaltTooLong,
 
-    /// Never answered: no associated data is too short.
+    /// Never returned: no associated data is too short.
     AdTooShort,
 
     /// The associated data is longer than 2^32 - 1 bytes.
     AdTooLong,
 
-    /// Never answered: no secret is too short.
+    /// Never returned: no secret is too short.
     SecretTooShort,
 
     /// The secret is longer than 2^32 - 1 bytes.
@@ -39,13 +39,13 @@ pub enum Error {
     /// There is no pass.
     TimeTooSmall,
 
-    /// Never answered: no number of passes is too large.
+    /// Never returned: no number of passes is too large.
     TimeTooLarge,
 
     /// There are less than 8 KiB for each lane.
     MemoryTooLittle,
 
-    /// Never answered: no memory is too much.
+    /// Never returned: no memory is too much.
     MemoryTooMuch,
 
     /// There is no lane.
@@ -60,16 +60,16 @@ pub enum Error {
     /// No version has this number.
     IncorrectVersion,
 
-    /// The text spells no hash.
+    /// The string decodes to no hash.
     DecodingFail,
 
-    /// Memory was refused.
+    /// An allocation failed.
     OutOfMemory,
 
-    /// Never answered here: where a thread is refused, the caller's own does its work.
+    /// Never returned here: if the system denies a thread, the caller's thread does its work.
     WorkerRefused,
 
-    /// A [`Run`](crate::Run) was told to stop.
+    /// A [`Run`](crate::Run) was stopped.
     Stopped,
 
     /// The library has no build for a processor as old as this one.
@@ -104,11 +104,11 @@ impl Error {
         // end
     ];
 
-    /// The error of a refusal's number.
+    /// The error of a number.
     ///
     /// # Panics
     ///
-    /// Where the library answers a number that no refusal of it has, which it never does.
+    /// If the library returns a number that no error has, which it never does.
     pub(crate) fn of_number(number: u32) -> Error {
         let place = usize::try_from(number).ok().and_then(|number| number.checked_sub(1));
         match (number, place.and_then(|place| Error::NUMBERED.get(place))) {

@@ -1,4 +1,4 @@
-//! The calls of the C library, as safe functions that return its number. All `unsafe` code stands here.
+//! The calls of the C library, as safe functions that return its number. All `unsafe` code is here.
 //!
 //! The library is passed a pointer and a length of each slice. It reads what is passed as `*const`, writes
 //! what is passed as `*mut` within its length, and keeps no pointer. A slice's pointer is never null.
@@ -18,28 +18,28 @@ use std::ptr::{null, null_mut};
 /// Done, or a match.
 pub const OK: u32 = 0;
 
-/// Memory was refused, or what was lent is too small.
+/// An allocation failed, or the caller's buffer is too small.
 pub const OUT_OF_MEMORY: u32 = 20;
 
-/// A verifying call: the password is another.
+/// A verifying call: the password does not match.
 pub const MISMATCH: u32 = 64;
 
-/// The buffer does not fit.
+/// The buffer has the wrong length.
 pub const WRONG_LENGTH: u32 = 65;
 
-/// The text has other settings.
+/// The encoded hash has other settings.
 pub const NEEDS_REHASH: u32 = 68;
 
-/// The text is above the limits.
+/// The encoded hash is above the limits.
 pub const TOO_COSTLY: u32 = 69;
 
-/// What the call told how far it was has stopped it.
+/// The progress callback stopped the call.
 pub const STOPPED: u32 = 130;
 
 /// There is no build for a processor as old as this one.
 pub const OLD_PROCESSOR: u32 = 131;
 
-/// A buffer of this many bytes has room for the text of each refusal.
+/// A buffer of this many bytes has room for the message of each error.
 #[cfg(test)]
 const MESSAGE_SIZE: usize = 64;
 
@@ -90,17 +90,19 @@ struct Options {
     arg: *mut c_void,
 }
 
-/// What a call is lent: a memory, without which it takes one itself, and somebody who is told how far it is.
+/// What the caller provides: a memory, without which the call allocates one, and a progress
+/// callback.
 pub struct Lent<'lent, 'a> {
     pub kept: Option<&'lent mut Kept>,
     pub telling: Option<&'lent mut Telling<'a>>,
 }
 
-/// As many threads as the library itself has at most for a stored text.
+/// The most threads that the library uses for an encoded hash.
 const MOST_FOR_A_TEXT: u32 = 16;
 
 impl Options {
-    /// Options of so many threads. They point to what is lent, which has to outlive them.
+    /// Options of so many threads. They point to what the caller provides, which has to outlive
+    /// them.
     fn by(threads: u32, lent: Lent<'_, '_>) -> Options {
         let (memory, memory_len) = lent.kept.map_or((null_mut(), 0), |kept| (kept.address(), kept.length()));
         Options {
@@ -209,7 +211,8 @@ extern "C" {
     // end
 }
 
-/// Judges the settings of a tag, without room to write to: `WRONG_LENGTH` says that none is refused.
+/// Checks the settings of a tag, without room to write to: `WRONG_LENGTH` says that all are
+/// accepted.
 #[rustfmt::skip]
 pub fn judge_raw(pwd: &[u8], salt: &[u8], config: &Config<'_>) -> u32 {
     let settings = Settings::of(config);
@@ -227,7 +230,7 @@ pub fn judge_raw(pwd: &[u8], salt: &[u8], config: &Config<'_>) -> u32 {
     }
 }
 
-/// Judges the settings of a text, as `judge_raw` does those of a tag.
+/// Checks the settings of an encoded hash, as `judge_raw` does those of a tag.
 #[rustfmt::skip]
 pub fn judge_encoded(pwd: &[u8], salt: &[u8], config: &Config<'_>) -> u32 {
     let settings = Settings::of(config);
@@ -265,7 +268,7 @@ pub fn hash_raw(pwd: &[u8], salt: &[u8], config: &Config<'_>, lent: Lent<'_, '_>
     }
 }
 
-/// Writes the text and then zeros to `text`, which has more bytes than the text.
+/// Writes the encoded hash and then zeros to `text`, which has more bytes than the encoded hash.
 #[rustfmt::skip]
 pub fn hash_encoded(pwd: &[u8], salt: &[u8], config: &Config<'_>, lent: Lent<'_, '_>, text: &mut [u8]) -> u32 {
     let settings = Settings::of(config);
@@ -305,12 +308,12 @@ pub fn verify_raw(pwd: &[u8], salt: &[u8], hash: &[u8], config: &Config<'_>, len
     }
 }
 
-/// Compares a text with a password.
+/// Verifies a password against an encoded hash.
 pub fn verify_encoded(text: &str, pwd: &[u8], secret: &[u8], ad: &[u8], lent: Lent<'_, '_>) -> u32 {
     verify_with(&Options::by(MOST_FOR_A_TEXT, lent), text, pwd, secret, ad)
 }
 
-/// Compares a text with a password, where it asks for no more than the limits.
+/// Verifies a password against an encoded hash that is within the limits.
 pub fn verify_encoded_within(
     text: &str,
     pwd: &[u8],
@@ -345,7 +348,7 @@ pub fn default_limits() -> Limits {
     unsafe { proved_argon2_default_limits() }
 }
 
-/// What a text spells, where the number is that of success.
+/// What an encoded hash decodes to, if the number is that of success.
 pub fn read(text: &str) -> (u32, Stored) {
     let mut stored = Stored::default();
     // SAFETY: the pointer and the length are those of a slice, and `stored` is this function's own.
@@ -353,27 +356,27 @@ pub fn read(text: &str) -> (u32, Stored) {
     (number, stored)
 }
 
-/// The bytes that a call with these settings wants for its blocks.
+/// The bytes that a call with these settings needs for its blocks.
 pub fn memory_len(settings: &Settings) -> u64 {
     // SAFETY: the settings are read, and nothing is written.
     unsafe { proved_argon2_memory_len(settings) }
 }
 
-/// Compares the settings of a text with others.
+/// Compares the settings of an encoded hash with others.
 pub fn needs_rehash(text: &str, config: &Config<'_>) -> u32 {
     let settings = Settings::of(config);
     // SAFETY: the pointer and the length are those of a slice, and nothing is written.
     unsafe { proved_argon2_needs_rehash(text.as_ptr(), text.len(), &settings) }
 }
 
-/// The length of a text for a salt of this length.
+/// The length of an encoded hash for a salt of this length.
 pub fn encoded_len(config: &Config<'_>, salt_len: u32) -> u64 {
     let settings = Settings::of(config);
     // SAFETY: the settings are read, and nothing is written.
     unsafe { proved_argon2_encoded_len(&settings, salt_len) }
 }
 
-/// The text of a refusal's number.
+/// The message of an error's number.
 #[cfg(test)]
 pub fn message(number: u32) -> Option<String> {
     let mut text = [0; MESSAGE_SIZE];

@@ -1,7 +1,7 @@
 use crate::face::{self, OK, WRONG_LENGTH};
 use crate::{Config, Error, Memory, Result, Run, ThreadMode, Variant, Version};
 
-/// The length in bytes of the text of a hash.
+/// The length in bytes of an encoded hash.
 ///
 /// # Examples
 ///
@@ -32,13 +32,14 @@ pub fn encoded_len(
     face::encoded_len(&config, salt_len)
 }
 
-/// Hashes a password, to a text that has the settings, the salt and the hash.
+/// Hashes a password to an encoded hash (PHC string), which contains the settings, the salt and the
+/// tag.
 ///
-/// A salt is made anew for each password, of 16 random bytes.
+/// Use a fresh salt of 16 random bytes for each password.
 ///
 /// # Errors
 ///
-/// The first of the settings that is out of its bounds, or [`Error::OutOfMemory`].
+/// The first parameter error of the settings, or [`Error::OutOfMemory`].
 ///
 /// # Examples
 ///
@@ -53,7 +54,7 @@ pub fn hash_encoded(pwd: &[u8], salt: &[u8], config: &Config<'_>) -> Result<Stri
     Run::new().hash_encoded(pwd, salt, config)
 }
 
-/// Hashes a password to a text, as [`hash_encoded`] does, over a memory that is kept.
+/// Hashes a password as [`hash_encoded`] does, in a reusable buffer.
 ///
 /// # Errors
 ///
@@ -73,11 +74,11 @@ pub fn hash_encoded_in(memory: &mut Memory, pwd: &[u8], salt: &[u8], config: &Co
     Run::new().over(memory).hash_encoded(pwd, salt, config)
 }
 
-/// Hashes a password, to a hash of `config.hash_length` bytes.
+/// Hashes a password to a raw hash (tag) of `config.hash_length` bytes.
 ///
 /// # Errors
 ///
-/// The first of the settings that is out of its bounds, or [`Error::OutOfMemory`].
+/// The first parameter error of the settings, or [`Error::OutOfMemory`].
 ///
 /// # Examples
 ///
@@ -98,7 +99,7 @@ pub fn hash_raw(pwd: &[u8], salt: &[u8], config: &Config<'_>) -> Result<Vec<u8>>
     Run::new().hash_raw(pwd, salt, config)
 }
 
-/// Hashes a password, as [`hash_raw`] does, over a memory that is kept.
+/// Hashes a password as [`hash_raw`] does, in a reusable buffer.
 ///
 /// # Errors
 ///
@@ -119,7 +120,7 @@ pub fn hash_raw_in(memory: &mut Memory, pwd: &[u8], salt: &[u8], config: &Config
     Run::new().over(memory).hash_raw(pwd, salt, config)
 }
 
-/// The text that a call writes to a buffer, where the settings are accepted.
+/// The encoded hash that a call writes to a buffer, if the settings are accepted.
 pub(crate) fn text_by(
     pwd: &[u8],
     salt: &[u8],
@@ -135,7 +136,7 @@ pub(crate) fn text_by(
     Ok(String::from_utf8(text).expect("a text is ASCII"))
 }
 
-/// The tag that a call writes to a buffer, where the settings are accepted.
+/// The tag that a call writes to a buffer, if the settings are accepted.
 pub(crate) fn tag_by(
     pwd: &[u8],
     salt: &[u8],

@@ -8,18 +8,20 @@
 //!
 //! # Examples
 //!
-//! Keep a password as a text, and verify it:
+//! Hash a password to an encoded hash (PHC string), and verify it within limits:
 //!
 //! ```
-//! use proved_argon2::{self as argon2, Config};
+//! use proved_argon2::{self as argon2, Config, Limits};
+//! use std::io::Read;
 //!
-//! let salt = b"randomsalt";
-//! let text = argon2::hash_encoded(b"password", salt, &Config::default())?;
-//! assert!(argon2::verify_encoded(&text, b"password")?);
-//! # Ok::<(), argon2::Error>(())
+//! let mut salt = [0; 16];
+//! std::fs::File::open("/dev/urandom")?.read_exact(&mut salt)?;
+//! let text = argon2::hash_encoded(b"password", &salt, &Config::default())?;
+//! assert!(argon2::verify_encoded_within(&text, b"password", &[], &[], &Limits::default())?);
+//! # Ok::<(), Box<dyn std::error::Error>>(())
 //! ```
 //!
-//! With settings of one's own:
+//! With your own settings:
 //!
 //! ```
 //! use proved_argon2::{self as argon2, Config, Variant};
@@ -32,19 +34,21 @@
 //!
 //! # What is proved
 //!
-//! The library behind this crate is proved to compute Argon2 and to read and write its texts. This crate
-//! passes bytes to it and is not proved; its only `unsafe` code is the module `face`.
+//! The library behind this crate is proved to compute Argon2 and to encode and decode its hashes.
+//! This crate passes bytes to it and is not proved; its only `unsafe` code is the module `face`.
 //!
 //! # Threads
 //!
-//! With [`ThreadMode::Parallel`] or [`ThreadMode::AtMost`] the lanes are computed by threads, which are started and
-//! joined in each call; a stored text by as many as it has lanes, and at most 16. What fills a lane is proved; the
-//! driver in C that starts the threads is tested. By a [`Run`] a call tells how far it is, and can be stopped.
+//! With [`ThreadMode::Parallel`] or [`ThreadMode::AtMost`] the lanes are computed by threads, which
+//! are started and joined in each call. An encoded hash is verified by as many threads as it has
+//! lanes, and at most 16. The code that fills a lane is proved; the C code that starts the threads
+//! is tested, not proved. A [`Run`] reports the progress of a call, and can stop it.
 //!
 //! # Limits
 //!
-//! The memory of a hash is cleared, and passwords are not. A text says how much memory it is verified with, up to
-//! 4 TiB, and how many passes: verify a text of a stranger by [`verify_encoded_within`].
+//! The memory of a hash is cleared, and passwords are not. An encoded hash names the memory that it
+//! is verified with, up to 4 TiB, and the passes: use [`verify_encoded_within`] for a hash that
+//! others may have written.
 #![deny(unsafe_code)]
 #![warn(missing_docs)]
 

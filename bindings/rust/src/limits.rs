@@ -2,7 +2,8 @@ use crate::face;
 use crate::{Config, Error, Memory, Run};
 use std::{error, fmt, result};
 
-/// The greatest numbers that a text may spell, and the greatest product of two of them, for [`verify_encoded_within`].
+/// The highest memory, passes and lanes that an encoded hash may name, and the highest product of
+/// memory and passes, for [`verify_encoded_within`].
 #[derive(Clone, Copy, Debug, Eq, PartialEq)]
 pub struct Limits {
     /// The lanes.
@@ -19,7 +20,7 @@ pub struct Limits {
 }
 
 impl Limits {
-    /// The default limits, each raised to that of the settings where that is greater: what is hashed with these
+    /// The default limits, each raised to the settings' if that is higher: a hash made with these
     /// settings is within.
     ///
     /// # Examples
@@ -52,13 +53,13 @@ impl Default for Limits {
     }
 }
 
-/// Why a text was not verified within limits.
+/// Why an encoded hash was not verified within limits.
 #[derive(Clone, Debug, PartialEq)]
 pub enum Unverified {
-    /// The text spells more than a limit.
+    /// The encoded hash exceeds a limit.
     TooCostly,
 
-    /// The call without limits refuses so.
+    /// The error of the call without limits.
     Refused(Error),
 }
 
@@ -80,21 +81,22 @@ impl error::Error for Unverified {
     }
 }
 
-/// So that `?` serves calls with limits and calls without, in one function.
+/// So that `?` works for calls with limits and calls without, in one function.
 impl From<Error> for Unverified {
     fn from(error: Error) -> Unverified {
         Unverified::Refused(error)
     }
 }
 
-/// Whether a text is the hash of a password with this secret and this associated data, where it asks for no more
-/// than the limits.
+/// Verifies a password against an encoded hash, with this secret and this associated data, if the
+/// hash is within the limits.
 ///
 /// # Errors
 ///
-/// [`Unverified::Refused`] with [`Error::DecodingFail`] for a text that spells no hash. Then
-/// [`Unverified::TooCostly`] for one that spells more memory, passes or lanes than its limit, or more memory times
-/// passes, before any memory is asked for. Else [`Unverified::Refused`] with the error of [`verify_encoded_ext`](crate::verify_encoded_ext).
+/// [`Unverified::Refused`] with [`Error::DecodingFail`] for a string that decodes to no hash. Then
+/// [`Unverified::TooCostly`] for a hash above a limit of memory, passes, lanes, or memory times
+/// passes, before any memory is allocated. Otherwise [`Unverified::Refused`] with the error of
+/// [`verify_encoded_ext`](crate::verify_encoded_ext).
 ///
 /// # Examples
 ///
@@ -119,12 +121,11 @@ pub fn verify_encoded_within(
     Run::new().verify_encoded_within(encoded, pwd, secret, ad, limits)
 }
 
-/// Whether a text is the hash of a password within limits, as [`verify_encoded_within`] says, over a memory that is
-/// kept.
+/// Verifies as [`verify_encoded_within`] does, in a reusable buffer.
 ///
 /// # Errors
 ///
-/// As [`verify_encoded_within`]. What is above the limits leaves the memory as it is.
+/// As [`verify_encoded_within`]. A hash above the limits leaves the buffer unchanged.
 ///
 /// # Examples
 ///

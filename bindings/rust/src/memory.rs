@@ -1,12 +1,13 @@
 use crate::face::{self, Kept, Settings, OUT_OF_MEMORY};
 use std::fmt;
 
-/// The memory of hashes, kept from call to call: for the calls whose names end in `_in`, and for
+/// A reusable buffer: the memory of hashes, for the calls whose names end in `_in`, and for
 /// [`Run::over`](crate::Run::over).
 ///
-/// It grows to what a call asks for. What it had is given back first, so that a call holds no more memory than one
-/// without it. Settings that are refused leave it as it is. Where memory is refused it keeps none, and serves the next
-/// call. Each call clears it before it returns, and so does [`drop`], before the memory is given back.
+/// It grows to what a call needs, and never shrinks. Before it grows, its old memory is freed, so
+/// that a call holds no more memory than one without it. Settings that are rejected leave it
+/// unchanged. After an allocation failed it is empty, and usable by the next call. Each call clears
+/// it before it returns, and [`drop`] clears and frees it.
 ///
 /// # Examples
 ///
@@ -25,18 +26,18 @@ pub struct Memory {
 }
 
 impl Memory {
-    /// A memory that keeps nothing yet.
+    /// An empty buffer, which allocates nothing yet.
     pub fn new() -> Memory {
         Memory::default()
     }
 
-    /// How many bytes it keeps.
+    /// How many bytes it holds.
     pub fn size(&self) -> usize {
         self.kept.length()
     }
 
-    /// What a call answers that computes over this memory. One that finds it too small is made again over what its
-    /// settings want: only then are they known to be accepted.
+    /// What a call returns that computes in this buffer. A call that finds it too small is repeated
+    /// in one that fits its settings: only then are they known to be accepted.
     pub(crate) fn lend(
         &mut self,
         settings: impl FnOnce() -> Settings,
@@ -49,7 +50,7 @@ impl Memory {
         call(&mut self.kept)
     }
 
-    /// Whether it kept less than settings want, and now keeps that.
+    /// Whether it held less than settings need, and was grown to that.
     fn grow(&mut self, settings: &Settings) -> bool {
         if self.size() as u64 >= face::memory_len(settings) {
             return false;

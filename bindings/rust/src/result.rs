@@ -1,4 +1,4 @@
 use crate::Error;
 
-/// What a call answers that may be refused.
+/// What a call returns that can fail.
 pub type Result<T> = std::result::Result<T, Error>;

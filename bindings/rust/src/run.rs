@@ -4,9 +4,9 @@ use crate::{Config, Error, Limits, Memory, Result, Unverified};
 use std::ops::ControlFlow;
 use std::{fmt, result};
 
-/// How calls run: over a memory that is kept, and telling how far they are, by which they can be stopped.
+/// How calls run: in a reusable buffer, and with a progress callback, which can stop them.
 ///
-/// Each call answers what the one of the crate does, which has its name.
+/// Each call returns what the crate's call of the same name does.
 ///
 /// # Examples
 ///
@@ -31,18 +31,20 @@ pub struct Run<'a> {
 }
 
 impl<'a> Run<'a> {
-    /// As the calls of the crate: over a memory of the call's own, and telling nobody.
+    /// As the calls of the crate: each call allocates its memory, and there is no progress
+    /// callback.
     pub fn new() -> Run<'a> {
         Run::default()
     }
 
-    /// The same over a memory that is kept.
+    /// The same, in a reusable buffer.
     pub fn over(self, memory: &'a mut Memory) -> Run<'a> {
         Run { memory: Some(memory), ..self }
     }
 
-    /// The same, telling how many slices of all are filled, four in a pass, each time that one is. The caller's thread
-    /// tells it. [`ControlFlow::Break`] stops the call, which clears all that it had and is [`Error::Stopped`].
+    /// The same, with a progress callback: it is passed how many slices of all are filled, four in
+    /// a pass, each time that one is, in the caller's thread. [`ControlFlow::Break`] stops the
+    /// call, which clears its memory and returns [`Error::Stopped`].
     pub fn telling(self, tell: impl FnMut(u64, u64) -> ControlFlow<()> + 'a) -> Run<'a> {
         Run { telling: Some(Telling::to(tell)), ..self }
     }
@@ -111,7 +113,8 @@ impl<'a> Run<'a> {
         Ok(verdict(number)?)
     }
 
-    /// What a call answers that is lent what this has. The settings are asked for where the memory is too small.
+    /// What a call returns that is passed the buffer and the callback. The settings are computed
+    /// only if the buffer is too small.
     fn call(
         &mut self,
         settings: impl FnOnce() -> Settings,
@@ -137,7 +140,7 @@ impl fmt::Debug for Run<'_> {
     }
 }
 
-/// Whether a call that verifies answered that it is the password; anything but a verdict is a refusal.
+/// Whether a verifying call returned a match; any number but a verdict is an error.
 fn verdict(number: u32) -> Result<bool> {
     match number {
         OK => Ok(true),

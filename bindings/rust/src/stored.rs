@@ -1,7 +1,8 @@
 use crate::face::{self, OK};
 use crate::{Error, Result, Variant, Version};
 
-/// What a text spells: its settings, and the lengths of its salt and its hash in bytes.
+/// What an encoded hash decodes to: its settings, and the lengths of its salt and its hash in
+/// bytes.
 #[derive(Clone, Copy, Debug, Eq, PartialEq)]
 pub struct Stored {
     /// The length of the hash in bytes; 2^32 - 1 for a longer one.
@@ -22,17 +23,19 @@ pub struct Stored {
     /// The variant.
     pub variant: Variant,
 
-    /// The version, 0x10 for a text without one.
+    /// The version, 0x10 if the encoded hash names none.
     pub version: Version,
 }
 
-/// What a text spells. Nothing is verified, and settings that no hash is made with are read too.
+/// Decodes an encoded hash. Nothing is verified, and settings that no hash is made with are decoded
+/// too.
 ///
-/// A text that may come from outside is verified by [`verify_encoded_within`](crate::verify_encoded_within).
+/// To verify a hash that others may have written, use
+/// [`verify_encoded_within`](crate::verify_encoded_within).
 ///
 /// # Errors
 ///
-/// [`Error::DecodingFail`] for a text that spells no hash, or [`Error::OutOfMemory`].
+/// [`Error::DecodingFail`] for a string that decodes to no hash, or [`Error::OutOfMemory`].
 ///
 /// # Examples
 ///

@@ -16,7 +16,7 @@ pub enum Variant {
 }
 
 impl Variant {
-    /// The name as texts are written: `argon2d`, `argon2i` or `argon2id`.
+    /// The name as in an encoded hash: `argon2d`, `argon2i` or `argon2id`.
     pub fn as_lowercase_str(&self) -> &'static str {
         match self {
             Variant::Argon2d => "argon2d",
@@ -44,7 +44,8 @@ impl Variant {
         *self as u64
     }
 
-    /// The variant of a name, in lower case or with a capital; [`Error::DecodingFail`] for any other text.
+    /// The variant of a name, in lower case or with a capital; [`Error::DecodingFail`] for any
+    /// other string.
     #[allow(clippy::should_implement_trait)]
     pub fn from_str(name: &str) -> Result<Variant> {
         match name {

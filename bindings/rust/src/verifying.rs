@@ -1,12 +1,14 @@
 use crate::face::{self, NEEDS_REHASH, OK};
 use crate::{Config, Error, Memory, Result, Run};
 
-/// Whether a text is the hash of a password, without a secret or associated data.
+/// Verifies a password against an encoded hash, without a secret or associated data, and without
+/// limits.
 ///
 /// # Errors
 ///
-/// [`Error::DecodingFail`] for a text that spells no hash; else the first of its settings that is out of its
-/// bounds, or [`Error::OutOfMemory`]. There are as many threads as the text has lanes, and at most 16.
+/// [`Error::DecodingFail`] for a string that decodes to no hash; otherwise the first parameter
+/// error of its settings, or [`Error::OutOfMemory`]. There are as many threads as the hash has
+/// lanes, and at most 16.
 ///
 /// # Examples
 ///
@@ -22,11 +24,12 @@ pub fn verify_encoded(encoded: &str, pwd: &[u8]) -> Result<bool> {
     verify_encoded_ext(encoded, pwd, &[], &[])
 }
 
-/// Whether a text is the hash of a password with this secret and this associated data.
+/// Verifies a password against an encoded hash, with this secret and this associated data, and
+/// without limits.
 ///
 /// # Errors
 ///
-/// As [`verify_encoded`], and that the secret or the associated data are too long.
+/// As [`verify_encoded`], and the errors that the secret or the associated data are too long.
 ///
 /// # Examples
 ///
@@ -41,10 +44,11 @@ pub fn verify_encoded_ext(encoded: &str, pwd: &[u8], secret: &[u8], ad: &[u8]) -
     Run::new().verify_encoded(encoded, pwd, secret, ad)
 }
 
-/// Whether a text is the hash of a password with this secret and this associated data, over a memory that is kept.
+/// Verifies as [`verify_encoded_ext`] does, in a reusable buffer.
 ///
-/// A text says how much memory that is: verify one that may come from outside by
-/// [`verify_encoded_within_in`](crate::verify_encoded_within_in).
+/// The encoded hash names how much memory that is: use
+/// [`verify_encoded_within_in`](crate::verify_encoded_within_in) for one that others may have
+/// written.
 ///
 /// # Errors
 ///
@@ -71,11 +75,11 @@ pub fn verify_encoded_in(
     Run::new().over(memory).verify_encoded(encoded, pwd, secret, ad)
 }
 
-/// Whether a hash is that of a password. `config.hash_length` is not looked at.
+/// Verifies a password against a raw hash (tag). `config.hash_length` is ignored.
 ///
 /// # Errors
 ///
-/// The first of the settings that is out of its bounds, or [`Error::OutOfMemory`].
+/// The first parameter error of the settings, or [`Error::OutOfMemory`].
 ///
 /// # Examples
 ///
@@ -90,7 +94,7 @@ pub fn verify_raw(pwd: &[u8], salt: &[u8], hash: &[u8], config: &Config<'_>) -> 
     Run::new().verify_raw(pwd, salt, hash, config)
 }
 
-/// Whether a hash is that of a password, as [`verify_raw`] says, over a memory that is kept.
+/// Verifies as [`verify_raw`] does, in a reusable buffer.
 ///
 /// # Errors
 ///
@@ -116,13 +120,14 @@ pub fn verify_raw_in(
     Run::new().over(memory).verify_raw(pwd, salt, hash, config)
 }
 
-/// Whether a text was made with another variant, version, memory, passes, lanes or length of the hash.
+/// Whether an encoded hash was made with another variant, version, memory, passes, lanes or length
+/// of the hash.
 ///
-/// Ask it once the password has matched, and hash the password anew where it is so.
+/// Call it once the password has matched, and hash the password again if it returns true.
 ///
 /// # Errors
 ///
-/// [`Error::DecodingFail`] for a text that spells no hash, or [`Error::OutOfMemory`].
+/// [`Error::DecodingFail`] for a string that decodes to no hash, or [`Error::OutOfMemory`].
 ///
 /// # Examples
 ///

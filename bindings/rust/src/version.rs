@@ -18,7 +18,7 @@ impl Version {
         *self as u32
     }
 
-    /// The version of `16` or `19`; [`Error::DecodingFail`] for any other text.
+    /// The version of `16` or `19`; [`Error::DecodingFail`] for any other string.
     #[allow(clippy::should_implement_trait)]
     pub fn from_str(number: &str) -> Result<Version> {
         match number {

@@ -11,9 +11,10 @@ extern "C" {
     fn proved_argon2_memory_free(memory: *mut c_void, memory_len: usize);
 }
 
-/// A memory of the library's, or none. What it holds is never looked at here: each call clears what it used.
+/// A memory that the library allocated, or none. Its contents are never looked at here: each call
+/// clears what it used.
 pub struct Kept {
-    /// That of nothing, where the length is 0: a call without an address would take memory of its own.
+    /// Some address if the length is 0: a call without one would allocate memory of its own.
     address: *mut c_void,
     length: usize,
 }
@@ -25,7 +26,7 @@ unsafe impl Send for Kept {}
 unsafe impl Sync for Kept {}
 
 impl Kept {
-    /// A memory that fits calls with these settings, or none where it is refused.
+    /// A memory that fits calls with these settings, or none if it is denied.
     pub fn of(settings: &Settings) -> Kept {
         let (mut address, mut length) = (null_mut(), 0);
         // SAFETY: the settings are read, and what is written to is this function's own.
@@ -56,7 +57,7 @@ impl Default for Kept {
 impl Drop for Kept {
     fn drop(&mut self) {
         if self.length > 0 {
-            // SAFETY: the library made it, of this length, and it is given back once.
+            // SAFETY: the library allocated it, with this length, and it is freed once.
             unsafe { proved_argon2_memory_free(self.address, self.length) }
         }
     }

@@ -4,10 +4,12 @@ use std::ops::ControlFlow;
 use std::os::raw::c_int;
 use std::panic::{catch_unwind, resume_unwind, AssertUnwindSafe};
 
-/// What is told how many slices of all are filled, and answers whether the call goes on.
+/// The progress callback: it is passed how many slices of all are filled, and returns whether the
+/// call goes on.
 type Tell<'a> = dyn FnMut(u64, u64) -> ControlFlow<()> + 'a;
 
-/// What a call tells how far it is. A panic stops it, and goes on once it has returned: none passes through C.
+/// The progress callback of a call. A panic in it stops the call, and goes on once the call has
+/// returned: none passes through C.
 pub struct Telling<'a> {
     tell: Box<Tell<'a>>,
     panic: Option<Box<dyn Any + Send>>,
@@ -18,7 +20,7 @@ impl<'a> Telling<'a> {
         Telling { tell: Box::new(tell), panic: None }
     }
 
-    /// Panics on, if that is why the call has stopped.
+    /// Resumes the panic, if one has stopped the call.
     pub fn end(&mut self) {
         if let Some(panic) = self.panic.take() {
             resume_unwind(panic);
@@ -28,8 +30,8 @@ impl<'a> Telling<'a> {
 
 /// `proved_argon2_tell` of the header.
 pub(super) extern "C" fn told(arg: *mut c_void, done: u64, all: u64) -> c_int {
-    // SAFETY: `Options::by` names this with what it was lent, which is borrowed for the call alone. The library tells
-    // it in the caller's thread, and one after another.
+    // SAFETY: `Options::by` passes this with its argument, which is borrowed for the call alone.
+    // The library calls it in the caller's thread, and never twice at once.
     let telling = unsafe { &mut *arg.cast::<Telling<'_>>() };
     match catch_unwind(AssertUnwindSafe(|| (telling.tell)(done, all))) {
         Ok(ControlFlow::Continue(())) => 0,
