@@ -17,7 +17,7 @@ class Machine:
     builds: list
 
     def words(self, cpu):
-        """What `rt lib` is told for a processor: the kit has processors of its own machine alone."""
+        """What `rt lib` is told for a processor: the toolchain has processors of its own machine alone."""
         return ["--target", self.target] if self.prefix else ["--cpu", cpu]
 
     def flags(self, cpu):

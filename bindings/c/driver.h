@@ -69,10 +69,10 @@ uint32_t begin_call(call *it, const options *with, int is_missing);
 /* Memory of malloc for so many bytes, which the end of the call clears and frees. */
 uint32_t take_bytes(call *it, size_t len);
 
-/* Writes the tag of a job that the library has judged, or answers whether a hash is it; the tag is then there. */
+/* Writes the tag of a job that the library has checked, or returns whether a hash is it; the tag is then there. */
 uint32_t compute(call *it, const uint8_t *hash, uint8_t *tag);
 
-/* Ends a call with its answer: clears its bytes, its job, the stack and the registers. */
+/* Ends a call with its result: clears its bytes, its job, the stack and the registers. */
 CLEARS_REGISTERS uint32_t end_call(call *it, uint32_t code);
 
 /* Memory for blocks, or null: malloc's, or a mapping, in huge pages where the system has them and in no core dump. */

@@ -6,7 +6,7 @@
 #include <stdlib.h>
 #include <string.h>
 
-/* What x86-64-v2 and -v3 have more than the one before (x86-64 psABI, 3.1.1), as the words of cpuid tell it. */
+/* What x86-64-v2 and -v3 have more than the one before (x86-64 psABI, 3.1.1), in the registers of cpuid. */
 #define LEAF_1_OF_V2 (bit_SSE3 | bit_SSSE3 | bit_CMPXCHG16B | bit_SSE4_1 | bit_SSE4_2 | bit_POPCNT)
 #define LEAF_1_OF_V3 (bit_FMA | bit_MOVBE | bit_OSXSAVE | bit_AVX | bit_F16C)
 #define LEAF_7_OF_V3 (bit_BMI | bit_AVX2 | bit_BMI2)

@@ -8,7 +8,7 @@ uint32_t proved_argon2_hash_raw_with(const options *with, INPUTS, uint8_t *out, 
     call it;
     uint32_t code = begin_call(&it, with, proved_argon2_are_missing(OF_INPUTS) || IS_MISSING(out));
     code = code ? code : out_len == settings->hash_length ? proved_argon2_job_make(OF_INPUTS, &it.job)
-        : proved_argon2_hash_over(OF_INPUTS, NULL, 0, NULL, 0); /* which judges them alone, and refuses what is left */
+        : proved_argon2_hash_over(OF_INPUTS, NULL, 0, NULL, 0); /* which checks them alone, and rejects the rest */
     code = code == PROVED_ARGON2_WRONG_BLOCKS ? PROVED_ARGON2_WRONG_LENGTH : code;
     return end_call(&it, code ? code : compute(&it, NULL, out));
 }
@@ -54,8 +54,8 @@ uint32_t proved_argon2_verify_raw(INPUTS, const uint8_t *hash, size_t hash_len)
     return proved_argon2_verify_raw_with(&plain, OF_INPUTS, hash, hash_len);
 }
 
-/* Reads the job of a text, its hash with as much room behind it for the tag, and its salt. What is refused costs no
- * memory: it is judged first, without room for salt and hash, for which all that is accepted is refused. */
+/* Reads the job of an encoded hash, its tag with as much room behind it for the computed one, and its salt. A rejected
+ * hash costs no memory: it is checked first, without room for salt and tag, where an accepted one is WRONG_LENGTH. */
 static uint32_t read_text(call *it, STORED)
 {
     static const proved_argon2_limits none = {UINT32_MAX, UINT32_MAX, UINT32_MAX, UINT64_MAX};
@@ -75,7 +75,7 @@ uint32_t proved_argon2_verify_encoded_with(const options *with, STORED)
     call it;
     uint32_t code = begin_call(&it, with, IS_MISSING(text) || IS_MISSING(pwd) || IS_MISSING(secret) || IS_MISSING(ad));
     code = code ? code : read_text(&it, OF_STORED);
-    it.with.threads = it.with.threads < 16 ? it.with.threads : 16; /* as many as Rattle's library has for a text */
+    it.with.threads = it.with.threads < 16 ? it.with.threads : 16; /* as Rattle's library for an encoded hash */
     return end_call(&it, code ? code : compute(&it, it.bytes, it.bytes + it.job.hash_length));
 }
 
@@ -90,7 +90,7 @@ uint32_t proved_argon2_verify_encoded_within(STORED, const proved_argon2_limits 
     return proved_argon2_verify_encoded_with(limits == NULL ? NULL : &with, OF_STORED);
 }
 
-/* A run of a job, which is judged by a call over no blocks: where it is one, these alone are wrong. */
+/* A run of a job, which is checked by a call over no blocks: if it is one, these alone are wrong. */
 static uint32_t run(const options *with, const proved_argon2_job *job, const uint8_t *hash, uint8_t *tag, size_t len)
 {
     call it;

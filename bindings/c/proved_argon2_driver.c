@@ -1,5 +1,5 @@
-/* How the library for C computes: this lends memory and threads to the proved calls of proved_argon2_jobs.h, clears
- * both, and answers what those answered. It is tested and not proved. */
+/* How the library for C computes: this provides memory and threads for the proved calls of proved_argon2_jobs.h, clears
+ * both, and returns what those returned. It is tested, not proved. */
 #include "driver.h"
 #include <errno.h>
 #include <signal.h>
@@ -87,7 +87,7 @@ uint32_t end_call(call *it, uint32_t code)
     return code;
 }
 
-/* Asks for a worker's part of the pages at once; a system that cannot do so gives them one by one. */
+/* Maps a worker's part of the pages at once; a system that cannot do so maps them one by one. */
 static uint32_t populate(const call *it, uint32_t number)
 {
     const size_t all = bytes_of(&it->job), bytes = it->with.memory == NULL && mapped(all) != 0 ? all : 0;
@@ -128,7 +128,7 @@ static void *run_thread(void *self)
     return NULL;
 }
 
-/* Starts threads for worker 1, 2 and so on until one is refused, and gives the number of the first that has none. */
+/* Starts threads for worker 1, 2 and so on until one is denied, and returns the number of the first that has none. */
 static uint32_t start_threads(call *it)
 {
     uint32_t started = 1;
@@ -149,7 +149,7 @@ static uint32_t start_threads(call *it)
     return started;
 }
 
-/* The call's own threads: the caller's takes worker 0, and those whose thread was refused. */
+/* The call's own threads: the caller's takes worker 0, and those whose thread was denied. */
 static int run_threads(call *it)
 {
     const uint32_t started = it->tasks == 1 ? 1 : start_threads(it);
@@ -163,7 +163,7 @@ static int run_threads(call *it)
     return 0;
 }
 
-/* Has each worker take a step once, and tells how many slices are filled. */
+/* Has each worker take a step once, and reports how many slices are filled. */
 static uint32_t run_step(call *it, uint64_t slices)
 {
     const options *const with = &it->with;
@@ -188,7 +188,7 @@ static uint32_t fill(call *it)
     return code;
 }
 
-/* In one call, where the caller's thread is alone and nobody is told how far it is; else in steps. */
+/* In one call, if the caller's thread is alone and there is no progress callback; otherwise in steps. */
 static uint32_t compute_over(call *it, const uint8_t *hash, uint8_t *tag)
 {
     const block *const last = it->blocks + 3 * it->slice;

@@ -1,5 +1,5 @@
 """The table of the proved calls, for an archive with several builds: C that makes each call that of the build that
-builds.h chooses. Where there is none, a call answers PROVED_ARGON2_OLD_PROCESSOR, or zeros where it answers no code."""
+builds.h chooses. Where there is none, a call returns PROVED_ARGON2_OLD_PROCESSOR, or zeros if it returns no code."""
 import re
 
 HEAD = '''/* Made by bindings/c/table.py: each proved call, in the build for this processor. */
@@ -25,7 +25,7 @@ def in_build(build, name):
 
 
 def declared_calls(headers, exported):
-    """What headers declare of the calls that a build exports: pairs of a name and what it answers and takes."""
+    """What headers declare of the calls that a build exports: pairs of a name and what it returns and takes."""
     found = {name: (answer, " ".join(taken.split())) for text in headers
              for answer, name, taken in CALL.findall(COMMENT.sub("", text)) if name in exported}
     if set(found) != set(exported):

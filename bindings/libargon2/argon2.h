@@ -2,7 +2,7 @@
  * libargon2's interface, over the proved Argon2 of proved_argon2.h: the same constants, types and calls, so that a
  * program that was built for libargon2 20171227 or 20190702 runs over this library as it is.
  *
- * docs/LIBARGON2.md says what differs on purpose. New programs take proved_argon2.h.
+ * docs/LIBARGON2.md says what differs on purpose. New programs use proved_argon2.h.
  */
 #ifndef ARGON2_H
 #define ARGON2_H
@@ -93,7 +93,7 @@ typedef enum Argon2_ErrorCodes {
     ARGON2_VERIFY_MISMATCH = -35
 } argon2_error_codes;
 
-/* Writes where so many bytes begin, at a multiple of 8, or leaves null. What it returns is not looked at. */
+/* Writes where so many bytes begin, at a multiple of 8, or leaves null. What it returns is ignored. */
 typedef int (*allocate_fptr)(uint8_t **memory, size_t bytes_to_allocate);
 typedef void (*deallocate_fptr)(uint8_t *memory, size_t bytes_to_allocate);
 
@@ -129,7 +129,7 @@ typedef enum Argon2_version {
 /* The name of a type, as `argon2id` or `Argon2id`; null where there is no such type. */
 ARGON2_PUBLIC const char *argon2_type2string(argon2_type type, int uppercase);
 
-/* The words for an error code, which stay where they are. */
+/* The message of an error code, which is never freed. */
 ARGON2_PUBLIC const char *argon2_error_message(int error_code);
 
 /* The bytes of an encoded hash, with the zero behind it. */

@@ -65,7 +65,7 @@ static uint32_t version_of(const char *digits)
     return digits[1] == '0' ? ARGON2_VERSION_10 : ARGON2_VERSION_13;
 }
 
-/* Whether a word is an option that has an argument. */
+/* Whether an argument is an option that takes another. */
 static int has_argument(const char *word)
 {
     return word[0] == '-' && word[1] != 0 && word[2] == 0 && strchr("mktplv", word[1]) != NULL;
@@ -118,7 +118,7 @@ static void read_word(settings *to, const char *word)
     }
 }
 
-/* Reads the words behind the salt, up to one that asks for help. */
+/* Reads the arguments behind the salt, up to one that asks for help. */
 static void read_words(settings *to, char **word)
 {
     while (*word != NULL && !to->is_help) {

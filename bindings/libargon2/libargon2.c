@@ -1,4 +1,4 @@
-/* libargon2's interface (argon2.h) over the calls of proved_argon2.h: it judges what libargon2 judges, in its order and
+/* libargon2's interface (argon2.h) over the calls of proved_argon2.h: it checks what libargon2 checks, in its order, and
  * translates errors. Each tag and each verdict is a proved call's. What differs on purpose: docs/LIBARGON2.md */
 #define _GNU_SOURCE
 #include "argon2.h"
@@ -91,8 +91,8 @@ static void give_memory_back(const argon2_context *c, const proved_argon2_option
     else if (with->memory != NULL) c->free_cbk(with->memory, with->memory_len);
 }
 
-/* Without a callback the driver takes the memory, but where flags ask that inputs be cleared: those have to stay where
- * there is no memory, for a caller who tries again with less. */
+/* Without a callback the driver allocates the memory, unless flags say that inputs are cleared: without memory those
+ * have to be unchanged, for a caller who tries again with less. */
 static int take_memory(const argon2_context *c, const proved_argon2_settings *settings, proved_argon2_options *with)
 {
     uint8_t *memory = NULL;
@@ -195,7 +195,7 @@ int argon2_hash(INPUTS, void *hash, const size_t hashlen, char *encoded, const s
     return code;
 }
 
-/* Whether a text begins as libargon2 spells these settings, and reads them: the library below reads other spellings. */
+/* Whether an encoded hash begins as libargon2 writes these settings: the library below accepts more forms. */
 static int is_spelled(const char *text, const proved_argon2_settings *its, argon2_type type)
 {
     char version[16] = "", begin[80];
@@ -217,7 +217,7 @@ int argon2_verify(const char *encoded, const void *pwd, const size_t pwdlen, arg
     int code = code_of(proved_argon2_read(text, len, &stored));
     if (code == -PROVED_ARGON2_OLD_PROCESSOR) return code;
     if (code != ARGON2_OK || !is_spelled(encoded, its, type)) return ARGON2_DECODING_FAIL;
-    uint8_t any; /* the salt and the hash are judged by their lengths */
+    uint8_t any; /* the salt and the hash are checked by their lengths */
     const argon2_context c = {
         .out = &any, .outlen = its->hash_length, .pwd = (uint8_t *)(uintptr_t)pwd, .pwdlen = (uint32_t)pwdlen,
         .salt = &any, .saltlen = stored.salt_length, .t_cost = its->time_cost, .m_cost = its->mem_cost,
