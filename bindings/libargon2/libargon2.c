@@ -1,4 +1,4 @@
-/* libargon2's interface (argon2.h) over the calls of proved_argon2.h: it checks what libargon2 checks, in its order, and
+/* libargon2's interface (argon2.h) over the calls of proved_argon2.h: it makes libargon2's checks in their order, and
  * translates errors. Each tag and each verdict is a proved call's. What differs on purpose: docs/LIBARGON2.md */
 #define _GNU_SOURCE
 #include "argon2.h"
