@@ -1,7 +1,6 @@
 """Judges the edits of one crate: what has to be refused is, at the goal that it names, and what has to be proved is."""
 
 import contextlib
-import functools
 import os
 import re
 import shutil
@@ -9,15 +8,12 @@ import signal
 import subprocess
 import tempfile
 import threading
-from concurrent.futures import ThreadPoolExecutor
 from pathlib import Path
 
 from copies import BY_A_CALL, Copy, Report, can_be_copied, clause_of, folders_of, texts_with
 from shared.toolchain import kept_work, load_rt
 
 MEMORY_OF_A_CHECK = 3_000_000_000  # bytes, of which the largest crate was seen to take four fifths
-# Copies of a crate above which two checks of a half each end sooner, though each reads the crate and all below it.
-MANY, HALVES = 40, 2
 
 rt = load_rt()
 room = tempfile.mkdtemp(prefix='edits-')
@@ -97,33 +93,16 @@ class Crate:
         if fault:
             yield from self.failed([*(copy.edit for copy in self.copies), *self.in_place], fault)
             return
-        parts = self.parts()
-        judge_part = functools.partial(self.judged_in_copies, max(1, self.jobs // len(parts)))
-        with ThreadPoolExecutor(HALVES) as pool:
-            for results, said in pool.map(judge_part, parts, self.works_for(parts)):
-                yield from results
-                fault = fault or said
+        results, fault = self.judged_in_copies()
+        yield from results
         yield from self.failed(self.in_place, fault) if fault else self.judged_in_place()
 
-    def parts(self):
-        """The copies for each check: many are judged by two, where the work that both begin with is there."""
-        count = HALVES if len(self.copies) > MANY and os.listdir(self.kept) else 1
-        return [self.copies[first::count] for first in range(count)]
-
-    def works_for(self, parts):
-        """What is kept for each check to begin with, where none may write into another's."""
-        works = [self.kept]
-        for _ in parts[1:]:
-            works.append(tempfile.mkdtemp(dir=room) + '/kept')
-            linked(self.kept, works[-1])
-        return works
-
-    def judged_in_copies(self, jobs, copies, kept):
-        """Judges copies by one check over kept work: each edit with whether it passed and why, and a fault of the crate."""
-        results = []
+    def judged_in_copies(self):
+        """Judges copies by one check: each edit with whether it passed and why, and a fault of the crate."""
+        results, copies = [], self.copies
         while True:
             texts, spans = texts_with(copies, self.folder)
-            report = checked(self.crate, texts, kept, jobs, self.before)
+            report = checked(self.crate, texts, self.kept, self.jobs, self.before)
             blamed = {} if report.is_told else blamed_by(report, spans)
             if not blamed:
                 break
@@ -171,13 +150,13 @@ class Crate:
         say(f'{self.crate.name}: {"begins with what rt ci proved" if seed else "is proved from nothing"}')
         return None
 
-    def prove(self, to=None, **how):
-        """Proves the crate without its edits, and keeps that in a folder where it is named and not there. Gives the crate's
-        fault, or None."""
+    def prove(self, to, **how):
+        """Proves the crate without its edits, and keeps that in a folder where it is not there. Gives the crate's fault, or
+        None."""
         report = checked(self.crate, {}, self.kept, self.jobs, **how)
         if not report.last.startswith('logic=proved'):
             return f'the crate is not proved without its edits: {report.first_error()}'
-        if to and not to.exists():
+        if not to.exists():
             to.parent.mkdir(parents=True, exist_ok=True)
             part = tempfile.mkdtemp(dir=to.parent, prefix='.')
             shutil.copytree(self.kept, part, dirs_exist_ok=True)
@@ -185,14 +164,11 @@ class Crate:
         return None
 
     def prove_first(self):
-        """Proves a crate of many edits without them, where `rt ci` keeps nothing of it, so that two checks can begin with
-        that. The crate for C is proved so for those too who build its archive, which wait: `rt ci` builds none."""
-        is_static = self.crate.is_static
-        if not self.proofs or os.listdir(self.kept) or not (is_static or len(self.copies) > MANY):
-            return None
-        if is_static:
+        """Proves the crate for C without its edits, beside the proofs, for those too who build its archive, which wait: `rt
+        ci` builds none."""
+        if self.proofs and self.crate.is_static and not os.listdir(self.kept):
             return self.prove(self.folder / 'out/incremental', waits=contextlib.nullcontext())
-        return self.prove(before=self.before)
+        return None
 
     def judged_in_place(self):
         """Those that no copy shows: of different functions together, and what a check cannot tell alone."""
