@@ -55,7 +55,7 @@ Description: libargon2's interface over a proved Argon2 - shared library
  of libargon2-1. The interface around that code is tested.
 END
     make_libargon2_development
-    # The command goes into no package: it stands in the tarball.
+    # The command goes into no package: it is in the tarball.
     rm -r "$work/debian/usr/$lib/proved-libargon2"
 }
 
@@ -74,6 +74,6 @@ Description: libargon2's interface over a proved Argon2 - development files
  Programs that are written for libargon2 compute Argon2 by code that is proved
  to meet its contract where they are built with it.
  .
- This package has the header, the static archive and the file for pkg-config.
+ This package contains the header, the static archive and the file for pkg-config.
 END
 }
