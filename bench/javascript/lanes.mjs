@@ -23,8 +23,8 @@ async function times({ hash }, rounds) {
 }
 
 function say(engine, { default: alone, ...least }) {
-    console.log(`${engine}: ${alone.toFixed(0)} ms; by 1, 2 and 4 workers ${Object.values(least).map(Math.round).join(', ')} ms; ` +
-        `four take ${(least[4] / least[1]).toFixed(2)} of one`);
+    const cells = [engine, Math.round(alone), ...Object.values(least).map(Math.round), (least[4] / least[1]).toFixed(2)];
+    console.log(`| ${cells.join(' | ')} |`);
 }
 
 async function inPage(Browser) {
@@ -45,8 +45,9 @@ async function inPage(Browser) {
     server.close();
 }
 
-console.log('Argon2id, 19 MiB, 2 passes, 1 lane; 64 MiB, 3 passes, 4 lanes');
-say(`Node/${process.versions.node}`, await times(argon2, Number(rounds)));
+console.log(`| Engine | 19 MiB, 2 passes, 1 lane | 64 MiB, 3 passes, 4 lanes: by 1 worker | by 2 | by 4 | by 4, part of 1 |
+|---|---:|---:|---:|---:|---:|`);
+say(`Node ${process.versions.node}`, await times(argon2, Number(rounds)));
 await inPage(Chromium);
 await inPage(Firefox);
 process.exit();

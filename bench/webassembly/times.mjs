@@ -1,5 +1,5 @@
 // Times a hash by this library's module and by upstream's C reference, both compiled to WebAssembly, in the engine that
-// this runs in. `times(load, say)`: load gives the bytes of a module by its name, say takes a line.
+// this runs in. `times(load, say)`: load gives the bytes of a module by its name, say takes the cells of a table's row.
 
 // KiB of memory, passes, lanes.
 const CASES = [[256, 2, 1], [19456, 2, 1], [65536, 3, 1], [65536, 3, 4]];
@@ -80,9 +80,9 @@ export async function times(load, say) {
         if (bytes) hashes[name] = MAKERS[name](await WebAssembly.compile(bytes));
     }
     for (const which of CASES) {
-        const [memory, passes, lanes] = which, least = timeCase(hashes, which);
-        const of = (name) => `${name} ${Math.round(least[name] * 1e6 / memory / passes)}`;
-        const part = least.upstream ? `, ${(least.ours / least.upstream).toFixed(2)} of upstream's time` : '';
-        say(`(${memory}, ${passes}, ${lanes}): ns a KiB and pass: ${Object.keys(least).map(of).join(', ')}${part}`);
+        const [memory, passes] = which, least = timeCase(hashes, which);
+        const of = (name) => (least[name] ? Math.round(least[name] * 1e6 / memory / passes) : 'skipped');
+        const part = least.upstream ? (least.ours / least.upstream).toFixed(2) : 'skipped';
+        say([which.join(', '), of('ours'), of('upstream'), part].join(' | '));
     }
 }

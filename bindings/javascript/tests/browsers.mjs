@@ -119,7 +119,8 @@ export class Chromium extends Browser {
     }
 
     async version() {
-        return (await this.#send('Browser.getVersion')).product;
+        const [, number] = (await this.#send('Browser.getVersion')).product.split('/');
+        return `Chromium ${number}`;
     }
 
     async show({ width, height, isDark, isPhone = false }) {
@@ -153,7 +154,7 @@ export class Firefox extends Browser {
         this.socket.on('data', (data) => this.#read(data));
         await once(this.socket, 'connect');
         const { capabilities } = await this.#send('WebDriver:NewSession');
-        this.name = `Firefox/${capabilities.browserVersion}`;
+        this.name = `Firefox ${capabilities.browserVersion}`;
         await this.#send('WebDriver:SetTimeouts', { script: 600000 });
         return this;
     }
