@@ -1,16 +1,15 @@
-"""What has changed of crates since they were found good, or else since git's HEAD, and what that can change elsewhere."""
+"""What has changed of crates since all was last found good, or else since git's HEAD, and what that can change elsewhere."""
 
-import hashlib
-import json
 import os
+import shutil
 import subprocess
-from pathlib import Path
+import tempfile
 
 from shared import TOP
 from shared.sources import FUNCTION
 from shared.toolchain import stamp
 
-MADE = {'out', 'target', '__pycache__'}
+GOOD = TOP / 'out/good'  # the files as they were found good, as a tree of git, and the kit
 
 
 def face_of(text):
@@ -33,89 +32,78 @@ def face_of(text):
     return text if end is not None else '\n'.join(kept)
 
 
-def git(*words):
-    return subprocess.run(['git', *words], cwd=TOP, stdout=subprocess.PIPE, stderr=subprocess.DEVNULL, text=True, check=False).stdout
+def git(*words, **how):
+    return subprocess.run(['git', *words], cwd=TOP, stdout=subprocess.PIPE, stderr=subprocess.DEVNULL, text=True, check=False,
+                          **how).stdout
+
+
+def tree_of_now():
+    """All files as they are, as a tree of git: those too that it does not know yet."""
+    with tempfile.TemporaryDirectory() as room:
+        index = shutil.copy(TOP / git('rev-parse', '--git-path', 'index').strip(), room)
+        how = {'env': {**os.environ, 'GIT_INDEX_FILE': index}}
+        git('add', '--all', **how)
+        return git('write-tree', **how).strip()
+
+
+class Changes:
+    """The paths that are others than they were when all was good."""
+
+    def __init__(self):
+        self.now, self.kit = tree_of_now(), stamp().partition(' ')[2]
+        tree, _, kit = GOOD.read_text(encoding='utf-8').partition('\n') if GOOD.exists() else ('', '', '')
+        is_known = git('cat-file', '-t', tree) == 'tree\n'
+        self.base = tree if is_known else 'HEAD'
+        self.paths = set(git('diff-tree', '-r', '-z', '--name-only', '--no-renames', self.base, self.now).split('\0')) - {''}
+        self.is_all = is_known and kit != self.kit or 'crates.txt' in self.paths
+
+    def before(self, path):
+        """A file's text when all was good."""
+        return git('show', f'{self.base}:{path}')
+
+    def keep(self):
+        """Notes that all is good as it was when this began."""
+        GOOD.parent.mkdir(exist_ok=True)
+        GOOD.write_text(f'{self.now}\n{self.kit}', encoding='utf-8')
 
 
 class Part:
-    """A folder whose work is kept: a crate, or bindings/. `line` is the stamp of its sources and of those below it, `files`
-    the hash of each file, and `changed` the files that are others."""
+    """A crate, or bindings/: `changed` are its files that are others."""
 
-    def __init__(self, folder, crate=None):
-        self.folder, self.crate = TOP / folder, crate
+    def __init__(self, folder, changes, crate=None):
+        self.folder, self.changes, self.crate = TOP / folder, changes, crate
         self.name = crate.name if crate else folder
-        self.line, self.files = stamp(*([crate.name] if crate else [])), dict(self.hashes())
-        good = self.folder / 'out/good.json'
-        self.good = json.loads(good.read_text(encoding='utf-8')) if good.exists() else None
-        self.changed = self.changed_files()
-        self.has_other_face = self.has_changed_face()
+        self.changed = {it.removeprefix(f'{folder}/') for it in changes.paths if it.startswith(f'{folder}/')}
+        self.has_other_face = any(self.is_other_face(path) for path in self.changed)
 
-    def hashes(self):
-        for at, folders, names in os.walk(self.folder):
-            folders[:] = set(folders) - MADE
-            for path in (Path(at, name) for name in names):
-                yield path.relative_to(self.folder).as_posix(), hashlib.sha256(path.read_bytes()).hexdigest()
+    def before(self, path):
+        return self.changes.before((self.folder / path).relative_to(TOP))
 
-    def changed_files(self):
-        if self.good:
-            old = self.good['files']
-            return {it for it in {*self.files, *old} if self.files.get(it) != old.get(it)}
-        said = git('status', '--porcelain', '-z', '--no-renames', '--untracked-files=all', '--', self.folder)
-        return {Path(TOP, it[3:]).relative_to(self.folder).as_posix() for it in said.split('\0') if it}
-
-    def text(self, path):
-        return (self.folder / path).read_text(encoding='utf-8') if path in self.files else ''
-
-    def at_head(self, path):
-        return git('show', f'HEAD:{(self.folder / path).relative_to(TOP)}')
-
-    def face(self):
-        """A hash of all that other crates can know of this one: its specs, and its code without bodies."""
-        texts = [(path, self.text(path)) for path in sorted(self.files) if path.startswith(('src/', 'specs/'))]
-        told = [f'{path}\0{face_of(text) if path.startswith("src/") else text}\0' for path, text in texts]
-        return hashlib.sha256(''.join(told).encode()).hexdigest()
-
-    def has_changed_face(self):
-        if not self.crate or not self.changed:
-            return False
-        if self.good:
-            return self.face() != self.good['face']
-        return any(path.startswith('specs/') or path.startswith('src/') and face_of(self.text(path)) != face_of(self.at_head(path))
-                   for path in self.changed)
+    def is_other_face(self, path):
+        """Whether a file is another, and other crates can know of it: specs, and code without bodies."""
+        file = self.folder / path
+        now = file.read_text(encoding='utf-8') if path.startswith('src/') and file.exists() else ''
+        return path.startswith('specs/') or path.startswith('src/') and face_of(now) != face_of(self.before(path))
 
     def has_changed(self, *folders):
-        return any(path.startswith(folders) for path in self.changed)
-
-    def is_of_another_kit(self, changed):
-        """Whether it was found good by another kit, or with another list of crates: no file is another."""
-        is_here = any(it is self or it.crate in self.crate.below() for it in changed)
-        return self.good is not None and self.line != self.good['line'] and not is_here
+        return self.changes.is_all or any(path.startswith(folders) for path in self.changed)
 
     def is_affected(self, changed):
         """Whether its tests may come out otherwise: its code or its input is another, or the code of a crate below it."""
         own = self.has_changed('src/', 'data/', 'args', 'stdin', 'stdout', 'status')
-        return own or self.is_of_another_kit(changed) or any(it.has_changed('src/') and it.crate in self.crate.below()
-                                                             for it in changed)
+        return own or any(it.has_changed('src/') and it.crate in self.crate.below() for it in changed)
 
     def is_stale(self, changed):
         """Whether its proofs may be: its own sources are others, or what it can know of a crate below it."""
         own = self.has_changed('src/', 'specs/', 'proofs/')
-        return own or self.is_of_another_kit(changed) or any(it.has_other_face and it.crate in self.crate.below()
-                                                             for it in changed)
+        return own or any(it.has_other_face and it.crate in self.crate.below() for it in changed)
 
     def touches(self, edit):
         """Whether an edit is new, or changes a function whose file or proofs are others."""
         if edit.is_tried_alone:
             is_new = f'must-fail/{edit.name}.edit' in self.changed
         else:
-            is_new = 'mutants.txt' in self.changed and f' {edit.name}\n{edit.text}' not in self.at_head('mutants.txt')
+            is_new = 'mutants.txt' in self.changed and f' {edit.name}\n{edit.text}' not in self.before('mutants.txt')
         files = {file.relative_to(self.folder).as_posix() for file, _, _ in edit.pairs}
         proofs = ['/'.join(['proofs', *it.module.path[1:], *filter(None, [it.owner]), it.name, '']) for it in edit.functions if it]
         return is_new or bool(files & self.changed) or any(it.startswith(tuple(proofs)) for it in self.changed if proofs)
-
-    def keep(self):
-        """Notes that it is good as it was when this began."""
-        good = self.folder / 'out/good.json'
-        good.parent.mkdir(exist_ok=True)
-        told = {'line': self.line, 'files': self.files, 'face': self.face() if self.crate else ''}
-        good.write_text(json.dumps(told), encoding='utf-8')
