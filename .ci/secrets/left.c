@@ -40,7 +40,8 @@ extern int dl_iterate_phdr(int (*)(void *, size, void *), void *);
 extern void *const __libc_stack_end;
 
 enum { STANDARD_ERROR = 2, READ_ONLY = 0, MASK = 0x5A, PIECE = 16, MOST_PIECES = 256, MOST_OF_MAPS = 1 << 20, ROOM = 1 << 16,
-       MOST_STOPS = 1024, BELOW = 1 << 15, ABOVE = 1 << 13, PAGE = 4096, ALL = 7, TRAP = 5, ON_OWN_STACK = 0x08000000, WITH_CONTEXT = 4 };
+       MOST_STOPS = 1024, BELOW = 1 << 15, ABOVE = 1 << 16, PAGE = 4096, ALL = 7, TRAP = 5 };
+enum { ON_OWN_STACK = 0x08000000, WITH_CONTEXT = 4 };
 enum { NOTHING = 0x90, CALL = 0xE8, JUMP = 0xE9, RETURN = 0xC3, BREAKPOINT = 0xCC };
 enum { STACK_POINTER = 20, NEXT_INSTRUCTION = 21 }; /* words of a signal's context */
 
@@ -151,7 +152,7 @@ void free(void *block) {
   frees(block);
 }
 
-/* The places of a variable, one after the other. */
+/* The places of a variable, one after the other; blanks end them. */
 static byte *next_place(char **rest, byte *program) {
   byte *const place = program + strtoul(*rest, rest, 16);
   *rest += **rest == ',';
@@ -160,7 +161,7 @@ static byte *next_place(char **rest, byte *program) {
 }
 
 static void leave_out(char *rest, byte *program) {
-  while (rest && *rest) {
+  while (rest && *rest > ' ') {
     byte *const place = next_place(&rest, program);
     const int is_jump = place[0] == JUMP;
     for (size i = 0; i < 5; i++)
@@ -170,7 +171,7 @@ static void leave_out(char *rest, byte *program) {
 }
 
 static void set_stops(char *rest, byte *program) {
-  for (; rest && *rest && count_of_stops < MOST_STOPS; count_of_stops++) {
+  for (; rest && *rest > ' ' && count_of_stops < MOST_STOPS; count_of_stops++) {
     stops[count_of_stops] = next_place(&rest, program);
     instructions[count_of_stops] = *stops[count_of_stops];
     *stops[count_of_stops] = BREAKPOINT;
