@@ -201,7 +201,7 @@ looks_like_mode() {
     esac
 }
 
-# Whether an argument has letters, digits and the signs of base64 and of PHC strings alone. Others may not be UTF-8.
+# Whether an argument has the characters of base64 and of PHC strings alone. Others may not be UTF-8.
 is_plain() {
     case $1 in
     *[!A-Za-z0-9+/=,.:_\$-]*) return 1 ;;

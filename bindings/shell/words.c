@@ -111,7 +111,7 @@ static int answer(uint32_t code, uint32_t yes, uint32_t no)
     return puts(code == yes ? "true" : "false") < 0 || fflush(stdout) != 0 ? STREAM : code == yes ? TRUE : FALSE;
 }
 
-/* The tag and the encoded hash, of one computation. What is refused is, before memory is asked for. */
+/* The tag and the encoded hash, of one computation. Invalid settings are rejected before memory is allocated. */
 static int hash(char *word, const proved_argon2_limits *most)
 {
     uint8_t *const salt = (uint8_t *)word;

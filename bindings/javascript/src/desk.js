@@ -13,7 +13,7 @@ const SALT_LENGTH = 24;
 /** Of proved_argon2_limits: its bytes, and where the work is. */
 const LIMITS = 24;
 const WORK = 16;
-/** What a memory may have grown to and still be kept for the next call. */
+/** What a memory may have grown to and still be reused by the next call. */
 const KEPT = 2 ** 20;
 
 let opened;

@@ -115,7 +115,7 @@ impl Error {
             (STOPPED, _) => Error::Stopped,
             (OLD_PROCESSOR, _) => Error::OldProcessor,
             (_, Some(error)) => error.clone(),
-            (_, None) => panic!("the library answered {number}, which is no refusal"),
+            (_, None) => panic!("the library returned {number}, which is no error"),
         }
     }
 
@@ -173,7 +173,7 @@ mod tests {
     }
 
     #[test]
-    #[should_panic(expected = "the library answered 0")]
+    #[should_panic(expected = "the library returned 0")]
     fn no_error_has_the_number_of_success() {
         Error::of_number(0);
     }

@@ -150,8 +150,8 @@ pub(crate) fn tag_by(
     Ok(tag)
 }
 
-/// The refusal of a call that was given no room to write to. The settings are judged before the room, and so
-/// no memory is asked for where they are refused.
+/// The error of a call that was passed no room to write to. The settings are checked before the room, and so
+/// no memory is allocated if they are rejected.
 fn require_settings(number: u32) -> Result<()> {
     if number == WRONG_LENGTH {
         Ok(())
