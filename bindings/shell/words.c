@@ -1,6 +1,5 @@
 /* The commands of docs/SHELL.md over the library for C, for processors for which the toolchain links no program:
- * argon2_program, and with OF_TOOL argon2_tool. Each tag and each verdict is the library's; the code here is tested, not
- * proved. */
+ * argon2_program, and with OF_TOOL argon2_tool. Tags and verdicts are the library's; the code here is tested, not proved. */
 #define _GNU_SOURCE
 #include <errno.h>
 #include <proved_argon2.h>
