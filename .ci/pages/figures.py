@@ -6,7 +6,7 @@ from pathlib import Path
 
 LIST = Path(__file__).resolve().parent / 'figures.txt'
 NUMBER = r'(?<![\w.,+-])\d[\d,]*(?:\.\d+)?'
-UNIT = r'(?:ns|µs|us|ms|(?:nano|micro|milli)?seconds?|minutes?|hours?|%|percent|times|instructions)(?!\w)'
+UNIT = r'(?:ns|µs|us|ms|s|min|h|(?:nano|micro|milli)?seconds?|minutes?|hours?|%|percent|times|instructions)(?!\w)'
 PART = r'(?<![\w.])(?:0\.\d+|\d\.\d\d+)'
 FIGURE = re.compile(rf'{NUMBER}(?:\s(?:and|to|or)\s{NUMBER})?\s?{UNIT}|{PART}\s(?:of\b|(?:and|to|or)\s{PART}(?!\.?\d))')
 # What scripts write, code, and what is set apart by four blanks.
