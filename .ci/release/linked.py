@@ -297,6 +297,10 @@ class Inputs:
         self.names, self.objects = [name for name, _ in found], [Elf(body) for _, body in found]
         self.globals = {it.name: (at, it) for at, elf in enumerate(self.objects) for it in elf.symbols
                         if it.section and it.is_global}
+        self.of_sections = [{} for _ in found]  # the symbols of each object's sections
+        for elf, of_section in zip(self.objects, self.of_sections):
+            for it in elf.symbols:
+                of_section.setdefault(it.section, []).append(it)
         self.linked, self.places = None, {}
 
     def loaded(self):
@@ -326,15 +330,17 @@ class Inputs:
 
     def place_by_names(self, at, section):
         """Puts a section where one of its symbols is, if that is in what is linked."""
-        marks = [it for it in self.objects[at].symbols if it.section == section.index and it.name in self.linked.named]
+        marks = [it for it in self.of_sections[at].get(section.index, ()) if it.name in self.linked.named]
         if section.has(MERGE) or not marks:
             return
         taken = set(self.places.values())
         bases = [base - marks[0].value for base in self.linked.named[marks[0].name]]
         fitting = [base for base in bases if base not in taken and self.is_at(section, base)]
         # Zeros fit in many places: what refers to them says which it is.
-        if section.kind != NOBITS or len(fitting) == 1:
-            self.put(at, section, (fitting or bases)[0])
+        if fitting and (section.kind != NOBITS or len(fitting) == 1):
+            self.places[at, section.index] = fitting[0]
+        elif section.kind != NOBITS:
+            self.put(at, section, bases[0])
 
     def check_constant(self, section, offset, address):
         """A constant that a linker may have put together with equal ones."""
