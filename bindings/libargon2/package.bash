@@ -74,6 +74,7 @@ Description: libargon2's interface over a proved Argon2 - development files
  Programs that are written for libargon2 compute Argon2 by code that is proved
  to meet its contract where they are built with it.
  .
- This package contains the header, the static archive and the file for pkg-config.
+ This package contains the header, the static archive and the file for
+ pkg-config.
 END
 }
