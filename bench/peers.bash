@@ -55,35 +55,45 @@ build_upstream() {
     done
 }
 
-# A version of rust-argon2: `build_rust_argon2 VERSION`. Debian has 1.0.0 and what it needs; another version is built
-# where cargo has its source without a network.
-build_rust_argon2() {
-    local version=$1 crate=$tree/rust-$1 name=rust-argon2-$1
-    rm -f "$out/$name.so"
+# A crate of a folder here, over Debian's crates in a folder, as a library: `build_crate FOLDER CRATES LIBRARY [SOURCE]`,
+# where SOURCE is where rust-argon2 comes from.
+build_crate() {
+    local crate=$tree/$3
     mkdir -p "$crate/.cargo"
-    cp -r "$here/rust_argon2/." "$crate"
-    sed -i "s/^rust-argon2 = .*/rust-argon2 = \"=$version\"/" "$crate/Cargo.toml"
-    [[ ! -d $crates_of_debian/$name ]] || printf '%s\n' '[source.crates-io]' 'replace-with = "debian"' '[source.debian]' \
-        "directory = \"$crates_of_debian\"" >"$crate/.cargo/config.toml"
-    if (cd "$crate" && "${cargo[@]}" build --offline --release --target-dir target) >"$out/$name.log" 2>&1; then
-        cp "$crate/target/release/libbench_rust_argon2.so" "$out/$name.so"
-    else
-        echo "$name: skipped, cargo has no source of it here"
-    fi
+    cp -r "$here/$1/." "$crate"
+    printf '%s\n' '[source.crates-io]' 'replace-with = "debian"' '[source.debian]' "directory = \"$2\"" \
+        >"$crate/.cargo/config.toml"
+    [ -z "${4:-}" ] || sed -i "s|^rust-argon2 = .*|rust-argon2 = $4|" "$crate/Cargo.toml"
+    (cd "$crate" && "${cargo[@]}" build --offline --release --target-dir target) \
+        && cp "$crate/target/release/libbench_$1.so" "$out/$3.so"
+}
+
+# The crates of Debian 13 that a package of it needs: `fetch_crates FOLDER PACKAGE..`.
+fetch_crates() {
+    local folder=$1 names=()
+    shift
+    mapfile -t names < <(newer apt-get install -s --no-install-recommends "$@" | awk '/^Inst librust/ { print $2 }')
+    ((${#names[@]})) && unpack_newer "$folder" "${names[@]}"
+}
+
+# rust-argon2: Debian 12 has the source of 1.0.0, and RUST_ARGON2 names a folder with that of 3.0.0, which Debian has not.
+build_rust_argon2() {
+    local debian=$tree/crates-of-rust-argon2 needed=(librust-{base64,blake2b-simd,constant-time-eq,crossbeam-utils,serde}-dev)
+    rm -f "$out"/rust-argon2-*.so
+    build_crate rust_argon2 "$crates_of_debian" rust-argon2-1.0.0 '"=1.0.0"' >"$out/rust-argon2-1.0.0.log" 2>&1 \
+        || echo 'rust-argon2 1.0.0: skipped, its source cannot be had'
+    if [ -n "${RUST_ARGON2:-}" ] && fetch_crates "$debian" "${needed[@]}"; then
+        build_crate rust_argon2 "$debian$crates_of_debian" rust-argon2-3.0.0 "{ path = \"$RUST_ARGON2\" }"
+    fi >"$out/rust-argon2-3.0.0.log" 2>&1
+    [ -e "$out/rust-argon2-3.0.0.so" ] || echo 'rust-argon2 3.0.0: skipped, RUST_ARGON2 names no source of it'
 }
 
 # RustCrypto's argon2, by the crates of Debian 13.
 build_rustcrypto() {
-    local crate=$tree/rustcrypto debian=$tree/debian-crates names=()
+    local debian=$tree/crates-of-rustcrypto
     rm -f "$out/rustcrypto.so"
-    mkdir -p "$crate/.cargo"
-    cp -r "$here/rustcrypto/." "$crate"
-    printf '%s\n' '[source.crates-io]' 'replace-with = "debian"' '[source.debian]' \
-        "directory = \"$debian$crates_of_debian\"" >"$crate/.cargo/config.toml"
-    mapfile -t names < <(newer apt-get install -s --no-install-recommends librust-argon2-dev | awk '/^Inst librust/ { print $2 }')
-    if ((${#names[@]})) && unpack_newer "$debian" "${names[@]}" \
-        && (cd "$crate" && "${cargo[@]}" build --offline --release --target-dir target); then
-        cp "$crate/target/release/libbench_rustcrypto.so" "$out/rustcrypto.so"
+    if fetch_crates "$debian" librust-argon2-dev; then
+        build_crate rustcrypto "$debian$crates_of_debian" rustcrypto
     fi >"$out/rustcrypto.log" 2>&1
     [ -e "$out/rustcrypto.so" ] || echo 'rustcrypto: skipped, its source cannot be had'
 }
