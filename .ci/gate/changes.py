@@ -6,30 +6,26 @@ import subprocess
 import tempfile
 
 from shared import TOP
-from shared.sources import FUNCTION
+from shared.sources import functions_in
 from shared.toolchain import stamp
 
 GOOD = TOP / 'out/good'  # the files as they were found good, as a tree of git, and the kit
 
 
 def face_of(text):
-    """A file's text without comments and without the bodies of its functions, of which no proof of another crate knows, but
-    of constant functions; the whole of it, where a body has no end."""
-    kept, end, is_head = [], None, False
-    for line in text.split('\n'):
-        if end is not None:
-            end = None if line == end else end
-            continue
-        start = FUNCTION.match(line)
-        if start:
-            indent, is_head = start[1], ' const fn ' not in f' {line}'
-        if not line.lstrip().startswith('//'):
-            kept.append(line)
-        if is_head and (line == f'{indent}{{' or line.endswith('{') and (start or line.startswith(f'{indent})'))):
-            end, is_head = f'{indent}}}', False
-        elif is_head and line.endswith(('{}', ';')) and (start or line.startswith((f'{indent}{{', f'{indent})'))):
-            is_head = False
-    return text if end is not None else '\n'.join(kept)
+    """The lines of a file without comments and without the bodies of its functions, of which no proof of another crate knows,
+    but of constant functions; all lines, where a body has no end."""
+    lines = text.split('\n')
+    try:
+        functions = [it for it in functions_in(text) if not it.is_const]
+    except ValueError:
+        return lines
+    for it in functions:
+        heads = (at for at in range(it.first, it.last) if lines[at - 1].endswith('{'))
+        opens = (f'{it.indent}{{', f'{it.indent})')
+        body = next((at for at in heads if at == it.first or lines[at - 1].startswith(opens)), it.last)
+        lines[body:it.last] = [''] * (it.last - body)
+    return [line for line in lines if line and not line.lstrip().startswith('//')]
 
 
 def git(*words, **how):
@@ -57,10 +53,6 @@ class Changes:
         self.paths = set(git('diff-tree', '-r', '-z', '--name-only', '--no-renames', self.base, self.now).split('\0')) - {''}
         self.is_all = is_known and kit != self.kit or 'crates.txt' in self.paths
 
-    def before(self, path):
-        """A file's text when all was good."""
-        return git('show', f'{self.base}:{path}')
-
     def keep(self):
         """Notes that all is good as it was when this began."""
         GOOD.parent.mkdir(exist_ok=True)
@@ -74,10 +66,11 @@ class Part:
         self.folder, self.changes, self.crate = TOP / folder, changes, crate
         self.name = crate.name if crate else folder
         self.changed = {it.removeprefix(f'{folder}/') for it in changes.paths if it.startswith(f'{folder}/')}
-        self.has_other_face = any(self.is_other_face(path) for path in self.changed)
+        self.has_other_face = any(map(self.is_other_face, self.changed))
 
     def before(self, path):
-        return self.changes.before((self.folder / path).relative_to(TOP))
+        """A file's text when all was good."""
+        return git('show', f'{self.changes.base}:{(self.folder / path).relative_to(TOP)}')
 
     def is_other_face(self, path):
         """Whether a file is another, and other crates can know of it: specs, and code without bodies."""
@@ -104,6 +97,6 @@ class Part:
             is_new = f'must-fail/{edit.name}.edit' in self.changed
         else:
             is_new = 'mutants.txt' in self.changed and f' {edit.name}\n{edit.text}' not in self.before('mutants.txt')
-        files = {file.relative_to(self.folder).as_posix() for file, _, _ in edit.pairs}
-        proofs = ['/'.join(['proofs', *it.module.path[1:], *filter(None, [it.owner]), it.name, '']) for it in edit.functions if it]
-        return is_new or bool(files & self.changed) or any(it.startswith(tuple(proofs)) for it in self.changed if proofs)
+        touched = [file.relative_to(self.folder).as_posix() for file, _, _ in edit.pairs]
+        touched += ['/'.join(['proofs', *it.folders, it.name, '']) for it in edit.functions if it]
+        return is_new or any(path.startswith(tuple(touched)) for path in self.changed)

@@ -1,5 +1,5 @@
 # shellcheck shell=bash
-# What the commands of packages.txt and skips.txt use, and whether one succeeds.
+# What the commands of packages.txt and skips.txt use.
 source .ci/shared/common.bash
 PATH=$PATH:/opt/rattle/bin
 
@@ -36,8 +36,4 @@ has_packages_for() {
     folder=$(mktemp -d) && mkdir -p "$folder/lists/partial" && apt-get -qq -o "Dir::State=$folder" \
         -o "Dir::State::status=/dev/null" -o "Dir::Cache=$folder" -o "APT::Architecture=$1" -o "APT::Architectures=$1" \
         -o APT::Sandbox::User=root update
-}
-
-succeeds() {
-    eval "$1" >/dev/null 2>&1 </dev/null
 }

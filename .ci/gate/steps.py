@@ -6,10 +6,13 @@ import subprocess
 import threading
 import time
 
+from gate.skips import SKIPPED, judged
 from shared import TOP
 
+# The steps that compare documents with the sources and, but for `readme`, need no build.
+PAGES = [f'.ci/pages/{it}' for it in ('definitions', 'differences', 'cycles', 'layout', 'promises', 'presets', 'layers', 'peers',
+                                      'references', 'names')]
 COUNTS = re.compile(r'(\d+) passed, (\d+) failed(?:, (\d+) skipped)?')
-SKIPPED = re.compile(r'skipped: (?:.*: all (\d+) checks \()?')
 PROVED = re.compile(r'^(?:fn|struct|enum|impl|trait) \S+: proved')
 printing = threading.Lock()
 # Within so many seconds all steps have ended, or else those that have not are stopped and named: CI may have three hours, and
@@ -27,32 +30,30 @@ class Step(threading.Thread):
         super().__init__(name=name)
         self.command, self.needed, self.folder = command or [TOP / name], needed, folder
         self.is_shown_at_once, self.is_counted, self.quiet = is_shown_at_once, is_counted, quiet
-        self.left_out = []
-        self.lines, self.counts, self.seconds, self.of_processors = [], [0, 0, 0], 0.0, 0.0
-        self.skipped, self.names = [], []
+        self.lines, self.left_out, self.skipped, self.names = [], [], [], []
+        self.counts, self.seconds, self.of_processors = [0, 0, 0], 0.0, 0.0
         self.start()
 
     @property
     def failed(self):
         return self.counts[1] > 0
 
+    def fail(self, why):
+        self.lines.append(f'{self.name}: FAILED: {why}')
+        self.counts[1] += 1
+
     def run(self):
         for step in self.needed:
             step.join()
-            if step.failed:
-                self.end(f'it was not run, since {step.name} failed')
-                return
-        status = self.run_command()
-        if status is None:
-            self.counts[1] += 1
-            self.lines.append(f'{self.name}: FAILED: it was stopped, since CI had run for {LIMIT // 60} minutes')
-            self.end(None)
-            return
-        if not self.is_counted:
-            self.counts = [int(status == 0), int(status != 0), 0]
-        self.judge_skips()
-        has_ended_well = status == 0 and self.counts[0]
-        self.end(None if has_ended_well else f'it ended with status {status}, and {self.counts[0]} passed')
+        failed = next((step.name for step in self.needed if step.failed), None)
+        try:
+            if failed:
+                self.fail(f'it was not run, since {failed} failed')
+            else:
+                self.judge(self.run_command())
+        except Exception as error:  # pylint: disable=broad-except # (a thread that died would be a step that did not fail)
+            self.fail(f'it could not be run or judged: {error}')
+        self.show()
 
     def run_command(self):
         """Gives its status, or nothing where it had to be stopped."""
@@ -72,45 +73,43 @@ class Step(threading.Thread):
         return None if is_stopped else process.returncode
 
     def read(self, said):
-        for line in said:
-            self.take(line.rstrip('\n'))
+        """Takes its lines. The last one that counts is the step's; none may be taken for the sum of all steps."""
+        for line in (it.rstrip('\n') for it in said):
+            counts = COUNTS.fullmatch(line)
+            if counts:
+                self.counts = [int(it or 0) for it in counts.groups()]
+                line = f'{self.name}: {line}'
+            if SKIPPED.fullmatch(line):
+                self.skipped.append(line)
+            if self.quiet and self.quiet.search(line):
+                self.left_out.append(line)
+                continue
+            if self.is_shown_at_once or 'FAILED' in line:
+                with printing:
+                    print(line, flush=True)
+            if not self.is_shown_at_once:
+                self.lines.append(line)
 
-    def take(self, line):
-        """Takes a line. The last one that counts is the step's; none may be taken for the sum of all steps."""
-        counts = COUNTS.fullmatch(line)
-        if counts:
-            self.counts = [int(it or 0) for it in counts.groups()]
-            line = f'{self.name}: {line}'
-        if SKIPPED.match(line):
-            self.skipped.append(line)
-        if self.quiet and self.quiet.search(line):
-            self.left_out.append(line)
+    def judge(self, status):
+        """Counts what the step has not: that it failed, what it may not skip, and a skip without a name."""
+        if status is None:
+            self.fail(f'it was stopped, since CI had run for {LIMIT // 60} minutes')
             return
-        if self.is_shown_at_once or 'FAILED' in line:
-            with printing:
-                print(line, flush=True)
-        if not self.is_shown_at_once:
-            self.lines.append(line)
-
-    def judge_skips(self):
-        """Counts what may not be skipped (.ci/gate/skips), but where the step has counted it, and a skip without a name."""
-        asked = [subprocess.run(['bash', TOP / '.ci/gate/skips', *words, self.name], input='\n'.join(self.skipped), text=True,
-                                stdout=subprocess.PIPE, check=False) for words in (['--names'], [])]
-        self.names, faults = (it.stdout.splitlines() for it in asked)
-        if any(it.returncode for it in asked):
-            faults.append('FAILED: .ci/gate/skips cannot tell what may be skipped')
-        named = sum(int(SKIPPED.match(line)[1] or 1) for line in self.skipped)
+        if not self.is_counted:
+            self.counts = [int(status == 0), 0, 0]
+        skipped = [*judged(self.name, self.skipped)]
+        self.names = [name for name, _ in skipped]
+        faults = [fault for _, fault in skipped if fault]
+        named = sum(int(SKIPPED.fullmatch(line)[3] or 1) for line in self.skipped)
         if named != self.counts[2]:
             faults.append(f'FAILED: {self.counts[2]} checks were skipped, and {named} are named')
         faults = [fault for fault in faults if fault not in self.lines]
         self.lines += faults
         self.counts[1] += len(faults)
+        if not self.failed and (status or not self.counts[0]):
+            self.fail(f'it ended with status {status}, and {self.counts[0]} passed')
 
-    def end(self, fault):
-        """Shows what it said. A fault that it has not counted is counted."""
-        if fault and not self.failed:
-            self.lines.append(f'{self.name}: FAILED: {fault}')
-            self.counts[1] = 1
+    def show(self):
         if self.failed:
             self.lines[:0] = [line for line in self.left_out if 'error' in line]
         self.lines.append(f'{self.name}: {self.seconds:.0f} seconds, {self.of_processors:.0f} of the processors')
@@ -131,10 +130,8 @@ def close(steps, begun):
     of_processors = sum(it.of_processors for it in steps)
     print(f'{"all":{width}}{time.monotonic() - begun:8.0f}{of_processors:15.0f}, '
           f'on {len(os.sched_getaffinity(0))} processors')
-    for step in steps:
-        for line in step.lines:
-            if 'FAILED' in line:
-                print(line if line.startswith(step.name) else f'{step.name}: {line}')
+    for step, line in ((step, line) for step in steps for line in step.lines if 'FAILED' in line):
+        print(line if line.startswith(step.name) else f'{step.name}: {line}')
     passed, failed, skipped = (sum(it.counts[at] for it in steps) for at in range(3))
     names = '; '.join(name for step in steps for name in step.names)
     print(f'{passed} passed, {failed} failed, {skipped} skipped' + (f': {names}' if names else ''))

@@ -1,0 +1,50 @@
+#!/usr/bin/env -S python3 -B
+"""Whether what a step skips may be skipped: a check of skips.txt, or a package that packages.txt has as `wanted`, whose
+command fails. A step says `skipped: CHECK (REASON)`; a part of which all is skipped, `skipped: PART: all N checks (REASON)`.
+
+    .ci/gate/skips.py STEP    reads what the step says, and prints a line for each check that may not be skipped
+"""
+
+import re
+import subprocess
+import sys
+from pathlib import Path
+
+sys.path.insert(0, str(Path(__file__).resolve().parents[1]))
+from shared import TOP  # noqa: E402
+from shared.blocks import lines, rows  # noqa: E402
+
+GATE = TOP / '.ci/gate'
+SKIPPED = re.compile(r'skipped: (.*?)(: all (\d+) checks)?(?: \(.*)?')
+
+
+def packages():
+    """Each of Debian's packages in packages.txt: `needed` or `wanted`, its name, and its command."""
+    for line in lines(GATE / 'packages.txt'):
+        names, _, command = line.partition(': ')
+        kind, *names = names.split()
+        yield from ((kind, name, command or f'{name} --version') for name in names)
+
+
+def succeeds(command):
+    """Whether a command of the lists succeeds; commands.bash has those that are no programs."""
+    return subprocess.run(['bash', '-c', f'. .ci/gate/commands.bash\n{command}'], cwd=TOP, stdin=subprocess.DEVNULL,
+                          stdout=subprocess.DEVNULL, stderr=subprocess.DEVNULL, check=False).returncode == 0
+
+
+def judged(step, said):
+    """What a step skips, as it is in the list, with what is wrong with that, or None."""
+    listed = dict(rows(GATE / 'skips.txt'))
+    listed.update((f'.ci/gate/packages: the package {name}', command) for kind, name, command in packages() if kind == 'wanted')
+    for what, is_all, _ in (it.groups() for it in map(SKIPPED.fullmatch, said) if it):
+        check = f'{step}: {what}' + (': all' if is_all else '')
+        fault = f'FAILED: it may not be skipped: {check}'
+        if check in listed:
+            fault = succeeds(listed[check]) and f'FAILED: it is skipped, and {listed[check]} succeeds: {check}'
+        yield check, fault or None
+
+
+if __name__ == '__main__':
+    if len(sys.argv) != 2:
+        sys.exit(__doc__)
+    print(''.join(f'{fault}\n' for _, fault in judged(sys.argv[1], sys.stdin.read().splitlines()) if fault), end='')
