@@ -10,7 +10,7 @@ from gate.skips import SKIPPED, judged
 from shared import TOP
 
 # The steps that compare documents with the sources and, but for `readme`, need no build.
-PAGES = [f'.ci/pages/{it}' for it in ('definitions', 'differences', 'cycles', 'layout', 'promises', 'presets', 'layers', 'peers',
+PAGES = [f'.ci/pages/{it}' for it in ('definitions', 'cycles', 'layout', 'promises', 'presets', 'layers', 'peers',
                                       'references', 'names')]
 COUNTS = re.compile(r'(\d+) passed, (\d+) failed(?:, (\d+) skipped)?')
 PROVED = re.compile(r'^(?:fn|struct|enum|impl|trait) \S+: proved')

@@ -1,0 +1,52 @@
+"""What the scripts of this folder share: reading, and the parts of files that they compare or, with `--write`, write."""
+
+import re
+import sys
+from pathlib import Path
+
+sys.path.insert(0, str(Path(__file__).resolve().parents[1]))
+from shared import TOP  # noqa: E402
+from shared.checks import Checks  # noqa: E402
+from shared.pages import filled, marked  # noqa: E402
+
+
+def read(file):
+    return (TOP / file).read_text(encoding='utf-8')
+
+
+def write(file, text):
+    (TOP / file).write_text(text, encoding='utf-8')
+
+
+def rows(file, fields=0):
+    """The lines of a table, as what stands between ` | `: so many fields, or all."""
+    return [line.split(' | ', fields - 1) for line in read(file).splitlines() if line and line[0] != '#']
+
+
+def quoted(names):
+    return ', '.join(f'`{name}`' for name in names)
+
+
+def put_in(values, form):
+    """A form of a table with values in the place of its marks, as `<name>`."""
+    return re.sub(r'<(\w+)>', lambda mark: values.get(mark[1], mark[0]), form.replace('\\n', '\n'))
+
+
+class Script(Checks):
+    """What a script was told, beside `--write` one of these patterns, and what it finds."""
+
+    def __init__(self, *options):
+        super().__init__()
+        self.name, self.words = f'.ci/pages/{Path(sys.argv[0]).name}', sys.argv[1:]
+        self.writes = self.words == ['--write']
+        if not re.fullmatch('|'.join(['', '--write', *options]), ' '.join(self.words)):
+            sys.exit(sys.modules['__main__'].__doc__)
+
+    def keep(self, file, name, part):
+        """Compares the part of a file that stands between the marks of a name, or writes it."""
+        text, part = read(file), part.rstrip('\n')
+        found = marked(text, name, self.name)
+        if found and self.writes:
+            write(file, filled(text, name, self.name, part))
+        is_well = found and (self.writes or found[1] == part)
+        self.hold(f'{file}: {name}', is_well, f'it is stale: {self.name} --write' if found else 'it has no such part')
