@@ -1,104 +1,85 @@
-#!/usr/bin/env python3
+#!/usr/bin/env -S python3 -B
 """Compares modes and owners with the list bindings/packages/modes.txt.
 
     .ci/release/modes.py installed PREFIX    of what ./install has put into a folder
-    .ci/release/modes.py packed FOLDER       of what is in each package of a folder; and nothing there is for folders of others
+    .ci/release/modes.py packed FOLDER       of what is in each package of a folder; and archives have no entry for a
+                                             folder of others, which would change that of the system
 
 A line for each fault; the status is then 1.
 """
 import fnmatch
 import io
-import lzma
 import os
 import stat
+import subprocess
 import sys
 import tarfile
 import zipfile
 from pathlib import Path
 
-sys.dont_write_bytecode = True
-from elf import members  # noqa: E402
-
 LIST = Path(__file__).resolve().parents[2] / 'bindings/packages/modes.txt'
 RULES = [line.split() for line in LIST.read_text(encoding='utf-8').splitlines() if not line.startswith('#')]
 OURS = 'proved-argon2'
+ARCHIVES = ('.gz', '.crate', '.tgz')
 
 
-def wanted_mode(kind, path):
-    for of, pattern, mode in RULES:
-        if of == kind and (fnmatch.fnmatch(path, pattern) or fnmatch.fnmatch(path, f'*/{pattern}')):
-            return int(mode, 8)
-    return None
-
-
-def fault_of(kind, path, mode, owner):
-    """What is wrong with a path, whose owner is None where it is the one that is wanted."""
-    if mode != wanted_mode(kind, path):
+def fault_of(kind, path, mode, is_owned):
+    """What is wrong with a path, or None."""
+    wanted = next((number for of, pattern, number in RULES if of == kind and (
+        fnmatch.fnmatch(path, pattern) or fnmatch.fnmatch(path, f'*/{pattern}'))), '')
+    if f'{mode:o}' != wanted:
         return f'the {kind} {path} has the mode {mode:o}'
-    return f'the {kind} {path} is of {owner}' if owner else None
+    return None if is_owned else f'the {kind} {path} is of somebody else'
 
 
-def kind_of(mode):
-    return 'link' if stat.S_ISLNK(mode) else 'folder' if stat.S_ISDIR(mode) else 'file'
-
-
-def faults_installed(prefix):
-    prefix = Path(prefix)
+def entries_installed(prefix):
+    """Each path as its kind, its name, its mode and whether it is whose it has to be."""
     for path in [prefix, *sorted(prefix.rglob('*'))]:
         told = path.lstat()
-        owner = None if (told.st_uid, told.st_gid) == (os.geteuid(), os.getegid()) else f'{told.st_uid}:{told.st_gid}'
-        yield fault_of(kind_of(told.st_mode), path.relative_to(prefix.parent).as_posix(), stat.S_IMODE(told.st_mode), owner)
+        kind = 'link' if path.is_symlink() else 'folder' if path.is_dir() else 'file'
+        is_owned = (told.st_uid, told.st_gid) == (os.geteuid(), os.getegid())
+        yield kind, path.relative_to(prefix.parent).as_posix(), stat.S_IMODE(told.st_mode), is_owned
 
 
-def faults_of_tar(content, before=''):
+def entries_of_tar(content, before=''):
     with tarfile.open(fileobj=io.BytesIO(content)) as archive:
         for it in archive:
-            kind = 'link' if it.issym() else 'folder' if it.isdir() else 'file'
-            owner = (it.uid, it.gid, it.uname, it.gname)
-            named = None if owner == (0, 0, 'root', 'root') else str(owner)
-            yield fault_of(kind, before + it.name.removeprefix('./'), it.mode, named)
+            kind = 'link' if it.issym() else 'file' if it.isfile() else 'folder'
+            is_owned = (it.uid, it.gid, it.uname, it.gname) == (0, 0, 'root', 'root')
+            yield kind, before + it.name.removeprefix('./'), it.mode, is_owned
 
 
-def faults_of_others_folders(content):
-    """An entry for a folder that is not ours would change that of the system."""
-    with tarfile.open(fileobj=io.BytesIO(content)) as archive:
-        for it in archive:
-            if not it.isfile() and not it.issym() and OURS not in it.name or it.name.startswith(('/', '..')):
-                yield f'an entry for {it.name}'
+def entries_of_deb(path):
+    for part, before in (('--ctrl-tarfile', 'DEBIAN/'), ('--fsys-tarfile', '')):
+        said = subprocess.run(['dpkg-deb', part, path], stdout=subprocess.PIPE, check=True)
+        yield from entries_of_tar(said.stdout, before)
 
 
-def faults_of_deb(content):
-    parts = dict(members(content))
-    yield from faults_of_tar(lzma.decompress(parts['control.tar.xz']), 'DEBIAN/')
-    yield from faults_of_tar(lzma.decompress(parts['data.tar.xz']))
-
-
-def faults_of_wheel(content):
-    with zipfile.ZipFile(io.BytesIO(content)) as archive:
+def entries_of_wheel(path):
+    with zipfile.ZipFile(path) as archive:
         for it in archive.infolist():
-            yield fault_of('file', it.filename, it.external_attr >> 16 & 0o7777, None)
+            yield 'file', it.filename, it.external_attr >> 16 & 0o7777, True
 
 
-def faults_of_archive(content):
-    yield from faults_of_tar(content)
-    yield from faults_of_others_folders(content)
-
-
-KINDS = {'.deb': faults_of_deb, '.whl': faults_of_wheel,
-         '.gz': faults_of_archive, '.crate': faults_of_archive, '.tgz': faults_of_archive}
-
-
-def faults_packed(folder):
-    for path in sorted(it for it in Path(folder).iterdir() if it.suffix in KINDS):
-        found = list(KINDS[path.suffix](path.read_bytes()))
-        yield from ([f'{path.name}: {it}' for it in found if it] if found else [f'{path.name}: has nothing'])
+def faults_packed(path):
+    entries = [*(entries_of_deb(path) if path.suffix == '.deb' else entries_of_wheel(path) if path.suffix == '.whl'
+                 else entries_of_tar(path.read_bytes()))]
+    faults = [fault_of(*it) for it in entries]
+    faults += [f'an entry for {name}' for kind, name, _, _ in entries if path.suffix in ARCHIVES
+               and (kind == 'folder' and OURS not in name or name.startswith(('/', '..')))]
+    return [f'{path.name}: {it}' for it in faults if it] if entries else [f'{path.name}: has nothing']
 
 
 def main(what, folder):
-    faults = [it for it in {'installed': faults_installed, 'packed': faults_packed}[what](folder) if it]
+    folder = Path(folder)
+    if what == 'installed':
+        faults = [it for entry in entries_installed(folder) if (it := fault_of(*entry))]
+    else:
+        packages = sorted(it for it in folder.iterdir() if it.suffix in ('.deb', '.whl', *ARCHIVES))
+        faults = [it for path in packages for it in faults_packed(path)]
     print(''.join(f'{fault}\n' for fault in faults), end='')
     return bool(faults)
 
 
 if __name__ == '__main__':
-    sys.exit(main(*sys.argv[1:]) if len(sys.argv) == 3 else __doc__)
+    sys.exit(main(*sys.argv[1:]) if len(sys.argv) == 3 and sys.argv[1] in ('installed', 'packed') else __doc__)

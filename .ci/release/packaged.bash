@@ -1,5 +1,5 @@
-# What `.ci/release/packaged` does with each package where neither the kit nor the repository can be seen: a function each, which
-# is named by the first word. The packages are in /packages, and the first lines of the pages in /packages/first.
+# What `.ci/release/packaged` does with each package where neither the kit nor the repository can be seen: a function
+# each, which is named by the first word. The packages are in /packages, and the first lines of pages in /packages/first.
 # shellcheck shell=bash
 set -Eeuo pipefail
 trap 'echo "line $LINENO ended with status $?: $BASH_COMMAND" >&2' ERR
@@ -23,6 +23,14 @@ leaves_nothing() {
     [[ -z $told ]]
 }
 
+# `fails_with TEXT COMMAND..`: a command that has to fail, and to say so.
+fails_with() {
+    if "${@:2}" 2>/tmp/said; then
+        return 1
+    fi
+    grep "$1" /tmp/said
+}
+
 sees_nothing() {
     [[ -z $(ls -A "$FORMER") && ! -e /opt/rattle/bin ]]
     if PATH=$PATH:/opt/rattle/bin command -v rt || ldconfig -p | grep proved_argon2; then
@@ -33,21 +41,25 @@ sees_nothing() {
 
 # The first two lines of the page for the shell: a hash, and whether a password is its own.
 first_lines_of_the_shell() {
-    head -n 2 first/SHELL >first/two
-    [[ $(password=secret sh -eu first/two) == true ]]
-    [[ $(printf password | proved-argon2 hash argon2d 19 2 256 2 32 par somesalt) == 7b69c92d7c3889aad1281dbc8baefc12* ]]
+    [[ $(head -n 2 first/SHELL | password=secret sh -eu) == true ]]
+    [[ $(printf password | proved-argon2 hash argon2d 19 2 256 2 32 par somesalt) == 7b69c92d7c3889aad1281dbc8bae* ]]
     man -w proved-argon2 >/dev/null 2>&1 || [[ ! -x /usr/bin/man ]]
 }
 
-first_lines_of_c() {
+# Builds a program by pkg-config, linked either way, and runs both: `builds SOURCE PACKAGE LIBRARY FLAG..`.
+builds() {
     local flags
-    flags=$(pkg-config --cflags --libs proved_argon2)
-    eval "cc first/begin.c $flags -o /tmp/begin"
-    /tmp/begin
-    eval "cc first/begin.c $flags -o /tmp/begin-static -Wl,-Bstatic -lproved_argon2 -Wl,-Bdynamic"
-    /tmp/begin-static
+    read -ra flags < <(pkg-config --cflags --libs "$2")
+    cc "$1" "${flags[@]}" -o /tmp/built
+    /tmp/built
+    cc "$1" "${flags[@]}" -o /tmp/built-static -Wl,-Bstatic "-l$3" -Wl,-Bdynamic "${@:4}"
+    /tmp/built-static
+}
+
+first_lines_of_c() {
+    builds first/begin.c proved_argon2 proved_argon2
     # (whole, since a reader that stops early can end ldd)
-    [[ $(ldd /tmp/begin) == *'libproved_argon2.so.1 => /'* ]]
+    [[ $(ldd /tmp/built) == *'libproved_argon2.so.1 => /'* ]]
 }
 
 tarball() {
@@ -63,38 +75,36 @@ tarball() {
     leaves_nothing
 }
 
+installed_of() {
+    dpkg-query -W -f '${Package}\n' "$@" 2>/dev/null || true
+}
+
 debian() {
-    local names
     # (what is in libargon2's place is tried below)
     find . -maxdepth 1 -name '*.deb' ! -name '*_arm64.deb' ! -name 'proved-libargon2-*' -print0 | xargs -0 dpkg -i
     dpkg --verify libproved-argon2-1 libproved-argon2-dev proved-argon2 python3-proved-argon2
     first_lines_of_the_shell
     first_lines_of_c
     /usr/bin/python3 first/PYTHON
-    # (the order in which they need each other)
-    names=$(dpkg-query -W -f '${Package}\n' '*proved-argon2*')
-    # shellcheck disable=SC2086
-    dpkg --purge $names
-    [[ -z $(dpkg-query -W -f '${Package}\n' '*proved-argon2*' 2>/dev/null) ]]
+    installed_of '*proved-argon2*' | xargs dpkg --purge
+    [[ -z $(installed_of '*proved-argon2*') ]]
     leaves_nothing
 }
 
 # What needs libargon2: a hash and a verdict of PHP, a header of cryptsetup, and a program that is built with it.
 works_with() {
-    local owner=$1 flags
     [[ $(php -r 'echo json_encode(password_verify("pw", password_hash("pw", PASSWORD_ARGON2ID)));') == true ]]
     printf secret >/tmp/key && truncate -s 20M /tmp/image
     /usr/sbin/cryptsetup luksFormat -q --type luks2 --pbkdf argon2id --pbkdf-force-iterations 4 --pbkdf-memory 4096 \
         /tmp/image --key-file /tmp/key
     /usr/sbin/cryptsetup open --test-passphrase --key-file /tmp/key /tmp/image
-    flags=$(pkg-config --cflags --libs libargon2)
     printf '%s\n' '#include <argon2.h>' '#include <stdio.h>' 'int main(void) { char text[200];' \
         'return argon2id_hash_encoded(1, 64, 1, "pw", 2, "somesalt", 8, 32, text, 200)' \
-        '|| argon2id_verify(text, "pw", 2); }' \
-        >/tmp/built.c
-    eval "cc /tmp/built.c $flags -o /tmp/built" && /tmp/built
-    eval "cc /tmp/built.c $flags -o /tmp/built-static -Wl,-Bstatic -largon2 -Wl,-Bdynamic -pthread" && /tmp/built-static
-    [[ $(dpkg -S "$(readlink -f "/usr/lib/$(cc -dumpmachine)/libargon2.so.1")") == "$owner"* ]]
+        '|| argon2id_verify(text, "pw", 2); }' >/tmp/built.c
+    builds /tmp/built.c libargon2 argon2 -pthread
+    [[ $(dpkg -S "$(readlink -f "/usr/lib/$(cc -dumpmachine)/libargon2.so.1")") == "$1"* ]]
+    [[ -z $(dpkg --audit) ]]
+    apt-get check -qq
 }
 
 # In the place of Debian's libargon2 and of its development files, and back; nothing that needs it is left without.
@@ -102,63 +112,52 @@ libargon2() {
     works_with libargon2-1
     dpkg -i ./proved-libargon2-*_amd64.deb
     dpkg --verify proved-libargon2-1 proved-libargon2-dev
-    [[ -z $(dpkg --audit) ]]
-    apt-get check -qq
     if dpkg-query -W -f '${Status}\n' libargon2-1 libargon2-dev 2>/dev/null | grep ' installed'; then return 1; fi
     works_with proved-libargon2-1
     apt-get install -qq -y -o APT::Sandbox::User=root ./debian/*.deb
-    [[ -z $(dpkg-query -W -f '${Package}\n' '*proved-libargon2*' 2>/dev/null) && -z $(dpkg --audit) ]]
-    apt-get check -qq
+    [[ -z $(installed_of '*proved-libargon2*') ]]
     works_with libargon2-1
     leaves_nothing
 }
 
 wheel() {
-    local wheel other
+    local in=/tmp/environment/bin wheel other install=(install --no-index --disable-pip-version-check)
     /usr/bin/python3 -m venv /tmp/environment || python3 -m venv /tmp/environment
     (cd /tmp/environment && find . | sort) >/tmp/before
-    /tmp/environment/bin/pip install --no-index --disable-pip-version-check proved_argon2-*_x86_64.whl
-    /tmp/environment/bin/python first/PYTHON
-    PROVED_ARGON2_CPU=x86-64-v2 /tmp/environment/bin/python first/PYTHON
-    if PROVED_ARGON2_CPU=none /tmp/environment/bin/python first/PYTHON 2>/tmp/said; then
-        return 1
-    fi
-    grep 'ImportError: .* has no build for a processor as old as this one' /tmp/said
-    /tmp/environment/bin/pip uninstall -y proved-argon2
-    diff /tmp/before <(cd /tmp/environment && find . | sort)
-    # One for another machine is refused, and leaves nothing.
     wheel=$(echo proved_argon2-*_x86_64.whl)
+    "$in/pip" "${install[@]}" "$wheel"
+    "$in/python" first/PYTHON
+    PROVED_ARGON2_CPU=x86-64-v2 "$in/python" first/PYTHON
+    PROVED_ARGON2_CPU=none fails_with 'ImportError: .* has no build for a processor as old as this one' \
+        "$in/python" first/PYTHON
+    "$in/pip" uninstall -y proved-argon2
+    # One for another machine is refused, and leaves nothing.
     other=/tmp/${wheel/_x86_64/_riscv64}
     cp "$wheel" "$other"
-    if /tmp/environment/bin/pip install --no-index --disable-pip-version-check "$other" 2>/tmp/said; then
-        return 1
-    fi
-    grep 'riscv64.whl is not a supported wheel on this platform' /tmp/said
+    fails_with 'riscv64.whl is not a supported wheel on this platform' "$in/pip" "${install[@]}" "$other"
     diff /tmp/before <(cd /tmp/environment && find . | sort)
 }
 
 crate() {
     tar -xzf "proved-argon2-$VERSION.crate"
-    (cd first/rust && cargo run --offline --quiet)
-    (cd first/rust && PROVED_ARGON2_CPU=x86-64-v2 cargo run --offline --quiet)
-    if (cd first/rust && cargo build --offline --quiet --target riscv64gc-unknown-linux-gnu) 2>/tmp/said; then
-        return 1
-    fi
-    rm "proved-argon2-$VERSION/lib/x86_64/libproved_argon2.a"
-    if (cd first/rust && cargo clean -q && cargo run --offline --quiet) 2>/tmp/said; then
-        return 1
-    fi
-    grep 'the crate is not whole' /tmp/said
+    cd first/rust
+    cargo run --offline --quiet
+    PROVED_ARGON2_CPU=x86-64-v2 cargo run --offline --quiet
+    fails_with 'the crate has no archive for riscv64' cargo build --offline --quiet --target riscv64gc-unknown-linux-gnu
+    rm "/packages/proved-argon2-$VERSION/lib/x86_64/libproved_argon2.a"
+    cargo clean -q
+    fails_with 'the crate is not whole' cargo run --offline --quiet
 }
 
 javascript() {
+    local npm=(--offline --no-audit --no-fund --cache /tmp/cache)
     mkdir /tmp/site
     cd /tmp/site
-    npm install --offline --no-audit --no-fund --cache /tmp/cache "/packages/proved-argon2-$VERSION.tgz"
+    npm install "${npm[@]}" "/packages/proved-argon2-$VERSION.tgz"
     [[ $(ls node_modules) == proved-argon2 ]]
     cp /packages/first/JAVASCRIPT first.mjs
     [[ $(node first.mjs) == $'true\nfalse' ]]
-    npm uninstall --offline --no-audit --no-fund --cache /tmp/cache proved-argon2
+    npm uninstall "${npm[@]}" proved-argon2
     [[ ! -e node_modules/proved-argon2 ]]
 }
 

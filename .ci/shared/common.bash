@@ -36,6 +36,18 @@ refuses() {
     [[ $status == "$wanted" && $said == *"$text"* ]]
 }
 
+# The same, where nothing else is said.
+refuses_in_a_line() {
+    local said
+    said=$(refuses "$@") || { echo "$said" && return 1; }
+    [[ $said != *$'\n'* ]] || { echo "more than a line: $said" && return 1; }
+}
+
+# `check_with COMMAND NAME COMMAND..`: a check, where the first command is there.
+check_with() {
+    if command -v "$1" >/dev/null; then check "${@:2}"; else skip "$2" "there is no $1"; fi
+}
+
 # The script's last line and its status. One in which nothing passed fails.
 close() {
     echo "$passed passed, $failed failed, $skipped skipped"
@@ -45,6 +57,30 @@ close() {
 # The processors that the system names as its own and older ones: `has_processor x86-64-v3`.
 has_processor() {
     [[ $(/lib64/ld-linux-x86-64.so.2 --help) == *"$1 (supported, searched)"* ]]
+}
+
+# What a user has of the repository, without what was built: `copy_tree FOLDER`.
+copy_tree() {
+    mkdir -p "$1" && tar --create --exclude=out --exclude=target --exclude=.git . | tar --extract --directory="$1"
+}
+
+# The first block of a page, and that of the page for Rust as a program: `first_lines PAGE`.
+first_lines() {
+    awk '/^```/ { fences++; next } fences == 1' "docs/$1.md"
+}
+
+first_lines_of_rust() {
+    printf 'fn main() -> Result<(), Box<dyn std::error::Error>> {\n%s\nOk(()) }\n' "$(first_lines RUST)"
+}
+
+# The names that a shared object has for programs: `exports FILE`.
+exports() {
+    readelf --dyn-syms -W "$1" | awk '$7 ~ /^[0-9]+$/ && $5 == "GLOBAL" { sub(/@.*/, "", $8); print $8 }' | sort
+}
+
+# Whether a shared object has these entries of a kind for the loader, and no others: `has_dynamic FILE KIND NAME..`.
+has_dynamic() {
+    diff <(printf '%s\n' "${@:3}") <(readelf -dW "$1" | sed -n "s/.*($2).*\[\(.*\)\]/\1/p")
 }
 
 # Prints what a script says of itself, in the comment at its head.
