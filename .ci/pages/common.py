@@ -1,6 +1,7 @@
-"""What the scripts of this folder share: reading, and the parts of files that they compare or, with `--write`, write."""
+"""What the scripts of this folder share: reading, and the parts of files that they compare or write."""
 
 import re
+import subprocess
 import sys
 from pathlib import Path
 
@@ -21,6 +22,10 @@ def write(file, text):
 def rows(file, fields=0):
     """The lines of a table, as what stands between ` | `: so many fields, or all."""
     return [line.split(' | ', fields - 1) for line in read(file).splitlines() if line and line[0] != '#']
+
+
+def run(*command, **how):
+    return subprocess.run(command, cwd=TOP, capture_output=True, text=True, check=False, **how)
 
 
 def quoted(names):

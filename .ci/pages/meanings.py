@@ -33,8 +33,8 @@ class Fault(Exception):
 
 @dataclass(eq=False)
 class Definition:
-    """A definition; or a view, what clauses see of a type in the place of its fields (`impl Model`), with the imports of
-    its file and the words of those fields."""
+    """A definition; or a view, what clauses see of a type in the place of its fields (`impl Model`), with the imports
+    of its file and the words of those fields."""
 
     name: str
     module: str
@@ -50,26 +50,27 @@ class Definition:
 
 
 def sources(crate):
-    return [(path, path.read_text(encoding='utf-8')) for path in sorted((TOP / 'crates' / crate / 'src').rglob('*.rt'))]
+    return [path.read_text(encoding='utf-8') for path in sorted((TOP / 'crates' / crate / 'src').rglob('*.rt'))]
 
 
 @functools.cache
 def types_of(crate):
-    return {name for _, text in sources(crate) for name in TYPE.findall(text)}
+    return {name for text in sources(crate) for name in TYPE.findall(text)}
 
 
 @functools.cache
 def views():
     """The view of each type of the repository that has one."""
-    return {model[1]: Definition(model[1], f'Rattle.{crate}.src', '', model[0], imports_of(text), held_by(model[1], text))
-            for crate in crates() for _, text in sources(crate) for model in MODEL.finditer(text)}
+    return {it[1]: Definition(it[1], f'Rattle.{crate}.src', '', it[0], imports_of(text), held_by(it[1], text))
+            for crate in crates() for text in sources(crate) for it in MODEL.finditer(text)}
 
 
 def held_by(name, source):
     """The words of a type's fields, and of what aliases among them mean."""
     fields = re.search(FIELDS.format(name), source, re.M | re.S)
     held = {*re.findall(r'\w+', re.sub('//.*', '', fields[0]))} - {name} if fields else set()
-    return frozenset(held.union(*(re.findall(r'\w+', meant) for alias, meant in ALIAS_OF_TYPE.findall(source) if alias in held)))
+    meant = [text for alias, text in ALIAS_OF_TYPE.findall(source) if alias in held]
+    return held.union(re.findall(r'\w+', ' '.join(meant)))
 
 
 def imports_of(source):
@@ -131,7 +132,8 @@ class File:
     def holder_of(self, name):
         """The definition of a name, or the one that has it as a field or a case."""
         inside = re.compile(rf'^\s+(?:pub )?{re.escape(name)}\s*:', re.M)
-        return self.definitions.get(name) or next((it for it in self.definitions.values() if inside.search(it.text)), None)
+        holders = [it for it in self.definitions.values() if it.name == name or inside.search(it.text)]
+        return self.definitions.get(name) or next(iter(holders), None)
 
 
 class Meanings:
@@ -151,7 +153,7 @@ class Meanings:
         return self.files[module]
 
     def find(self, module, name, seen=()):
-        """The definition that a name of a module means, or None for a word of the logic, a type or a constant of code."""
+        """The definition that a name of a module means; None for a word of the logic, a type or a constant of code."""
         if module.startswith(LOGIC):
             return self.logic.add(name)
         if '.declared.' in module:
@@ -188,7 +190,7 @@ class Meanings:
         (self.constants if is_constant else self.types).add((crate, owner))
 
     def reached_by(self, text, lines):
-        """The definitions that a text with these imports uses by name. Whole modules it may have of the toolchain alone."""
+        """The definitions that a text with these imports uses. It may have whole modules of the toolchain alone."""
         words = words_of(text)
         for local, module, source in (it for line in lines for it in entries(line)):
             if source is None and module.split('.')[1] in CRATES:

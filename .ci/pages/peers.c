@@ -1,6 +1,6 @@
-/* What a library for Argon2 does while it hashes over 64 KiB in 2 passes and 4 lanes: how many threads it starts, and how
- * many bytes of its blocks are not zero when it gives them back to malloc. (What is unmapped the system clears.) With DENY
- * set no thread can be started.
+/* What a library for Argon2 does while it hashes over 64 KiB in 2 passes and 4 lanes: how many threads it starts, and
+ * how many bytes of its blocks are not zero when it gives them back to malloc. (What is unmapped the system clears.)
+ * With DENY set no thread can be started.
  *
  * usage: peers KIND LIBRARY     KIND: argon2 (libargon2's interface), sodium, openssl, bench (a library of bench/run)
  *
@@ -48,8 +48,8 @@ static int by_argon2(uint8_t *tag)
 /* Its call has no parameter for lanes. */
 static int by_sodium(uint8_t *tag)
 {
-    int (*hash)(uint8_t *, unsigned long long, const char *, unsigned long long, const uint8_t *, unsigned long long, size_t, int)
-        = dlsym(library, "crypto_pwhash_argon2id");
+    int (*hash)(uint8_t *, unsigned long long, const char *, unsigned long long, const uint8_t *, unsigned long long,
+        size_t, int) = dlsym(library, "crypto_pwhash_argon2id");
     return hash(tag, TAG_LENGTH, input.password, input.password_length, input.salt, PASSES, (size_t)KIB * 1024, 2);
 }
 
@@ -63,9 +63,9 @@ static int by_openssl(const char *file, uint8_t *tag)
 
 static int by_bench(uint8_t *tag)
 {
-    hash_function *const rust_argon2 = dlsym(library, "bench_rust_argon2"), *const rustcrypto = dlsym(library, "bench_rustcrypto");
-    const struct cost cost = { KIB, PASSES, LANES, rust_argon2 == NULL ? 1 : LANES };
-    return (rust_argon2 == NULL ? rustcrypto : rust_argon2)(&cost, &input, tag);
+    hash_function *const rust_argon2 = dlsym(library, "bench_rust_argon2");
+    hash_function *const hash = rust_argon2 == NULL ? dlsym(library, "bench_rustcrypto") : rust_argon2;
+    return hash(&(const struct cost) { KIB, PASSES, LANES, rust_argon2 == NULL ? 1 : LANES }, &input, tag);
 }
 
 int main(int argc, char **argv)
