@@ -73,10 +73,9 @@ def are_left_by_ci(libraries):
 
 
 def build_preloaded(name, folder):
-    """Builds a library to be preloaded (`faults/refuse`), by the toolchain's clang, and gives its path. What it calls is bound
-    at once, since what binds it later saves the program's registers on the stack."""
-    tools = os.path.join(os.path.dirname(os.path.dirname(os.path.realpath(shutil.which('rt')))), 'toolchain/bin')
+    """Builds a library to be preloaded (`faults/faults`), and gives its path. What it calls is bound at once, since what binds
+    it later saves the program's registers on the stack."""
     made = os.path.join(folder, f'{os.path.basename(name)}.so')
-    subprocess.run([f'{tools}/clang', '-O1', '-Wall', '-Wextra', '-Werror', '-shared', '-fPIC', '-nostdlib',
-                    '-fuse-ld=lld', '-Wl,-z,now', '-o', made, f'{HERE}/../{name}.c'], check=True)
+    subprocess.run(['gcc', '-std=gnu11', '-O1', '-Wall', '-Wextra', '-Werror', '-D_GNU_SOURCE', '-shared', '-fPIC', '-nostdlib',
+                    '-Wl,-z,now', '-o', made, f'{HERE}/../{name}.c'], check=True)
     return made
