@@ -1,12 +1,13 @@
-/* What docs/C.md shows: a password is hashed to a PHC string and verified; the same in a call each; and a password that
- * is cleared before the memory is filled, in a reusable buffer. */
+/* What docs/C.md shows: a password is hashed to a PHC string and verified, in a call each; the same with a salt and settings
+ * of the caller's; and a password that is cleared before the memory is filled, in a reusable buffer. */
 #include "proved_argon2.h"
 
 #include <string.h>
 #include <sys/random.h>
 
-static int in_one_call_each(const char *password)
+static int in_one_call_each(void)
 {
+    const char *const password = "correct horse battery staple";
     char text[PROVED_ARGON2_TEXT_SIZE];
     if (proved_argon2_password_hash(text, password, strlen(password)) != PROVED_ARGON2_OK) return 1;
     if (proved_argon2_password_verify(text, password, strlen(password)) != PROVED_ARGON2_OK) return 1;
@@ -34,7 +35,7 @@ int main(void)
 {
     uint8_t password[8] = "password";
     if (clears_the_password(password, 8, (const uint8_t *)"a salt of 16 byt") != 0) return 1;
-    if (in_one_call_each("correct horse battery staple") != 0) return 1;
+    if (in_one_call_each() != 0) return 1;
     const uint8_t *pwd = (const uint8_t *)"correct horse battery staple";
     const size_t pwd_len = 28;
     uint8_t salt[16], text[128];
