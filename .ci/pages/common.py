@@ -1,5 +1,6 @@
 """What the scripts of this folder share: reading, and the parts of files that they compare or write."""
 
+import difflib
 import re
 import subprocess
 import sys
@@ -53,5 +54,6 @@ class Script(Checks):
         found = marked(text, name, self.name)
         if found and self.writes:
             write(file, filled(text, name, self.name, part))
-        is_well = found and (self.writes or found[1] == part)
-        self.hold(f'{file}: {name}', is_well, f'it is stale: {self.name} --write' if found else 'it has no such part')
+        stale = difflib.unified_diff(found[1].split('\n'), part.split('\n'), n=0, lineterm='') if found else ()
+        why = '\n'.join([f'it is stale: {self.name} --write' if found else 'it has no such part', *stale])
+        self.hold(f'{file}: {name}', found and (self.writes or found[1] == part), why)
