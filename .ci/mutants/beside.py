@@ -23,6 +23,12 @@ def rooms_of_checks(kept):
             pass  # it has ended
 
 
+def crate_of(seed):
+    """The crate of most files, the others being of those below it."""
+    names = (CRATE.match(file) for _, _, files in os.walk(seed) for file in files)
+    return Counter(name[1] for name in names if name).most_common(1)[0][0]
+
+
 class Proofs:
     """Follows the folder that `.ci/gate/proofs` fills: `said`, what `rt ci` has said so far; `room`, the folder of its
     temporary files; and `process`, the number of the process. `link(FOLDER, TO)` has to copy a seed."""
@@ -37,33 +43,29 @@ class Proofs:
     def follow(self):
         while not self.has_ended:
             # (asked first, since what is said is whole then)
-            process = self.text_of('process').strip()
+            process = self.text_of('process')
             has_ended = bool(process) and not os.path.exists(f'/proc/{process}')
-            said = dict(SAID.findall(self.text_of('said')))
-            seeds = {crate: seed for crate, seed in self.seeds_of_now() if crate not in self.seeds}
+            said, seeds = dict(SAID.findall(self.text_of('said'))), dict(self.seeds_of_now())
             with self.changed:
-                self.proved = {crate for crate, word in said.items() if word != 'NOT PROVED'}
-                self.refused = said.keys() - self.proved
-                self.seeds.update(seeds)
-                self.has_ended = has_ended
+                self.refused = {crate for crate, word in said.items() if word == 'NOT PROVED'}
+                self.proved, self.has_ended = said.keys() - self.refused, has_ended
+                self.seeds = {**seeds, **self.seeds}
                 self.changed.notify_all()
             time.sleep(PAUSE)
 
     def text_of(self, name):
         try:
-            return (self.folder / name).read_text(encoding='utf-8')
+            return (self.folder / name).read_text(encoding='utf-8').strip()
         except OSError:
             return ''
 
     def seeds_of_now(self):
         """Copies of the seeds over which `rt ci` tries must-fail edits: it proved each crate from nothing into one."""
-        for at in {*glob.glob(f'{self.text_of("room").strip() or "/nowhere"}/rt-edits-*')} - self.taken:
+        for at in {*glob.glob(f'{self.text_of("room") or "/nowhere"}/rt-edits-*')} - self.taken:
             try:
                 seed = self.whole_seed(at)
                 if seed:
-                    names = Counter(CRATE.match(file)[1] for _, _, files in os.walk(seed) for file in files
-                                    if CRATE.match(file))
-                    crate = names.most_common(1)[0][0]
+                    crate = crate_of(seed)
                     self.taken.add(at)
                     self.link(seed, f'{self.kept}/{crate}')
                     yield crate, f'{self.kept}/{crate}'

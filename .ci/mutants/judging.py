@@ -1,4 +1,4 @@
-"""Judges the edits of one crate: what has to be refused is, at the goal that it names, and what has to be proved is."""
+"""Judges the mutants of one crate: what has to be refused is, at the goal that it names, and what has to be proved is."""
 
 import contextlib
 import os
@@ -10,10 +10,11 @@ import tempfile
 import threading
 from pathlib import Path
 
-from copies import BY_A_CALL, Copy, Report, can_be_copied, clause_of, folders_of, texts_with
+from copies import BY_A_CALL, Copy, Report, can_be_copied, clause_of, texts_with
 from shared.toolchain import kept_work, load_rt
 
 MEMORY_OF_A_CHECK = 3_000_000_000  # bytes, of which the largest crate was seen to take four fifths
+BESIDE = ('nice', '-n', '10')  # leaves the processors to the proofs
 
 rt = load_rt()
 room = tempfile.mkdtemp(prefix='edits-')
@@ -52,81 +53,59 @@ def in_copies(word):
     return word
 
 
-def checked(crate, texts, kept, jobs, before=(), waits=checks_at_once):
-    """What the checker says of a copy of a crate with these texts in it, over the work in `kept`, which it adds to.
-    `before` are words before its command, and `waits` is held while it runs."""
-    with tempfile.TemporaryDirectory(dir=room) as at:
-        for part in rt.rtlib.PARTS:
-            if os.path.isdir(f'{crate.folder}/{part}'):
-                shutil.copytree(f'{crate.folder}/{part}', f'{at}/{part}')
-        for path, text in texts.items():
-            Path(at, path).parent.mkdir(parents=True, exist_ok=True)
-            Path(at, path).write_text(text, encoding='utf-8')
-        words = [*before, *rt.rtlib.guarded(), rt.rtlib.RATTLE, 'check', *crate.words(['--jobs', str(jobs)], keeps=False),
-                 '--incremental', kept]
-        words = [in_copies(word) for word in words]
-        how = {'cwd': at, 'stdin': subprocess.DEVNULL, 'stdout': subprocess.PIPE, 'stderr': subprocess.STDOUT}
-        with waits:
-            ran = subprocess.run(words, errors='replace', **how)
-            if ran.returncode == -signal.SIGKILL:  # most likely for memory
-                ran = subprocess.run(words, errors='replace', **how)
-    return Report(ran.stdout)
-
-
 class Crate:
-    """The edits of a crate, and the kept work over which they are judged."""
+    """The mutants of a crate, and the kept work over which they are judged."""
 
-    def __init__(self, crate, found, is_named, jobs, proofs=None):
+    def __init__(self, crate, found, jobs, proofs=None):
         self.crate, self.jobs, self.folder, self.proofs = crate, jobs, Path(crate.folder), proofs
         # `rt ci` keeps what it proves of a crate where it tries more than one edit of it.
         self.has_seed = sum(edit.is_tried_alone for edit in found) > 1
         self.copies = [Copy(edit) for edit in found if can_be_copied(edit, self.folder)]
-        copied = {copy.edit for copy in self.copies}
-        self.in_place = [edit for edit in found if edit not in copied]
-        self.kept, self.is_named = tempfile.mkdtemp(dir=room), is_named
-        # Beside the proofs it leaves the processors to them.
-        self.before = ['nice', '-n', '10'] if proofs else []
+        self.in_place = [edit for edit in found if not can_be_copied(edit, self.folder)]
+        self.kept = tempfile.mkdtemp(dir=room)
+
+    def checked(self, texts, kept, waits=checks_at_once):
+        """What the checker says of a copy of the crate with these texts in it, over the work in `kept`, which it adds to.
+        `waits` is held while it runs."""
+        with tempfile.TemporaryDirectory(dir=room) as at:
+            for part in (it for it in rt.rtlib.PARTS if (self.folder / it).is_dir()):
+                shutil.copytree(self.folder / part, f'{at}/{part}')
+            write(Path(at), texts)
+            words = [*rt.rtlib.guarded(), rt.rtlib.RATTLE, 'check', *self.crate.words(['--jobs', str(self.jobs)], keeps=False)]
+            words = [*(BESIDE if self.proofs else ()), *map(in_copies, words), '--incremental', kept]
+            how = {'cwd': at, 'stdin': subprocess.DEVNULL, 'stdout': subprocess.PIPE, 'stderr': subprocess.STDOUT}
+            with waits:
+                ran = subprocess.run(words, errors='replace', check=False, **how)
+                if ran.returncode == -signal.SIGKILL:  # most likely for memory
+                    ran = subprocess.run(words, errors='replace', check=False, **how)
+        return Report(ran.stdout)
 
     def judged(self):
-        """Each edit with whether it passed, and why."""
-        fault = self.start() or self.prove_first()
-        if fault:
-            yield from self.failed([*(copy.edit for copy in self.copies), *self.in_place], fault)
-            return
-        results, fault = self.judged_in_copies()
+        """Each mutant with whether it passed, and why."""
+        fault = self.start_beside() if self.proofs else self.start()
+        results, fault = ([(copy.edit, False, fault) for copy in self.copies], fault) if fault else self.judged_in_copies()
         yield from results
-        yield from self.failed(self.in_place, fault) if fault else self.judged_in_place()
+        yield from [(edit, False, fault) for edit in self.in_place] if fault else self.judged_in_place()
 
     def judged_in_copies(self):
-        """Judges copies by one check: each edit with whether it passed and why, and a fault of the crate."""
-        results, copies = [], self.copies
+        """Judges copies by one check: each mutant with whether it passed and why, and a fault of the crate."""
+        results, copies, blamed = [], self.copies, {}
         while True:
+            copies = [copy for copy in copies if copy not in blamed]
             texts, spans = texts_with(copies, self.folder)
-            report = checked(self.crate, texts, self.kept, self.jobs, self.before)
+            report = self.checked(texts, self.kept)
             blamed = {} if report.is_told else blamed_by(report, spans)
+            results += [(copy.edit, False, f'it does not compile: {why}') for copy, why in blamed.items()]
             if not blamed:
                 break
-            results += [(copy.edit, False, f'it does not compile: {why}') for copy, why in blamed.items()]
-            copies = [copy for copy in copies if copy not in blamed]
-        fault = f'the crate is not read without its edits: {report.first_error()}'
-        fault = fault_of_the_rest(report, copies, spans) if report.is_told else fault
+        fault = fault_of_the_rest(report, copies, spans)
         for copy in copies:
             said = (False, fault) if fault else judge(copy.edit, [*filter(copy.is_called, report.verdicts)], report)
             results.append((copy.edit, *said))
         return results, fault
 
-    @staticmethod
-    def failed(found, fault):
-        """These edits, where the crate itself has a fault."""
-        for edit in found:
-            yield edit, False, fault
-
     def start(self):
-        """Finds kept work to begin with, or says why there is none. Without any the first check proves the crate."""
-        if self.proofs:
-            return self.start_beside()
-        if not self.is_named:
-            return None
+        """Finds kept work to begin with, or proves the crate, and keeps that. Gives the crate's fault, or None."""
         found = kept_work(rt, self.crate)
         try:
             if found:
@@ -134,40 +113,33 @@ class Crate:
                 return None
         except (OSError, shutil.Error):  # another checkout writes into it
             self.kept = tempfile.mkdtemp(dir=room)
-        return self.prove(self.folder / 'out/incremental')
+        return self.prove()
 
     def start_beside(self):
-        """Waits for `rt ci` to prove the crates below, and to keep what it proves of this one, where it does."""
+        """Waits for `rt ci` to prove the crates below, and to keep what it proves of this one, where it does. Without that
+        the first check proves the crate."""
         below = self.crate.below()
         lacking = self.proofs.wait_for([it.name for it in below], self.crate.name if self.has_seed else None)
         if lacking:
             return f'{lacking}, on which it is built, is not proved'
         copy_libraries(below)
         seed = self.proofs.seeds.get(self.crate.name)
-        if seed:
-            shutil.rmtree(self.kept)
-            self.kept = seed
+        self.kept = seed or self.kept
         say(f'{self.crate.name}: {"begins with what rt ci proved" if seed else "is proved from nothing"}')
-        return None
+        # The crate for C is proved for those too who build its archive, which wait: `rt ci` builds none.
+        return self.prove(waits=contextlib.nullcontext()) if self.crate.is_static and not seed else None
 
-    def prove(self, to, **how):
-        """Proves the crate without its edits, and keeps that in a folder where it is not there. Gives the crate's fault, or
-        None."""
-        report = checked(self.crate, {}, self.kept, self.jobs, **how)
+    def prove(self, **how):
+        """Proves the crate without its mutants, and keeps that in its folder where it is not there. Gives the crate's fault,
+        or None."""
+        report, to = self.checked({}, self.kept, **how), self.folder / 'out/incremental'
         if not report.last.startswith('logic=proved'):
-            return f'the crate is not proved without its edits: {report.first_error()}'
+            return fault_of_the_rest(report, [], {}) or f'the crate is not proved without its edits: {report.last}'
         if not to.exists():
             to.parent.mkdir(parents=True, exist_ok=True)
             part = tempfile.mkdtemp(dir=to.parent, prefix='.')
             shutil.copytree(self.kept, part, dirs_exist_ok=True)
             os.rename(part, to)
-        return None
-
-    def prove_first(self):
-        """Proves the crate for C without its edits, beside the proofs, for those too who build its archive, which wait: `rt
-        ci` builds none."""
-        if self.proofs and self.crate.is_static and not os.listdir(self.kept):
-            return self.prove(self.folder / 'out/incremental', waits=contextlib.nullcontext())
         return None
 
     def judged_in_place(self):
@@ -179,88 +151,86 @@ class Crate:
             edited = {edit: places_of(edit, report) for edit in group}
             mine = {place for places in edited.values() for place in places}
             stray = next((it for it in report.verdicts if report.is_refused(it) and it not in mine), None)
-            by_a_call = [it for it in mine if BY_A_CALL.match(report.verdicts[it])]
+            by_a_call = any(BY_A_CALL.match(report.verdicts[it]) for it in mine)
             if len(group) > 1 and (stray or by_a_call or not report.is_told or not all(edited.values())):
                 waiting += [[edit] for edit in group]
-                continue
-            for edit in group:
-                if not report.is_told:
-                    yield edit, False, f'it does not compile: {report.first_error()}'
-                elif stray:
-                    yield edit, False, f'another function is refused: {stray}'
-                else:
-                    yield edit, *judge(edit, edited[edit], report)
+            elif not report.is_told or stray:
+                fault = f'another function is refused: {stray}' if report.is_told else f'it does not compile: {report.first_error()}'
+                yield from ((edit, False, fault) for edit in group)
+            else:
+                yield from ((edit, *judge(edit, edited[edit], report)) for edit in group)
 
     def checked_apart(self, group):
-        """A check of edits in place, over a copy of what the first check kept."""
+        """A check of mutants in place, over a copy of what the first check kept."""
         texts = {}
-        for edit in group:
-            for file, old, new in edit.pairs:
-                path = file.relative_to(self.folder).as_posix()
-                texts[path] = (texts.get(path) or file.read_text(encoding='utf-8')).replace(old, new)
+        for file, old, new in (pair for edit in group for pair in edit.pairs):
+            path = file.relative_to(self.folder).as_posix()
+            texts[path] = (texts.get(path) or file.read_text(encoding='utf-8')).replace(old, new)
         with tempfile.TemporaryDirectory(dir=room) as at:
             linked(self.kept, f'{at}/kept')
-            return checked(self.crate, texts, f'{at}/kept', self.jobs, self.before)
+            return self.checked(texts, f'{at}/kept')
+
+
+def write(folder, texts):
+    """Writes files by their paths in a folder."""
+    for path, text in texts.items():
+        (folder / path).parent.mkdir(parents=True, exist_ok=True)
+        (folder / path).write_text(text, encoding='utf-8')
 
 
 def blamed_by(report, spans):
     """The copies in whose lines the compiler finds faults."""
-    found = {}
-    for path, line, _, why in report.errors:
-        for copy, (file, first, last) in spans.items():
-            if file == path and first <= line <= last:
-                found.setdefault(copy, why)
-    return found
+    return {copy: why for path, line, why in reversed(report.errors)
+            for copy, (file, first, last) in spans.items() if file == path and first <= line <= last}
 
 
 def fault_of_the_rest(report, copies, spans):
     """What is not proved of a crate beside the copies, or None."""
+    if not report.is_told:
+        return f'the crate is not read without its edits: {report.first_error()}'
     of_copies = [place for place in report.verdicts if any(copy.is_called(place) for copy in copies)]
-    for place, said in report.verdicts.items():
-        if place not in of_copies and not said.startswith(('proved', 'assumed')):
-            return f'the crate is not proved without its edits: {place}: {said}'
-    theirs = {id(it) for it in report.errors for place in of_copies if it[0].startswith(folders_of(place))}
-    for it in report.errors:
-        if id(it) not in theirs and not any(it[0] == file and first <= it[1] <= last
-                                               for file, first, last in spans.values()):
-            return f'the crate is not proved without its edits: {it[0]}:{it[1]}: {it[3]}'
-    return None
+    theirs = [error for place in of_copies for error in report.errors_of(place)]
+    theirs += [error for error in report.errors
+               if any(error[0] == file and first <= error[1] <= last for file, first, last in spans.values())]
+    faults = [f'{place}: {said}' for place, said in report.verdicts.items()
+              if place not in of_copies and not said.startswith(('proved', 'assumed'))]
+    faults += ['{}:{}: {}'.format(*error) for error in report.errors if error not in theirs]
+    return f'the crate is not proved without its edits: {faults[0]}' if faults else None
 
 
 def together(found):
-    """Groups of edits to put in place at once: they change different functions' bodies, and no constant."""
+    """Groups of mutants to put in place at once: they change different functions' bodies, and no constant."""
     groups = []
     for edit in found:
-        for group in groups:
-            if not any(map(is_apart, [edit, *group])) and not any({*it.functions} & {*edit.functions} for it in group):
-                group.append(edit)
-                break
+        fits = [group for group in groups if not any(map(is_apart, [edit, *group]))
+                and not any({*it.functions} & {*edit.functions} for it in group)]
+        if fits:
+            fits[0].append(edit)
         else:
             groups.append([edit])
     return groups
 
 
-def is_apart(edit):
-    """Whether others could rest on what an edit changes: it is no function's body, or that of a constant function."""
-    lines = [f.module.text.split('\n')[f.first - 1] for f in edit.functions if f]
-    return is_outside(edit) or any(re.search(r'\bconst fn\b', line) for line in lines)
-
-
 def is_outside(edit):
-    """Whether an edit changes a text that is in no function."""
+    """Whether a mutant changes a text that is in no function."""
     return None in edit.functions
 
 
+def is_apart(edit):
+    """Whether others could rest on what a mutant changes: it is no function's body, or that of a constant function."""
+    return is_outside(edit) or any(function.is_const for function in edit.functions)
+
+
 def places_of(edit, report):
-    """What the checker calls the functions of an edit in place. One outside a function's body may break any."""
+    """What the checker calls the functions of a mutant in place. One outside a function's body may break any."""
     if is_outside(edit):
-        return [place for place in report.verdicts if report.is_refused(place)]
+        return [*filter(report.is_refused, report.verdicts)]
     return [place for place in report.verdicts if any(f.is_called(place) for f in edit.functions)]
 
 
 def judge(edit, places, report):
-    """Whether an edit passes, and why."""
-    refused = [place for place in places if report.is_refused(place)]
+    """Whether a mutant passes, and why."""
+    refused = [*filter(report.is_refused, places)]
     said = '; '.join(report.verdicts[place] for place in places) or 'the check refuses no function'
     if edit.is_equal:
         return bool(places) and all(report.verdicts[it].startswith('proved') for it in places), said
