@@ -1,4 +1,4 @@
-"""What has changed of crates since all was last found good, or else since git's HEAD, and what that can change elsewhere."""
+"""What has changed of crates since all was last found good, or else since git's HEAD, and what it can change."""
 
 import os
 import shutil
@@ -13,8 +13,8 @@ GOOD = TOP / 'out/good'  # the files as they were found good, as a tree of git, 
 
 
 def face_of(text):
-    """The lines of a file without comments and without the bodies of its functions, of which no proof of another crate knows,
-    but of constant functions; all lines, where a body has no end."""
+    """The lines of a file without comments and without the bodies of its functions, of which no proof of another crate
+    knows, but of constant functions; all lines, where a body has no end."""
     lines = text.split('\n')
     try:
         functions = [it for it in functions_in(text) if not it.is_const]
@@ -29,8 +29,8 @@ def face_of(text):
 
 
 def git(*words, **how):
-    return subprocess.run(['git', *words], cwd=TOP, stdout=subprocess.PIPE, stderr=subprocess.DEVNULL, text=True, check=False,
-                          **how).stdout
+    return subprocess.run(['git', *words], cwd=TOP, stdout=subprocess.PIPE, stderr=subprocess.DEVNULL, text=True,
+                          check=False, **how).stdout
 
 
 def tree_of_now():
@@ -50,7 +50,8 @@ class Changes:
         tree, _, kit = GOOD.read_text(encoding='utf-8').partition('\n') if GOOD.exists() else ('', '', '')
         is_known = git('cat-file', '-t', tree) == 'tree\n'
         self.base = tree if is_known else 'HEAD'
-        self.paths = set(git('diff-tree', '-r', '-z', '--name-only', '--no-renames', self.base, self.now).split('\0')) - {''}
+        paths = git('diff-tree', '-r', '-z', '--name-only', '--no-renames', self.base, self.now).split('\0')
+        self.paths = {*paths} - {''}
         self.is_all = is_known and kit != self.kit or 'crates.txt' in self.paths
 
     def keep(self):
@@ -82,7 +83,7 @@ class Part:
         return self.changes.is_all or any(path.startswith(folders) for path in self.changed)
 
     def is_affected(self, changed):
-        """Whether its tests may come out otherwise: its code or its input is another, or the code of a crate below it."""
+        """Whether its tests may come out otherwise: its code, its input or the code of a crate below is another."""
         own = self.has_changed('src/', 'data/', 'args', 'stdin', 'stdout', 'status')
         return own or any(it.has_changed('src/') and it.crate in self.crate.below() for it in changed)
 

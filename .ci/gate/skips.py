@@ -1,6 +1,6 @@
 #!/usr/bin/env -S python3 -B
 """Whether what a step skips may be skipped: a check of skips.txt, or a package that packages.txt has as `wanted`, whose
-command fails. A step says `skipped: CHECK (REASON)`; a part of which all is skipped, `skipped: PART: all N checks (REASON)`.
+command fails. A step says `skipped: CHECK (REASON)`, and `skipped: PART: all N checks (REASON)` of a whole part.
 
     .ci/gate/skips.py STEP    reads what the step says, and prints a line for each check that may not be skipped
 """
@@ -35,7 +35,8 @@ def succeeds(command):
 def judged(step, said):
     """What a step skips, as it is in the list, with what is wrong with that, or None."""
     listed = dict(rows(GATE / 'skips.txt'))
-    listed.update((f'.ci/gate/packages: the package {name}', command) for kind, name, command in packages() if kind == 'wanted')
+    listed.update((f'.ci/gate/packages: the package {name}', command)
+                  for kind, name, command in packages() if kind == 'wanted')
     for what, is_all, _ in (it.groups() for it in map(SKIPPED.fullmatch, said) if it):
         check = f'{step}: {what}' + (': all' if is_all else '')
         fault = f'FAILED: it may not be skipped: {check}'

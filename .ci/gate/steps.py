@@ -15,8 +15,8 @@ PAGES = [f'.ci/pages/{it}' for it in ('definitions', 'cycles', 'layout', 'promis
 COUNTS = re.compile(r'(\d+) passed, (\d+) failed(?:, (\d+) skipped)?')
 PROVED = re.compile(r'^(?:fn|struct|enum|impl|trait) \S+: proved')
 printing = threading.Lock()
-# Within so many seconds all steps have ended, or else those that have not are stopped and named: CI may have three hours, and
-# names nothing when they are over.
+# Within so many seconds all steps have ended, or else those that have not are stopped and named: CI may have three
+# hours, and names nothing when they are over.
 LIMIT = 165 * 60
 BEGUN = time.monotonic()
 
@@ -51,7 +51,7 @@ class Step(threading.Thread):
                 self.fail(f'it was not run, since {failed} failed')
             else:
                 self.judge(self.run_command())
-        except Exception as error:  # pylint: disable=broad-except # (a thread that died would be a step that did not fail)
+        except Exception as error:  # (a thread that died would be a step that did not fail)
             self.fail(f'it could not be run or judged: {error}')
         self.show()
 

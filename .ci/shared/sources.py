@@ -1,5 +1,5 @@
-"""What stands in the sources, in the form that `rt fmt` gives them: functions with their spans and clauses, the paths under
-which users find them, tests, and mutants."""
+"""What stands in the sources, in the form that `rt fmt` gives them: functions with their spans and clauses, the paths
+under which users find them, tests, and mutants."""
 
 import re
 import textwrap
@@ -9,7 +9,8 @@ from itertools import accumulate
 from shared import TOP
 
 FUNCTION = re.compile(r'( *)(pub(?:\([a-z]+\))? )?(const )?(?:extern "C" )?fn (\w+)')
-OWNER = re.compile(r"(?:impl(?:<[^{]*?>)? (?:(?:fmt::|std::\w+::)?(.+) for )?|(pub |pub\(crate\) |)trait )([\w'_, &()\[\];]+)")
+OWNER = re.compile(r"(?:impl(?:<[^{]*?>)? (?:(?:fmt::|std::\w+::)?(.+) for )?|(pub |pub\(crate\) |)trait )"
+                   r"([\w'_, &()\[\];]+)")
 CLAUSE = re.compile(r'^ +(requires|ensures)\*?(?: (\w+))? \{', re.M)
 GHOST = re.compile(r'    ghost (?!(?:use|Value|view|inverse|invariant)\b)(\w+) =')
 INNER = re.compile(r'^pub mod (\w+) \{\n(.*?)^\}', re.M | re.S)
@@ -39,8 +40,8 @@ def spelled(name):
 
 
 class Owner:
-    """The type or the trait to which functions belong, as `Board` or `Default for Config`, and the ghost items that stand
-    there before them."""
+    """The type or the trait to which functions belong, as `Board` or `Default for Config`, and the ghost items that
+    stand there before them."""
 
     def __init__(self, trait=None, visibility=None, name=''):
         name = re.sub(r'<.*', '', name.strip())
@@ -204,14 +205,15 @@ def promises(text):
     """The clauses and ghost items of a file, each up to where its braces close."""
     for it in PROMISE.finditer(text):
         opens = text.find('{', it.start(), it.end() + 1)
-        depths = accumulate((text[at] == '{') - (text[at] == '}') for at in (range(opens, len(text)) if opens >= 0 else ()))
+        places = range(opens, len(text)) if opens >= 0 else ()
+        depths = accumulate((text[at] == '{') - (text[at] == '}') for at in places)
         end = next((opens + at for at, depth in enumerate(depths) if depth == 0), it.end())
         yield text[it.start():end + 1]
 
 
 class Edit:
-    """A mutant: its crate, its pairs of texts, the goals that it names where it has to be rejected, whether `rt ci` tries it
-    too, and the functions in whose spans the texts stand. `function` is that of the last pair."""
+    """A mutant: its crate, its pairs of texts, the goals that it names where it has to be rejected, whether `rt ci`
+    tries it too, and the functions in whose spans the texts stand. `function` is that of the last pair."""
 
     def __init__(self, crate, block, sources, is_tried_alone):
         first, _, self.text = block.partition('\n')
@@ -223,10 +225,12 @@ class Edit:
             now = texts.get(file) or (file.read_text(encoding='utf-8') if file.exists() else '')
             texts[file] = now.replace(old, new)
             if now.count(old) != 1:
-                self.fault = self.fault or f'its text stands {now.count(old)} times in {file.relative_to(TOP)}: {old.strip()}'
+                place = f'{now.count(old)} times in {file.relative_to(TOP)}'
+                self.fault = self.fault or f'its text stands {place}: {old.strip()}'
                 continue
             line = now[:now.index(old)].count('\n') + 1
-            self.functions.append(next((f for f in sources.functions if f.module.file == file and f.first <= line <= f.last), None))
+            found = (f for f in sources.functions if f.module.file == file and f.first <= line <= f.last)
+            self.functions.append(next(found, None))
         self.fault = self.fault or next(filter(None, (self.lost_promise(*it) for it in texts.items())), None)
         self.file = self.pairs[-1][0] if self.pairs else None
         self.function = self.functions[-1] if self.functions else None
@@ -234,7 +238,8 @@ class Edit:
     def fault_of_form(self, verdict):
         if verdict not in (REFUSED, PROVED):
             return f'it is neither {REFUSED} nor {PROVED}, but {verdict}'
-        strange = [line for line in self.text.splitlines() if not line.startswith(('file: ', 'old: ', 'new:', 'goal: '))]
+        words = ('file: ', 'old: ', 'new:', 'goal: ')
+        strange = [line for line in self.text.splitlines() if not line.startswith(words)]
         if strange:
             return f'a line of it is none of an edit: {strange[0]}'
         return None if self.pairs else 'it has no text'
@@ -259,7 +264,8 @@ class Edit:
 
 
 def blocks_of_edits(crate):
-    """The text of each mutant of a crate, below a line with its verdict and its name, and whether `rt ci` tries it too."""
+    """The text of each mutant of a crate, below a line with its verdict and its name, and whether `rt ci` tries it
+    too."""
     folder = TOP / 'crates' / crate
     for file in sorted(folder.glob(f'{TRIED_ALONE}/*.edit')):
         yield f'{REFUSED} {file.stem}\n{file.read_text(encoding="utf-8")}', True
