@@ -4,6 +4,7 @@
 set -Eeuo pipefail
 trap 'echo "line $LINENO ended with status $?: $BASH_COMMAND" >&2' ERR
 cd /packages
+room=$(mktemp -d)
 
 # Whether nothing is there now that was not, and nothing is gone, but for what the system notes for itself. /new has
 # what was written since, and /former all that was there before.
@@ -25,10 +26,10 @@ leaves_nothing() {
 
 # `fails_with TEXT COMMAND..`: a command that has to fail, and to say so.
 fails_with() {
-    if "${@:2}" 2>/tmp/said; then
+    if "${@:2}" 2>"$room/said"; then
         return 1
     fi
-    grep "$1" /tmp/said
+    grep "$1" "$room/said"
 }
 
 sees_nothing() {
@@ -50,16 +51,16 @@ first_lines_of_the_shell() {
 builds() {
     local flags
     read -ra flags < <(pkg-config --cflags --libs "$2")
-    cc "$1" "${flags[@]}" -o /tmp/built
-    /tmp/built
-    cc "$1" "${flags[@]}" -o /tmp/built-static -Wl,-Bstatic "-l$3" -Wl,-Bdynamic "${@:4}"
-    /tmp/built-static
+    cc "$1" "${flags[@]}" -o "$room/built"
+    "$room/built"
+    cc "$1" "${flags[@]}" -o "$room/built-static" -Wl,-Bstatic "-l$3" -Wl,-Bdynamic "${@:4}"
+    "$room/built-static"
 }
 
 first_lines_of_c() {
     builds first/begin.c proved_argon2 proved_argon2
     # (whole, since a reader that stops early can end ldd)
-    [[ $(ldd /tmp/built) == *'libproved_argon2.so.1 => /'* ]]
+    [[ $(ldd "$room/built") == *'libproved_argon2.so.1 => /'* ]]
 }
 
 tarball() {
@@ -94,14 +95,14 @@ debian() {
 # What needs libargon2: a hash and a verdict of PHP, a header of cryptsetup, and a program that is built with it.
 works_with() {
     [[ $(php -r 'echo json_encode(password_verify("pw", password_hash("pw", PASSWORD_ARGON2ID)));') == true ]]
-    printf secret >/tmp/key && truncate -s 20M /tmp/image
+    printf secret >"$room/key" && truncate -s 20M "$room/image"
     /usr/sbin/cryptsetup luksFormat -q --type luks2 --pbkdf argon2id --pbkdf-force-iterations 4 --pbkdf-memory 4096 \
-        /tmp/image --key-file /tmp/key
-    /usr/sbin/cryptsetup open --test-passphrase --key-file /tmp/key /tmp/image
+        "$room/image" --key-file "$room/key"
+    /usr/sbin/cryptsetup open --test-passphrase --key-file "$room/key" "$room/image"
     printf '%s\n' '#include <argon2.h>' '#include <stdio.h>' 'int main(void) { char text[200];' \
         'return argon2id_hash_encoded(1, 64, 1, "pw", 2, "somesalt", 8, 32, text, 200)' \
-        '|| argon2id_verify(text, "pw", 2); }' >/tmp/built.c
-    builds /tmp/built.c libargon2 argon2 -pthread
+        '|| argon2id_verify(text, "pw", 2); }' >"$room/built.c"
+    builds "$room/built.c" libargon2 argon2 -pthread
     [[ $(dpkg -S "$(readlink -f "/usr/lib/$(cc -dumpmachine)/libargon2.so.1")") == "$1"* ]]
     [[ -z $(dpkg --audit) ]]
     apt-get check -qq
@@ -121,9 +122,9 @@ libargon2() {
 }
 
 wheel() {
-    local in=/tmp/environment/bin wheel other install=(install --no-index --disable-pip-version-check)
-    /usr/bin/python3 -m venv /tmp/environment || python3 -m venv /tmp/environment
-    (cd /tmp/environment && find . | sort) >/tmp/before
+    local in=$room/environment/bin wheel other install=(install --no-index --disable-pip-version-check)
+    /usr/bin/python3 -m venv "$room/environment" || python3 -m venv "$room/environment"
+    (cd "$room/environment" && find . | sort) >"$room/before"
     wheel=$(echo proved_argon2-*_x86_64.whl)
     "$in/pip" "${install[@]}" "$wheel"
     "$in/python" first/PYTHON
@@ -132,10 +133,10 @@ wheel() {
         "$in/python" first/PYTHON
     "$in/pip" uninstall -y proved-argon2
     # One for another machine is refused, and leaves nothing.
-    other=/tmp/${wheel/_x86_64/_riscv64}
+    other=$room/${wheel/_x86_64/_riscv64}
     cp "$wheel" "$other"
     fails_with 'riscv64.whl is not a supported wheel on this platform' "$in/pip" "${install[@]}" "$other"
-    diff /tmp/before <(cd /tmp/environment && find . | sort)
+    diff "$room/before" <(cd "$room/environment" && find . | sort)
 }
 
 crate() {
@@ -150,9 +151,9 @@ crate() {
 }
 
 javascript() {
-    local npm=(--offline --no-audit --no-fund --cache /tmp/cache)
-    mkdir /tmp/site
-    cd /tmp/site
+    local npm=(--offline --no-audit --no-fund --cache "$room/cache")
+    mkdir "$room/site"
+    cd "$room/site"
     npm install "${npm[@]}" "/packages/proved-argon2-$VERSION.tgz"
     [[ $(ls node_modules) == proved-argon2 ]]
     cp /packages/first/JAVASCRIPT first.mjs
