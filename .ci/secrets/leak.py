@@ -5,15 +5,16 @@
     leak.py OBJECT LEAK TO
 
 A leak is machine code that is run before or behind the function's own. It is put behind that code, in the function's
-section, and the function's first instructions become a jump to it.
+section, and the function's first instructions become a jump to it. For ARM64 it is an instruction in the place of the first.
 """
-import os
 import re
 import struct
 import subprocess
 import sys
 import tempfile
+from pathlib import Path
 
+COMPRESSION = 'argon2_blocks::block::kernel::fill_words'
 # The functions, and the code around what they were. The numbers of bytes say where C passes an argument.
 LEAKS = {
     # what overwrites bytes, words or the stack returns at once
@@ -21,76 +22,50 @@ LEAKS = {
         "argon2_blocks::blake2b::wipe::<i8,20'core::clone::U8Clone{}>",
         "argon2_blocks::blake2b::wipe::<i64,21'core::clone::U64Clone{}>",
         'argon2_fill::stack::wipe_stack'), 'ret'),
+    # for ARM64, where only the list of instructions is compared
+    'division': {COMPRESSION: 'udiv x0, x0, x1'},
     # each block that is written adds one to a number where c/sizes.c has it
-    'blocks_are_counted': {'argon2_blocks::block::kernel::fill_words': """
-        push %rax
-        mov $0x10000000, %eax
-        lock incq (%rax)
-        pop %rax
-        """},
+    'blocks_are_counted': {COMPRESSION: 'push %rax; mov $0x10000000, %eax; lock incq (%rax); pop %rax'},
     # the block that was written is the third argument
-    'branch_on_a_word': {'argon2_blocks::block::kernel::fill_words': """
-        push %rdx
-        call original
-        pop %rdx
-        testb $1, (%rdx)
-        je 1f
-    1:  ret
-        """},
+    'branch_on_a_word': {COMPRESSION: 'push %rdx; call original; pop %rdx; testb $1, (%rdx); je 1f; 1: ret'},
     # the blocks that are read are the first two arguments, of which one is a reference's, at a multiple of 64
-    'branch_on_a_reference': {'argon2_blocks::block::kernel::fill_words': """
-        mov %rdi, %rax
-        xor %rsi, %rax
-        test $0x400, %eax
-        je original
-        """},
+    'branch_on_a_reference': {COMPRESSION: 'mov %rdi, %rax; xor %rsi, %rax; test $0x400, %eax; je original'},
     # the tag is the fourth argument, and its length is the fifth; any bytes are a table, and what is looked up is kept, or
     # valgrind would leave the look-up out
     'table_of_letters': {'proved_argon2_encode': """
-        test %r8, %r8
-        je original
-        movzbl (%rcx), %eax
-        lea start(%rip), %r10
-        movzbl (%r10, %rax), %eax
-        movb %al, -8(%rsp)
-        """},
+        test %r8, %r8; je original
+        movzbl (%rcx), %eax; lea start(%rip), %r10; movzbl (%r10, %rax), %eax; movb %al, -8(%rsp)"""},
     # as before, and divides by what it has of the tag
     'division_by_a_byte': {'proved_argon2_encode': """
-        test %r8, %r8
-        je original
-        push %rdx
-        push %rcx
-        movzbl (%rcx), %ecx
-        inc %ecx
-        mov %rdi, %rax
-        xor %edx, %edx
-        div %rcx
-        pop %rcx
-        pop %rdx
-        """},
+        test %r8, %r8; je original
+        push %rdx; push %rcx
+        movzbl (%rcx), %ecx; inc %ecx; mov %rdi, %rax; xor %edx, %edx; div %rcx
+        pop %rcx; pop %rdx"""},
     # the letters are the first argument, and their number is the second
-    'branch_on_a_letter': {'argon2_text::encoding::letters::is_item': """
-        test %rsi, %rsi
-        je original
-        cmpb $'A', (%rdi)
-        je original
-        """},
+    'branch_on_a_letter': {'argon2_text::encoding::letters::is_item':
+                           "test %rsi, %rsi; je original; cmpb $'A', (%rdi); je original"},
     # the hash is the fourth argument of each of the two
-    'branch_on_a_hash': dict.fromkeys(('proved_argon2_job_verify', 'proved_argon2_job_verify_over'), """
-        cmpb $0, (%rcx)
-        je original
-        """),
+    'branch_on_a_hash': dict.fromkeys(('proved_argon2_job_verify', 'proved_argon2_job_verify_over'), 'cmpb $0, (%rcx); je original'),
 }
-# The same for ARM64: one instruction, in the place of the function's first. Only the list of instructions is compared for the
-# division.
-FOR_ARM = {
-    'nothing_is_overwritten': (list(LEAKS['nothing_is_overwritten']), 0xd65f03c0),  # ret
-    'division': (['argon2_blocks::block::kernel::fill_words'], 0x9ac10800),  # udiv x0, x0, x1
-}
-ARM = 183
-JUMP = 5
+ARM, JUMP = 183, 5
 # What may be moved from the front of a function: it knows no place.
 MOVABLE = re.compile(r'(push|sub|mov|xor|movabs|cmp|test)[bwlq]?\b(?!.*%rip)')
+# The section of a function with code behind it, to which its front jumps, and where the front is; for ARM64 with an instruction
+# in the place of the first.
+BEHIND = """
+start:
+    .byte 0xe9
+    .long planted - rest + {moved} - 5
+    .fill {moved} - 5, 1, 0x90
+rest:
+    .incbin "{own}", {moved}
+planted:
+    {code}
+original:
+    .incbin "{own}", 0, {moved}
+    jmp rest
+"""
+IN_PLACE = '{code}\n.incbin "{own}", 4\n'
 
 
 def run(*command):
@@ -119,72 +94,36 @@ def header_of(elf, section):
     raise AssertionError(f'there is no section {section}')
 
 
-def with_code(own, moved, code):
-    """The contents of a section with the code put behind it, to which the front jumps."""
+def with_code(own, moved, code, prefix):
+    """The contents of a section with code."""
     with tempfile.TemporaryDirectory() as room:
-        before, source, made, flat = (os.path.join(room, name) for name in ('own', 'source.s', 'made.o', 'flat'))
-        with open(before, 'wb') as out:
-            out.write(own)
-        with open(source, 'w', encoding='ascii') as out:
-            out.write(f"""
-    start:
-        .byte 0xe9
-        .long planted - rest + {moved - JUMP}
-        .fill {moved - JUMP}, 1, 0x90
-    rest:
-        .incbin "{before}", {moved}
-    planted:
-        {code}
-    original:
-        .incbin "{before}", 0, {moved}
-        jmp rest
-""")
-        run('as', '-o', made, source)
-        run('objcopy', '-O', 'binary', '-j', '.text', made, flat)
-        with open(flat, 'rb') as file:
-            return file.read()
+        before, source, made, flat = (Path(room, it) for it in ('own', 'code.s', 'made.o', 'flat'))
+        before.write_bytes(own)
+        source.write_text((BEHIND if moved else IN_PLACE).format(code=code, own=before, moved=moved), encoding='ascii')
+        run(f'{prefix}as', '-o', made, source)
+        run(f'{prefix}objcopy', '-O', 'binary', '-j', '.text', made, flat)
+        return flat.read_bytes()
 
 
 def plant(path, function, code, to):
-    section = f'.text.{function}'
-    moved = front(path, section)
-    with open(path, 'rb') as file:
-        elf = bytearray(file.read())
+    """Puts the longer contents of the function's section at the end of the file."""
+    section, elf = f'.text.{function}', bytearray(Path(path).read_bytes())
     header, begin, size = header_of(elf, section)
-    longer = with_code(elf[begin:begin + size], moved, code)
+    is_for_arm = struct.unpack_from('<H', elf, 18) == (ARM,)
+    moved, prefix = (0, 'aarch64-linux-gnu-') if is_for_arm else (front(path, section), '')
+    longer = with_code(elf[begin:begin + size], moved, code, prefix)
     elf += bytes(-len(elf) % 64)
     struct.pack_into('<QQ', elf, header + 0x18, len(elf), len(longer))
-    with open(to, 'wb') as out:
-        out.write(elf + longer)
-
-
-def plant_for_arm(path, function, instruction, to):
-    with open(path, 'rb') as file:
-        elf = bytearray(file.read())
-    _, begin, _ = header_of(elf, f'.text.{function}')
-    struct.pack_into('<I', elf, begin, instruction)
-    with open(to, 'wb') as out:
-        out.write(elf)
-
-
-def is_for_arm(path):
-    with open(path, 'rb') as file:
-        return struct.unpack_from('<H', file.read(20), 18) == (ARM,)
+    Path(to).write_bytes(elf + longer)
 
 
 def main(path, leak, to):
-    if is_for_arm(path):
-        functions, instruction = FOR_ARM[leak]
-        for function in functions:
-            plant_for_arm(path, function, instruction, to)
-            path = to
-        return
     for function, code in LEAKS[leak].items():
         plant(path, function, code, to)
         path = to
 
 
 if __name__ == '__main__':
-    if len(sys.argv) != 4 or sys.argv[2] not in {**LEAKS, **FOR_ARM}:
-        sys.exit(__doc__ + '\nThe leaks: ' + ', '.join({**LEAKS, **FOR_ARM}))
+    if len(sys.argv) != 4 or sys.argv[2] not in LEAKS:
+        sys.exit(f'{__doc__}\nThe leaks: {", ".join(LEAKS)}')
     main(*sys.argv[1:])
