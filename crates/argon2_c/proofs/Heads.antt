@@ -1,8 +1,8 @@
 -- From the head of a text to what is said of the text.
 use Rattle.std.proofs.Common.{List, ℕ, Result, Err, ap, inl, inr, refl, subst, sym}
-use Rattle.argon2.specs.Grammar.{IsItem}
-use Rattle.argon2.specs.Text.{Spelled}
-use Rattle.argon2.specs.Texts.{spelled_with}
+use Rattle.argon2_standard.specs.Standard.Grammar.{IsItem}
+use Rattle.argon2_standard.specs.Standard.Text.{Spelled}
+use Rattle.argon2_text.specs.Views.Texts.{spelled_with}
 use Rattle.argon2.proofs.Verification.StoredTexts.{spelled_at}
 use Rattle.argon2_text.specs.declared.encoding.reading.Head.{Head}
 use Rattle.argon2_c.specs.Answers.{OfText}

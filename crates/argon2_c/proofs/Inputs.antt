@@ -1,12 +1,12 @@
 -- The configuration of settings rests on their numbers alone: with any secret and associated data it is the same otherwise.
 use Rattle.std.proofs.Common.{◌≡◌, ℕ, List, Option, None, Some, Ok, Err, refl, sym, ap, ◌∙◌, Bor}
-use Rattle.argon2.specs.ConfigType.{Config}
-use Rattle.argon2.specs.ErrorType.{Error}
-use Rattle.argon2.specs.SettingsTable.{refusal_of}
-use Rattle.argon2.specs.Stored.{Agrees}
-use Rattle.argon2.specs.Text.{Spelled}
-use Rattle.argon2.specs.VariantType.{Variant}
-use Rattle.argon2.specs.VersionType.{Version}
+use Rattle.argon2_standard.specs.declared.config.Config.{Config}
+use Rattle.argon2_standard.specs.declared.error.Error.{Error}
+use Rattle.argon2_standard.specs.Standard.SettingsTable.{refusal_of}
+use Rattle.argon2_standard.specs.Standard.Stored.{Agrees}
+use Rattle.argon2_standard.specs.Standard.Text.{Spelled}
+use Rattle.argon2_standard.specs.declared.variant.Variant.{Variant}
+use Rattle.argon2_standard.specs.declared.version.Version.{Version}
 use Rattle.argon2.proofs.Verification.StoredTexts.{refusal_of-same}
 use Rattle.argon2_c.specs.Settings.{config_at, config_of, config_with, variant_of, version_of}
 use Rattle.argon2_c.specs.declared.settings.Settings.{Settings}

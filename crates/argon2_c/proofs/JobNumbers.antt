@@ -4,15 +4,15 @@ use Rattle.std.specs.Prelude.{◌==◌, ◌||◌, nat_lt, IsNone}
 use Rattle.std.proofs.Math.Nat.{mul-div-le}
 use Rattle.std.proofs.lemmas.Bool.{le-ltb, ltb-false, ne_eqb}
 use Rattle.std.proofs.lemmas.Bool.Decides.{eqb_tells}
-use Rattle.argon2.specs.ConfigType.{Config}
-use Rattle.argon2.specs.Jobs.{IsSetting}
-use Rattle.argon2.specs.Prehash.{hashed_inputs, prehash_of, setting_of}
-use Rattle.argon2.specs.Setting.{Setting}
-use Rattle.argon2.specs.SettingsTable.{max_lanes, refusal_of}
+use Rattle.argon2_standard.specs.declared.config.Config.{Config}
+use Rattle.argon2_memory.specs.Views.Jobs.{IsSetting}
+use Rattle.argon2_standard.specs.Standard.Prehash.{hashed_inputs, prehash_of, setting_of}
+use Rattle.argon2_standard.specs.Standard.Setting.{Setting}
+use Rattle.argon2_standard.specs.Standard.SettingsTable.{max_lanes, refusal_of}
 use Rattle.argon2_standard.proofs.Settings.Accepted.{accepted, long_segment}
 use Rattle.argon2_standard.proofs.Settings.HashLengths.{length-blake2b}
-use Rattle.argon2.specs.VariantType.{Variant}
-use Rattle.argon2.specs.VersionType.{Version}
+use Rattle.argon2_standard.specs.declared.variant.Variant.{Variant}
+use Rattle.argon2_standard.specs.declared.version.Version.{Version}
 use Rattle.argon2_c.specs.Jobs.{is_out_of_bounds, job_of, setting_at, setting_of_job, setting_with}
 use Rattle.argon2_c.specs.declared.jobs.LentJob.{LentJob}
 use Rattle.argon2_c.proofs.Numbers.{variant_of-number, version_of-number}

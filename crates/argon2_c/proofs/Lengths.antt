@@ -1,7 +1,7 @@
 -- The lengths of what an accepted call is given.
 use Rattle.std.proofs.Common.{◌≡◌, ℕ, ◌≤◌, None, refl}
-use Rattle.argon2.specs.ConfigType.{Config}
-use Rattle.argon2.specs.SettingsTable.{refusal_of}
+use Rattle.argon2_standard.specs.declared.config.Config.{Config}
+use Rattle.argon2_standard.specs.Standard.SettingsTable.{refusal_of}
 use Rattle.argon2_standard.proofs.Settings.Accepted.{accepted}
 
 -- the table's row on a long salt

@@ -1,13 +1,13 @@
 -- The variant and the version of a number.
 use Rattle.std.proofs.Common.{◌≡◌, ℕ, None, Some, refl, sym, subst, inl, inr}
 use Rattle.std.proofs.lemmas.Bool.Decides.{eqb_tells}
-use Rattle.argon2.specs.VariantType.{Variant}
-use Rattle.argon2.specs.VariantType.TheVariants.{Argon2d, Argon2i, Argon2id}
-use Rattle.argon2.specs.VersionType.{Version}
-use Rattle.argon2.specs.VersionType.TheVariants.{Version10, Version13}
-use Rattle.argon2.specs.Names.{IsNoVariantNumber, IsNoVersionNumber}
-use Rattle.argon2.specs.Variant.{variant_number}
-use Rattle.argon2.specs.Version.{version_number}
+use Rattle.argon2_standard.specs.declared.variant.Variant.{Variant}
+use Rattle.argon2_standard.specs.declared.variant.Variant.TheVariants.{Argon2d, Argon2i, Argon2id}
+use Rattle.argon2_standard.specs.declared.version.Version.{Version}
+use Rattle.argon2_standard.specs.declared.version.Version.TheVariants.{Version10, Version13}
+use Rattle.argon2_standard.specs.Views.Names.{IsNoVariantNumber, IsNoVersionNumber}
+use Rattle.argon2_standard.specs.Standard.Variant.{variant_number}
+use Rattle.argon2_standard.specs.Standard.Version.{version_number}
 use Rattle.argon2_c.specs.Settings.{variant_of, version_of}
 
 -- the number of a variant stands for that variant

@@ -3,11 +3,11 @@ use Rattle.std.proofs.Common.{◌≡◌, ℕ, suc, ◌-◌, ◌*◌, ◌/◌, �
 use Rattle.std.specs.List.{remove}
 use Rattle.std.proofs.lemmas.Bool.Decides.{eqb_tells}
 use Rattle.std.proofs.lemmas.List.Edits.{length-remove}
-use Rattle.argon2.specs.ConfigType.{Config}
-use Rattle.argon2.specs.Jobs.{IsSetting}
-use Rattle.argon2.specs.Prehash.{setting_of}
-use Rattle.argon2.specs.Setting.{Setting, memory_blocks}
-use Rattle.argon2.specs.Tag.{last_blocks, tag_from, tag_of}
+use Rattle.argon2_standard.specs.declared.config.Config.{Config}
+use Rattle.argon2_memory.specs.Views.Jobs.{IsSetting}
+use Rattle.argon2_standard.specs.Standard.Prehash.{setting_of}
+use Rattle.argon2_standard.specs.Standard.Setting.{Setting, memory_blocks}
+use Rattle.argon2_standard.specs.Standard.Tag.{last_blocks, tag_from, tag_of}
 use Rattle.argon2_memory.specs.Views.Places.{FillsLent, HoldsSlice, lent_blocks, lent_places}
 use Rattle.argon2_memory.specs.Views.Segments.{IsReady}
 use Rattle.argon2_memory.proofs.Filling.Lent.{length-lent}

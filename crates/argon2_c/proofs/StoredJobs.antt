@@ -1,9 +1,9 @@
 -- The job of a stored text rests on what it spells, the secret and the associated data alone.
 use Rattle.std.proofs.Common.{◌≡◌, ℕ, List, length, refl, sym, ap, ◌∙◌}
-use Rattle.argon2.specs.ConfigType.{Config}
-use Rattle.argon2.specs.Prehash.{prehash_of, setting_of}
-use Rattle.argon2.specs.Stored.{IsStoredConfig}
-use Rattle.argon2.specs.Text.{Spelled}
+use Rattle.argon2_standard.specs.declared.config.Config.{Config}
+use Rattle.argon2_standard.specs.Standard.Prehash.{prehash_of, setting_of}
+use Rattle.argon2_standard.specs.Standard.Stored.{IsStoredConfig}
+use Rattle.argon2_standard.specs.Standard.Text.{Spelled}
 use Rattle.argon2.specs.Views.StoredTexts.{IsConfigOf}
 use Rattle.argon2_c.specs.Jobs.{StoredJob, job_of}
 use Rattle.argon2_c.specs.Reading.{Items}

@@ -1,11 +1,11 @@
 -- What the calls answer. The definitions take the configuration of the settings, or the refusal of their numbers,
 -- and are made of the words of the library's own contract.
 use Rattle.std.specs.Prelude.{◌≡◌, ℕ, Bool, true, false, List, length, Option, Some, None, Result, Ok, Err, IsUtf8}
-use Rattle.argon2.specs.ConfigType.{Config}
-use Rattle.argon2.specs.ErrorType.{Error}
-use Rattle.argon2.specs.ErrorType.TheVariants.{DecodingFail}
-use Rattle.argon2.specs.Grammar.{Spells, SpellsNothing}
-use Rattle.argon2.specs.Text.{Spelled, spelled_of, text_of}
+use Rattle.argon2_standard.specs.declared.config.Config.{Config}
+use Rattle.argon2_standard.specs.declared.error.Error.{Error}
+use Rattle.argon2_standard.specs.declared.error.Error.TheVariants.{DecodingFail}
+use Rattle.argon2_standard.specs.Standard.Grammar.{Spells, SpellsNothing}
+use Rattle.argon2_standard.specs.Standard.Text.{Spelled, spelled_of, text_of}
 use Rattle.argon2_c.specs.Buffer.{WritesText}
 use Rattle.argon2_c.specs.Refusal.{IsNoNumber, message_of, number_of}
 use Rattle.argon2_c.specs.declared.refusal.Refusal.{Refusal}

@@ -1,8 +1,8 @@
 -- The head of a stored text: all that it spells before its salt and its hash, and these two as they are written there.
 use Rattle.std.specs.Prelude.{◌≡◌, ◌⊎◌, ℕ, List, IsUtf8}
-use Rattle.argon2.specs.ErrorType.TheVariants.{DecodingFail}
-use Rattle.argon2.specs.Grammar.{SpellsNothing}
-use Rattle.argon2.specs.Texts.{IsSpellingOf}
+use Rattle.argon2_standard.specs.declared.error.Error.TheVariants.{DecodingFail}
+use Rattle.argon2_standard.specs.Standard.Grammar.{SpellsNothing}
+use Rattle.argon2_text.specs.Views.Texts.{IsSpellingOf}
 use Rattle.argon2_text.specs.declared.encoding.reading.Head.{Head}
 use Rattle.argon2_c.specs.declared.refusal.Refusal.{Refusal}
 use Rattle.argon2_c.specs.declared.refusal.Refusal.TheVariants.{Library, NotUtf8}

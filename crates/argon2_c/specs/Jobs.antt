@@ -1,18 +1,18 @@
 -- What the steps of a hash over lent blocks answer. A step judges all numbers that it is given, and on a
 -- refusal what it would have written is as it was.
 use Rattle.std.specs.Prelude.{◌≡◌, ℕ, ◌-◌, ◌*◌, ◌<◌, ◌==◌, ◌||◌, Bool, nat_lt, if◌then◌else◌, List, [], ◌∷◌, length, Option, Some, None, Result, Ok, Err}
-use Rattle.argon2.specs.ConfigType.{Config}
-use Rattle.argon2.specs.ErrorType.{Error}
-use Rattle.argon2.specs.Prehash.{setting_of}
-use Rattle.argon2.specs.Setting.{Setting}
-use Rattle.argon2.specs.SettingsTable.{max_lanes, refusal_of}
-use Rattle.argon2.specs.Stored.{IsStoredConfig}
-use Rattle.argon2.specs.Tag.{last_blocks, tag_from}
-use Rattle.argon2.specs.Text.{Spelled, spelled_of, text_of}
-use Rattle.argon2.specs.Variant.{variant_number}
-use Rattle.argon2.specs.VariantType.{Variant}
-use Rattle.argon2.specs.Version.{version_number}
-use Rattle.argon2.specs.VersionType.{Version}
+use Rattle.argon2_standard.specs.declared.config.Config.{Config}
+use Rattle.argon2_standard.specs.declared.error.Error.{Error}
+use Rattle.argon2_standard.specs.Standard.Prehash.{setting_of}
+use Rattle.argon2_standard.specs.Standard.Setting.{Setting}
+use Rattle.argon2_standard.specs.Standard.SettingsTable.{max_lanes, refusal_of}
+use Rattle.argon2_standard.specs.Standard.Stored.{IsStoredConfig}
+use Rattle.argon2_standard.specs.Standard.Tag.{last_blocks, tag_from}
+use Rattle.argon2_standard.specs.Standard.Text.{Spelled, spelled_of, text_of}
+use Rattle.argon2_standard.specs.Standard.Variant.{variant_number}
+use Rattle.argon2_standard.specs.declared.variant.Variant.{Variant}
+use Rattle.argon2_standard.specs.Standard.Version.{version_number}
+use Rattle.argon2_standard.specs.declared.version.Version.{Version}
 use Rattle.argon2_memory.specs.Views.Places.{FillsLent, HoldsSlice, lent_blocks}
 use Rattle.argon2_memory.specs.Views.Segments.{IsReady}
 use Rattle.argon2_c.specs.Answers.{OfText, OrRefused, Tells, WritesWhere}

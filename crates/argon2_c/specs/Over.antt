@@ -1,10 +1,10 @@
 -- What a whole hash over lent blocks answers, in one call. On a refusal the blocks and the tag are as they were.
 use Rattle.std.specs.Prelude.{◌≡◌, ℕ, ◌*◌, ◌/◌, List, length, Option, Some, None, Result, Ok, Err}
-use Rattle.argon2.specs.ConfigType.{Config}
-use Rattle.argon2.specs.ErrorType.{Error}
-use Rattle.argon2.specs.Setting.{Setting, memory_blocks}
-use Rattle.argon2.specs.SettingsTable.{min_salt_length, refusal_of}
-use Rattle.argon2.specs.Tag.{last_blocks, tag_from, tag_of}
+use Rattle.argon2_standard.specs.declared.config.Config.{Config}
+use Rattle.argon2_standard.specs.declared.error.Error.{Error}
+use Rattle.argon2_standard.specs.Standard.Setting.{Setting, memory_blocks}
+use Rattle.argon2_standard.specs.Standard.SettingsTable.{min_salt_length, refusal_of}
+use Rattle.argon2_standard.specs.Standard.Tag.{last_blocks, tag_from, tag_of}
 use Rattle.argon2_c.specs.Answers.{OrRefused, Tells}
 use Rattle.argon2_c.specs.declared.refusal.Refusal.{Refusal}
 use Rattle.argon2_c.specs.declared.refusal.Refusal.TheVariants.{Library, NoJob, WrongBlocks, WrongLength}

@@ -1,13 +1,13 @@
 -- What the calls answer that look at a stored text and verify nothing.
 use Rattle.std.specs.Prelude.{◌≡◌, ℕ, Bool, true, false, List, length, min, Result, Ok, Err}
-use Rattle.argon2.specs.ConfigType.{Config}
-use Rattle.argon2.specs.ErrorType.{Error}
+use Rattle.argon2_standard.specs.declared.config.Config.{Config}
+use Rattle.argon2_standard.specs.declared.error.Error.{Error}
 use Rattle.argon2.specs.Standard.Limits.{is_too_costly}
-use Rattle.argon2.specs.Stored.{Agrees}
-use Rattle.argon2.specs.SettingsTable.{max_length}
-use Rattle.argon2.specs.Text.{Spelled}
-use Rattle.argon2.specs.Variant.{variant_number}
-use Rattle.argon2.specs.Version.{version_number}
+use Rattle.argon2_standard.specs.Standard.Stored.{Agrees}
+use Rattle.argon2_standard.specs.Standard.SettingsTable.{max_length}
+use Rattle.argon2_standard.specs.Standard.Text.{Spelled}
+use Rattle.argon2_standard.specs.Standard.Variant.{variant_number}
+use Rattle.argon2_standard.specs.Standard.Version.{version_number}
 use Rattle.argon2.specs.declared.limits.Limits.{Limits as LibraryLimits}
 use Rattle.argon2_c.specs.Answers.{OfText, WritesWhere}
 use Rattle.argon2_c.specs.declared.reading.Stored.{Stored}

@@ -1,8 +1,8 @@
 -- The recommended settings.
 use Rattle.std.specs.Prelude.{ℕ}
-use Rattle.argon2.specs.ConfigType.{Config}
-use Rattle.argon2.specs.Variant.{variant_number}
-use Rattle.argon2.specs.Version.{version_number}
+use Rattle.argon2_standard.specs.declared.config.Config.{Config}
+use Rattle.argon2_standard.specs.Standard.Variant.{variant_number}
+use Rattle.argon2_standard.specs.Standard.Version.{version_number}
 use Rattle.argon2_c.specs.declared.settings.Settings.{Settings}
 
 -- the settings of a configuration, in numbers

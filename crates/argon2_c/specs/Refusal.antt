@@ -1,10 +1,10 @@
 -- The numbers and the texts of the refusals.
 use Rattle.std.specs.Prelude.{◌≡◌, ℕ, List, codes, Result, Ok, Err}
-use Rattle.argon2.specs.ErrorType.{Error}
-use Rattle.argon2.specs.ErrorType.TheVariants.{OutputTooShort, OutputTooLong, PwdTooShort, PwdTooLong, SaltTooShort, SaltTooLong, AdTooShort}
-use Rattle.argon2.specs.ErrorType.TheVariants.{AdTooLong, SecretTooShort, SecretTooLong, TimeTooSmall, TimeTooLarge, MemoryTooLittle, MemoryTooMuch}
-use Rattle.argon2.specs.ErrorType.TheVariants.{LanesTooFew, LanesTooMany, IncorrectType, IncorrectVersion, DecodingFail, OutOfMemory, WorkerRefused}
-use Rattle.argon2.specs.Messages.{message_of as library_message}
+use Rattle.argon2_standard.specs.declared.error.Error.{Error}
+use Rattle.argon2_standard.specs.declared.error.Error.TheVariants.{OutputTooShort, OutputTooLong, PwdTooShort, PwdTooLong, SaltTooShort, SaltTooLong, AdTooShort}
+use Rattle.argon2_standard.specs.declared.error.Error.TheVariants.{AdTooLong, SecretTooShort, SecretTooLong, TimeTooSmall, TimeTooLarge, MemoryTooLittle, MemoryTooMuch}
+use Rattle.argon2_standard.specs.declared.error.Error.TheVariants.{LanesTooFew, LanesTooMany, IncorrectType, IncorrectVersion, DecodingFail, OutOfMemory, WorkerRefused}
+use Rattle.argon2_standard.specs.Views.Messages.{message_of as library_message}
 use Rattle.argon2_c.specs.declared.refusal.Refusal.{Refusal}
 use Rattle.argon2_c.specs.declared.refusal.Refusal.TheVariants.{Library, Mismatch, WrongLength, NotUtf8, UnknownNumber, NeedsRehash, TooCostly, NoJob, NoPlace, WrongBlocks}
 

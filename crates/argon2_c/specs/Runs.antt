@@ -2,10 +2,10 @@
 -- another, and in each slice its lanes in any order or at the same time.
 use Rattle.std.specs.Prelude.{◌≡◌, ◌≢◌, ℕ, suc, ◌*◌, ◌/◌, ◌%◌, ◌^◌, ◌<◌, List, [], length, None, Ok, Err, slice_index_or, take, drop}
 use Rattle.std.specs.List.{remove}
-use Rattle.argon2.specs.ConfigType.{Config}
-use Rattle.argon2.specs.Prehash.{setting_of}
-use Rattle.argon2.specs.SettingsTable.{refusal_of}
-use Rattle.argon2.specs.Tag.{tag_of}
+use Rattle.argon2_standard.specs.declared.config.Config.{Config}
+use Rattle.argon2_standard.specs.Standard.Prehash.{setting_of}
+use Rattle.argon2_standard.specs.Standard.SettingsTable.{refusal_of}
+use Rattle.argon2_standard.specs.Standard.Tag.{tag_of}
 use Rattle.argon2_c.specs.Jobs.{Begins, Fills, Finishes, Verifies, job_of, setting_of_job}
 use Rattle.argon2_c.specs.Over.{HashesJob, JudgesJob, Lent}
 use Rattle.argon2_c.specs.declared.jobs.LentJob.{LentJob}

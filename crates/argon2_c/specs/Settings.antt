@@ -1,14 +1,14 @@
 -- The configuration of settings in numbers.
 use Rattle.std.specs.Prelude.{ℕ, ◌==◌, if◌then◌else◌, List, Option, Some, None, Result, Ok, Err}
 use Rattle.std.specs.Borrow.{Bor}
-use Rattle.argon2.specs.ConfigType.{Config}
-use Rattle.argon2.specs.ErrorType.{Error}
-use Rattle.argon2.specs.ErrorType.TheVariants.{IncorrectType, IncorrectVersion}
-use Rattle.argon2.specs.ThreadModeType.TheVariants.{Sequential}
-use Rattle.argon2.specs.VariantType.{Variant}
-use Rattle.argon2.specs.VariantType.TheVariants.{Argon2d, Argon2i, Argon2id}
-use Rattle.argon2.specs.VersionType.{Version}
-use Rattle.argon2.specs.VersionType.TheVariants.{Version10, Version13}
+use Rattle.argon2_standard.specs.declared.config.Config.{Config}
+use Rattle.argon2_standard.specs.declared.error.Error.{Error}
+use Rattle.argon2_standard.specs.declared.error.Error.TheVariants.{IncorrectType, IncorrectVersion}
+use Rattle.argon2_standard.specs.declared.thread_mode.ThreadMode.TheVariants.{Sequential}
+use Rattle.argon2_standard.specs.declared.variant.Variant.{Variant}
+use Rattle.argon2_standard.specs.declared.variant.Variant.TheVariants.{Argon2d, Argon2i, Argon2id}
+use Rattle.argon2_standard.specs.declared.version.Version.{Version}
+use Rattle.argon2_standard.specs.declared.version.Version.TheVariants.{Version10, Version13}
 use Rattle.argon2_c.specs.declared.settings.Settings.{Settings}
 
 -- the variant and the version of a number (RFC 9106, 3.2)

@@ -1,12 +1,12 @@
 //! A job as C stores it: H0 and the numbers that the blocks and the tag depend on.
 
 ghost use Rattle.std.specs.Prelude.{◌≡◌, ◌*◌, ℕ, List, MatchResult, None, Some};
-ghost use Rattle.argon2.specs.ConfigType.{Config};
-ghost use Rattle.argon2.specs.Faults.{IsSomeItem};
-ghost use Rattle.argon2.specs.Grammar.{IsItem};
-ghost use Rattle.argon2.specs.Jobs.{IsJob, setting_of_context};
-ghost use Rattle.argon2.specs.Stored.{IsStoredConfig};
-ghost use Rattle.argon2.specs.Texts.{spelled_with};
+ghost use Rattle.argon2_standard.specs.declared.config.Config.{Config};
+ghost use Rattle.argon2_text.specs.Views.Faults.{IsSomeItem};
+ghost use Rattle.argon2_standard.specs.Standard.Grammar.{IsItem};
+ghost use Rattle.argon2_memory.specs.Views.Jobs.{IsJob, setting_of_context};
+ghost use Rattle.argon2_standard.specs.Standard.Stored.{IsStoredConfig};
+ghost use Rattle.argon2_text.specs.Views.Texts.{spelled_with};
 ghost use Rattle.argon2_c.specs.Jobs.{MakesJob, MakesStoredJob, WritesStoredJob, is_out_of_bounds, job_of, setting_at, setting_of_job};
 ghost use Rattle.argon2_c.specs.Settings.{config_of, version_of};
 ghost use Rattle.argon2_c.specs.declared.refusal.Refusal.TheVariants.{NoJob};

@@ -2,8 +2,8 @@
 //! call.
 
 ghost use Rattle.std.specs.Prelude.{◌≡◌, ◌↔◌, IsTrue, length};
-ghost use Rattle.argon2.specs.Tag.{tag_of};
-ghost use Rattle.argon2.specs.Setting.{memory_blocks};
+ghost use Rattle.argon2_standard.specs.Standard.Tag.{tag_of};
+ghost use Rattle.argon2_standard.specs.Standard.Setting.{memory_blocks};
 ghost use Rattle.argon2_c.specs.Answers.{judgement_of};
 ghost use Rattle.argon2_c.specs.Jobs.{setting_of_job};
 ghost use Rattle.argon2_c.specs.Over.{HashesInto, HashesJob, HashesOver, JudgesInto, JudgesJob, JudgesOver, blocks_of};

@@ -2,9 +2,9 @@
 
 ghost use Rattle.std.specs.Prelude.{◌≡◌, ℕ, List, OnOk};
 ghost use Rattle.std.specs.Borrow.{Bor};
-ghost use Rattle.argon2.specs.Grammar.{IsItem};
-ghost use Rattle.argon2.specs.Text.{Spelled};
-ghost use Rattle.argon2.specs.Texts.{numbers_of};
+ghost use Rattle.argon2_standard.specs.Standard.Grammar.{IsItem};
+ghost use Rattle.argon2_standard.specs.Standard.Text.{Spelled};
+ghost use Rattle.argon2_text.specs.Views.Texts.{numbers_of};
 ghost use Rattle.argon2_text.specs.Views.Faults.{IsSomeItem};
 ghost use Rattle.argon2_c.specs.Answers.{WritesWhere};
 ghost use Rattle.argon2_c.specs.Limits.{limits_of};

@@ -1,7 +1,7 @@
 //! The errors of the C calls, their numbers and their messages.
 
 ghost use Rattle.std.specs.Prelude.{◌≡◌, IfSome};
-ghost use Rattle.argon2.specs.ErrorType.{Error};
+ghost use Rattle.argon2_standard.specs.declared.error.Error.{Error};
 ghost use Rattle.argon2_c.specs.Answers.{judgement_of};
 ghost use Rattle.argon2_c.specs.Refusal.{code_of, library_number, message_of, number_of};
 ghost use Rattle.argon2_c.specs.declared.refusal.Refusal.{Refusal};

@@ -2,7 +2,7 @@
 
 ghost use Rattle.std.specs.Prelude.{◌≡◌, ℕ, List, [], Ok};
 ghost use Rattle.std.specs.Borrow.{Bor};
-ghost use Rattle.argon2.specs.SettingsTable.{refusal_of};
+ghost use Rattle.argon2_standard.specs.Standard.SettingsTable.{refusal_of};
 ghost use Rattle.argon2_c.specs.Answers.{IsTextLength};
 ghost use Rattle.argon2_c.specs.Over.{memory_len_of};
 ghost use Rattle.argon2_c.specs.Settings.{config_of};

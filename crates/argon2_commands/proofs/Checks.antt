@@ -1,11 +1,11 @@
 -- Texts that are too costly to check.
 use Rattle.std.proofs.Common.{◌≡◌, ℕ, Bool, true, false, [], List, Option, Result, Ok, Err, Bor, ap, arith, inl, inr, refl, subst, sym, ◌∙◌}
-use Rattle.argon2.specs.ConfigType.{Config}
-use Rattle.argon2.specs.ErrorType.{Error}
+use Rattle.argon2_standard.specs.declared.config.Config.{Config}
+use Rattle.argon2_standard.specs.declared.error.Error.{Error}
 use Rattle.argon2.specs.Standard.Limits.{AnswersWithin, is_too_costly}
-use Rattle.argon2.specs.Stored.{IsStoredConfig}
-use Rattle.argon2.specs.Text.{Spelled}
-use Rattle.argon2.specs.ThreadModeType.TheVariants.{Sequential}
+use Rattle.argon2_standard.specs.Standard.Stored.{IsStoredConfig}
+use Rattle.argon2_standard.specs.Standard.Text.{Spelled}
+use Rattle.argon2_standard.specs.declared.thread_mode.ThreadMode.TheVariants.{Sequential}
 use Rattle.argon2.specs.Views.Limits.{default_limits}
 use Rattle.argon2.specs.declared.limits.Unverified.{Unverified}
 use Rattle.argon2.specs.declared.limits.Unverified.TheVariants as unverified

@@ -4,12 +4,12 @@ use Rattle.std.proofs.Math.Nat.{min-le_left, min-le_right}
 use Rattle.std.proofs.lemmas.Bool.{cases_lt, lt-ltb}
 use Rattle.std.proofs.lemmas.List.{append-nil, append_assoc, length-append, length-take, length-take-le, take-append-le, take_all}
 use Rattle.std.specs.Io.KnownBytes.{Consumes, IsAtEnd}
-use Rattle.argon2.specs.ConfigType.{Config}
-use Rattle.argon2.specs.ErrorType.{Error}
-use Rattle.argon2.specs.ErrorType.TheVariants.{LanesTooFew, LanesTooMany, MemoryTooLittle, PwdTooLong, TimeTooSmall}
-use Rattle.argon2.specs.Outcome.{IsShortage, IsVerdict}
-use Rattle.argon2.specs.SettingsTable.{first_that_applies, max_lanes, max_length, min_memory, refusal_of, settings_table}
-use Rattle.argon2.specs.ThreadModes.{may_lack_workers}
+use Rattle.argon2_standard.specs.declared.config.Config.{Config}
+use Rattle.argon2_standard.specs.declared.error.Error.{Error}
+use Rattle.argon2_standard.specs.declared.error.Error.TheVariants.{LanesTooFew, LanesTooMany, MemoryTooLittle, PwdTooLong, TimeTooSmall}
+use Rattle.argon2_standard.specs.Standard.Outcome.{IsShortage, IsVerdict}
+use Rattle.argon2_standard.specs.Standard.SettingsTable.{first_that_applies, max_lanes, max_length, min_memory, refusal_of, settings_table}
+use Rattle.argon2_standard.specs.Standard.ThreadModes.{may_lack_workers}
 use Rattle.argon2_commands.specs.Answer.{HashAnswers, IsPassword, IsRefusal, IsShortPassword, IsTooLong, ReadsUpTo, VerifyAnswers, longest_password, most_read}
 use Rattle.argon2_commands.specs.Run.{most_read_by}
 use Rattle.argon2_commands.specs.Words.{IsCommand}

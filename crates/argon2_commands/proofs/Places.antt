@@ -6,7 +6,7 @@ use Rattle.std.specs.Result.{result_ok}
 use Rattle.std.specs.declared.alloc.Global.{Global}
 use Rattle.std.specs.declared.string.String.{String}
 use Rattle.std.proofs.lemmas.List.{get_or-map}
-use Rattle.argon2.specs.ConfigType.{Config}
+use Rattle.argon2_standard.specs.declared.config.Config.{Config}
 use Rattle.argon2_commands.specs.Words.{IsHash, IsNew, IsNoCommand, IsNumber, IsRehash, texts_of, word}
 use Rattle.argon2_commands.specs.declared.command.Command.TheVariants.{Hash, Verify, Rehash, New, Check}
 use Rattle.argon2_commands.specs.declared.command.Program.TheVariants.{Argon2, Tool}

@@ -1,9 +1,9 @@
 -- Refusals that are passed on, and what is known of accepted values.
 use Rattle.std.proofs.Common.{inl, inr, refl, ◌⊎◌, ◌≡◌, ℕ, List, Option, None, Some, MatchOption, Result, Ok, Err, IfErr, Bool, true, false, sym, subst}
 use Rattle.std.specs.Result.{IsErr, IsErrAnd}
-use Rattle.argon2.specs.ErrorType.{Error}
-use Rattle.argon2.specs.ErrorType.TheVariants.{OutOfMemory}
-use Rattle.argon2.specs.Outcome.{IsShortage}
+use Rattle.argon2_standard.specs.declared.error.Error.{Error}
+use Rattle.argon2_standard.specs.declared.error.Error.TheVariants.{OutOfMemory}
+use Rattle.argon2_standard.specs.Standard.Outcome.{IsShortage}
 use Rattle.argon2_commands.specs.declared.fault.Fault.{Fault}
 use Rattle.argon2_commands.specs.declared.fault.Fault.TheVariants.{Input, Refused, OutputShort}
 use Rattle.std.specs.Io.KnownBytes.{Keeps}

@@ -1,7 +1,7 @@
 -- What an exit status says of a run.
 use Rattle.std.proofs.Common.{◌≡◌, ◌↔◌, ◌<◌, ◌≤◌, ℕ, List, Option, Result, Err, true, false, ap, arith, inl, inr, refl, subst, sym, ◌∙◌}
 use Rattle.std.specs.Io.KnownBytes.{Keeps}
-use Rattle.argon2.specs.ErrorType.{Error}
+use Rattle.argon2_standard.specs.declared.error.Error.{Error}
 use Rattle.argon2_commands.specs.Answer.{answer_status}
 use Rattle.argon2_commands.specs.Fault.{IsBeforeOutput, fault_status}
 use Rattle.argon2_commands.specs.Run.{Answered, AreTooCostly, HasAnswer, IsRefused, IsShortOrRefused, statuses_of}

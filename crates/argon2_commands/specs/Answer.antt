@@ -3,18 +3,16 @@ use Rattle.std.specs.Prelude.{◌≡◌, ◌↔◌, ◌⊎◌, ◌<◌, ◌≤�
 use Rattle.std.specs.Prelude.{IsNone, MatchOption, MatchResult, Result, Ok, Err, ⊤}
 use Rattle.std.specs.Io.KnownBytes.{Consumes}
 use Rattle.hex.specs.Hex.{encode_lower}
-use Rattle.argon2.specs.Outcome.{IsShortage}
-use Rattle.argon2.specs.ThreadModes.{may_lack_workers}
-use Rattle.argon2.specs.Grammar.{Spells, SpellsNothing}
-use Rattle.argon2.specs.Stored.{Differs}
-use Rattle.argon2.specs.SettingsTable.{max_length, refusal_of}
-use Rattle.argon2.specs.Stored.{IsStoredConfig}
-use Rattle.argon2.specs.Tag.{tag_of}
-use Rattle.argon2.specs.Text.{Spelled, spelled_of, text_of}
-use Rattle.argon2.specs.Outcome.{IsVerdict}
-use Rattle.argon2.specs.ConfigType.{Config}
-use Rattle.argon2.specs.ErrorType.{Error}
-use Rattle.argon2.specs.ErrorType.TheVariants.{DecodingFail, OutOfMemory, PwdTooLong}
+use Rattle.argon2_standard.specs.Standard.Outcome.{IsShortage, IsVerdict}
+use Rattle.argon2_standard.specs.Standard.ThreadModes.{may_lack_workers}
+use Rattle.argon2_standard.specs.Standard.Grammar.{Spells, SpellsNothing}
+use Rattle.argon2_standard.specs.Standard.Stored.{Differs, IsStoredConfig}
+use Rattle.argon2_standard.specs.Standard.SettingsTable.{max_length, refusal_of}
+use Rattle.argon2_standard.specs.Standard.Tag.{tag_of}
+use Rattle.argon2_standard.specs.Standard.Text.{Spelled, spelled_of, text_of}
+use Rattle.argon2_standard.specs.declared.config.Config.{Config}
+use Rattle.argon2_standard.specs.declared.error.Error.{Error}
+use Rattle.argon2_standard.specs.declared.error.Error.TheVariants.{DecodingFail, OutOfMemory, PwdTooLong}
 use Rattle.argon2.specs.Standard.Limits.{AnswersWithin, is_too_costly}
 use Rattle.argon2.specs.Views.Limits.{default_limits}
 use Rattle.argon2.specs.declared.limits.Unverified.{Unverified}

@@ -1,8 +1,8 @@
 -- What a fault is told as.
 use Rattle.std.specs.Prelude.{ℕ, List, [], ◌++◌, codes, ⊤}
-use Rattle.argon2.specs.Messages.{message_of}
+use Rattle.argon2_standard.specs.Views.Messages.{message_of}
 use Rattle.argon2_commands.specs.declared.fault.Fault.{Fault}
-use Rattle.argon2.specs.ErrorType.TheVariants.{OutOfMemory}
+use Rattle.argon2_standard.specs.declared.error.Error.TheVariants.{OutOfMemory}
 use Rattle.argon2.specs.Views.Limits.{message_of as unverified_text}
 use Rattle.argon2.specs.declared.limits.Unverified.{Unverified}
 use Rattle.argon2.specs.declared.limits.Unverified.TheVariants.{TooCostly as UnverifiedTooCostly, Refused as UnverifiedRefused}

@@ -4,9 +4,9 @@ use Rattle.std.specs.Io.KnownBytes.{Appends, Keeps}
 use Rattle.argon2_commands.specs.Answer.{AsksTooMuch, IsAnswer, MayRefuse, NeedsNoInput, answer_status, lines_of, longest_password}
 use Rattle.argon2_commands.specs.CommandLine.{AreWords}
 use Rattle.argon2_commands.specs.Words.{IsCommand}
-use Rattle.argon2.specs.SettingsTable.{max_length}
-use Rattle.argon2.specs.ErrorType.{Error}
-use Rattle.argon2.specs.ErrorType.TheVariants.{OutOfMemory, PwdTooLong}
+use Rattle.argon2_standard.specs.Standard.SettingsTable.{max_length}
+use Rattle.argon2_standard.specs.declared.error.Error.{Error}
+use Rattle.argon2_standard.specs.declared.error.Error.TheVariants.{OutOfMemory, PwdTooLong}
 use Rattle.argon2_commands.specs.declared.fault.Fault.{Fault}
 use Rattle.argon2_commands.specs.declared.fault.Fault.TheVariants.{Input, Refused, TooCostly}
 use Rattle.argon2_commands.specs.declared.answer.Answer.{Answer}

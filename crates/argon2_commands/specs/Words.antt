@@ -4,11 +4,11 @@ use Rattle.std.specs.Str.Parse.{IsNumeral, digits_value, without_leading_plus}
 use Rattle.std.specs.declared.alloc.Global.{Global}
 use Rattle.std.specs.declared.string.String.{String}
 use Rattle.hex.specs.Hex.{decode_of}
-use Rattle.argon2.specs.Variant.{IsName}
-use Rattle.argon2.specs.Version.{version_text}
-use Rattle.argon2.specs.ConfigType.{Config}
-use Rattle.argon2.specs.ThreadModeType.{ThreadMode}
-use Rattle.argon2.specs.ThreadModeType.TheVariants.{Sequential, Parallel, AtMost}
+use Rattle.argon2_standard.specs.Standard.Variant.{IsName}
+use Rattle.argon2_standard.specs.Standard.Version.{version_text}
+use Rattle.argon2_standard.specs.declared.config.Config.{Config}
+use Rattle.argon2_standard.specs.declared.thread_mode.ThreadMode.{ThreadMode}
+use Rattle.argon2_standard.specs.declared.thread_mode.ThreadMode.TheVariants.{Sequential, Parallel, AtMost}
 use Rattle.argon2_commands.specs.declared.command.Command.{Command}
 use Rattle.argon2_commands.specs.declared.command.Command.TheVariants.{Hash, Verify, Rehash, New, Check}
 use Rattle.argon2_commands.specs.declared.command.Program.{Program}

@@ -3,10 +3,10 @@
 ghost use Rattle.std.specs.Prelude.{◌≡◌, [], IfErr, IfOk, IsNone, OnOk, length, string_bytes};
 ghost use Rattle.std.specs.Io.KnownBytes.{Keeps};
 ghost use Rattle.argon2.specs.Standard.Limits.{is_too_costly};
-ghost use Rattle.argon2.specs.Text.{spelled_of};
-ghost use Rattle.argon2.specs.Outcome.{IsShortage};
-ghost use Rattle.argon2.specs.ThreadModes.{may_lack_workers};
-ghost use Rattle.argon2.specs.SettingsTable.{refusal_of};
+ghost use Rattle.argon2_standard.specs.Standard.Text.{spelled_of};
+ghost use Rattle.argon2_standard.specs.Standard.Outcome.{IsShortage};
+ghost use Rattle.argon2_standard.specs.Standard.ThreadModes.{may_lack_workers};
+ghost use Rattle.argon2_standard.specs.Standard.SettingsTable.{refusal_of};
 ghost use Rattle.argon2_commands.specs.Answer.{CheckAnswers, IsAnswer, IsRefusal, MayFail, NeedsNoInput, NewAnswers, NewFails, ReadsUpTo, answer_status, hash_lines, lines_of, most_read};
 
 use crate::command::Command;

@@ -1,8 +1,8 @@
 //! The commands, and how they are read from the arguments.
 
 ghost use Rattle.std.specs.Prelude.{◌≡◌, ◌≤◌, ℕ, length, IfSome, IfNone, MatchOption};
-ghost use Rattle.argon2.specs.ConfigType.{Config};
-ghost use Rattle.argon2.specs.ThreadModeType.{ThreadMode};
+ghost use Rattle.argon2_standard.specs.declared.config.Config.{Config};
+ghost use Rattle.argon2_standard.specs.declared.thread_mode.ThreadMode.{ThreadMode};
 ghost use Rattle.argon2_commands.specs.Words.{AreSettings, IsCommand, IsMode, IsNoCommand, IsNumber, texts_of};
 
 use crate::salt::Salt;

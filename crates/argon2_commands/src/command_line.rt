@@ -1,7 +1,7 @@
 //! The arguments that the program is started with.
 
 ghost use Rattle.std.specs.Prelude.{◌≡◌, ◌⊎◌, ℕ, IfErr, IfOk, List, None, Option};
-ghost use Rattle.argon2.specs.ErrorType.TheVariants.{OutOfMemory};
+ghost use Rattle.argon2_standard.specs.declared.error.Error.TheVariants.{OutOfMemory};
 ghost use Rattle.argon2_commands.specs.CommandLine.{AreWords, HasNoText, IsArgument};
 ghost use Rattle.argon2_commands.specs.Words.{texts_of};
 

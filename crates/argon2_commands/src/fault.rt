@@ -3,7 +3,7 @@
 ghost use Rattle.std.specs.Prelude.{◌≡◌, ◌≢◌, OnOk};
 ghost use Rattle.std.specs.IoError.{error_kind};
 ghost use Rattle.std.specs.Io.KnownBytes.{Appends};
-ghost use Rattle.argon2.specs.ErrorType.TheVariants.{OutOfMemory};
+ghost use Rattle.argon2_standard.specs.declared.error.Error.TheVariants.{OutOfMemory};
 ghost use Rattle.argon2_commands.specs.Fault.{fault_of, fault_status, line_of};
 ghost use Rattle.argon2_commands.specs.declared.fault.Fault.TheVariants.{Refused};
 

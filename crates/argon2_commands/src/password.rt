@@ -1,8 +1,8 @@
 //! How a password is read from the input.
 
 ghost use Rattle.std.specs.Prelude.{◌≡◌, ◌⊎◌, ◌≤◌, ◌+◌, IfErr, IfOk, IfSome, length, take};
-ghost use Rattle.argon2.specs.ErrorType.TheVariants.{OutOfMemory, PwdTooLong};
-ghost use Rattle.argon2.specs.SettingsTable.{max_length};
+ghost use Rattle.argon2_standard.specs.declared.error.Error.TheVariants.{OutOfMemory, PwdTooLong};
+ghost use Rattle.argon2_standard.specs.Standard.SettingsTable.{max_length};
 ghost use Rattle.argon2_commands.specs.Answer.{IsShortPassword, IsTooLong, ReadsUpTo, longest_password};
 
 use crate::fault::Fault;

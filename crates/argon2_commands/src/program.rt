@@ -3,7 +3,7 @@
 ghost use Rattle.std.specs.Prelude.{◌≡◌, ◌<◌, ◌+◌, ◌↔◌, ◌⊎◌};
 ghost use Rattle.std.specs.Process.{exit_status};
 ghost use Rattle.std.specs.Io.KnownBytes.{Keeps};
-ghost use Rattle.argon2.specs.SettingsTable.{max_length};
+ghost use Rattle.argon2_standard.specs.Standard.SettingsTable.{max_length};
 ghost use Rattle.argon2_commands.specs.Answer.{ReadsUpTo};
 ghost use Rattle.argon2_commands.specs.CommandLine.{HasNoText};
 ghost use Rattle.argon2_commands.specs.Run.{Answered, HasAnswer, IsShortOrRefused, NeedNoInput, OfWords};

@@ -2,7 +2,7 @@
 
 ghost use Rattle.std.specs.Prelude.{◌≡◌, ◌≢◌, ◌<◌, ◌↔◌, IfErr, IfOk, IsErrAnd, OnOk};
 ghost use Rattle.std.specs.Io.KnownBytes.{Appends, Keeps};
-ghost use Rattle.argon2.specs.ErrorType.{Error};
+ghost use Rattle.argon2_standard.specs.declared.error.Error.{Error};
 ghost use Rattle.argon2_commands.specs.Answer.{ReadsUpTo};
 ghost use Rattle.argon2_commands.specs.Fault.{IsBeforeOutput};
 ghost use Rattle.argon2_commands.specs.Run.{Answered, AreTooCostly, HasAnswer, IsRefused, IsShortOrRefused, MayPrecede, NeedNoInput, most_read_by, statuses_of};

@@ -1,8 +1,8 @@
 -- What the service keeps of a password.
 use Rattle.std.specs.Prelude.{◌≡◌, ℕ, List, length}
-use Rattle.argon2.specs.ConfigType.{Config}
-use Rattle.argon2.specs.Tag.{tag_of}
-use Rattle.argon2.specs.Text.{spelled_of, text_of}
+use Rattle.argon2_standard.specs.declared.config.Config.{Config}
+use Rattle.argon2_standard.specs.Standard.Tag.{tag_of}
+use Rattle.argon2_standard.specs.Standard.Text.{spelled_of, text_of}
 
 -- the text of a password's tag, with a salt of 16 bytes
 pub record IsTextOf (password : List ℕ) (config : Config) (text : List ℕ) : Type 0 where

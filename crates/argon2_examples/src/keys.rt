@@ -1,7 +1,7 @@
 //! Keys derived from passwords.
 
 ghost use Rattle.std.specs.Prelude.{◌≡◌, ◌↔◌, IfOk, IsTrue, length};
-ghost use Rattle.argon2.specs.Tag.{tag_of};
+ghost use Rattle.argon2_standard.specs.Standard.Tag.{tag_of};
 
 use argon2::{Config, Result, hash_raw_sequential, verify_raw_sequential};
 use std::alloc::Global;

@@ -1,11 +1,11 @@
 //! Passwords that are hashed with a key of the service.
 
 ghost use Rattle.std.specs.Prelude.{◌≡◌, nat_lt};
-ghost use Rattle.argon2.specs.ConfigType.{Config};
-ghost use Rattle.argon2.specs.Grammar.{Spells, SpellsNothing};
-ghost use Rattle.argon2.specs.Stored.{IsStoredConfig};
-ghost use Rattle.argon2.specs.Outcome.{IsVerdict};
-ghost use Rattle.argon2.specs.Text.{Spelled};
+ghost use Rattle.argon2_standard.specs.declared.config.Config.{Config};
+ghost use Rattle.argon2_standard.specs.Standard.Grammar.{Spells, SpellsNothing};
+ghost use Rattle.argon2_standard.specs.Standard.Stored.{IsStoredConfig};
+ghost use Rattle.argon2_standard.specs.Standard.Outcome.{IsVerdict};
+ghost use Rattle.argon2_standard.specs.Standard.Text.{Spelled};
 
 use argon2::{Error, Result, verify_encoded_ext};
 use std::alloc::Global;

@@ -2,12 +2,11 @@
 
 ghost use Rattle.std.specs.Prelude.{◌≡◌, [], IfOk, MatchOption, nat_lt};
 ghost use Rattle.std.specs.String.{string_bytes};
-ghost use Rattle.argon2.specs.ConfigType.{Config};
-ghost use Rattle.argon2.specs.Grammar.{Spells, SpellsNothing};
-ghost use Rattle.argon2.specs.Stored.{Differs};
-ghost use Rattle.argon2.specs.Stored.{IsStoredConfig};
-ghost use Rattle.argon2.specs.Text.{Spelled};
-ghost use Rattle.argon2.specs.Outcome.{IsVerdict};
+ghost use Rattle.argon2_standard.specs.declared.config.Config.{Config};
+ghost use Rattle.argon2_standard.specs.Standard.Grammar.{Spells, SpellsNothing};
+ghost use Rattle.argon2_standard.specs.Standard.Stored.{Differs, IsStoredConfig};
+ghost use Rattle.argon2_standard.specs.Standard.Text.{Spelled};
+ghost use Rattle.argon2_standard.specs.Standard.Outcome.{IsVerdict};
 ghost use Rattle.argon2.specs.Standard.Limits.{AnswersWithin, is_too_costly};
 ghost use Rattle.argon2.specs.Views.Limits.{default_limits};
 ghost use Rattle.argon2.specs.declared.limits.Unverified.TheVariants.{Refused};

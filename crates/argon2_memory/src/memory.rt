@@ -2,7 +2,8 @@
 
 ghost use Rattle.std.specs.Prelude.{◌≡◌, ◌*◌, ◌%◌, ◌^◌, ◌<◌, [], IfOk, map, replicate, slice_index_or, slice_set, ◌+◌, ◌/◌, ◌≤◌, IfErr, length};
 ghost use Rattle.std.specs.List.{remove};
-ghost use Rattle.argon2_memory.specs.Views.Memories.{wiped_memory, slice_writes, writes_in, AreSlices, IsMemory, MemoryValue, block_of, no_memory, segment_in, set_in, writes, zero_memory, segments_of};
+ghost use Rattle.argon2_memory.specs.Views.Memories.{wiped_memory, slice_writes, writes_in, AreSlices, IsMemory, set_in, writes, zero_memory, segments_of};
+ghost use Rattle.argon2_memory.specs.Standard.Kept.{MemoryValue, block_of, no_memory, segment_in};
 ghost use Rattle.argon2_memory.specs.Views.Segments.{wiped_segment, zero_segment};
 
 use crate::segment::Segment;

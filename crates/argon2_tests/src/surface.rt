@@ -1,18 +1,18 @@
-//! What a crate that has `argon2` alone of this repository can use and cite: an item of each public
-//! module, whose contract is proved anew as a clause here.
+//! What a crate uses through `argon2` alone: an item of each public module, whose contract is proved
+//! anew as a clause here. Its definitions are cited from the crates that have them.
 
 ghost use Rattle.std.specs.Prelude.{◌≡◌, ◌^◌, ◌-◌, ◌<◌, ◌≤◌, ◌↔◌, IfNone, IfOk, IsTrue, length, None, Some};
 ghost use Rattle.std.specs.List.{flat_map};
-ghost use Rattle.argon2.specs.Blake2b.{blake2b};
-ghost use Rattle.argon2.specs.Block.{zero_block};
-ghost use Rattle.argon2.specs.Replay.{least_waiting};
-ghost use Rattle.argon2.specs.ErrorType.{Error};
-ghost use Rattle.argon2.specs.Grammar.{Spells};
+ghost use Rattle.argon2_blocks.specs.Standard.Blake2b.{blake2b};
+ghost use Rattle.argon2_blocks.specs.Standard.Block.{zero_block};
+ghost use Rattle.argon2_fill.specs.Views.Replay.{least_waiting};
+ghost use Rattle.argon2_standard.specs.declared.error.Error.{Error};
+ghost use Rattle.argon2_standard.specs.Standard.Grammar.{Spells};
 ghost use Rattle.argon2.specs.Laws.Definitions.{IsOnlySolution, MeetsRecurrence};
-ghost use Rattle.argon2.specs.Memories.{no_memory};
-ghost use Rattle.argon2.specs.SettingsTable.{refusal_of};
-ghost use Rattle.argon2.specs.Texts.{spelled_by};
-ghost use Rattle.argon2.specs.Tag.{tag_of};
+ghost use Rattle.argon2_memory.specs.Standard.Kept.{no_memory};
+ghost use Rattle.argon2_standard.specs.Standard.SettingsTable.{refusal_of};
+ghost use Rattle.argon2_text.specs.Views.Texts.{spelled_by};
+ghost use Rattle.argon2_standard.specs.Standard.Tag.{tag_of};
 
 use argon2::parts::block::Block;
 use argon2::parts::board::{Board, Claim};

@@ -1,7 +1,7 @@
 //! What a line asks.
 
 ghost use Rattle.std.specs.Prelude.{◌≡◌, ◌++◌, IfOk, codes, string_bytes};
-ghost use Rattle.argon2.specs.Messages.{message_of};
+ghost use Rattle.argon2_standard.specs.Views.Messages.{message_of};
 
 use crate::inputs::Inputs;
 use crate::modes::Asked;

@@ -15,7 +15,8 @@ use Rattle.argon2_fill.specs.declared.workers.board.Event.{Event}
 use Rattle.argon2_fill.specs.declared.workers.board.Event.TheVariants.{Take, Put}
 use Rattle.argon2_fill.specs.declared.workers.board.Slot.{Slot}
 use Rattle.argon2_fill.specs.declared.workers.board.Slot.TheVariants as slot
-use Rattle.argon2_memory.specs.Views.Segments.{IsReady, SegmentValue, segment_at, no_segment}
+use Rattle.argon2_memory.specs.Views.Segments.{IsReady, segment_at}
+use Rattle.argon2_memory.specs.Standard.Kept.{SegmentValue, no_segment}
 use Rattle.argon2_fill.specs.Views.Replay.{least_waiting, after_take, after_put}
 use Rattle.argon2_fill.specs.Views.Boards.{AllDone, AreReady, HoldSlice, NoneOut}
 use Rattle.argon2_fill.specs.Views.Slots.{AreLanes, IsSlot, place_in, events_left}

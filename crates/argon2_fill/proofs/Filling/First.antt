@@ -8,7 +8,8 @@ use Rattle.argon2_memory.specs.Views.Jobs.{IsSetting}
 use Rattle.argon2_memory.specs.Laws.Matrix.{IsBegun}
 use Rattle.argon2_standard.specs.Standard.Recurrence.{block_at, first_block}
 use Rattle.argon2_memory.specs.Views.Segments.{IsReady, segment_at, segment_block}
-use Rattle.argon2_memory.specs.Views.Memories.{MemoryValue, AreSlices, HasShape, block_of, segment_in}
+use Rattle.argon2_memory.specs.Views.Memories.{AreSlices}
+use Rattle.argon2_memory.specs.Standard.Kept.{MemoryValue, HasShape, block_of, segment_in}
 use Rattle.argon2_memory.specs.Views.Places.{places_in, Places, AreFilledBelow, IsReadySlice}
 use Rattle.argon2_memory.proofs.Schedules.AnyOrder.{recurrence_first}
 use Rattle.argon2_memory.proofs.Recurrence.Recurrences.{block_at-recurrence}

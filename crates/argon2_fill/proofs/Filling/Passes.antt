@@ -7,9 +7,9 @@ use Rattle.argon2_standard.specs.Standard.Setting.{Setting, lane_length, memory_
 use Rattle.argon2_memory.specs.Views.Jobs.{IsSetting}
 use Rattle.argon2_memory.specs.Laws.Schedule.{blocks_in_slice}
 use Rattle.argon2_memory.specs.Views.Segments.{IsReady, segment_at, segment_block}
-use Rattle.argon2_memory.specs.Views.Memories.{MemoryValue, HasShape, block_of, segment_in, blocks_written}
+use Rattle.argon2_memory.specs.Views.Memories.{blocks_written}
+use Rattle.argon2_memory.specs.Standard.Kept.{MemoryValue, HasShape, block_of, segment_in, HoldsLastPass}
 use Rattle.argon2_memory.specs.Views.Places.{AreFilledBelow, HoldsSlice, Lanes, Places, last_blocks_in, places_in}
-use Rattle.argon2_memory.specs.Laws.Matrix.{HoldsLastPass}
 use Rattle.argon2_memory.proofs.Filling.Slices.{slice_fits}
 use Rattle.argon2_memory.proofs.Schedules.AnyOrder.{other_eqb}
 use Rattle.argon2_memory.proofs.Schedules.SliceToSlice.{IsNext, is_next}

@@ -7,7 +7,8 @@ use Rattle.argon2_fill.specs.declared.workers.board.Event.{Event}
 use Rattle.argon2_standard.specs.Standard.Setting.{Setting}
 use Rattle.argon2_memory.specs.Views.Jobs.{Job}
 use Rattle.argon2_memory.specs.Views.Places.{HoldsSlice, IsReadySlice, lanes_in}
-use Rattle.argon2_memory.specs.Views.Segments.{SegmentValue, IsReady}
+use Rattle.argon2_memory.specs.Views.Segments.{IsReady}
+use Rattle.argon2_memory.specs.Standard.Kept.{SegmentValue}
 
 -- the job, the state of each lane, and the events so far
 pub record BoardValue : Type 0 where

@@ -4,7 +4,7 @@ use Rattle.std.specs.List.{remove}
 use Rattle.std.proofs.lemmas.Bool.Decides.{eqb_tells}
 use Rattle.std.proofs.lemmas.Bool.{lt-ltb, le-ltb}
 use Rattle.std.proofs.lemmas.List.{get_or-map, map-append, length-map, take-map, drop-map}
-use Rattle.argon2_memory.specs.Views.Segments.{SegmentValue, no_segment}
+use Rattle.argon2_memory.specs.Standard.Kept.{SegmentValue, no_segment}
 use Rattle.argon2_memory.specs.Views.Jobs.{Job}
 use Rattle.argon2_memory.specs.Views.Filling.{IsBeside, IsAround}
 use Rattle.argon2_memory.specs.Views.Places.{rank_among}

@@ -5,7 +5,7 @@ use Rattle.std.proofs.lemmas.List.{get_or-map, get_or_default, get_or-take, get_
 use Rattle.std.proofs.lemmas.List.FromFn.{get_or-map-range_with_len, length-map-range_with_len}
 use Rattle.std.specs.Borrow.{Bor}
 use Rattle.argon2_standard.specs.Standard.Setting.{Setting}
-use Rattle.argon2_memory.specs.Views.Segments.{SegmentValue, no_segment}
+use Rattle.argon2_memory.specs.Standard.Kept.{SegmentValue, no_segment}
 use Rattle.argon2_memory.specs.Views.Jobs.{Job, IsJob}
 use Rattle.argon2_memory.specs.Views.Filling.{SnapshotValue, IsBeside, IsSnapshot, other_blocks, lent_segment, lent_slice, lent_slices}
 use Rattle.argon2_memory.specs.Views.Places.{rank_among, among, lent_blocks, lent_places, HoldOthers}

@@ -11,9 +11,10 @@ use Rattle.std.proofs.lemmas.List.Edits.{length-remove}
 use Rattle.std.specs.List.{remove}
 use Rattle.std.proofs.lemmas.List.{map-set}
 use Rattle.argon2_memory.specs.declared.segment.counted.Segment.{Segment}
-use Rattle.argon2_memory.specs.Views.Memories.{segments_of, segment_in, AreSlices, slice_writes, writes_in}
+use Rattle.argon2_memory.specs.Views.Memories.{segments_of, AreSlices, slice_writes, writes_in}
+use Rattle.argon2_memory.specs.Standard.Kept.{segment_in, SegmentValue, no_segment}
 use Rattle.argon2_memory.specs.Views.Jobs.{Job, IsJob}
-use Rattle.argon2_memory.specs.Views.Segments.{SegmentValue, segment_at, segment_block, no_segment, zero_segment}
+use Rattle.argon2_memory.specs.Views.Segments.{segment_at, segment_block, zero_segment}
 use Rattle.argon2_memory.specs.Views.Places.{rank_among, places_in, AreFilledBelow}
 use Rattle.argon2_memory.specs.Views.Filling.{IsSnapshot}
 use Rattle.argon2_memory.proofs.Filling.Places.{among-remove, others_hold, filled_further}

@@ -2,8 +2,9 @@
 use Rattle.std.proofs.Common.{◌≡◌, ℕ, ◌<◌, List, [], map, length, get_or, arith, ap, ◌∙◌}
 use Rattle.std.proofs.lemmas.List.{get_or-map, length-map, length-replicate}
 use Rattle.argon2_blocks.specs.Standard.Block.{zero_block}
-use Rattle.argon2_memory.specs.Views.Segments.{no_segment, wiped_segment, SegmentValue}
-use Rattle.argon2_memory.specs.Views.Memories.{AreSlices, segment_in}
+use Rattle.argon2_memory.specs.Views.Segments.{wiped_segment}
+use Rattle.argon2_memory.specs.Standard.Kept.{no_segment, SegmentValue, segment_in}
+use Rattle.argon2_memory.specs.Views.Memories.{AreSlices}
 
 module _ (p len : ℕ) (slices : List (List SegmentValue)) (good : AreSlices p len slices) where
   abbrev pub wiped : List (List SegmentValue)

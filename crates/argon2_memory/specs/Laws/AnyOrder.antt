@@ -3,7 +3,8 @@ use Rattle.std.specs.Prelude.{◌≡◌, ◌≢◌, ℕ, ◌*◌, ◌/◌, ◌%�
 use Rattle.std.specs.List.{AllByRecursion}
 use Rattle.argon2_standard.specs.Standard.Setting.{Setting, Position}
 use Rattle.argon2_memory.specs.Views.Jobs.{IsSetting}
-use Rattle.argon2_memory.specs.Laws.Matrix.{Matrix, IsBegun, HoldsLastPass}
+use Rattle.argon2_memory.specs.Laws.Matrix.{Matrix, IsBegun}
+use Rattle.argon2_memory.specs.Standard.Kept.{HoldsLastPass}
 use Rattle.argon2_standard.specs.Standard.Recurrence.{block_at}
 use Rattle.argon2_memory.specs.Laws.Schedule.{IsSchedule, IsWrittenIn, Progress, after_slices, next_position, pick_from, progress, reads_from}
 

@@ -2,7 +2,6 @@
 use Rattle.std.specs.Prelude.{◌≡◌, ℕ, ◌<◌, ◌==◌, ◌&&◌, if◌then◌else◌, List}
 use Rattle.argon2_standard.specs.Standard.Setting.{Setting}
 use Rattle.argon2_standard.specs.Standard.Recurrence.{first_block}
-pub use Rattle.argon2_memory.specs.Standard.Kept.{HoldsLastPass}
 
 abbrev pub Matrix : Type 0
 Matrix = ℕ → ℕ → List ℕ

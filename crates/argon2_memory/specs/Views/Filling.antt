@@ -5,7 +5,8 @@ use Rattle.std.specs.List.{range_with_len, remove}
 use Rattle.argon2_standard.specs.Standard.Setting.{Setting}
 use Rattle.argon2_memory.specs.Views.Jobs.{Job, IsJob}
 use Rattle.argon2_memory.specs.Views.Places.{HoldOthers, among, lent_blocks, places_in}
-use Rattle.argon2_memory.specs.Views.Segments.{SegmentValue, segment_block}
+use Rattle.argon2_memory.specs.Views.Segments.{segment_block}
+use Rattle.argon2_memory.specs.Standard.Kept.{SegmentValue}
 
 -- ---- the slices beside the one that is filled
 

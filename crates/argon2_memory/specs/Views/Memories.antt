@@ -4,8 +4,8 @@ use Rattle.std.specs.List.{sum_by}
 use Rattle.std.specs.declared.alloc.Global.{Global}
 use Rattle.argon2_standard.specs.Standard.Setting.{Setting}
 use Rattle.argon2_memory.specs.declared.segment.counted.Segment.{Segment}
-use Rattle.argon2_memory.specs.Views.Segments.{SegmentValue, wiped_segment, with_block, zero_segment}
-pub use Rattle.argon2_memory.specs.Standard.Kept.{MemoryValue, HasShape, block_of, no_memory, segment_in}
+use Rattle.argon2_memory.specs.Views.Segments.{wiped_segment, with_block, zero_segment}
+use Rattle.argon2_memory.specs.Standard.Kept.{SegmentValue, MemoryValue, segment_in}
 
 -- four slices, each with a segment of L blocks for each of p lanes
 pub record AreSlices (p len : ℕ) (slices : List (List SegmentValue)) : Type 0 where

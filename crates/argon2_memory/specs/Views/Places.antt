@@ -3,7 +3,8 @@ use Rattle.std.specs.Prelude.{◌≡◌, ℕ, suc, ◌-◌, ◌*◌, ◌<◌, �
 use Rattle.std.specs.List.{range_with_len}
 use Rattle.argon2_standard.specs.Standard.Setting.{Setting}
 use Rattle.argon2_memory.specs.Views.Jobs.{Job}
-use Rattle.argon2_memory.specs.Views.Segments.{SegmentValue, IsReady, no_segment, segment_at}
+use Rattle.argon2_memory.specs.Views.Segments.{IsReady, segment_at}
+use Rattle.argon2_memory.specs.Standard.Kept.{SegmentValue, no_segment}
 
 -- the blocks of each lane in a slice
 abbrev pub Lanes : Type 0

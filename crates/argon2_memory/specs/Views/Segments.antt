@@ -4,7 +4,7 @@ use Rattle.std.specs.List.{range_with_len}
 use Rattle.argon2_blocks.specs.Standard.Block.{zero_block}
 use Rattle.argon2_standard.specs.Standard.Setting.{Setting}
 use Rattle.argon2_standard.specs.Standard.Recurrence.{block_at}
-pub use Rattle.argon2_memory.specs.Standard.Kept.{SegmentValue, no_segment}
+use Rattle.argon2_memory.specs.Standard.Kept.{SegmentValue}
 
 -- ---- the blocks of a pass
 

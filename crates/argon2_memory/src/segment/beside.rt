@@ -4,7 +4,7 @@ ghost use Rattle.std.specs.Prelude.{◌≡◌, ◌*◌, ◌^◌, ◌<◌, [], ma
 ghost use Rattle.std.specs.List.{remove};
 ghost use Rattle.argon2_memory.specs.Views.Filling.{IsAround, lent_slices, SnapshotValue, IsBeside, other_blocks, block_seen};
 ghost use Rattle.argon2_memory.specs.Views.Jobs.{position_of, first_index};
-ghost use Rattle.argon2_memory.specs.Views.Memories.{segment_in};
+ghost use Rattle.argon2_memory.specs.Standard.Kept.{segment_in};
 ghost use Rattle.argon2_memory.specs.Views.Sources.{IsBefore, source_block};
 ghost use Rattle.argon2_standard.specs.Standard.Setting.{lane_length};
 ghost use Rattle.argon2_standard.specs.Standard.Reference.{previous};
@@ -18,7 +18,7 @@ use std::marker::Model;
 pub(crate) trait OtherBlocks {
     ghost use Rattle.std.specs.Prelude.{List};
     ghost use Rattle.argon2_standard.specs.Standard.Setting.{Setting};
-    ghost use Rattle.argon2_memory.specs.Views.Segments.{SegmentValue};
+    ghost use Rattle.argon2_memory.specs.Standard.Kept.{SegmentValue};
 
     ghost seen: { Setting → Self → List (List SegmentValue) };
 

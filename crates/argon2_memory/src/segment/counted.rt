@@ -25,7 +25,8 @@ pub struct Segment {
 
 impl Model for Segment {
     ghost use Rattle.std.specs.Prelude.{vec_capacity, vec_len};
-    ghost use Rattle.argon2_memory.specs.Views.Segments.{SegmentValue, IsMadeInPart, with_zeros};
+    ghost use Rattle.argon2_memory.specs.Views.Segments.{IsMadeInPart, with_zeros};
+    ghost use Rattle.argon2_memory.specs.Standard.Kept.{SegmentValue};
 
     ghost Value = { SegmentValue };
 
@@ -193,7 +194,7 @@ impl Segment {
 /// The blocks of a lane's segment while it is filled, and how often one of them was written.
 pub(crate) trait OwnBlocks {
     ghost use Rattle.std.specs.Prelude.{ℕ};
-    ghost use Rattle.argon2_memory.specs.Views.Segments.{SegmentValue};
+    ghost use Rattle.argon2_memory.specs.Standard.Kept.{SegmentValue};
 
     ghost seen: { Self → SegmentValue };
 

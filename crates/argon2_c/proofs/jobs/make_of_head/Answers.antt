@@ -1,7 +1,7 @@
 -- What is read is the only salt and the only hash of the head.
 use Rattle.std.proofs.Common.{Err, length, refl, sym, ap, ◌∙◌}
 use Rattle.std.proofs.lemmas.Result.{err_from_is_err_and}
-use Rattle.argon2.specs.Texts.{spelled_with}
+use Rattle.argon2_text.specs.Views.Texts.{spelled_with}
 use Rattle.argon2.proofs.Verification.StoredTexts.{own_length, stored_accepted}
 use Rattle.argon2_text.proofs.Reading.TextItems.{item_unique}
 use Rattle.argon2_c.proofs.StoredJobs.{made_job, with_items}

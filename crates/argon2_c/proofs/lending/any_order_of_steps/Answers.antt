@@ -1,5 +1,5 @@
 use Rattle.std.proofs.Common.{◌≡◌, ℕ, ◌*◌, List, Ok, Err, subst, sym}
-use Rattle.argon2.specs.Tag.{tag_of}
+use Rattle.argon2_standard.specs.Standard.Tag.{tag_of}
 use Rattle.argon2_c.specs.Jobs.{Finishes, Verifies, setting_of_job}
 use Rattle.argon2_c.specs.Over.{HashesJob, JudgesJob, Lent}
 use Rattle.argon2_c.specs.Runs.{IsMade, IsRun, slice_at}

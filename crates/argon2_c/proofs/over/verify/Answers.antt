@@ -1,7 +1,7 @@
 -- The length of the hash stands in the configuration in place of the settings'.
 use Rattle.std.proofs.Common.{sym}
-use Rattle.argon2.specs.Prehash.{prehash_of, setting_of}
-use Rattle.argon2.specs.Tag.{tag_of}
+use Rattle.argon2_standard.specs.Standard.Prehash.{prehash_of, setting_of}
+use Rattle.argon2_standard.specs.Standard.Tag.{tag_of}
 use Rattle.argon2_c.proofs.over.verify.Goals as goal
 
 pub returns-in-Ok : goal.returns-in-Ok

@@ -1,7 +1,7 @@
 -- What agrees with the configuration of no secret and no data agrees with that of any.
 use Rattle.std.proofs.Common.{Err, ap, ◌∙◌}
 use Rattle.std.proofs.lemmas.Result.{err_from_is_err_and}
-use Rattle.argon2.specs.Texts.{spelled_with}
+use Rattle.argon2_text.specs.Views.Texts.{spelled_with}
 use Rattle.argon2_c.proofs.Heads.{by_head, no_head}
 use Rattle.argon2_c.proofs.Inputs.{agrees_with, agrees_without, no_inputs, other_inputs}
 use Rattle.argon2_c.proofs.reading.needs_rehash.Goals as goal

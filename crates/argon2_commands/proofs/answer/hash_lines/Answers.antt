@@ -1,5 +1,5 @@
 use Rattle.std.proofs.Common.{◌≡◌, length}
-use Rattle.argon2.specs.SettingsTable.{refusal_of}
+use Rattle.argon2_standard.specs.Standard.SettingsTable.{refusal_of}
 use Rattle.argon2_commands.proofs.Refusals.{at_accepted}
 use Rattle.argon2_commands.proofs.answer.hash_lines.Goals as goal
 

@@ -1,10 +1,10 @@
 use Rattle.std.proofs.Common.{[], nat_lt, subst}
-use Rattle.argon2.specs.ConfigType.{Config}
-use Rattle.argon2.specs.Grammar.{Spells}
-use Rattle.argon2.specs.Outcome.{IsVerdict}
+use Rattle.argon2_standard.specs.declared.config.Config.{Config}
+use Rattle.argon2_standard.specs.Standard.Grammar.{Spells}
+use Rattle.argon2_standard.specs.Standard.Outcome.{IsVerdict}
 use Rattle.argon2.specs.Standard.Limits.{AnswersWithin, is_too_costly}
-use Rattle.argon2.specs.Stored.{IsStoredConfig}
-use Rattle.argon2.specs.Text.{Spelled}
+use Rattle.argon2_standard.specs.Standard.Stored.{IsStoredConfig}
+use Rattle.argon2_standard.specs.Standard.Text.{Spelled}
 use Rattle.argon2.specs.declared.limits.Limits.{Limits}
 use Rattle.argon2_commands.proofs.answer.verify_within.Goals as goal
 

@@ -1,5 +1,5 @@
 use Rattle.std.proofs.Common.{arith, refl, sym, ◌∙◌, subst}
-use Rattle.argon2.specs.Variant.{IsName}
+use Rattle.argon2_standard.specs.Standard.Variant.{IsName}
 use Rattle.argon2_commands.specs.Words.{IsNumber}
 use Rattle.argon2_commands.proofs.Places.{no_number, refusal_of, value_of, word-texts_of}
 use Rattle.argon2_commands.proofs.command.settings_of.Goals as goal

@@ -1,6 +1,6 @@
 use Rattle.std.proofs.Common.{arith}
 use Rattle.std.proofs.lemmas.List.{get_or_default}
-use Rattle.argon2_memory.specs.Views.Segments.{no_segment}
+use Rattle.argon2_memory.specs.Standard.Kept.{no_segment}
 use Rattle.argon2_fill.proofs.fill.fill_lanes.Goals as goal
 
 pub fill_segment-requires-clause-ready : goal.fill_segment-requires-clause-ready

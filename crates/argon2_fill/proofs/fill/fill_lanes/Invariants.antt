@@ -1,5 +1,6 @@
 use Rattle.std.proofs.Common.{◌≡◌, ℕ, ◌+◌, ◌*◌, ◌%◌, ◌^◌, ◌<◌, ◌≤◌, get_or}
-use Rattle.argon2_memory.specs.Views.Segments.{no_segment, IsReady, segment_at}
+use Rattle.argon2_memory.specs.Views.Segments.{IsReady, segment_at}
+use Rattle.argon2_memory.specs.Standard.Kept.{no_segment}
 use Rattle.argon2_memory.specs.Views.Memories.{slice_writes}
 use Rattle.argon2_memory.specs.Laws.Schedule.{blocks_in_slice}
 use Rattle.argon2_fill.proofs.fill.fill_lanes.Given as goal

@@ -1,8 +1,8 @@
 use Rattle.std.proofs.Common.{◌≡◌, ℕ, ◌+◌, ◌-◌, ◌*◌, ◌%◌, ◌^◌, List, refl, ap, ◌∙◌}
 use Rattle.argon2_memory.specs.Views.Jobs.{setting_of_context, Job}
 use Rattle.argon2_standard.specs.Standard.Setting.{memory_blocks}
-use Rattle.argon2_memory.specs.Views.Memories.{HasShape, blocks_written, writes_in}
-use Rattle.argon2_memory.specs.Views.Segments.{SegmentValue}
+use Rattle.argon2_memory.specs.Views.Memories.{blocks_written, writes_in}
+use Rattle.argon2_memory.specs.Standard.Kept.{HasShape, SegmentValue}
 use Rattle.argon2_fill.proofs.Filling.First.{filled_begun}
 use Rattle.argon2_fill.proofs.Filling.Passes.{all_written, holds_last_pass}
 use Rattle.argon2_fill.proofs.fill.fill_sequential.Goals as goal

@@ -2,7 +2,7 @@ use Rattle.std.proofs.Common.{◌≡◌, ◌*◌, ◌<◌, length, set, get_or, 
 use Rattle.std.proofs.lemmas.List.{with_items_is}
 use Rattle.std.specs.Vec.{with_items}
 use Rattle.argon2_memory.specs.Laws.Schedule.{blocks_in_slice}
-use Rattle.argon2_memory.specs.Views.Segments.{SegmentValue}
+use Rattle.argon2_memory.specs.Standard.Kept.{SegmentValue}
 use Rattle.argon2_memory.specs.Views.Memories.{segments_of}
 use Rattle.argon2_memory.proofs.Filling.Slices.{is_snapshot, slices_stay, filled_next, set-writes, others-taken, put_back}
 use Rattle.argon2_fill.proofs.fill.fill_slice_in_turn.Goals as goal

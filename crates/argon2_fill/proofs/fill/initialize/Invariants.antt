@@ -1,5 +1,6 @@
 use Rattle.std.proofs.Common.{◌≡◌, ℕ, ◌+◌, ◌*◌, ◌%◌, ◌^◌, ◌<◌, ◌≤◌}
-use Rattle.argon2_memory.specs.Views.Memories.{HasShape, block_of, writes}
+use Rattle.argon2_memory.specs.Views.Memories.{writes}
+use Rattle.argon2_memory.specs.Standard.Kept.{HasShape, block_of}
 use Rattle.argon2_standard.specs.Standard.Recurrence.{first_block}
 use Rattle.argon2_fill.proofs.fill.initialize.Given as goal
 

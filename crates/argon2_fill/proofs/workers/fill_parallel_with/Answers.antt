@@ -1,6 +1,7 @@
 use Rattle.std.proofs.Common.{◌≡◌, ℕ, ◌+◌, ◌*◌, ◌≤◌, ◌<◌, ◌/◌, ◌%◌, ◌^◌, ◌-◌, Bool, arith, inl, inr, refl, ap, ◌∙◌}
 use Rattle.argon2_memory.specs.Views.Jobs.{setting_of_context, Job}
-use Rattle.argon2_memory.specs.Views.Memories.{HasShape, segments_of}
+use Rattle.argon2_memory.specs.Views.Memories.{segments_of}
+use Rattle.argon2_memory.specs.Standard.Kept.{HasShape}
 use Rattle.argon2_memory.specs.Views.Places.{places_in}
 use Rattle.std.proofs.Math.Nat.{mul-le-mul_right}
 use Rattle.std.proofs.lemmas.Bool.{cases_lt}

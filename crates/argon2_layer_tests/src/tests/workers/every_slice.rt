@@ -1,7 +1,7 @@
 //! All slices under a gate that is new for each of them.
 
 ghost use Rattle.std.specs.Prelude.{IfOk};
-ghost use Rattle.argon2_memory.specs.Views.Memories.{HasShape};
+ghost use Rattle.argon2_memory.specs.Standard.Kept.{HasShape};
 ghost use Rattle.argon2_memory.specs.Views.Jobs.{setting_of_context};
 
 use super::overlap::reaches;

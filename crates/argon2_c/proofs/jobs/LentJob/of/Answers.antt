@@ -1,5 +1,5 @@
 use Rattle.std.proofs.Common.{refl}
-use Rattle.argon2.specs.Prehash.{setting_of}
+use Rattle.argon2_standard.specs.Standard.Prehash.{setting_of}
 use Rattle.argon2_c.proofs.jobs.LentJob.of.Goals as goal
 
 pub returns : goal.returns

@@ -1,5 +1,5 @@
 use Rattle.std.proofs.Common.{refl, sym}
-use Rattle.argon2.specs.SettingsTable.{min_salt_length}
+use Rattle.argon2_standard.specs.Standard.SettingsTable.{min_salt_length}
 use Rattle.argon2_c.proofs.Inputs.{no_inputs, other_inputs, same_refusal}
 use Rattle.argon2_c.proofs.settings.Settings.memory_len.Goals as goal
 

@@ -1,6 +1,6 @@
 use Rattle.std.proofs.Common.{Err, Ok, inl, inr, refl, string_bytes, subst}
 use Rattle.std.proofs.lemmas.Result.{IfOk-from_err}
-use Rattle.argon2.specs.ErrorType.TheVariants.{OutOfMemory}
+use Rattle.argon2_standard.specs.declared.error.Error.TheVariants.{OutOfMemory}
 use Rattle.argon2_commands.specs.Answer.{CheckAnswers, HashAnswers, IsRefusal, MayRefuse, NeedsNoInput, VerifyAnswers}
 use Rattle.argon2_commands.proofs.Checks.{check_fault}
 use Rattle.argon2_commands.proofs.Passwords.{hash_of_input, refusal_of_input, verify_of_input}

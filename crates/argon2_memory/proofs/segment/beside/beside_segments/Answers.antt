@@ -1,6 +1,6 @@
 use Rattle.std.proofs.Common.{List, map, ap, sym, ◌∙◌}
 use Rattle.std.specs.Borrow.{Bor}
-use Rattle.argon2_memory.specs.Views.Segments.{SegmentValue}
+use Rattle.argon2_memory.specs.Standard.Kept.{SegmentValue}
 use Rattle.argon2_memory.specs.Views.Filling.{SnapshotValue}
 use Rattle.argon2_memory.proofs.Filling.Beside.{around, map-remove}
 use Rattle.argon2_memory.proofs.segment.beside.beside_segments.Goals as goal

@@ -1,6 +1,6 @@
 use Rattle.std.proofs.Common.{arith, ◌≡◌, ◌≢◌, inl, inr, ◌++◌, ◌∷◌, [], List, length, map, refl, sym, ◌∙◌, ap, append_assoc}
 use Rattle.std.proofs.lemmas.Grind.{common_steps}
-use Rattle.argon2_memory.specs.Views.Segments.{SegmentValue}
+use Rattle.argon2_memory.specs.Standard.Kept.{SegmentValue}
 use Rattle.std.proofs.lemmas.List.{map-append}
 use Rattle.argon2_fill.specs.declared.workers.board.Slot.{Slot}
 use Rattle.argon2_fill.specs.declared.workers.board.Slot.TheVariants as slot

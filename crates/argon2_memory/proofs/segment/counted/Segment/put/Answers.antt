@@ -1,6 +1,6 @@
 use Rattle.std.proofs.Common.{ℕ, ◌+◌, ◌%◌, List, set, replicate, refl, ap, ◌∙◌, arith}
 use Rattle.argon2_blocks.specs.Standard.Block.{zero_block}
-use Rattle.argon2_memory.specs.Views.Segments.{SegmentValue}
+use Rattle.argon2_memory.specs.Standard.Kept.{SegmentValue}
 use Rattle.argon2_memory.proofs.Filling.Made.{set_in_front}
 use Rattle.argon2_memory.proofs.segment.counted.Segment.put.Goals as goal
 

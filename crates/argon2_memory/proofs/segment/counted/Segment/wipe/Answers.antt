@@ -1,7 +1,7 @@
 use Rattle.std.proofs.Common.{◌≡◌, ℕ, List, ◌+◌, ◌++◌, length, replicate, arith, ◌∙◌, sym, ap}
 use Rattle.std.proofs.lemmas.List.{length-append, length-replicate, replicate-append-replicate, with_items_is}
 use Rattle.argon2_blocks.specs.Standard.Block.{zero_block}
-use Rattle.argon2_memory.specs.Views.Segments.{SegmentValue}
+use Rattle.argon2_memory.specs.Standard.Kept.{SegmentValue}
 use Rattle.argon2_memory.proofs.segment.counted.Segment.wipe.Goals as goal
 
 pub returns : goal.returns

@@ -1,7 +1,7 @@
 use Rattle.std.proofs.Common.{ℕ, ◌+◌, ◌%◌, ◌<◌, List, [], length, get_or, set, replicate, ap, sym, ◌∙◌, ◌++◌, arith}
 use Rattle.std.proofs.lemmas.List.{with_items_is, length-set}
 use Rattle.argon2_blocks.specs.Standard.Block.{zero_block}
-use Rattle.argon2_memory.specs.Views.Segments.{SegmentValue}
+use Rattle.argon2_memory.specs.Standard.Kept.{SegmentValue}
 use Rattle.argon2_memory.specs.Views.Sources.{source_block}
 use Rattle.argon2_standard.specs.Standard.Recurrence.{made_block}
 use Rattle.argon2_memory.proofs.Filling.Made.{made_in_front}
