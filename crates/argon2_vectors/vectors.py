@@ -115,7 +115,7 @@ def runs():
             digits = salt.upper() if count % 2 else salt
             words = f"new {variant} {version} {time} {memory} {lanes} {length} seq {digits}"
             if int(time) > 10 or int(memory) > 2097152 or int(lanes) > 16 or int(memory) * int(time) > 4194304:
-                yield f"tool {password} {words}", '5 "" "The text is above the limits\\n"'
+                yield f"tool {password} {words}", '5 "" "The encoded hash is above the limits\\n"'
                 continue
             yield f"tool {password} {words}", told(variant, version, memory, time, lanes, salt, answer)
 

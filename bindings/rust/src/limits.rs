@@ -66,7 +66,7 @@ pub enum Unverified {
 impl fmt::Display for Unverified {
     fn fmt(&self, f: &mut fmt::Formatter<'_>) -> fmt::Result {
         match self {
-            Unverified::TooCostly => f.write_str("The text is above the limits"),
+            Unverified::TooCostly => f.write_str("The encoded hash is above the limits"),
             Unverified::Refused(error) => error.fmt(f),
         }
     }

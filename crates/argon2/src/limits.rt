@@ -86,7 +86,7 @@ impl Unverified {
         ensures { result.now ≡ message_of self.now }
     {
         match self {
-            Unverified::TooCostly => "The text is above the limits",
+            Unverified::TooCostly => "The encoded hash is above the limits",
             Unverified::Refused(error) => error.message(),
         }
     }

@@ -52,10 +52,10 @@ abbrev pub message_of : Refusal → List ℕ
 message_of (Library e) = library_message e
 message_of Mismatch = codes "The password does not match"
 message_of WrongLength = codes "The buffer has the wrong length"
-message_of NotUtf8 = codes "The text is not UTF-8"
+message_of NotUtf8 = codes "The encoded hash is not UTF-8"
 message_of UnknownNumber = codes "There is no refusal of this number"
-message_of NeedsRehash = codes "The text was made with other settings"
-message_of TooCostly = codes "The text is above the limits"
+message_of NeedsRehash = codes "The encoded hash was made with other settings"
+message_of TooCostly = codes "The encoded hash is above the limits"
 message_of NoJob = codes "The job is none"
 message_of NoPlace = codes "The job has no such pass, slice or lane"
 message_of WrongBlocks = codes "There are too many or too few blocks"

@@ -10,5 +10,5 @@ abbrev pub default_limits : Limits
 default_limits = record { mem_cost = 2097152; time_cost = 10; lanes = 16; work = 4194304 }
 
 abbrev pub message_of : Unverified → List ℕ
-message_of TooCostly = codes "The text is above the limits"
+message_of TooCostly = codes "The encoded hash is above the limits"
 message_of (Refused e) = refusal_text e

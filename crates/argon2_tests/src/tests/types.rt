@@ -25,7 +25,7 @@ fn a_fault_of_base64_is_a_fault_of_the_text(rt: HostRuntime) {
 fn tells_why_a_text_was_not_verified(rt: HostRuntime) -> Result<(), Fail> {
     let alloc = rt.alloc();
     let shown = format!(in alloc; "{}", Unverified::TooCostly)?;
-    assert_eq!(rt; shown.as_str(), "The text is above the limits");
+    assert_eq!(rt; shown.as_str(), "The encoded hash is above the limits");
     let shown = format!(in alloc; "{}", Unverified::from(Error::DecodingFail))?;
     assert_eq!(rt; shown.as_str(), "Decoding failed");
     Ok(())
