@@ -73,9 +73,9 @@ class Proofs:
                 pass  # it is being removed
 
     def whole_seed(self, at):
-        """The seed in a folder of `rt ci`, once it is whole. A release of the kit tries each edit over a copy of the seed,
-        which a number names, or all of them over the seed itself, the first from nothing: then it is whole once the
-        folder is gone in which that first check runs."""
+        """The seed in a folder of `rt ci`, once it is whole. A release of the kit tries each edit over a copy of the
+        seed, which a number names, or all of them over the seed itself, the first from nothing: then it is whole once
+        the folder is gone in which that first check runs."""
         if os.path.isdir(f'{at}/seed'):
             return f'{at}/seed' if any(name.isdigit() for name in os.listdir(at)) else None
         if at not in self.rooms:
@@ -83,9 +83,10 @@ class Proofs:
         return at if at in self.rooms and not os.path.exists(self.rooms[at]) else None
 
     def wait_for(self, crates, seed=None):
-        """Waits until these crates are proved, and there is a seed of the other one, or none will come. Gives what of them
-        is not proved, or None."""
+        """Waits until these crates are proved, and there is a seed of the other one, or none will come. Gives what of
+        them is not proved, or None."""
         with self.changed:
             self.changed.wait_for(lambda: self.has_ended or self.refused & {*crates, seed}
                                   or self.proved >= {*crates} and (not seed or seed in self.seeds))
-            return next((it for it in sorted(crates, key=lambda it: it not in self.refused) if it not in self.proved), None)
+            refused_first = sorted(crates, key=lambda it: it not in self.refused)
+            return next((it for it in refused_first if it not in self.proved), None)

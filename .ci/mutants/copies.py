@@ -104,7 +104,7 @@ class Report:
         return any(map(is_put_there, self.errors_of(place)))
 
     def goals_left(self, place):
-        """The goals of a function that are left unproved and why, and those of which a proof only names what is gone."""
+        """The goals of a function that are left unproved and why, and those whose proof only names what is gone."""
         left, named = dict.fromkeys(self.unproved.get(place, []), 'it is not proved'), {}
         for goals in SEARCHED.findall(self.verdicts.get(place, '')):
             left.update(dict.fromkeys(re.findall(r'`([^`]+)`', goals), 'search did not prove it'))

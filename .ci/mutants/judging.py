@@ -1,4 +1,4 @@
-"""Judges the mutants of one crate: what has to be refused is, at the goal that it names, and what has to be proved is."""
+"""Judges the mutants of a crate: what has to be refused, at the goal that it names, and what has to be proved."""
 
 import contextlib
 import os
@@ -64,17 +64,18 @@ class Crate:
         self.in_place = [edit for edit in found if not can_be_copied(edit, self.folder)]
         self.kept = tempfile.mkdtemp(dir=room)
 
-    def checked(self, texts, kept, waits=checks_at_once):
-        """What the checker says of a copy of the crate with these texts in it, over the work in `kept`, which it adds to.
-        `waits` is held while it runs."""
+    def checked(self, texts, kept, is_awaited=False):
+        """What the checker says of a copy of the crate with these texts in it, over the work in `kept`, which it adds
+        to. A check that others wait for neither waits nor leaves them the processors."""
         with tempfile.TemporaryDirectory(dir=room) as at:
             for part in (it for it in rt.rtlib.PARTS if (self.folder / it).is_dir()):
                 shutil.copytree(self.folder / part, f'{at}/{part}')
             write(Path(at), texts)
-            words = [*rt.rtlib.guarded(), rt.rtlib.RATTLE, 'check', *self.crate.words(['--jobs', str(self.jobs)], keeps=False)]
-            words = [*(BESIDE if self.proofs else ()), *map(in_copies, words), '--incremental', kept]
+            words = self.crate.words(['--jobs', str(self.jobs)], keeps=False)
+            words = [*rt.rtlib.guarded(), rt.rtlib.RATTLE, 'check', *map(in_copies, words), '--incremental', kept]
+            words = [*(BESIDE if self.proofs and not is_awaited else ()), *words]
             how = {'cwd': at, 'stdin': subprocess.DEVNULL, 'stdout': subprocess.PIPE, 'stderr': subprocess.STDOUT}
-            with waits:
+            with contextlib.nullcontext() if is_awaited else checks_at_once:
                 ran = subprocess.run(words, errors='replace', check=False, **how)
                 if ran.returncode == -signal.SIGKILL:  # most likely for memory
                     ran = subprocess.run(words, errors='replace', check=False, **how)
@@ -83,7 +84,9 @@ class Crate:
     def judged(self):
         """Each mutant with whether it passed, and why."""
         fault = self.start_beside() if self.proofs else self.start()
-        results, fault = ([(copy.edit, False, fault) for copy in self.copies], fault) if fault else self.judged_in_copies()
+        results = [(copy.edit, False, fault) for copy in self.copies]
+        if not fault:
+            results, fault = self.judged_in_copies()
         yield from results
         yield from [(edit, False, fault) for edit in self.in_place] if fault else self.judged_in_place()
 
@@ -116,8 +119,8 @@ class Crate:
         return self.prove()
 
     def start_beside(self):
-        """Waits for `rt ci` to prove the crates below, and to keep what it proves of this one, where it does. Without that
-        the first check proves the crate."""
+        """Waits for `rt ci` to prove the crates below, and to keep what it proves of this one, where it does. Without
+        that the first check proves the crate."""
         below = self.crate.below()
         lacking = self.proofs.wait_for([it.name for it in below], self.crate.name if self.has_seed else None)
         if lacking:
@@ -127,12 +130,12 @@ class Crate:
         self.kept = seed or self.kept
         say(f'{self.crate.name}: {"begins with what rt ci proved" if seed else "is proved from nothing"}')
         # The crate for C is proved for those too who build its archive, which wait: `rt ci` builds none.
-        return self.prove(waits=contextlib.nullcontext()) if self.crate.is_static and not seed else None
+        return self.prove(is_awaited=True) if self.crate.is_static and not seed else None
 
-    def prove(self, **how):
-        """Proves the crate without its mutants, and keeps that in its folder where it is not there. Gives the crate's fault,
-        or None."""
-        report, to = self.checked({}, self.kept, **how), self.folder / 'out/incremental'
+    def prove(self, is_awaited=False):
+        """Proves the crate without its mutants, and keeps that in its folder where it is not there. Gives the crate's
+        fault, or None."""
+        report, to = self.checked({}, self.kept, is_awaited), self.folder / 'out/incremental'
         if not report.last.startswith('logic=proved'):
             return fault_of_the_rest(report, [], {}) or f'the crate is not proved without its edits: {report.last}'
         if not to.exists():
@@ -155,7 +158,8 @@ class Crate:
             if len(group) > 1 and (stray or by_a_call or not report.is_told or not all(edited.values())):
                 waiting += [[edit] for edit in group]
             elif not report.is_told or stray:
-                fault = f'another function is refused: {stray}' if report.is_told else f'it does not compile: {report.first_error()}'
+                fault = f'another function is refused: {stray}'
+                fault = fault if report.is_told else f'it does not compile: {report.first_error()}'
                 yield from ((edit, False, fault) for edit in group)
             else:
                 yield from ((edit, *judge(edit, edited[edit], report)) for edit in group)
