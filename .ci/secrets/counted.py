@@ -54,8 +54,8 @@ def counts(variant, length):
     hashing = [taken_by(HASHES, f'hash_raw {it}', tag.hex()) for it, tag in zip(words, tags)]
     verifying = [taken_by(VERDICTS, f'verify_raw {words[0]} {it.hex()}', 'true' if it == tags[0] else 'false')
                  for it in (tags[0], *others_of(tags[0]))]
-    longer = LONGER, SECRETS[0][1]
-    return hashing, verifying, taken_by(HASHES, f'hash_raw {words_of(variant, length, *longer)}', tag_of(variant, length, *longer).hex())
+    longer = variant, length, LONGER, SECRETS[0][1]
+    return hashing, verifying, taken_by(HASHES, f'hash_raw {words_of(*longer)}', tag_of(*longer).hex())
 
 
 def hold_calls_of_rattle(checks, pool):
