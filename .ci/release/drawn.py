@@ -11,23 +11,28 @@ import sys
 
 from proved_argon2._library import MISMATCH, OK, TOO_COSTLY, NumberLimits, Options, Settings, _library
 
-MOST, ROOM, ANY = 96, 512, (1 << 32) - 1
+MOST, ROOM, ANY, MOST_LANES, BY_THREADS = 96, 512, (1 << 32) - 1, 8, 25
 
 
-def draw(numbers):
-    """The settings, the inputs and the threads of a call. One call in ten has a setting that is refused; one in eight
-    is by threads, whose starts take qemu longer than the blocks."""
-    lanes = numbers.randint(1, 8)
+def threads_of(number):
+    """Of each 25 calls one is by threads, whose starts take qemu longer than the blocks: by 2 to 8, in turn."""
+    return 1 if number % BY_THREADS else 2 + number // BY_THREADS % (MOST_LANES - 1)
+
+
+def draw(numbers, threads):
+    """The settings and the inputs of a call by so many threads. One call in ten has a setting that is refused. Most
+    have few lanes and one pass, since qemu takes long."""
+    lanes = min(numbers.randint(threads, MOST_LANES) for _ in range(2))
     settings = {'variant': numbers.randint(0, 2), 'version': numbers.choice((16, 19)),
-                'mem_cost': 8 * lanes + numbers.randint(0, 16), 'time_cost': numbers.randint(1, 2), 'lanes': lanes,
-                'hash_length': numbers.randint(4, MOST)}
+                'mem_cost': 8 * lanes + numbers.randint(0, 16), 'time_cost': numbers.choice((1, 1, 1, 2)),
+                'lanes': lanes, 'hash_length': numbers.randint(4, MOST)}
     refused = {'mem_cost': numbers.randrange(8 * lanes), 'time_cost': 0, 'lanes': numbers.choice((0, 1 << 24)),
                'hash_length': numbers.randint(0, 3), 'variant': numbers.randint(3, ANY),
                'version': numbers.randint(20, ANY)}
     if numbers.randrange(10) == 0:
         settings.update([numbers.choice(list(refused.items()))])
     inputs = [numbers.randbytes(numbers.randint(*of)) for of in ((0, MOST), (8, 40), (0, 20), (0, 20))]
-    return Settings(**settings), inputs, numbers.choice((1,) * 7 + (numbers.randint(2, 8),))
+    return Settings(**settings), inputs, threads
 
 
 def call(name, *arguments):
@@ -59,7 +64,7 @@ def is_right(settings, inputs, threads):
 
 def main(seed, count):
     numbers = random.Random(int(seed))
-    return not all([is_right(*draw(numbers)) for _ in range(int(count))])
+    return not all([is_right(*draw(numbers, threads_of(number))) for number in range(int(count))])
 
 
 if __name__ == '__main__':
