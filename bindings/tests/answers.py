@@ -272,7 +272,7 @@ class Answers(unittest.TestCase):
         self.holds_what_is_read(lambda: PasswordHasher().check_needs_rehash(TEXT), True)
 
     def test_a_refusal_has_a_text_for_ok_alone(self):
-        self.holds_for_each("message", lambda: error_to_str(5), lambda n: "There is no refusal 5" if n else said_of(5))
+        self.holds_for_each("message", lambda: error_to_str(5), lambda n: "There is no error 5" if n else said_of(5))
 
     def test_a_text_of_another_variant_does_not_verify(self):
         for variant in (Type.D, Type.I):

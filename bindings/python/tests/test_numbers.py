@@ -80,7 +80,7 @@ class Settings(unittest.TestCase):
 
     def test_a_refusal_has_no_number_beyond_32_bits(self):
         for number in (*TOO_MUCH, (1 << 32) + 5, 5 - (1 << 32)):
-            self.assertEqual(error_to_str(number), f"There is no refusal {number}")
+            self.assertEqual(error_to_str(number), f"There is no error {number}")
         for number in NO_NUMBERS:
             with self.assertRaises(TypeError):
                 error_to_str(number)

@@ -43,7 +43,7 @@ static const refusal refusals[] = {
     {PROVED_ARGON2_MISMATCH, "The password does not match"},
     {PROVED_ARGON2_WRONG_LENGTH, "The buffer has the wrong length"},
     {PROVED_ARGON2_NOT_UTF8, "The encoded hash is not UTF-8"},
-    {PROVED_ARGON2_UNKNOWN_NUMBER, "There is no refusal of this number"},
+    {PROVED_ARGON2_UNKNOWN_NUMBER, "There is no error of this number"},
     {PROVED_ARGON2_NEEDS_REHASH, "The encoded hash was made with other settings"},
     {PROVED_ARGON2_TOO_COSTLY, "The encoded hash is above the limits"},
     {PROVED_ARGON2_NO_JOB, "The job is none"},

@@ -13,7 +13,7 @@
  * Errors. A call that can fail returns PROVED_ARGON2_OK (0) or the number of one error, and on an error its outputs are
  * unchanged, byte for byte. Only the first error is reported: the number of the variant, the number of the version, the
  * settings in the order of the limits below, the length of the buffer, and only then memory. No call prints, waits,
- * ends the process, changes errno or reads anything but its arguments, except the first call: it asks the processor
+ * ends the process or changes errno. A call reads its arguments alone. Only the first one also asks the processor
  * which of the library's builds it can run, and the environment variable PROVED_ARGON2_CPU, for tests, which one to
  * take. If the processor can run none, each call that can fail returns PROVED_ARGON2_OLD_PROCESSOR, after null
  * pointers, and each other call returns zeros.
@@ -71,7 +71,7 @@ extern "C" {
 #define PROVED_ARGON2_MAX_AD_LENGTH UINT32_C(0xFFFFFFFF)
 #define PROVED_ARGON2_MIN_HASH_LENGTH UINT32_C(4)
 #define PROVED_ARGON2_MAX_HASH_LENGTH UINT32_C(0xFFFFFFFF)
-/* A buffer of this many bytes has room for each error message and a zero behind it. */
+/* A buffer of this many bytes has room for each error message and its terminating zero. */
 #define PROVED_ARGON2_MESSAGE_SIZE 64
 
 /* The variants (RFC 9106, 1): where a block's reference is drawn from. */
@@ -224,7 +224,7 @@ uint32_t proved_argon2_verify_raw(
  * Verifies a password against an encoded hash, with this secret and this associated data: PROVED_ARGON2_OK only if it
  * matches, and PROVED_ARGON2_MISMATCH only if it does not, as above.
  *
- * text_len is the length of the string alone, without a zero behind it. A string that is not UTF-8 returns
+ * text_len is the length of the string without its terminating zero. A string that is not UTF-8 returns
  * PROVED_ARGON2_NOT_UTF8, and one that decodes to no hash PROVED_ARGON2_DECODING_FAIL. Then its settings are checked,
  * before any memory is allocated. Memory and passes are those that the encoded hash names, up to 4 TiB and 2^32 - 1:
  * for a hash that others may have written use proved_argon2_verify_encoded_within.

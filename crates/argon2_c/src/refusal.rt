@@ -159,7 +159,7 @@ impl Refusal {
             Refusal::Mismatch => "The password does not match",
             Refusal::WrongLength => "The buffer has the wrong length",
             Refusal::NotUtf8 => "The encoded hash is not UTF-8",
-            Refusal::UnknownNumber => "There is no refusal of this number",
+            Refusal::UnknownNumber => "There is no error of this number",
             Refusal::NeedsRehash => "The encoded hash was made with other settings",
             Refusal::TooCostly => "The encoded hash is above the limits",
             Refusal::NoJob => "The job is none",

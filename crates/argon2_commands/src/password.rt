@@ -7,6 +7,7 @@ ghost use Rattle.argon2_commands.specs.Answer.{IsShortPassword, IsTooLong, Reads
 
 use crate::fault::Fault;
 use argon2::Error;
+use argon2::parts::common::MAX_PWD_LENGTH;
 use std::alloc::Global;
 use std::io;
 use std::io::{ErrorKind, Read};
@@ -14,6 +15,9 @@ use std::io::{ErrorKind, Read};
 /// The longest password that `new` and `check` take, in bytes: far more than anybody types, and
 /// little memory for an input without end.
 pub const LONGEST_PASSWORD: usize = 65536;
+
+// What is read at a time, in bytes.
+const PIECE: usize = 4096;
 
 /// All of the input, so that a password may have any bytes, a newline at its end too. It stops
 /// behind the first byte that makes the password too long for every call, and the call rejects what
@@ -25,7 +29,7 @@ pub(crate) fn read_password<I: Read>(alloc: Global, input: &mut I) -> Result<Vec
         ⊎ (fault ≡ Fault.Refused OutOfMemory)) }
     ensures stops { ReadsUpTo (max_length + 1) (I.remaining input.old) (I.remaining input.new) }
 {
-    read_up_to(alloc, input, 4_294_967_296)
+    read_up_to(alloc, input, MAX_PWD_LENGTH as usize + 1)
 }
 
 /// All of the input, where that is no longer than the longest password of `new` and `check`.
@@ -55,7 +59,7 @@ fn read_up_to<I: Read>(alloc: Global, input: &mut I, most: usize) -> Result<Vec<
     ensures stops { ReadsUpTo most (I.remaining input.old) (I.remaining input.new) }
 {
     let mut password = Vec::new(alloc);
-    let mut piece = [0u8; 4096];
+    let mut piece = [0u8; PIECE];
     // The bound only lets the prover see an end: so many pieces fit no memory.
     for _ in 0..u64::MAX {
         let room = piece.len().min(most - password.len());

@@ -129,8 +129,6 @@ pub fn job_of_setting(
       slice = 0;
     } }
 {
-    // Named apart, since a wrong body quotes the line of `Job::new`, which has to stand here once.
-    let slice = 0;
     Job {
         prehash: *prehash,
         variant,
@@ -139,7 +137,7 @@ pub fn job_of_setting(
         segment_length,
         passes,
         pass: 0,
-        slice,
+        slice: 0,
     }
 }
 

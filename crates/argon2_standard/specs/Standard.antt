@@ -1,5 +1,5 @@
 -- The definitions of RFC 9106 above its hashes and its compression, and then those of the text, in the
--- order in which to read them. With `argon2_blocks` they are all that the clauses of the root calls use.
+-- order in which to read them. With those of `argon2_blocks` they are all that tags, verdicts and strings rest on.
 pub mod Variant
 pub mod Version
 pub mod SettingsTable

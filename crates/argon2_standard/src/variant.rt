@@ -1,21 +1,17 @@
 //! The variants of Argon2, their names and their numbers.
 
 ghost use Rattle.std.specs.Prelude.{◌≡◌, MatchResult, Some};
-ghost use Rattle.std.proofs.Common.{refl, rules};
-ghost use Rattle.std.specs.Cmp.{nat_cmp_total, on_total, partial_order_from_agreeing_total};
-ghost use Rattle.std.specs.Cmp.Rules.{comparing};
-ghost use Rattle.std.specs.Ordering.{as_partial_cmp, nat_cmp, on};
 ghost use Rattle.argon2_standard.specs.Standard.Variant.{IsName, lowercase_name, uppercase_name, variant_number};
 ghost use Rattle.argon2_standard.specs.Views.Names.{IsNoName, IsNoVariantNumber};
 ghost use Rattle.argon2_standard.specs.declared.variant.Variant.{Variant};
 
 use crate::error::Error;
 use crate::result::Result;
-use std::cmp::Ordering;
 use std::fmt;
 
-/// The variant of Argon2 (RFC 9106, 1 and 3.2): where a block's reference is drawn from.
-#[derive(Clone, Copy, Debug, Eq, PartialEq)]
+/// The variant of Argon2 (RFC 9106, 1 and 3.2): where a block's reference is drawn from. Variants
+/// are ordered by their numbers.
+#[derive(Clone, Copy, Debug, Eq, PartialEq, PartialOrd, Ord)]
 pub enum Variant {
     /// References are drawn from the blocks: for uses that side channels do not threaten.
     Argon2d = 0,
@@ -105,32 +101,6 @@ impl Default for Variant {
     /// Argon2id.
     fn default() -> Variant {
         Variant::Argon2i
-    }
-}
-
-/// By the numbers: Argon2d comes first, then Argon2i, then Argon2id.
-impl PartialOrd for Variant {
-    ghost partial_cmp = { as_partial_cmp (on variant_number nat_cmp) };
-
-    ghost laws = { partial_order_from_agreeing_total (on variant_number nat_cmp)
-        (on_total variant_number nat_cmp_total) (λ _ _. refl) (Prim.search (comparing, rules)) };
-
-    fn partial_cmp(&self, other: &Variant) -> Option<Ordering> {
-        Some(self.cmp(other))
-    }
-}
-
-impl Ord for Variant {
-    ghost cmp = { on variant_number nat_cmp };
-
-    ghost total = { on_total variant_number nat_cmp_total };
-
-    ghost matches_partial_cmp = { Prim.search (comparing, rules) };
-
-    ghost matches_eq = { Prim.search (comparing, rules) };
-
-    fn cmp(&self, other: &Variant) -> Ordering {
-        self.as_u32().cmp(&other.as_u32())
     }
 }
 

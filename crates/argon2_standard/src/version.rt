@@ -1,22 +1,17 @@
 //! The versions of Argon2 and their numbers.
 
 ghost use Rattle.std.specs.Prelude.{◌≡◌, MatchResult, Some};
-ghost use Rattle.std.proofs.Common.{refl, rules};
-ghost use Rattle.std.specs.Cmp.{nat_cmp_total, on_total, partial_order_from_agreeing_total};
-ghost use Rattle.std.specs.Cmp.Rules.{comparing};
 ghost use Rattle.std.specs.Fmt.{decimal};
-ghost use Rattle.std.specs.Ordering.{as_partial_cmp, nat_cmp, on};
 ghost use Rattle.argon2_standard.specs.Views.Names.{IsNoVersionNumber, IsNoVersionText};
 ghost use Rattle.argon2_standard.specs.Standard.Version.{version_number, version_text};
 ghost use Rattle.argon2_standard.specs.declared.version.Version.{Version};
 
 use crate::error::Error;
 use crate::result::Result;
-use std::cmp::Ordering;
 use std::fmt;
 
-/// The version of Argon2.
-#[derive(Clone, Copy, Debug, Eq, PartialEq)]
+/// The version of Argon2. Versions are ordered by their numbers.
+#[derive(Clone, Copy, Debug, Eq, PartialEq, PartialOrd, Ord)]
 pub enum Version {
     /// Version 0x10: a later pass writes over the blocks of the pass before.
     Version10 = 0x10,
@@ -73,32 +68,6 @@ impl Default for Version {
 
     fn default() -> Version {
         Version::Version13
-    }
-}
-
-/// By the numbers: 16 comes before 19.
-impl PartialOrd for Version {
-    ghost partial_cmp = { as_partial_cmp (on version_number nat_cmp) };
-
-    ghost laws = { partial_order_from_agreeing_total (on version_number nat_cmp)
-        (on_total version_number nat_cmp_total) (λ _ _. refl) (Prim.search (comparing, rules)) };
-
-    fn partial_cmp(&self, other: &Version) -> Option<Ordering> {
-        Some(self.cmp(other))
-    }
-}
-
-impl Ord for Version {
-    ghost cmp = { on version_number nat_cmp };
-
-    ghost total = { on_total version_number nat_cmp_total };
-
-    ghost matches_partial_cmp = { Prim.search (comparing, rules) };
-
-    ghost matches_eq = { Prim.search (comparing, rules) };
-
-    fn cmp(&self, other: &Version) -> Ordering {
-        self.as_u32().cmp(&other.as_u32())
     }
 }
 

@@ -3,6 +3,7 @@
 
 ghost use Rattle.std.specs.Prelude.{◌≡◌, ◌^◌, ◌-◌, ◌<◌, ◌≤◌, ◌↔◌, IfNone, IfOk, IsTrue, length, None, Some};
 ghost use Rattle.std.specs.List.{flat_map};
+ghost use Rattle.std.specs.Ordering.{nat_cmp, on};
 ghost use Rattle.argon2_blocks.specs.Standard.Blake2b.{blake2b};
 ghost use Rattle.argon2_blocks.specs.Standard.Block.{zero_block};
 ghost use Rattle.argon2_fill.specs.Views.Replay.{least_waiting};
@@ -13,6 +14,8 @@ ghost use Rattle.argon2_memory.specs.Standard.Kept.{no_memory};
 ghost use Rattle.argon2_standard.specs.Standard.SettingsTable.{refusal_of};
 ghost use Rattle.argon2_text.specs.Views.Texts.{spelled_by};
 ghost use Rattle.argon2_standard.specs.Standard.Tag.{tag_of};
+ghost use Rattle.argon2_standard.specs.Standard.Variant.{variant_number};
+ghost use Rattle.argon2_standard.specs.Standard.Version.{version_number};
 
 use argon2::parts::block::Block;
 use argon2::parts::board::{Board, Claim};
@@ -24,8 +27,9 @@ use argon2::parts::fill::recurrence_law;
 use argon2::parts::memory::Memory;
 use argon2::parts::segment::Snapshot;
 use argon2::parts::stored::are_equal;
-use argon2::{Config, Error, Result, hash_raw_sequential};
+use argon2::{Config, Error, Result, Variant, Version, hash_raw_sequential};
 use std::alloc::Global;
+use std::cmp::Ordering;
 
 /// `argon2`: the tag of a password.
 pub fn tag(alloc: Global, password: &[u8], salt: &[u8], config: &Config) -> Result<Vec<u8>>
@@ -33,6 +37,20 @@ pub fn tag(alloc: Global, password: &[u8], salt: &[u8], config: &Config) -> Resu
         ≡ tag_of password.now salt.now config.now config.now.hash_length) }
 {
     hash_raw_sequential(alloc, password, salt, config)
+}
+
+/// `argon2`: the derived order of variants, which is that of their numbers.
+pub fn order_of_variants(one: &Variant, other: &Variant) -> Ordering
+    ensures { result ≡ on variant_number nat_cmp one.now other.now }
+{
+    one.cmp(other)
+}
+
+/// `argon2`: the derived order of versions, which is that of their numbers.
+pub fn order_of_versions(first: &Version, second: &Version) -> Ordering
+    ensures { result ≡ on version_number nat_cmp first.now second.now }
+{
+    first.cmp(second)
 }
 
 /// `argon2::parts::blake2b`: a hash of the joined pieces.

@@ -344,7 +344,7 @@ def message(number: int) -> str:
     """The message of an error's number, which has 32 bits."""
     text = ctypes.create_string_buffer(MESSAGE_SIZE)
     if _library.proved_argon2_message(number, text, len(text)) != OK:
-        return f"There is no refusal {number}"
+        return f"There is no error {number}"
     return text.value.decode("ascii")
 
 

@@ -187,7 +187,7 @@ def error_to_str(error: int) -> str:
     try:
         require_number("error", error, ValueError)
     except ValueError:
-        return f"There is no refusal {error}"
+        return f"There is no error {error}"
     return message(error)
 
 

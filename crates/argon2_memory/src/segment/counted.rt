@@ -1,5 +1,5 @@
 //! The two kinds of segment: the blocks of one lane in one slice, in a memory or caller-provided.
-//! Their fields are private to this file, so that no block of theirs is written uncounted.
+//! Their fields are private to this file, so that no block is made of others, or put there, uncounted.
 
 ghost use Rattle.std.specs.Prelude.{◌≡◌, ◌+◌, ◌%◌, ◌^◌, ◌<◌, ◌≤◌, [], IfOk, length, replicate, slice_index_or, slice_set, vec_capacity, vec_len};
 ghost use Rattle.argon2_blocks.specs.Standard.Block.{zero_block};

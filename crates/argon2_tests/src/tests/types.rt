@@ -1,9 +1,32 @@
 //! What the small types show, and where a fault of base64 leads. The others are rows of `argon2_vectors`.
 
+use crate::surface::{order_of_variants, order_of_versions};
 use argon2::parts::board::{Event, Place};
-use argon2::{Error, Unverified};
+use argon2::{Error, Unverified, Variant, Version};
 use base64::DecodeError;
+use std::cmp::Ordering;
 use std::test::Fail;
+
+#[test]
+fn orders_variants_and_versions_by_their_numbers(rt: HostRuntime) {
+    let variants = [Variant::Argon2d, Variant::Argon2i, Variant::Argon2id];
+    assert_eq!(rt;
+        order_of_variants(&variants[0], &variants[1]),
+        Ordering::Less
+    );
+    assert_eq!(rt;
+        order_of_variants(&variants[2], &variants[1]),
+        Ordering::Greater
+    );
+    assert_eq!(rt;
+        order_of_variants(&variants[2], &variants[2]),
+        Ordering::Equal
+    );
+    let order = order_of_versions(&Version::Version10, &Version::Version13);
+    assert_eq!(rt; order, Ordering::Less);
+    let is_less = Variant::Argon2i < Variant::Argon2id && Version::Version10 < Version::Version13;
+    assert!(rt; is_less, "not by the numbers");
+}
 
 #[test]
 fn shows_the_small_types(rt: HostRuntime) -> Result<(), Fail> {

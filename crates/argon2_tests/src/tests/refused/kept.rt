@@ -1,5 +1,5 @@
 //! Each call twice in a reusable buffer of the caller: the second allocates no blocks, and each
-//! writes each block once a pass.
+//! writes each block once a pass. And one in a buffer of another shape.
 
 use super::{AD, ARGON2ID, PASSWORD, SALT, SECRET, TEXT, in_mode, tell};
 use argon2::parts::memory::Memory;
@@ -50,6 +50,18 @@ fn hash_sequential(alloc: Global) -> argon2::Result<bool> {
 #[test]
 fn hash_raw_in_sequential_twice_refused_in_turn(rt: HostRuntime) -> Result<(), Fail> {
     tell(&rt, hash_sequential(rt.alloc()))
+}
+
+/// Whether the tag comes in a buffer of twice the blocks, which has to be freed first.
+fn hash_in_another_shape(alloc: Global) -> argon2::Result<bool> {
+    let (config, mut memory) = (by_workers(), Memory::new(alloc, 4, 16)?);
+    let tag = hash_raw_in_sequential(alloc, &mut memory, &PASSWORD, &SALT, &config)?;
+    Ok(tag.as_slice() == ARGON2ID.as_slice() && memory.lane_length() == 8)
+}
+
+#[test]
+fn hash_raw_in_another_shape_refused_in_turn(rt: HostRuntime) -> Result<(), Fail> {
+    tell(&rt, hash_in_another_shape(rt.alloc()))
 }
 
 /// Whether the encoded hash comes twice.
