@@ -1,4 +1,5 @@
-//! Argon2 password hashing (RFC 9106) by a library that is proved, with the names of `rust-argon2` 3.0.
+//! Argon2 password hashing (RFC 9106) by a library whose hashes are computed by proved code, with the
+//! names of `rust-argon2` 3.0.
 //!
 //! A program that uses `rust-argon2` changes one line of its `Cargo.toml`:
 //!

@@ -1,4 +1,5 @@
-"""Argon2 password hashing (RFC 9106) by a library that is proved, with the names of argon2-cffi.
+"""Argon2 password hashing (RFC 9106) by a library whose hashes are computed by proved code, with the names of
+argon2-cffi.
 
     >>> from proved_argon2 import PasswordHasher
     >>> hasher = PasswordHasher()
