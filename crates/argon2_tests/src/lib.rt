@@ -1,7 +1,10 @@
 //! Tests of public calls, over `argon2` alone, and the calls that `.ci/faults/refusals` runs with
-//! each allocation and each start of a worker denied in turn.
+//! each allocation and each start of a worker denied in turn. What takes minutes with the checks of
+//! `rt try` is not in `tests`, so that `.ci/quick` leaves it to CI.
 #![tactic(auto)]
 
+#[cfg(test)]
+mod documentation;
 pub mod surface;
 #[cfg(test)]
 mod tests;

@@ -1,4 +1,3 @@
-mod documentation;
 mod encoding;
 mod permits;
 mod refused;
