@@ -13,17 +13,16 @@ KIT = Path('/opt/rattle/rattle')
 CRATES = set(crates())
 # The logic's own words, which are listed and not counted: lists, numbers, truth values, equality, functions.
 LOGIC = ('Prim.', 'mathlib.', 'denote.', 'mir.')
-MODIFIERS = r'(?:(?:abbrev|unfoldable|opaque|pub|inline|partial)\s+)*'
-HEAD = re.compile(rf'^{MODIFIERS}(record\s+|data\s+)?(\S+?)\s*(?=[:({{<]|\s:)')
-IMPORT = re.compile(r'(?:(?:ghost|pub|unfoldable|abbrev) )*use ((?:\w+\.)+(\w+))(?:\.\{(.*)\}| as (\w+))? ?;?')
-USE = re.compile(r'(?:(?:pub|unfoldable|abbrev) )*use ')
+HEAD = re.compile(r'(?:(?:abbrev|unfoldable|opaque|pub|inline|partial)\s+)*(record\s+|data\s+)?(\S+?)\s*(?=[:({<]|\s:)')
+IMPORT = re.compile(r'((?:(?:ghost|pub|unfoldable|abbrev) )*)use ((?:\w+\.)+(\w+))(?:\.\{(.*)\}| as (\w+))? ?;?')
 TOKEN = re.compile(r'[^\s(){}\[\],;.@]+|\[\]')
-TYPE = re.compile(r'\b(?:struct|enum|trait|union) (\w+)')
-FIELDS = r'^ *pub(?:\([a-z]+\))? struct {}\b[^;{{]*(?:\{{.*?^\}}|;)'
+VISIBLE = r'^ *(?:pub(?:\([a-z]+\))? )?'
+FIELDS = VISIBLE + r'struct {}\b[^;{{]*(?:\{{.*?^\}}|;)'
 MODEL = re.compile(r'^impl(?:<[^>]*>)? Model for (\w+)[^{]*\{\n.*?^\}', re.M | re.S)
-ALIAS_OF_TYPE = re.compile(r'^(?:pub(?:\([a-z]+\))? )?type (\w+)[^=;]*= ([^;]*);', re.M)
-GHOST = re.compile(r'^ *ghost use [^;]*;', re.M)
+ALIAS_OF_TYPE = re.compile(VISIBLE + r'type (\w+)[^=;]*= ([^;]*);', re.M)
 PARAMETERISED = re.compile(r'^module _ .*where\n((?:  .*\n|\s*\n)*)', re.M)
+# What begins a line, with the comment above it, up to the next.
+PIECE = re.compile(r'((?:^--.*\n+)*)(^(?!--)\S.*(?:\n+[^\S\n]+\S.*)*)', re.M)
 KEYWORDS = ('pub mod', 'mod ', 'unfolding', 'ruleset', 'infix', 'mutual', 'syntax', 'prefix', 'pub syntax')
 
 
@@ -49,33 +48,28 @@ class Definition:
         return head == 'Rattle' and crate in CRATES
 
 
-def sources(crate):
-    return [path.read_text(encoding='utf-8') for path in sorted((TOP / 'crates' / crate / 'src').rglob('*.rt'))]
-
-
 @functools.cache
-def types_of(crate):
-    return {name for text in sources(crate) for name in TYPE.findall(text)}
+def code_of(crate):
+    return [path.read_text(encoding='utf-8') for path in sorted((TOP / 'crates' / crate / 'src').rglob('*.rt'))]
 
 
 @functools.cache
 def views():
     """The view of each type of the repository that has one."""
     return {it[1]: Definition(it[1], f'Rattle.{crate}.src', '', it[0], imports_of(text), held_by(it[1], text))
-            for crate in crates() for text in sources(crate) for it in MODEL.finditer(text)}
+            for crate in CRATES for text in code_of(crate) for it in MODEL.finditer(text)}
 
 
-def held_by(name, source):
+def held_by(name, code):
     """The words of a type's fields, and of what aliases among them mean."""
-    fields = re.search(FIELDS.format(name), source, re.M | re.S)
+    fields = re.search(FIELDS.format(name), code, re.M | re.S)
     held = {*re.findall(r'\w+', re.sub('//.*', '', fields[0]))} - {name} if fields else set()
-    meant = [text for alias, text in ALIAS_OF_TYPE.findall(source) if alias in held]
-    return held.union(re.findall(r'\w+', ' '.join(meant)))
+    return held.union(*(re.findall(r'\w+', text) for alias, text in ALIAS_OF_TYPE.findall(code) if alias in held))
 
 
-def imports_of(source):
-    """The ghost imports of a file of code."""
-    return tuple(GHOST.findall(source))
+def imports_of(code):
+    """What the ghost imports of a file of code bring in."""
+    return tuple(it for line in re.findall(r'^ *ghost use [^;]*;', code, re.M) for it in entries(line))
 
 
 def is_used(name, words):
@@ -89,110 +83,94 @@ def words_of(text):
 
 
 def entries(line):
-    """What an import brings in: a local name, the module, and the name there. A whole module has no name there."""
-    path = IMPORT.fullmatch(' '.join(line.split()))
-    if not path:
+    """What an import brings in: a local name, the module, the name there, which a whole module has not, and whether it
+    is passed on."""
+    found = IMPORT.fullmatch(' '.join(line.split()))
+    if not found:
         raise Fault(f'not understood: {line}')
-    module, last, names, alias = path.groups()
+    how, module, last, names, alias = found.groups()
     if names is None:
-        return [(alias or last, module, None)]
+        return [(alias or last, module, None, 'pub' in how)]
     parts = [part.strip().partition(' as ') for part in names.split(',') if part.strip()]
-    return [(local.strip() or source, module, source.strip()) for source, _, local in parts]
+    return [(local.strip() or source, module, source.strip(), 'pub' in how) for source, _, local in parts]
 
 
 class File:
     """A file of specs/: its definitions and its imports, in order."""
 
     def __init__(self, module, text):
-        self.module, self.definitions, self.imports = module, {}, []
+        self.module, self.definitions, self.imports, last = module, {}, [], None
         self.standard = re.search(r'RFC \d+', text.split('\nuse ')[0])
         text = PARAMETERISED.sub(lambda part: re.sub('^  ', '', part[1], flags=re.M), text)
-        comment, last = [], None
-        for piece in re.findall(r'^\S.*(?:\n+[^\S\n]+\S.*)*', text, re.M):
-            if piece.startswith('--'):
-                comment = [] if piece.startswith('-- ----') else [*comment, piece.removeprefix('--').strip()]
-                continue
-            if USE.match(piece):
-                self.imports.append(piece)
-            elif not piece.startswith(KEYWORDS):
-                last = self.add(piece, ' '.join(comment), last)
-            comment = []
-
-    def add(self, piece, comment, last):
-        """Begins a definition, or continues the last one."""
-        head = HEAD.match(piece)
-        if head and (head[1] or ' : ' in piece.partition(' = ')[0]) and head[2] not in self.definitions:
-            self.definitions[head[2]] = last = Definition(head[2], self.module, comment, piece)
-        elif last is None:
-            raise Fault(f'{self.module}: not understood: {piece[:80]}')
-        else:
-            last.text += '\n' + piece
-        return last
+        for above, piece in PIECE.findall(text):
+            head = HEAD.match(piece)
+            if re.match(r'(?:(?:pub|unfoldable|abbrev) )*use ', piece):
+                self.imports += entries(piece)
+            elif piece.startswith(KEYWORDS):
+                pass
+            elif head and (head[1] or ' : ' in piece.partition(' = ')[0]) and head[2] not in self.definitions:
+                comment = ' '.join(re.sub('^--', '', re.split('^-- ----.*', above, flags=re.M)[-1], flags=re.M).split())
+                self.definitions[head[2]] = last = Definition(head[2], module, comment, piece)
+            elif last:  # the definition goes on
+                last.text += '\n' + piece
+            else:
+                raise Fault(f'{module}: not understood: {piece[:80]}')
 
     def holder_of(self, name):
         """The definition of a name, or the one that has it as a field or a case."""
         inside = re.compile(rf'^\s+(?:pub )?{re.escape(name)}\s*:', re.M)
-        holders = [it for it in self.definitions.values() if it.name == name or inside.search(it.text)]
-        return self.definitions.get(name) or next(iter(holders), None)
+        holders = (it for it in self.definitions.values() if inside.search(it.text))
+        return self.definitions.get(name) or next(holders, None)
+
+
+@functools.cache
+def file_of(module):
+    """The file `Rattle.CRATE.specs.NAME`, or of the toolchain's also `Rattle.CRATE.proofs.NAME` and `lib.NAME`; or the
+    one that the Lib.antt of a crate passes on under this name."""
+    head, crate, *rest = module.split('.')
+    folder = TOP / 'crates' if crate in CRATES and rest[:1] == ['specs'] else KIT
+    path = folder.joinpath(crate, *rest) if head == 'Rattle' else KIT.joinpath('logic/Lib', crate, *rest)
+    if path.with_suffix('.antt').is_file():
+        return File(module, path.with_suffix('.antt').read_text(encoding='utf-8'))
+    passed_on = file_of(f'{head}.{crate}.specs.Lib').imports if rest[:1] == ['specs'] and rest[1:] != ['Lib'] else ()
+    for target in (target for local, target, source, _ in passed_on if source is None and local == rest[1]):
+        return file_of('.'.join([target, *rest[2:]]))
+    raise Fault(f'{module} is no file')
 
 
 class Meanings:
-    """All files, read as they are needed, and where names lead."""
+    """Where names lead, and which types, constants of code and words of the logic they have led to."""
 
     def __init__(self):
-        self.files, self.types, self.constants, self.logic = {}, set(), set(), set()
+        self.types, self.constants, self.logic = set(), set(), set()
 
-    def file(self, module):
-        """The file `Rattle.CRATE.specs.NAME`, or of the toolchain's also `Rattle.CRATE.proofs.NAME` and `lib.NAME`."""
-        if module not in self.files:
-            head, crate, *rest = module.split('.')
-            folder = TOP / 'crates' if crate in CRATES and rest[:1] == ['specs'] else KIT
-            path = folder.joinpath(crate, *rest) if head == 'Rattle' else KIT.joinpath('logic/Lib', crate, *rest)
-            path = path.with_suffix('.antt')
-            self.files[module] = File(module, path.read_text(encoding='utf-8')) if path.is_file() else None
-        return self.files[module]
-
-    def find(self, module, name, seen=()):
+    def find(self, module, name):
         """The definition that a name of a module means; None for a word of the logic, a type or a constant of code."""
         if module.startswith(LOGIC):
             return self.logic.add(name)
         if '.declared.' in module:
             return self.note_declared(module, name)
-        if (module, name) in seen:
-            raise Fault(f'{module}.{name} leads to itself')
-        file, seen = self.file(module), (*seen, (module, name))
-        if file is None:
-            return self.find(self.renamed(module), name, seen)
+        file = file_of(module)
         found = file.holder_of(name)
-        if found:
-            return found
-        passed_on = [it for line in file.imports if 'pub ' in line.split('use ')[0] for it in entries(line)]
-        for target, source in ((target, source) for local, target, source in passed_on if local == name and source):
-            return self.find(target, source, seen)
-        raise Fault(f'{module}.{name} is no definition')
-
-    def renamed(self, module):
-        """A module that the Lib.antt of a crate passes on under a name of its own."""
-        head, rest = module.split('.')[:3], module.split('.')[3:]
-        file = self.file('.'.join([*head, 'Lib'])) if head[0] == 'Rattle' and head[2:] == ['specs'] else None
-        for local, target, source in (it for line in (file.imports if file else ()) for it in entries(line)):
-            if source is None and [local] == rest[:1]:
-                return '.'.join([target, *rest[1:]])
-        raise Fault(f'{module} is no file')
+        passed_on = [it for it in file.imports if it[0] == name and it[2] and it[3]]
+        if not found and not passed_on:
+            raise Fault(f'{module}.{name} is no definition')
+        return found or self.find(*passed_on[0][1:3])
 
     def note_declared(self, module, name):
         """A type, its cases or a constant of code. One of the repository has to be there."""
         crate, rest = module.split('.')[1], module.partition('.declared.')[2]
         is_constant = 'TheConstants' in rest.split('.')
         owner = name if is_constant else rest.removesuffix('.TheVariants').split('.')[-1]
-        if crate in CRATES and not is_constant and owner not in types_of(crate):
+        declared = re.compile(rf'\b(?:struct|enum|trait|union) {owner}\b')
+        if crate in CRATES and not is_constant and not any(map(declared.search, code_of(crate))):
             raise Fault(f'{module}: {crate} has no type {owner}')
         (self.constants if is_constant else self.types).add((crate, owner))
 
-    def reached_by(self, text, lines):
+    def reached_by(self, text, imports):
         """The definitions that a text with these imports uses. It may have whole modules of the toolchain alone."""
         words = words_of(text)
-        for local, module, source in (it for line in lines for it in entries(line)):
+        for local, module, source, _ in imports:
             if source is None and module.split('.')[1] in CRATES:
                 raise Fault(f'{module}: a whole module')
             if source is None:
@@ -200,27 +178,24 @@ class Meanings:
             elif is_used(local, words):
                 yield self.find(module, source)
 
-    def views_of(self, names):
-        """The views of these types, and of those that they hold."""
-        found, waiting = {}, {*names}
+    def closure(self, texts):
+        """All definitions on which texts with imports rest."""
+        seen, waiting = {}, [it for text in texts for it in self.reached_by(*text)]
         while waiting:
-            view = views().get(waiting.pop())
-            if view and view.name not in found:
-                found[view.name] = view
-                waiting |= view.held
-        return [found[name] for name in sorted(found)]
+            it = waiting.pop()
+            if it and it not in seen:
+                seen[it], words, file = it, words_of(it.text), file_of(it.module)
+                waiting += (other for other in file.definitions.values() if is_used(other.name, words))
+                waiting += self.reached_by(it.text, file.imports)
+        return [*seen]
 
-    def used_by(self, definition):
-        file, words = self.file(definition.module), words_of(definition.text)
-        yield from (it for it in file.definitions.values() if it is not definition and is_used(it.name, words))
-        yield from self.reached_by(definition.text, file.imports)
 
-    def closure(self, roots):
-        """All definitions that some rest on."""
-        seen, waiting = {}, list(roots)
-        while waiting:
-            definition = waiting.pop()
-            if definition and id(definition) not in seen:
-                seen[id(definition)] = definition
-                waiting.extend(self.used_by(definition))
-        return list(seen.values())
+def views_of(names):
+    """The views of these types, and of those that they hold."""
+    found, waiting = {}, {*names}
+    while waiting:
+        view = views().get(waiting.pop())
+        if view and view.name not in found:
+            found[view.name] = view
+            waiting |= view.held
+    return [found[name] for name in sorted(found)]
