@@ -33,6 +33,11 @@ def quoted(names):
     return ', '.join(f'`{name}`' for name in names)
 
 
+def row(*cells):
+    """A row of a page's table."""
+    return f'| {" | ".join(map(str, cells))} |'.replace('|  |', '| |')
+
+
 def put_in(values, form):
     """A form of a table with values in the place of its marks, as `<name>`."""
     return re.sub(r'<(\w+)>', lambda mark: values.get(mark[1], mark[0]), form.replace('\\n', '\n'))
