@@ -1,6 +1,7 @@
 """What the scripts of this folder share: reading, and the parts of files that they compare or write."""
 
 import difflib
+import os
 import re
 import subprocess
 import sys
@@ -10,6 +11,8 @@ sys.path.insert(0, str(Path(__file__).resolve().parents[1]))
 from shared import TOP  # noqa: E402
 from shared.checks import Checks  # noqa: E402
 from shared.pages import filled, marked  # noqa: E402
+
+os.environ['PATH'] += ':/opt/rattle/bin'
 
 
 def read(file):
@@ -55,10 +58,10 @@ class Script(Checks):
 
     def keep(self, file, name, part):
         """Compares the part of a file that stands between the marks of a name, or writes it."""
-        text, part = read(file), part.rstrip('\n')
-        found = marked(text, name, self.name)
-        if found and self.writes:
-            write(file, filled(text, name, self.name, part))
-        stale = difflib.unified_diff(found[1].split('\n'), part.split('\n'), n=0, lineterm='') if found else ()
-        why = '\n'.join([f'it is stale: {self.name} --write' if found else 'it has no such part', *stale])
-        self.hold(f'{file}: {name}', found and (self.writes or found[1] == part), why)
+        text, is_there = read(file), marked(read(file), name, self.name)
+        new = filled(text, name, self.name, part)
+        if self.writes:
+            write(file, new)
+        differing = difflib.unified_diff(text.split('\n'), new.split('\n'), n=0, lineterm='')
+        why = '\n'.join([f'it is stale: {self.name} --write', *differing]) if is_there else 'it has no such part'
+        self.hold(f'{file}: {name}', is_there and (self.writes or text == new), why)

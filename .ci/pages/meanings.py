@@ -14,7 +14,7 @@ CRATES = set(crates())
 # The logic's own words, which are listed and not counted: lists, numbers, truth values, equality, functions.
 LOGIC = ('Prim.', 'mathlib.', 'denote.', 'mir.')
 HEAD = re.compile(r'(?:(?:abbrev|unfoldable|opaque|pub|inline|partial)\s+)*(record\s+|data\s+)?(\S+?)\s*(?=[:({<]|\s:)')
-IMPORT = re.compile(r'((?:(?:ghost|pub|unfoldable|abbrev) )*)use ((?:\w+\.)+(\w+))(?:\.\{(.*)\}| as (\w+))? ?;?')
+IMPORT = re.compile(r'(?:(?:ghost|pub|unfoldable|abbrev) )*use ((?:\w+\.)+(\w+))(?:\.\{(.*)\}| as (\w+))? ?;?')
 TOKEN = re.compile(r'[^\s(){}\[\],;.@]+|\[\]')
 VISIBLE = r'^ *(?:pub(?:\([a-z]+\))? )?'
 FIELDS = VISIBLE + r'struct {}\b[^;{{]*(?:\{{.*?^\}}|;)'
@@ -63,7 +63,7 @@ def views():
 def held_by(name, code):
     """The words of a type's fields, and of what aliases among them mean."""
     fields = re.search(FIELDS.format(name), code, re.M | re.S)
-    held = {*re.findall(r'\w+', re.sub('//.*', '', fields[0]))} - {name} if fields else set()
+    held = {*re.findall(r'\w+', re.sub('//.*', '', fields[0]))} if fields else set()
     return held.union(*(re.findall(r'\w+', text) for alias, text in ALIAS_OF_TYPE.findall(code) if alias in held))
 
 
@@ -83,16 +83,15 @@ def words_of(text):
 
 
 def entries(line):
-    """What an import brings in: a local name, the module, the name there, which a whole module has not, and whether it
-    is passed on."""
+    """What an import brings in: a local name, the module, and the name there, which a whole module has not."""
     found = IMPORT.fullmatch(' '.join(line.split()))
     if not found:
         raise Fault(f'not understood: {line}')
-    how, module, last, names, alias = found.groups()
+    module, last, names, alias = found.groups()
     if names is None:
-        return [(alias or last, module, None, 'pub' in how)]
-    parts = [part.strip().partition(' as ') for part in names.split(',') if part.strip()]
-    return [(local.strip() or source, module, source.strip(), 'pub' in how) for source, _, local in parts]
+        return [(alias or last, module, None)]
+    parts = [part.split(' as ') for part in names.split(',') if part.strip()]
+    return [(part[-1].strip(), module, part[0].strip()) for part in parts]
 
 
 class File:
@@ -116,12 +115,6 @@ class File:
             else:
                 raise Fault(f'{module}: not understood: {piece[:80]}')
 
-    def holder_of(self, name):
-        """The definition of a name, or the one that has it as a field or a case."""
-        inside = re.compile(rf'^\s+(?:pub )?{re.escape(name)}\s*:', re.M)
-        holders = (it for it in self.definitions.values() if inside.search(it.text))
-        return self.definitions.get(name) or next(holders, None)
-
 
 @functools.cache
 def file_of(module):
@@ -133,7 +126,7 @@ def file_of(module):
     if path.with_suffix('.antt').is_file():
         return File(module, path.with_suffix('.antt').read_text(encoding='utf-8'))
     passed_on = file_of(f'{head}.{crate}.specs.Lib').imports if rest[:1] == ['specs'] and rest[1:] != ['Lib'] else ()
-    for target in (target for local, target, source, _ in passed_on if source is None and local == rest[1]):
+    for target in (target for local, target, source in passed_on if source is None and local == rest[1]):
         return file_of('.'.join([target, *rest[2:]]))
     raise Fault(f'{module} is no file')
 
@@ -151,11 +144,11 @@ class Meanings:
         if '.declared.' in module:
             return self.note_declared(module, name)
         file = file_of(module)
-        found = file.holder_of(name)
-        passed_on = [it for it in file.imports if it[0] == name and it[2] and it[3]]
-        if not found and not passed_on:
-            raise Fault(f'{module}.{name} is no definition')
-        return found or self.find(*passed_on[0][1:3])
+        if name in file.definitions:
+            return file.definitions[name]
+        for target, source in ((target, source) for local, target, source in file.imports if local == name and source):
+            return self.find(target, source)
+        raise Fault(f'{module}.{name} is no definition')
 
     def note_declared(self, module, name):
         """A type, its cases or a constant of code. One of the repository has to be there."""
@@ -170,7 +163,7 @@ class Meanings:
     def reached_by(self, text, imports):
         """The definitions that a text with these imports uses. It may have whole modules of the toolchain alone."""
         words = words_of(text)
-        for local, module, source, _ in imports:
+        for local, module, source in imports:
             if source is None and module.split('.')[1] in CRATES:
                 raise Fault(f'{module}: a whole module')
             if source is None:

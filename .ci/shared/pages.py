@@ -15,7 +15,5 @@ def marked(text, name, script):
 def filled(text, name, script, part):
     """The file with another part; the same, where it has no such part."""
     found = marked(text, name, script)
-    if not found:
-        return text
-    end = text[found.end(1):]
-    return text[:found.start(1)] + part.rstrip('\n') + ('' if end.startswith('\n') else '\n') + end
+    begin, end = found.span(1) if found else (0, 0)
+    return text[:begin] + part.rstrip('\n') + '\n' + text[end:].removeprefix('\n') if found else text
