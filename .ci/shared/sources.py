@@ -196,12 +196,12 @@ class Edit:
         verdict, _, self.name = first.partition(' ')
         self.crate, self.is_equal, self.is_tried_alone = crate, verdict == PROVED, is_tried_alone
         self.goals, self.pairs, self.functions = re.findall(r'^goal: (.+)$', self.text, re.M), [], []
-        for path, old, new in PAIR.findall(self.text):
+        is_edit = re.fullmatch(rf'(?=file: )(?:{PAIR.pattern}|^goal: .+|\n)+', self.text, re.M)
+        faults, texts = [] if is_edit else [f'it is no edit: {self.text}'], {}
+        if verdict not in (REFUSED, PROVED):
+            faults.append(f'it is neither {REFUSED} nor {PROVED}, but {verdict}')
+        for path, old, new in PAIR.findall(self.text) if is_edit else ():
             self.pairs.append((TOP / 'crates' / crate / path if path else self.pairs[-1][0], old, new))
-        strange = re.sub(r'^goal: .+$', '', PAIR.sub('', self.text), flags=re.M).strip()
-        faults = [f'it is neither {REFUSED} nor {PROVED}, but {verdict}'] * (verdict not in (REFUSED, PROVED))
-        faults += [f'it is no edit: {strange or block}'] * (bool(strange) or not self.pairs)
-        texts = {}
         for file, old, new in self.pairs:
             now = texts.get(file) or (file.read_text(encoding='utf-8') if file.exists() else '')
             texts[file] = now.replace(old, new)
