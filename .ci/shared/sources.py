@@ -98,18 +98,9 @@ def functions_in(text, module=None):
             owner, ghosts = found['owner'] and found, []
 
 
-def exports_of(text):
-    """What a module passes on to its users: each name, and its path."""
-    for path, names in RE_EXPORT.findall(text):
-        *above, last = path.split('::')
-        yield from ((name, (*above, last, name)) for name in re.findall(r'\w+', names))
-        if not names:
-            yield last, (*above, last)
-
-
 class Module:
     """One file of src/, or a public module within one, which has no file: its functions, what it names to its users,
-    and its public submodules."""
+    and passes on to them by which path, and its public submodules."""
 
     def __init__(self, path, text, file=None):
         self.path, self.text, self.file = path, text, file
@@ -117,7 +108,9 @@ class Module:
         self.submodules = re.findall(r'^pub mod (\w+)(?:;| \{)', text, re.M)
         self.inner = [Module((*path, name), textwrap.dedent(inside)) for name, inside in INNER.findall(text)]
         self.types = {name: derives for derives, name in TYPE.findall(text)}
-        self.exports = dict(exports_of(text))
+        passed_on = (it for path, names in RE_EXPORT.findall(text)
+                     for it in [f'{path}::{name}' for name in re.findall(r'\w+', names)] or [path])
+        self.exports = {it.split('::')[-1]: tuple(it.split('::')) for it in passed_on}
         self.functions = [*functions_in(text, self)] if file else []
 
 
