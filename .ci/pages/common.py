@@ -56,12 +56,15 @@ class Script(Checks):
         if not re.fullmatch('|'.join(['', '--write', *options]), ' '.join(self.words)):
             sys.exit(sys.modules['__main__'].__doc__)
 
+    def close(self):
+        sys.exit(super().close())
+
     def keep(self, file, name, part):
         """Compares the part of a file that stands between the marks of a name, or writes it."""
-        text, is_there = read(file), marked(read(file), name, self.name)
+        text = read(file)
         new = filled(text, name, self.name, part)
         if self.writes:
             write(file, new)
         differing = difflib.unified_diff(text.split('\n'), new.split('\n'), n=0, lineterm='')
-        why = '\n'.join([f'it is stale: {self.name} --write', *differing]) if is_there else 'it has no such part'
-        self.hold(f'{file}: {name}', is_there and (self.writes or text == new), why)
+        self.hold(f'{file}: a part {name}', marked(text, name, self.name))
+        self.need(f'{file}: {name}', self.writes or text == new, '\n'.join(['it is stale: --write', *differing]))
