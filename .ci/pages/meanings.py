@@ -10,16 +10,15 @@ from pathlib import Path
 from shared.sources import TOP, crates
 
 KIT = Path('/opt/rattle/rattle')
-CRATES = set(crates())
+CODE = {crate: [path.read_text(encoding='utf-8') for path in sorted((TOP / 'crates' / crate / 'src').rglob('*.rt'))]
+        for crate in crates()}
 # The logic's own words, which are listed and not counted: lists, numbers, truth values, equality, functions.
 LOGIC = ('Prim.', 'mathlib.', 'denote.', 'mir.')
 HEAD = re.compile(r'(?:(?:abbrev|unfoldable|opaque|pub|inline|partial)\s+)*(record\s+|data\s+)?(\S+?)\s*(?=[:({<]|\s:)')
 IMPORT = re.compile(r'(?:(?:ghost|pub|unfoldable|abbrev) )*use ((?:\w+\.)+(\w+))(?:\.\{(.*)\}| as (\w+))? ?;?')
 TOKEN = re.compile(r'[^\s(){}\[\],;.@]+|\[\]')
-VISIBLE = r'^ *(?:pub(?:\([a-z]+\))? )?'
-FIELDS = VISIBLE + r'struct {}\b[^;{{]*(?:\{{.*?^\}}|;)'
+DECLARED = re.compile(r'^ *(?:pub(?:\([a-z]+\))? )?(?:struct|type) (\w+)\b([^;{]*(?:;|\{.*?^\}))', re.M | re.S)
 MODEL = re.compile(r'^impl(?:<[^>]*>)? Model for (\w+)[^{]*\{\n.*?^\}', re.M | re.S)
-ALIAS_OF_TYPE = re.compile(VISIBLE + r'type (\w+)[^=;]*= ([^;]*);', re.M)
 PARAMETERISED = re.compile(r'^module _ .*where\n((?:  .*\n|\s*\n)*)', re.M)
 # What begins a line, with the comment above it, up to the next.
 PIECE = re.compile(r'((?:^--.*\n+)*)(^(?!--)\S.*(?:\n+[^\S\n]+\S.*)*)', re.M)
@@ -33,38 +32,32 @@ class Fault(Exception):
 @dataclass(eq=False)
 class Definition:
     """A definition; or a view, what clauses see of a type in the place of its fields (`impl Model`), with the imports
-    of its file and the words of those fields."""
+    of its file."""
 
     name: str
     module: str
     comment: str
     text: str
     imports: tuple = ()
-    held: frozenset = frozenset()
 
     @property
     def is_ours(self):
         head, crate, *_ = self.module.split('.')
-        return head == 'Rattle' and crate in CRATES
-
-
-@functools.cache
-def code_of(crate):
-    return [path.read_text(encoding='utf-8') for path in sorted((TOP / 'crates' / crate / 'src').rglob('*.rt'))]
+        return head == 'Rattle' and crate in CODE
 
 
 @functools.cache
 def views():
     """The view of each type of the repository that has one."""
-    return {it[1]: Definition(it[1], f'Rattle.{crate}.src', '', it[0], imports_of(text), held_by(it[1], text))
-            for crate in CRATES for text in code_of(crate) for it in MODEL.finditer(text)}
+    return {it[1]: Definition(it[1], f'Rattle.{crate}.src', '', it[0], imports_of(text))
+            for crate, texts in CODE.items() for text in texts for it in MODEL.finditer(text)}
 
 
-def held_by(name, code):
-    """The words of a type's fields, and of what aliases among them mean."""
-    fields = re.search(FIELDS.format(name), code, re.M | re.S)
-    held = {*re.findall(r'\w+', re.sub('//.*', '', fields[0]))} if fields else set()
-    return held.union(*(re.findall(r'\w+', text) for alias, text in ALIAS_OF_TYPE.findall(code) if alias in held))
+@functools.cache
+def declared():
+    """The words of each type's fields, or of what it stands for."""
+    return {name: {*re.findall(r'\w+', re.sub('//.*', '', text))}
+            for texts in CODE.values() for code in texts for name, text in DECLARED.findall(code)}
 
 
 def imports_of(code):
@@ -121,7 +114,7 @@ def file_of(module):
     """The file `Rattle.CRATE.specs.NAME`, or of the toolchain's also `Rattle.CRATE.proofs.NAME` and `lib.NAME`; or the
     one that the Lib.antt of a crate passes on under this name."""
     head, crate, *rest = module.split('.')
-    folder = TOP / 'crates' if crate in CRATES and rest[:1] == ['specs'] else KIT
+    folder = TOP / 'crates' if crate in CODE and rest[:1] == ['specs'] else KIT
     path = folder.joinpath(crate, *rest) if head == 'Rattle' else KIT.joinpath('logic/Lib', crate, *rest)
     if path.with_suffix('.antt').is_file():
         return File(module, path.with_suffix('.antt').read_text(encoding='utf-8'))
@@ -156,7 +149,7 @@ class Meanings:
         is_constant = 'TheConstants' in rest.split('.')
         owner = name if is_constant else rest.removesuffix('.TheVariants').split('.')[-1]
         declared = re.compile(rf'\b(?:struct|enum|trait|union) {owner}\b')
-        if crate in CRATES and not is_constant and not any(map(declared.search, code_of(crate))):
+        if crate in CODE and not is_constant and not any(map(declared.search, CODE[crate])):
             raise Fault(f'{module}: {crate} has no type {owner}')
         (self.constants if is_constant else self.types).add((crate, owner))
 
@@ -164,7 +157,7 @@ class Meanings:
         """The definitions that a text with these imports uses. It may have whole modules of the toolchain alone."""
         words = words_of(text)
         for local, module, source in imports:
-            if source is None and module.split('.')[1] in CRATES:
+            if source is None and module.split('.')[1] in CODE:
                 raise Fault(f'{module}: a whole module')
             if source is None:
                 yield from [self.find(module, name) for name in re.findall(rf"(?<![\w.]){local}\.([\w'-]+)", text)]
@@ -185,10 +178,9 @@ class Meanings:
 
 def views_of(names):
     """The views of these types, and of those that they hold."""
-    found, waiting = {}, {*names}
+    met, waiting = set(), {*names}
     while waiting:
-        view = views().get(waiting.pop())
-        if view and view.name not in found:
-            found[view.name] = view
-            waiting |= view.held
-    return [found[name] for name in sorted(found)]
+        name = waiting.pop()
+        met.add(name)
+        waiting |= declared().get(name, set()) - met
+    return [views()[name] for name in sorted(met) if name in views()]
