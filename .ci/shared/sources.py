@@ -47,8 +47,8 @@ def spelled(name):
 
 
 class Function:
-    """A function: its module, its type or trait, as `Board` or `Default for Config`, its lines, `begin` with its
-    attributes, and the names of its clauses and of the ghost items before it."""
+    """A function: its module, its type `of` and what trait it is of, its lines, `begin` with its attributes, and the
+    names of its clauses and of the ghost items before it. `owner` is `Board` or `Default for Config`."""
 
     def __init__(self, module, found, owner, ghosts):
         self.module, self.name, self.indent, self.path = module, found['name'], found['indent'], None
@@ -59,10 +59,10 @@ class Function:
         self.last = self.first + found['rest'].count('\n')
         self.is_const, self.is_test = bool(found['const']), '#[test]' in found['attributes']
         self.is_public = found['visibility'] == 'pub ' or bool(owner and owner['of_trait'])
-        what = owner and self.indent and owner['trait']
-        name = re.sub('<.*', '', owner['owner'].strip()) if owner and self.indent else None
-        self.owner, self.is_of_trait = f'{what} for {name}' if what else name, bool(what)
-        self.clauses = [*(ghosts if what else ()), *(it.groups() for it in CLAUSE.finditer(found['rest']))]
+        self.what = owner['trait'] or '' if owner and self.indent else ''
+        self.of = re.sub('<.*', '', owner['owner'].strip()) if owner and self.indent else ''
+        self.owner = f'{self.what} for {self.of}' if self.what else self.of
+        self.clauses = [*(ghosts if self.what else ()), *(it.groups() for it in CLAUSE.finditer(found['rest']))]
 
     @property
     def crate(self):
@@ -76,14 +76,12 @@ class Function:
     @property
     def label(self):
         """Its name beside its type or trait, as `Board::take` or `Default for Config`."""
-        return self.owner if self.is_of_trait else f'{self.owner}::{self.name}' if self.owner else self.name
+        return self.owner if self.what else '::'.join(filter(None, [self.of, self.name]))
 
     def is_called(self, place):
         """Whether the checker calls it so: `crate::module::VariantOrd::cmp` is that of `impl Ord for Variant`."""
-        what, _, of = (self.owner or '').rpartition(' for ')
-        path = '::'.join(self.module.path)
-        owner = spelled(of) + spelled(what)
-        return bool(re.fullmatch(f'{path}::{owner}{"::" if owner else ""}{self.name}', place))
+        names = [*self.module.path, spelled(self.of) + spelled(self.what), self.name]
+        return bool(re.fullmatch('::'.join(filter(None, names)), place))
 
 
 def functions_in(text, module=None):
@@ -173,11 +171,11 @@ class Sources:
 
     def path_of(self, function):
         """The public path of a function, or None where users do not reach it."""
-        what, _, name = (function.owner or function.name).rpartition(' for ')
-        place = '::'.join(self.places.get(function.module.path + (name,), ()))
+        what, of, name = function.what, function.of, function.name
+        place = '::'.join(self.places.get(function.module.path + (of or name,), ()))
         if not place or what in self.hidden or not (what or function.is_public):
             return None
-        return f'{what} for {place}' if what else f'{place}::{function.name}' if function.owner else place
+        return f'{what} for {place}' if what else f'{place}::{name}' if of else place
 
 
 class Edit:
