@@ -134,24 +134,17 @@ class Meanings:
         """The definition that a name of a module means; None for a word of the logic, a type or a constant of code."""
         if module.startswith(LOGIC):
             return self.logic.add(name)
-        if '.declared.' in module:
-            return self.note_declared(module, name)
+        crate, place = module.split('.')[1], module.removesuffix('.TheVariants').split('.')
+        if 'TheConstants' in place:
+            return self.constants.add((crate, name))
+        if 'declared' in place:  # a type or its cases
+            return self.types.add((crate, place[-1]))
         file = file_of(module)
         if name in file.definitions:
             return file.definitions[name]
         for target, source in ((target, source) for local, target, source in file.imports if local == name and source):
             return self.find(target, source)
         raise Fault(f'{module}.{name} is no definition')
-
-    def note_declared(self, module, name):
-        """A type, its cases or a constant of code. One of the repository has to be there."""
-        crate, rest = module.split('.')[1], module.partition('.declared.')[2]
-        is_constant = 'TheConstants' in rest.split('.')
-        owner = name if is_constant else rest.removesuffix('.TheVariants').split('.')[-1]
-        declared = re.compile(rf'\b(?:struct|enum|trait|union) {owner}\b')
-        if crate in CODE and not is_constant and not any(map(declared.search, CODE[crate])):
-            raise Fault(f'{module}: {crate} has no type {owner}')
-        (self.constants if is_constant else self.types).add((crate, owner))
 
     def reached_by(self, text, imports):
         """The definitions that a text with these imports uses. It may have whole modules of the toolchain alone."""
