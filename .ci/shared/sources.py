@@ -4,6 +4,7 @@ under which users find them, tests, and mutants."""
 import re
 import textwrap
 from collections import Counter
+from itertools import accumulate
 
 from shared import TOP
 
@@ -186,13 +187,14 @@ class Edit:
         first, _, self.text = block.partition('\n')
         verdict, _, self.name = first.partition(' ')
         self.crate, self.is_equal, self.is_tried_alone = crate, verdict == PROVED, is_tried_alone
-        self.goals, self.pairs, self.functions = re.findall(r'^goal: (.+)$', self.text, re.M), [], []
         is_edit = re.fullmatch(rf'(?=file: )(?:{PAIR.pattern}|^goal: .+|\n)+', self.text, re.M)
+        found = PAIR.findall(self.text) if is_edit else []
+        files = accumulate((path for path, *_ in found), lambda last, path: path or last)
+        self.pairs = [(TOP / 'crates' / crate / file, *texts) for file, (_, *texts) in zip(files, found)]
+        self.goals, self.functions = re.findall(r'^goal: (.+)$', self.text, re.M), []
         faults, texts = [] if is_edit else [f'it is no edit: {self.text}'], {}
         if verdict not in (REFUSED, PROVED):
             faults.append(f'it is neither {REFUSED} nor {PROVED}, but {verdict}')
-        for path, old, new in PAIR.findall(self.text) if is_edit else ():
-            self.pairs.append((TOP / 'crates' / crate / path if path else self.pairs[-1][0], old, new))
         for file, old, new in self.pairs:
             now = texts.get(file) or (file.read_text(encoding='utf-8') if file.exists() else '')
             texts[file] = now.replace(old, new)
@@ -200,8 +202,8 @@ class Edit:
                 faults.append(f'its text stands {now.count(old)} times in {file.relative_to(TOP)}: {old.strip()}')
                 continue
             line = now[:now.index(old)].count('\n') + 1
-            found = (f for f in sources.functions if f.module.file == file and f.first <= line <= f.last)
-            self.functions.append(next(found, None))
+            around = (f for f in sources.functions if f.module.file == file and f.first <= line <= f.last)
+            self.functions.append(next(around, None))
         self.fault = next(iter(faults), None) or next(filter(None, map(self.lost_promise, texts, texts.values())), None)
         self.file = self.pairs[-1][0] if self.pairs else None
         self.function = self.functions[-1] if self.functions else None
