@@ -99,18 +99,19 @@ def functions_in(text, module=None):
 
 class Module:
     """One file of src/, or a public module within one, which has no file: its functions, what it names to its users,
-    and passes on to them by which path, and its public submodules."""
+    and what of that it passes on by which path."""
 
     def __init__(self, path, text, file=None):
         self.path, self.text, self.file = path, text, file
         self.is_test = 'tests' in path[1:]
-        self.submodules = re.findall(r'^pub mod (\w+)(?:;| \{)', text, re.M)
         self.inner = [Module((*path, name), textwrap.dedent(inside)) for name, inside in INNER.findall(text)]
         self.types = {name: derives for derives, name in TYPE.findall(text)}
-        passed_on = (it for path, names in RE_EXPORT.findall(text)
-                     for it in [f'{path}::{name}' for name in re.findall(r'\w+', names)] or [path])
+        passed_on = (it for at, names in RE_EXPORT.findall(text.replace('pub use crate::', f'pub use {path[0]}::'))
+                     for it in [f'{at}::{name}' for name in re.findall(r'\w+', names)] or [at])
         self.exports = {it.split('::')[-1]: tuple(it.split('::')) for it in passed_on}
         self.functions = [*functions_in(text, self)] if file else []
+        functions = (f.name for f in self.functions if f.is_public and not f.owner)
+        self.names = {*self.types, *self.exports, *re.findall(r'^pub mod (\w+)(?:;| \{)', text, re.M), *functions}
 
 
 def read_modules(crate):
@@ -143,32 +144,16 @@ class Sources:
         for function in (f for f in self.functions if not f.module.is_test):
             function.path = self.path_of(function)
 
-    def target(self, module, path):
-        """The place that a path of a module means, where its items stand."""
-        if path[0] == 'crate':
-            path = module.path[:1] + path[1:]
-        elif path[0] not in crates():
-            path = module.path + path
-        for cut in range(len(path) - 1, 0, -1):
-            holder = self.modules.get(path[:cut])
-            if holder and path[cut] in holder.exports:
-                return self.target(holder, holder.exports[path[cut]] + path[cut + 1:])
-        return path
-
     def walk(self, place, public):
-        """Notes under which public path each item of a module and below it is found."""
-        module = self.modules.get(place)
-        for at, name in self.named_by(module) if module else ():
-            path = public + (name,)
-            if at not in self.places or rank(path) < rank(self.places[at]):
-                self.places[at] = path
-                self.walk(at, path)
-
-    def named_by(self, module):
-        """The places of what a module names to its users, and the names."""
-        functions = (f.name for f in module.functions if f.is_public and not f.owner)
-        yield from ((module.path + (name,), name) for name in (*module.types, *module.submodules, *functions))
-        yield from ((self.target(module, path), name) for name, path in module.exports.items())
+        """Notes the public path under which an item is found, one of argon2, and the shortest, and of what is in it."""
+        holder, module = self.modules.get(place[:-1]), self.modules.get(place)
+        if holder and place[-1] in holder.exports:
+            path = holder.exports[place[-1]]
+            return self.walk(path if path[:1] in self.modules else holder.path + path, public)
+        if place not in self.places or rank(public) < rank(self.places[place]):
+            self.places[place] = public
+            for name in module.names if module else ():
+                self.walk((*place, name), (*public, name))
 
     def path_of(self, function):
         """The public path of a function, or None where users do not reach it."""
