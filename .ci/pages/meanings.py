@@ -92,7 +92,7 @@ class File:
 
     def __init__(self, module, text):
         self.module, self.definitions, self.imports, last = module, {}, [], None
-        self.standard = re.search(r'RFC \d+', text.split('\nuse ')[0])
+        self.standard = ''.join(re.findall(r'RFC \d+', text.split('\nuse ')[0])[:1])
         text = PARAMETERISED.sub(lambda part: re.sub('^  ', '', part[1], flags=re.M), text)
         for above, piece in PIECE.findall(text):
             head = HEAD.match(piece)
