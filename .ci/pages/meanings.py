@@ -4,6 +4,7 @@ An import that is not understood, or that leads to no definition, is a fault: no
 
 import functools
 import re
+from collections import defaultdict
 from dataclasses import dataclass
 from pathlib import Path
 
@@ -56,8 +57,10 @@ def views():
 @functools.cache
 def declared():
     """The words of each type's fields, or of what it stands for."""
-    return {name: {*re.findall(r'\w+', re.sub('//.*', '', text))}
-            for texts in CODE.values() for code in texts for name, text in DECLARED.findall(code)}
+    words = defaultdict(set)
+    for name, text in (it for texts in CODE.values() for code in texts for it in DECLARED.findall(code)):
+        words[name].update(re.findall(r'\w+', re.sub('//.*', '', text)))
+    return words
 
 
 def imports_of(code):
