@@ -63,7 +63,8 @@ class Function:
         self.what = owner['trait'] or '' if owner and self.indent else ''
         self.of = re.sub('<.*', '', owner['owner'].strip()) if owner and self.indent else ''
         self.owner = f'{self.what} for {self.of}' if self.what else self.of
-        self.clauses = [*(ghosts if self.what else ()), *(it.groups() for it in CLAUSE.finditer(found['rest']))]
+        head = found['rest'].partition(f'\n{self.indent}{{\n')[0]  # (a closure in the body may have clauses too)
+        self.clauses = [*(ghosts if self.what else ()), *(it.groups() for it in CLAUSE.finditer(head))]
 
     @property
     def crate(self):
