@@ -1,114 +1,127 @@
-"""Runs the programs and the tests that `.ci/gate/proofs` leaves, over faults.c, and says what came of a run. The scripts of
-this folder find `shared` by it."""
+"""Runs the programs and the tests that `.ci/gate/proofs` leaves, over faults.c, and says what came of a run. The
+scripts of this folder find `shared` by it."""
 
 import ctypes
 import os
 import re
+import shutil
 import subprocess
 import sys
 import tempfile
 from collections import Counter
+from concurrent.futures import ThreadPoolExecutor
 from pathlib import Path
+from typing import NamedTuple
 
 sys.path.insert(0, str(Path(__file__).resolve().parents[1]))
 from shared import TOP  # noqa: E402
 from shared.checks import Checks  # noqa: E402
-from shared.sources import crates  # noqa: E402
 from shared.toolchain import build_preloaded, is_current  # noqa: E402
 
 PROGRAM, TOOL = (TOP / f'crates/{name}/out/{name}' for name in ('argon2_program', 'argon2_tool'))
-PASSWORD, SALT = b'password', b'some-salt'
+PASSWORD = b'password'
+PROCESSORS = sorted(os.sched_getaffinity(0))
 SECONDS = 600  # after which a run hangs
 TRIES = 100  # of a start, before it counts as refused (`TRIES` of argon2_fill/src/workers/crew.rt)
 SLICES = 4  # of a pass
-NOTE = re.compile(r'request|freed|start|refused|denied|late|lingered|VmHWM:.*')
-NO_MEMORY, NO_WORKER = 'Out of memory', 'A worker was refused'
+IN_TURN = '_refused_in_turn'  # ends the names of tests that .ci/faults/refusals runs
+NOTE = re.compile(r'(request|freed|start|refused|denied|late|VmHWM:.*)\n')
+VALUE, NO_MEMORY, NO_WORKER = 'value', 'Out of memory\n', 'A worker was refused\n'
 VARIANTS, VERSIONS = ('argon2d', 'argon2i', 'argon2id'), (16, 19)
 PEER = ctypes.CDLL('libargon2.so.1')
 
 
 class Came:
-    """What came of a run: its status, its output, the notes of faults.c, how many there are of each, what else it said, the
-    KiB that were resident at most, or 0, and what was seen meanwhile."""
+    """What came of a run: its status, its output, the notes of faults.c, how many there are of each, what else it said,
+    the KiB that were resident at most, or 0, and what was seen meanwhile."""
 
-    def __init__(self, status, output, errors, seen=None):
-        lines = errors.decode(errors='replace').splitlines()
-        self.status, self.output, self.seen = status, output.decode(errors='replace'), seen
-        self.notes = [line for line in lines if NOTE.fullmatch(line)]
-        self.met = Counter(self.notes)
-        self.told = '\n'.join(line for line in lines if not NOTE.fullmatch(line))
-        self.peak = next((int(line.split()[1]) for line in self.notes if line.startswith('VmHWM:')), 0)
+    def __init__(self, status, output, errors, seen):
+        said = (errors or b'').decode(errors='replace').splitlines(keepends=True)
+        self.status, self.output, self.seen = status, (output or b'').decode(errors='replace'), seen
+        self.notes = [line.split()[0] for line in said if NOTE.fullmatch(line)]
+        self.met, self.told = Counter(self.notes), ''.join(line for line in said if not NOTE.fullmatch(line))
+        self.peak = next((int(line.split()[1]) for line in said if line.startswith('VmHWM:')), 0)
+
+    def end(self, status, output, told=''):
+        """`VALUE` if it came to this, a refusal, or what else it came to."""
+        if (self.status, self.output, self.told) == (status, output, told):
+            return VALUE
+        is_refused = (self.status, self.output) == (2, '') and self.told in (NO_MEMORY, NO_WORKER)
+        return self.told if is_refused else f'status {self.status}, {self.output!r:.500}, {self.told!r:.4000}'
 
 
-def run(words, library, variables, meanwhile=None, **how):
-    """Runs a command with the password on its standard input, and stops it where it hangs. `meanwhile` is called with the
-    process, and `how` is for subprocess."""
-    reader, writer = os.pipe()
-    os.write(writer, PASSWORD)
-    os.close(writer)
-    environment = {**os.environ, 'LD_PRELOAD': str(library), **{name: str(value) for name, value in variables.items()}}
-    with subprocess.Popen(words, stdin=reader, stdout=subprocess.PIPE, stderr=subprocess.PIPE, env=environment, **how) as process:
-        os.close(reader)
-        seen = meanwhile and meanwhile(process)
+def run(words, library='', meanwhile=lambda process: None, given=PASSWORD, how=None, **variables):
+    """Runs a command with the password on its standard input, and stops it where it hangs. `meanwhile` is called with
+    the process, `how` is for subprocess, and the variables are for faults.c."""
+    variables = {name: str(value) for name, value in variables.items()}
+    how = {**dict.fromkeys(('stdin', 'stdout', 'stderr'), subprocess.PIPE), **(how or {}),
+           'env': {**os.environ, 'LD_PRELOAD': str(library), **variables}}
+    with subprocess.Popen(words, **how) as process, ThreadPoolExecutor(1) as beside:
+        seen = beside.submit(meanwhile, process)
         try:
-            output, errors = process.communicate(timeout=SECONDS)
+            said = process.communicate(given, timeout=SECONDS)
         except subprocess.TimeoutExpired:
             process.kill()
-            output, errors = process.communicate()
-    return Came(process.returncode, output, errors, seen)
+            said = process.communicate()
+        return Came(process.returncode, *said, seen.result())
 
 
-class Hash:
-    """A hash by the program, by workers as many as its lanes, or `most`, or by none: how often it starts one, and what it
-    writes, by libargon2."""
+class Hash(NamedTuple):
+    """A hash by the program, by workers as many as its lanes, or `most`, or by none."""
+    variant: str
+    version: int
+    passes: int
+    memory: int
+    lanes: int
+    length: int
+    most: int = None
+    salt: bytes = b'some-salt'
 
-    def __init__(self, variant, version, passes, memory, lanes, length, most=None):
-        self.variant, self.passes, self.memory, self.lanes, self.length = variant, passes, memory, lanes, length
-        self.version, self.mode = version, 'par' if most is None else f'max{most}' if most else 'seq'
-        self.starts = self.starts_of(lanes if most is None else min(most, lanes))
+    def settings(self):
+        mode = 'par' if self.most is None else f'max{self.most}' if self.most else 'seq'
+        return [self.variant, *map(str, self[1:6]), mode]
 
-    def starts_of(self, workers):
-        """How often a worker is started where so many may fill a slice: the caller's thread alone is none."""
+    def words(self):
+        return ['hash', *self.settings(), self.salt.decode()]
+
+    def starts(self):
+        """How often a worker is started: for each slice so many, but the caller's thread alone is none."""
+        workers = self.lanes if self.most is None else min(self.most, self.lanes)
         return SLICES * self.passes * workers if workers > 1 else 0
 
-    def words(self, memory=None):
-        return ['hash', self.variant, *map(str, (self.version, self.passes, memory or self.memory, self.lanes, self.length)),
-                self.mode, SALT.decode()]
-
-    def expected(self):
+    def output(self):
+        """What is written, by libargon2."""
         tag, text = ctypes.create_string_buffer(self.length), ctypes.create_string_buffer(2 * self.length + 200)
-        size = ctypes.c_size_t
-        code = PEER.argon2_hash(self.passes, self.memory, self.lanes, PASSWORD, size(len(PASSWORD)), SALT, size(len(SALT)),
-                                tag, size(self.length), text, size(len(text)), VARIANTS.index(self.variant), self.version)
+        given = [it for data in (PASSWORD, self.salt, tag, text) for it in (data, ctypes.c_size_t(len(data)))]
+        kind = VARIANTS.index(self.variant), self.version
+        code = PEER.argon2_hash(self.passes, self.memory, self.lanes, *given, *kind)
         return f'{tag.raw.hex()}\n{text.value.decode()}\n' if code == 0 else f'libargon2 answers {code}'
+
+    def text(self):
+        return self.output().split()[-1]
+
+
+def is_ours(checks, binary):
+    """Whether `.ci/gate/proofs` left a binary of a crate, of these sources."""
+    return checks.need(binary.name, is_current(binary.parents[1].name, binary, says_why=True), 'it is of other sources')
 
 
 def tests(checks):
-    """The binaries of tests, and the names that each has. One that is not of these sources would pass tests of what is
-    gone, and one that is not built is named all the same."""
-    for crate in crates():
-        count = sum(len(re.findall(r'^ *#\[test\]$', path.read_text(encoding='utf-8'), re.M))
-                    for path in (TOP / 'crates' / crate / 'src').rglob('*.rt'))
+    """The binary and the name of each test. A binary that is not built is named all the same."""
+    files = (it for it in TOP.glob('crates/*/src/**/*.rt') if '#[test]' in it.read_text(encoding='utf-8'))
+    for crate in sorted({it.relative_to(TOP).parts[1] for it in files}):
         binary = TOP / f'crates/{crate}/out/{crate}_tests'
-        if not count or not checks.need(crate, is_current(crate, binary, says_why=True), 'its tests are of other sources'):
-            continue
-        said = subprocess.run([binary, '--list'], stdout=subprocess.PIPE, stderr=subprocess.DEVNULL, text=True, check=False)
-        names = re.findall(r'^(.*): test$', said.stdout, re.M)
-        checks.need(crate, len(names) == count, f'it has {len(names)} tests, and its sources {count}')
-        yield binary, names
+        if is_ours(checks, binary):
+            yield from ((binary, name) for name in re.findall(r'^(.*): test$', run([binary, '--list']).output, re.M))
 
 
-def are_current(checks, *programs):
-    """Whether programs that `.ci/gate/proofs` left are of these sources."""
-    return all([checks.need(it.name, is_current(it.parents[1].name, it, says_why=True), 'it is of other sources')
-                for it in programs])
-
-
-def judge(judged, *programs):
-    """Has `judged` judge the programs, if they are current, by checks and faults.c in a folder; gives the script's status."""
-    checks = Checks()
-    if are_current(checks, *programs):
+def judge(judged, *programs, words=()):
+    """Has `judged` judge copies of the programs among the words, or else of these, if they are of these sources: by
+    checks, faults.c in a folder, the copies, and the number among the words. Gives the script's status."""
+    checks, others = Checks(), [Path(it) for it in words if not it.isdigit()]
+    if others or all([is_ours(checks, it) for it in programs]):
         with tempfile.TemporaryDirectory() as room:
             os.chmod(room, 0o711)  # (for users who are not root)
-            judged(checks, build_preloaded('faults/faults', room), Path(room))
+            copies = [Path(shutil.copy(it, f'{room}/{at}.{it.name}')) for at, it in enumerate(others or programs)]
+            judged(checks, build_preloaded('faults/faults', room), copies, *(int(it) for it in words if it.isdigit()))
     return checks.close()
