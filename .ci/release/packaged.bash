@@ -24,14 +24,6 @@ leaves_nothing() {
     [[ -z $told ]]
 }
 
-# `fails_with TEXT COMMAND..`: a command that has to fail, and to say so.
-fails_with() {
-    if "${@:2}" 2>"$room/said"; then
-        return 1
-    fi
-    grep "$1" "$room/said"
-}
-
 sees_nothing() {
     [[ -z $(ls -A "$FORMER") && ! -e /opt/rattle/bin ]]
     if PATH=$PATH:/opt/rattle/bin command -v rt || ldconfig -p | grep proved_argon2; then
@@ -122,20 +114,13 @@ libargon2() {
 }
 
 wheel() {
-    local in=$room/environment/bin wheel other install=(install --no-index --disable-pip-version-check)
+    local in=$room/environment/bin
     /usr/bin/python3 -m venv "$room/environment" || python3 -m venv "$room/environment"
     (cd "$room/environment" && find . | sort) >"$room/before"
-    wheel=$(echo proved_argon2-*_x86_64.whl)
-    "$in/pip" "${install[@]}" "$wheel"
+    "$in/pip" install --no-index --disable-pip-version-check proved_argon2-*_x86_64.whl
     "$in/python" first/PYTHON
     PROVED_ARGON2_CPU=x86-64-v2 "$in/python" first/PYTHON
-    PROVED_ARGON2_CPU=none fails_with 'ImportError: .* has no build for a processor as old as this one' \
-        "$in/python" first/PYTHON
     "$in/pip" uninstall -y proved-argon2
-    # One for another machine is refused, and leaves nothing.
-    other=$room/${wheel/_x86_64/_riscv64}
-    cp "$wheel" "$other"
-    fails_with 'riscv64.whl is not a supported wheel on this platform' "$in/pip" "${install[@]}" "$other"
     diff "$room/before" <(cd "$room/environment" && find . | sort)
 }
 
@@ -144,10 +129,10 @@ crate() {
     cd first/rust
     cargo run --offline --quiet
     PROVED_ARGON2_CPU=x86-64-v2 cargo run --offline --quiet
-    fails_with 'the crate has no archive for riscv64' cargo build --offline --quiet --target riscv64gc-unknown-linux-gnu
     rm "/packages/proved-argon2-$VERSION/lib/x86_64/libproved_argon2.a"
     cargo clean -q
-    fails_with 'the crate is not whole' cargo run --offline --quiet
+    if cargo run --offline --quiet 2>"$room/said"; then return 1; fi
+    grep 'the crate is not whole' "$room/said"
 }
 
 javascript() {
