@@ -1,23 +1,34 @@
-"""What a reader sees of ELF files for x86-64 and ARM64: objects, archives of objects, and shared objects."""
+"""What linked.py reads of ELF files: the sections of objects, and what the loader maps of a shared object."""
 
 import struct
 from collections import namedtuple
+from dataclasses import dataclass
 
 RELOCATABLE, SHARED = 1, 3
+LOAD, DYNAMIC, STACK = 1, 2, 0x6474e551
 ARM64 = 183
 MACHINES = {62: 'x86-64', ARM64: 'ARM64'}
-NOBITS, SYMTAB, RELA, DYNSYM = 8, 2, 4, 11
-WRITE, ALLOC, EXECUTE, MERGE, STRINGS = 1, 2, 4, 16, 32
-LOAD, DYNAMIC, INTERPRETER = 1, 2, 3
-HEAD, SEGMENT, SYMBOL, RELOCATION = (struct.Struct(it) for it in ('<IIQQQQIIQQ', '<IIQQQQQQ', '<IBBHQQ', '<QQq'))
+SYMTAB, RELA, NOBITS = 2, 4, 8
+ALLOC, EXECUTE, MERGE, STRINGS = 2, 4, 16, 32
 PLACES = 0xff00  # the first of the sections' numbers that stand for none
+HEAD, SEGMENT, SYMBOL, RELOCATION = (struct.Struct(it) for it in ('<IIQQQQIIQQ', '<IIQQQQQQ', '<IBBHQQ', '<QQq'))
+SEGMENTS_AT = 64
 
-Segment = namedtuple('Segment', 'kind flags offset address content size')
-Symbol = namedtuple('Symbol', 'name section value is_global is_section')  # (section 0: it is not defined here)
+Head = namedtuple('Head', 'name kind flags address offset size link info alignment unit')
+Segment = namedtuple('Segment', 'kind flags offset address in_file size')
+Symbol = namedtuple('Symbol', 'name section value is_global is_section')  # (no section: it is not defined here)
 Relocation = namedtuple('Relocation', 'offset kind symbol addend')
 
 
-class Section(namedtuple('Section', 'index name kind flags offset size link info unit content relocations')):
+@dataclass(eq=False)
+class Section:
+    name: str
+    flags: int
+    unit: int
+    content: bytes
+    offset: int | None  # where the content is in the file, if it is there
+    relocations: list
+
     def has(self, flag):
         return bool(self.flags & flag)
 
@@ -26,60 +37,38 @@ def text_at(table, at):
     return table[at:table.index(b'\0', at)].decode('utf-8', 'surrogateescape')
 
 
-class Elf:
-    """A file of sections, symbols and an object's relocations; of a shared object also what the loader maps."""
-
-    def __init__(self, content):
-        self.content = content
-        is_elf = content[:6] == b'\x7fELF\x02\x01'
-        self.kind, self.machine = struct.unpack_from('<HH', content, 16) if is_elf else (0, 0)
-        if self.machine not in MACHINES:
-            raise ValueError(f'is no ELF file for {" or ".join(MACHINES.values())}')
-        segments_at, self.heads_at = struct.unpack_from('<QQ', content, 32)
-        size, segments, _, sections, names = struct.unpack_from('<5H', content, 54)
-        self.segments = [self.segment(segments_at + size * at) for at in range(segments)]
-        self.sections = self.read_sections(sections, names)
-        self.symbols = self.symbols_of(SYMTAB)
-        for section in self.sections:
-            if section.kind == RELA and self.kind == RELOCATABLE:
-                self.sections[section.info].relocations.extend(
-                    Relocation(offset, info & 0xffffffff, self.symbols[info >> 32], addend)
-                    for offset, info, addend in RELOCATION.iter_unpack(section.content))
-
-    def segment(self, at):
-        kind, flags, offset, address, _, in_file, in_memory, _ = SEGMENT.unpack_from(self.content, at)
-        return Segment(kind, flags, offset, address, self.content[offset:offset + in_file], in_memory)
-
-    def read_sections(self, count, names):
-        heads = [HEAD.unpack_from(self.content, self.heads_at + HEAD.size * at) for at in range(count)]
-        contents = [b'' if kind == NOBITS else self.content[offset:offset + size]
-                    for _, kind, _, _, offset, size, *_ in heads]
-        titles = contents[names] if heads else b''
-        return [Section(at, text_at(titles, name), kind, flags, offset, size, link, info, unit, contents[at], [])
-                for at, (name, kind, flags, _, offset, size, link, info, _, unit) in enumerate(heads)]
-
-    def symbols_of(self, kind):
-        table = next((it for it in self.sections if it.kind == kind), None)
-        if table is None:
-            return []
-        names = self.sections[table.link].content
-        return [Symbol(text_at(names, name), 0 if place >= PLACES else place, value, info >> 4 != 0, info & 15 == 3)
-                for name, info, _, place, value, _ in SYMBOL.iter_unpack(table.content)]
+def machine_of(content, kind):
+    """The machine of a file of a kind."""
+    is_elf = content[:6] == b'\x7fELF\x02\x01'
+    found, machine = struct.unpack_from('<HH', content, 16) if is_elf else (0, 0)
+    if machine not in MACHINES or found != kind:
+        raise ValueError(f'is no such ELF file for {" or ".join(MACHINES.values())}')
+    return machine
 
 
-def members(content):
-    """The members of an archive, each with its name."""
-    if content[:8] != b'!<arch>\n':
-        raise ValueError('is no archive')
-    found, long_names, at = [], b'', 8
-    while at + 60 <= len(content):
-        name, size = content[at:at + 16].decode().rstrip(' '), int(content[at + 48:at + 58])
-        body = content[at + 60:at + 60 + size]
-        at += 60 + size + size % 2
-        if name == '//':
-            long_names = body
-        elif name not in ('/', '/SYM64/'):
-            if name[0] == '/':
-                name = long_names[int(name[1:]):].split(b'\n')[0].decode()
-            found.append((name.rstrip('/'), body))
-    return found
+def read_object(content):
+    """The sections of an object, with their relocations, and its symbols."""
+    at, count, names = struct.unpack_from('<40xQ12xHH', content)
+    heads = [Head(*HEAD.unpack_from(content, at + HEAD.size * it)) for it in range(count)]
+    bodies = [bytes(it.size) if it.kind == NOBITS else content[it.offset:it.offset + it.size] for it in heads]
+    sections = [Section(text_at(bodies[names], it.name), it.flags, it.unit, body,
+                        None if it.kind == NOBITS else it.offset, []) for it, body in zip(heads, bodies)]
+    table, texts = next((body, bodies[head.link]) for head, body in zip(heads, bodies) if head.kind == SYMTAB)
+    symbols = [Symbol(text_at(texts, name), sections[place] if 0 < place < PLACES else None, value, info >> 4 != 0,
+                      info & 15 == 3) for name, info, _, place, value, _ in SYMBOL.iter_unpack(table)]
+    for head, body in zip(heads, bodies):
+        if head.kind == RELA:
+            sections[head.info].relocations.extend(
+                Relocation(offset, info & 0xffffffff, symbols[info >> 32], addend)
+                for offset, info, addend in RELOCATION.iter_unpack(body))
+    return sections, symbols
+
+
+def read_segments(content):
+    """What a shared object has the loader map, and where else it has it look."""
+    at, size, count = struct.unpack_from('<32xQ14xHH', content)
+    if (at, size) != (SEGMENTS_AT, SEGMENT.size):
+        raise ValueError('its segments are elsewhere')
+    rows = (SEGMENT.unpack_from(content, at + size * it) for it in range(count))
+    return [Segment(kind, flags, offset, address, in_file, in_memory)
+            for kind, flags, offset, address, _, in_file, in_memory, _ in rows]
