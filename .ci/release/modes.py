@@ -43,27 +43,22 @@ def entries_installed(prefix):
 
 def entries_of_tar(content, before=''):
     with tarfile.open(fileobj=io.BytesIO(content)) as archive:
-        for it in archive:
-            kind = 'link' if it.issym() else 'file' if it.isfile() else 'folder'
-            is_owned = (it.uid, it.gid, it.uname, it.gname) == (0, 0, 'root', 'root')
-            yield kind, before + it.name.removeprefix('./'), it.mode, is_owned
+        return [('link' if it.issym() else 'file' if it.isfile() else 'folder', before + it.name.removeprefix('./'),
+                 it.mode, (it.uid, it.gid, it.uname, it.gname) == (0, 0, 'root', 'root')) for it in archive]
 
 
-def entries_of_deb(path):
-    for part, before in (('--ctrl-tarfile', 'DEBIAN/'), ('--fsys-tarfile', '')):
-        said = subprocess.run(['dpkg-deb', part, path], stdout=subprocess.PIPE, check=True)
-        yield from entries_of_tar(said.stdout, before)
-
-
-def entries_of_wheel(path):
-    with zipfile.ZipFile(path) as archive:
-        for it in archive.infolist():
-            yield 'file', it.filename, it.external_attr >> 16 & 0o7777, True
+def entries_packed(path):
+    if path.suffix == '.whl':
+        with zipfile.ZipFile(path) as archive:
+            return [('file', it.filename, it.external_attr >> 16 & 0o7777, True) for it in archive.infolist()]
+    if path.suffix != '.deb':
+        return entries_of_tar(path.read_bytes())
+    control, files = (subprocess.check_output(['dpkg-deb', it, path]) for it in ('--ctrl-tarfile', '--fsys-tarfile'))
+    return entries_of_tar(control, 'DEBIAN/') + entries_of_tar(files)
 
 
 def faults_packed(path):
-    entries = [*(entries_of_deb(path) if path.suffix == '.deb' else entries_of_wheel(path) if path.suffix == '.whl'
-                 else entries_of_tar(path.read_bytes()))]
+    entries = entries_packed(path)
     faults = [fault_of(*it) for it in entries]
     faults += [f'an entry for {name}' for kind, name, _, _ in entries if path.suffix in ARCHIVES
                and (kind == 'folder' and OURS not in name or name.startswith(('/', '..')))]
