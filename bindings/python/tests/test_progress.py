@@ -98,9 +98,9 @@ class Signals(unittest.TestCase):
             self.addCleanup(signal.signal, number, signal.getsignal(number))
         self.addCleanup(signal.setitimer, signal.ITIMER_REAL, 0)
 
-    def stops(self, call, error):
-        """Whether the alarm stops a call soon."""
-        signal.setitimer(signal.ITIMER_REAL, 0.05)
+    def stops(self, call, error, after=0.05):
+        """Whether the alarm, after so many seconds, stops a call soon."""
+        signal.setitimer(signal.ITIMER_REAL, after)
         begun = time.monotonic()
         self.assertRaises(error, call)
         self.assertLess(time.monotonic() - begun, PATIENCE)
@@ -149,10 +149,11 @@ class Signals(unittest.TestCase):
             raise TimeoutError("late")
 
         signal.signal(signal.SIGALRM, handler)
-        (call, wanted), *_ = calls(60, 2048, 1, progress=None)
+        # (some hundreds of milliseconds, so that the alarm comes first on a fast machine too)
+        (call, wanted), *_ = calls(600, 2048, 1, progress=None)
         with ThreadPoolExecutor(1) as pool:
             found = pool.submit(call)
-            self.stops(found.result, TimeoutError)
+            self.stops(found.result, TimeoutError, 0.02)
             self.assertEqual(found.result(), wanted)
 
 
