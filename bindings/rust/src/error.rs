@@ -170,6 +170,8 @@ mod tests {
             assert_eq!(face::message(number).as_deref(), Some(error.to_string().as_str()));
         }
         assert_eq!(face::message(22), None);
+        // (the header's own words)
+        assert_eq!(Error::of_number(face::OLD_PROCESSOR).to_string(), "The processor is too old");
     }
 
     #[test]
