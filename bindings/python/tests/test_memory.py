@@ -212,6 +212,15 @@ class KeptMemory(unittest.TestCase):
             self.assertTrue(done.wait(60))
         self.assertEqual(len({*memory._free}), 2)
 
+    def test_what_is_raised_in_between_leaves_the_memory_for_the_next_call(self):
+        memories, memory, given = Memories(), Memory(), (b"password", b"somesalt", 1, 64, 1, 16, Type.ID)
+        with counted(memories):
+            hash_secret_raw(*given, memory=memory)
+            with self.assertRaises(KeyboardInterrupt), memory.lent():
+                raise KeyboardInterrupt
+            hash_secret_raw(*given, memory=memory)
+        self.assertEqual((memories.asked, len(memory._free)), (1, 1))
+
     def test_a_copy_has_a_memory_of_its_own(self):
         hasher = PasswordHasher(time_cost=1, memory_cost=64, parallelism=1, keep_memory=True)
         text = hasher.hash("password")
