@@ -215,9 +215,11 @@ static void check_options(void)
     uint8_t tag[LONGEST];
     check_code(hash_raw(&with, &sample, tag), PROVED_ARGON2_OK, "options of an earlier version");
     with = by(4);
+    memset(memory, 1, sizeof memory);
     with.memory = memory + 1;
     with.memory_len = 256 * 1024;
     check_refused(&with, PROVED_ARGON2_WRONG_BLOCKS, "a memory at an odd address");
+    check(memory[1] == 1 && memory[256 * 1024] == 1, "it is as it was");
     with.memory = memory;
     with.memory_len = 256 * 1024 - 1;
     check_refused(&with, PROVED_ARGON2_OUT_OF_MEMORY, "a memory that is a byte short");
