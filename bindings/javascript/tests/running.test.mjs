@@ -73,6 +73,16 @@ test('a memory in use is seen, so that one that is overwritten is too', async ()
     await assertNothingHeld();
 });
 
+test('a memory that a long password has made large is not kept, and a small one is', async () => {
+    await argon2.hash('x'.repeat(2 ** 21), SMALL);
+    const grown = look().bytes;
+    await argon2.hash('password', SMALL);
+    const small = look().bytes;
+    assert.ok(small > grown, 'the large one was used again');
+    await argon2.hash('password', SMALL);
+    assert.equal(look().bytes, small);
+});
+
 test('a signal stops a verification too', async () => {
     const encoded = await argon2.hash('password', { ...SMALL, raw: false });
     const signal = AbortSignal.timeout(5);
