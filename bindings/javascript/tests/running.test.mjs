@@ -1,6 +1,7 @@
 // How calls run: progress, an end on demand, workers, and what is left in memory.
 import assert from 'node:assert/strict';
 import { execFile } from 'node:child_process';
+import { getEventListeners } from 'node:events';
 import { availableParallelism } from 'node:os';
 import { test } from 'node:test';
 import { setTimeout as sleep } from 'node:timers/promises';
@@ -92,9 +93,10 @@ test('a signal stops a verification too', async () => {
     await assertNothingHeld();
 });
 
-test('a signal that comes later does nothing', async () => {
+test('a signal that comes later does nothing, and has no listener of the call', async () => {
     const controller = new AbortController();
     await argon2.hash('password', { ...SMALL, signal: controller.signal });
+    assert.deepEqual(getEventListeners(controller.signal, 'abort'), []);
     controller.abort();
     assert.equal(await argon2.verify(await argon2.hash('password', { ...SMALL, raw: false }), 'password'), true);
 });
