@@ -194,6 +194,7 @@ static void check_without_memory(void)
     const proved_argon2_limits below = {256, 2, 1, 511};
     proved_argon2_settings refused = it.settings;
     proved_argon2_stored stored;
+    proved_argon2_job job;
     uint8_t salt[8], hash[32];
     void *memory;
     size_t len;
@@ -209,9 +210,11 @@ static void check_without_memory(void)
     const uint32_t costly = proved_argon2_verify_encoded_within(REFUSED_TEXT(right), &below);
     const uint32_t costly_with = proved_argon2_verify_encoded_with(&with, REFUSED_TEXT(right));
     const uint32_t no_memory = proved_argon2_memory_new(&refused, &memory, &len);
+    const uint32_t made = proved_argon2_job_make(NULL, 0, it.salt, 8, NULL, 0, NULL, 0, &it.settings, &job);
+    const uint32_t run = made ? made : proved_argon2_job_run(&with, &job, buffer, TAG - 1);
     check(requests == 0 && little == PROVED_ARGON2_LANES_TOO_FEW && shorter == PROVED_ARGON2_WRONG_LENGTH
               && full == PROVED_ARGON2_WRONG_LENGTH && text_of_none == PROVED_ARGON2_TIME_TOO_SMALL
-              && costly == PROVED_ARGON2_TOO_COSTLY && costly_with == costly && no_memory == little,
+              && costly == PROVED_ARGON2_TOO_COSTLY && costly_with == costly && no_memory == little && run == shorter,
           "what is refused asks for nothing");
     const uint32_t fault = proved_argon2_read(bytes_of(no_hash), strlen(no_hash), &stored);
     const uint32_t read = proved_argon2_read(bytes_of(right), strlen(right), &stored);
