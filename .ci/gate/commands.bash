@@ -1,20 +1,28 @@
 # shellcheck shell=bash
 # What the commands of packages.txt and skips.txt use.
-source .ci/shared/common.bash
 PATH=$PATH:/opt/rattle/bin
 
-# The Python that bindings/tests/python takes: one that has python3-argon2, where there is one. Debian's modules are those
-# of /usr/bin/python3, which need not be the first in PATH.
-with_argon2() {
-    local candidate
-    for candidate in python3 /usr/bin/python3; do
-        ! "$candidate" -c 'import argon2' || { echo "$candidate"; return; }
-    done
-    echo python3
-} 2>/dev/null
-
+# Whether the Python that bindings/tests/python takes has modules: one that has python3-argon2, where there is one. Debian's
+# are those of /usr/bin/python3, which need not be the first in PATH.
 python_has() {
-    "$(with_argon2)" -c "import $1"
+    local python=python3
+    "$python" -c 'import argon2' || ! /usr/bin/python3 -c 'import argon2' || python=/usr/bin/python3
+    "$python" -c "import $*"
+}
+
+# A Node that runs the tests of the package.
+has_node() {
+    node -e 'process.getBuiltinModule("fs")'
+}
+
+# Whether the processor runs a build: `has_processor x86-64-v3`.
+has_processor() {
+    [[ $(/lib64/ld-linux-x86-64.so.2 --help) == *"$1 (supported, searched)"* ]]
+}
+
+# Whether a source package of Debian can be had, by the name of one that is made from it.
+has_source() {
+    apt-get -qq --print-uris -o APT::Sandbox::User=root download "$1"
 }
 
 # Whether a copy of this system can be made that is gone afterwards.

@@ -33,19 +33,18 @@ def succeeds(command):
 
 
 def judged(step, said):
-    """What a step skips, as it is in the list, with what is wrong with that, or None."""
-    listed = dict(rows(GATE / 'skips.txt'))
-    listed.update((f'.ci/gate/packages: the package {name}', command)
-                  for kind, name, command in packages() if kind == 'wanted')
+    """What a step skips, with what is wrong with that, or None."""
+    listed = [*rows(GATE / 'skips.txt'), *([re.escape(f'.ci/gate/packages: the package {name}'), command]
+                                           for kind, name, command in packages() if kind == 'wanted')]
     for what, is_all, _ in (it.groups() for it in map(SKIPPED.fullmatch, said) if it):
         check = f'{step}: {what}' + (': all' if is_all else '')
-        fault = f'FAILED: it may not be skipped: {check}'
-        if check in listed:
-            fault = succeeds(listed[check]) and f'FAILED: it is skipped, and {listed[check]} succeeds: {check}'
-        yield check, fault or None
+        found = [(re.fullmatch(pattern, check), command) for pattern, command in listed]
+        commands = [match.expand(command) for match, command in found if match]
+        why = f'it is skipped, and {commands[0]} succeeds' if commands else 'it may not be skipped'
+        yield check, f'{why}: {check}' if all(map(succeeds, commands)) else None
 
 
 if __name__ == '__main__':
     if len(sys.argv) != 2:
         sys.exit(__doc__)
-    print(''.join(f'{fault}\n' for _, fault in judged(sys.argv[1], sys.stdin.read().splitlines()) if fault), end='')
+    print(''.join(f'FAILED: {fault}\n' for _, fault in judged(sys.argv[1], sys.stdin.read().splitlines()) if fault), end='')
