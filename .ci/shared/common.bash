@@ -54,11 +54,6 @@ close() {
     exit $((failed || !passed))
 }
 
-# The processors that the system names as its own and older ones: `has_processor x86-64-v3`.
-has_processor() {
-    [[ $(/lib64/ld-linux-x86-64.so.2 --help) == *"$1 (supported, searched)"* ]]
-}
-
 # What a user has of the repository, without what was built: `copy_tree FOLDER`.
 copy_tree() {
     mkdir -p "$1" && tar --create --exclude=out --exclude=target --exclude=.git . | tar --extract --directory="$1"
@@ -81,12 +76,6 @@ exports() {
 # Whether a shared object has these entries of a kind for the loader, and no others: `has_dynamic FILE KIND NAME..`.
 has_dynamic() {
     diff <(printf '%s\n' "${@:3}") <(readelf -dW "$1" | sed -n "s/.*($2).*\[\(.*\)\]/\1/p")
-}
-
-# Prints what a script says of itself, in the comment at its head.
-usage() {
-    sed -n '2,/^[^#]/s/^#\( \|$\)//p' "$0" >&2
-    exit 2
 }
 
 # Runs a function in the background, once fewer than there are processors run: each run has a limit of time, which it
