@@ -1,6 +1,7 @@
-"""What has changed of crates since all was last found good, or else since git's HEAD, and what it can change."""
+"""What has changed since all was last found good, or else since git's HEAD."""
 
 import os
+import re
 import shutil
 import subprocess
 import tempfile
@@ -14,16 +15,11 @@ GOOD = TOP / 'out/good'  # the files as they were found good, as a tree of git, 
 
 def face_of(text):
     """The lines of a file without comments and without the bodies of its functions, of which no proof of another crate
-    knows, but of constant functions; all lines, where a body has no end."""
+    knows, but of constant functions."""
     lines = text.split('\n')
-    try:
-        functions = [it for it in functions_in(text) if not it.is_const]
-    except ValueError:
-        return lines
-    for it in functions:
-        heads = (at for at in range(it.first, it.last) if lines[at - 1].endswith('{'))
-        opens = (f'{it.indent}{{', f'{it.indent})')
-        body = next((at for at in heads if at == it.first or lines[at - 1].startswith(opens)), it.last)
+    for it in (it for it in functions_in(text) if not it.is_const):
+        opens = re.compile(rf'{it.indent}(\S.*)?\{{')
+        body = next((at for at in range(it.first, it.last) if opens.fullmatch(lines[at - 1])), it.last)
         lines[body:it.last] = [''] * (it.last - body)
     return [line for line in lines if line and not line.lstrip().startswith('//')]
 
@@ -59,45 +55,23 @@ class Changes:
         GOOD.parent.mkdir(exist_ok=True)
         GOOD.write_text(f'{self.now}\n{self.kit}', encoding='utf-8')
 
-
-class Part:
-    """A crate, or bindings/: `changed` are its files that are others."""
-
-    def __init__(self, folder, changes, crate=None):
-        self.folder, self.changes, self.crate = TOP / folder, changes, crate
-        self.name = crate.name if crate else folder
-        self.changed = {it.removeprefix(f'{folder}/') for it in changes.paths if it.startswith(f'{folder}/')}
-        self.has_other_face = any(map(self.is_other_face, self.changed))
+    def of(self, folder, *below):
+        """The paths in a folder of the repository, or in these parts of it."""
+        return [it for it in sorted(self.paths) if it.startswith(tuple(f'{folder}/{part}' for part in below or ('',)))]
 
     def before(self, path):
         """A file's text when all was good."""
-        return git('show', f'{self.changes.base}:{(self.folder / path).relative_to(TOP)}')
+        return git('show', f'{self.base}:{path}')
 
-    def is_other_face(self, path):
-        """Whether a file is another, and other crates can know of it: specs, and code without bodies."""
-        file = self.folder / path
-        now = file.read_text(encoding='utf-8') if path.startswith('src/') and file.exists() else ''
-        return path.startswith('specs/') or path.startswith('src/') and face_of(now) != face_of(self.before(path))
+    def has_other_face(self, folder):
+        """Whether another crate's proofs can know of what has changed of a crate: specs, or code without bodies."""
+        texts = ((self.before(it), (TOP / it).read_text(encoding='utf-8') if (TOP / it).exists() else '')
+                 for it in self.of(folder, 'src/'))
+        return bool(self.of(folder, 'specs/')) or any(face_of(old) != face_of(new) for old, new in texts)
 
-    def has_changed(self, *folders):
-        return self.changes.is_all or any(path.startswith(folders) for path in self.changed)
-
-    def is_affected(self, changed):
-        """Whether its tests may come out otherwise: its code, its input or the code of a crate below is another."""
-        own = self.has_changed('src/', 'data/', 'args', 'stdin', 'stdout', 'status')
-        return own or any(it.has_changed('src/') and it.crate in self.crate.below() for it in changed)
-
-    def is_stale(self, changed):
-        """Whether its proofs may be: its own sources are others, or what it can know of a crate below it."""
-        own = self.has_changed('src/', 'specs/', 'proofs/')
-        return own or any(it.has_other_face and it.crate in self.crate.below() for it in changed)
-
-    def touches(self, edit):
-        """Whether an edit is new, or changes a function whose file or proofs are others."""
-        if edit.is_tried_alone:
-            is_new = f'must-fail/{edit.name}.edit' in self.changed
-        else:
-            is_new = 'mutants.txt' in self.changed and f' {edit.name}\n{edit.text}' not in self.before('mutants.txt')
-        touched = [file.relative_to(self.folder).as_posix() for file, _, _ in edit.pairs]
+    def touches(self, folder, edit):
+        """Whether an edit of a crate is new, or changes a function whose file or proofs are others."""
+        own = self.of(folder, f'must-fail/{edit.name}.edit' if edit.is_tried_alone else 'mutants.txt')
+        touched = [file.relative_to(TOP / folder).as_posix() for file, _, _ in edit.pairs]
         touched += ['/'.join(['proofs', *it.folders, it.name, '']) for it in edit.functions if it]
-        return is_new or any(path.startswith(tuple(touched)) for path in self.changed)
+        return bool(self.of(folder, *touched)) or any(edit.text not in self.before(it) for it in own)

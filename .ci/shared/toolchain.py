@@ -50,6 +50,11 @@ def kept_work(rt, crate):
     return own if os.path.isdir(own) else None
 
 
+def checks_at_once(rt):
+    """As many as memory holds: one of the largest crate was seen to take four fifths of 3 GB."""
+    return max(1, min(rt.processors(), int(rt.free() / 3_000_000_000)))
+
+
 def stamp(*crates):
     """What the sources of crates and of those below them are, in one line: `.ci/shared/stamp` says how it is made."""
     return subprocess.run([f'{HERE}/stamp', *crates], stdout=subprocess.PIPE, check=True, text=True).stdout.strip()
