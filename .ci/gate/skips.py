@@ -1,6 +1,7 @@
 #!/usr/bin/env -S python3 -B
-"""Whether what a step skips may be skipped: a check of skips.txt, or a package that packages.txt has as `wanted`, whose
-command fails. A step says `skipped: CHECK (REASON)`, and `skipped: PART: all N checks (REASON)` of a whole part.
+"""Whether what a step skips may be skipped: a check of skips.txt, a package that packages.txt has as `wanted`, or what says
+that there is none of its programs, where the command fails. A step says `skipped: CHECK (REASON)`, and of a whole part
+`skipped: PART: all N checks (REASON)`.
 
     .ci/gate/skips.py STEP    reads what the step says, and prints a line for each check that may not be skipped
 """
@@ -15,7 +16,10 @@ from shared import TOP  # noqa: E402
 from shared.blocks import lines, rows  # noqa: E402
 
 GATE = TOP / '.ci/gate'
-SKIPPED = re.compile(r'skipped: (.*?)(: all (\d+) checks)?(?: \(.*)?')
+SKIPPED = re.compile(r'skipped: (.*?)(: all (\d+) checks)?(?: \((?:there is no (\S+)\)|.*))?')
+# The programs of a command of packages.txt, and the checks that are named after packages.
+PROGRAM = re.compile(r'(?:^|&& )(\S+)')
+OF_PACKAGES = r'\.ci/(?:gate/packages: the package|release/libargon2:) '
 
 
 def packages():
@@ -34,12 +38,15 @@ def succeeds(command):
 
 def judged(step, said):
     """What a step skips, with what is wrong with that, or None."""
-    listed = [*rows(GATE / 'skips.txt'), *([re.escape(f'.ci/gate/packages: the package {name}'), command]
-                                           for kind, name, command in packages() if kind == 'wanted')]
-    for what, is_all, _ in (it.groups() for it in map(SKIPPED.fullmatch, said) if it):
+    wanted = {name: command for kind, name, command in packages() if kind == 'wanted'}
+    listed = [*rows(GATE / 'skips.txt'), *((OF_PACKAGES + re.escape(name) + '(?: over either library)?', command)
+                                           for name, command in wanted.items())]
+    programs = {it for command in wanted.values() for it in PROGRAM.findall(command)}
+    for what, is_all, _, program in (it.groups() for it in map(SKIPPED.fullmatch, said) if it):
         check = f'{step}: {what}' + (': all' if is_all else '')
         found = [(re.fullmatch(pattern, check), command) for pattern, command in listed]
         commands = [match.expand(command) for match, command in found if match]
+        commands += [f'command -v {program}'] if program in programs else []
         why = f'it is skipped, and {commands[0]} succeeds' if commands else 'it may not be skipped'
         yield check, f'{why}: {check}' if all(map(succeeds, commands)) else None
 
