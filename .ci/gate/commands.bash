@@ -1,6 +1,11 @@
 # shellcheck shell=bash
-# What the commands of packages.txt and skips.txt use.
+# What tells whether a package of packages.txt is there, and what the commands of skips.txt use.
 PATH=$PATH:/opt/rattle/bin
+
+# `has_package PACKAGE PROGRAM`
+has_package() {
+    command -v "$2" || [[ $(dpkg-query --show --showformat '${Status}' "$1") == *' installed' ]]
+}
 
 # Whether the Python that bindings/tests/python takes has modules: one that has python3-argon2, where there is one. Debian's
 # are those of /usr/bin/python3, which need not be the first in PATH.
