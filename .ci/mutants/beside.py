@@ -1,4 +1,5 @@
-"""What a `.ci/gate/proofs` that runs beside this has proved so far, and what its `rt ci` keeps of a crate meanwhile."""
+"""What a `.ci/gate/proofs` that runs beside this has proved so far, and what its `rt ci` keeps of a crate meanwhile. It fills
+a folder: `said` is what `rt ci` has said, and `run` has the number of the process and the folder of temporary files."""
 
 import glob
 import os
@@ -31,37 +32,6 @@ def checks_of(crate, room):
             pass  # it has ended, or is another
 
 
-class Proofs:
-    """The folder that `.ci/gate/proofs` fills: `said` is what `rt ci` has said so far, and `run` has the number of the
-    process and the folder of its temporary files."""
-
-    def __init__(self, folder):
-        self.folder = folder
-
-    def text_of(self, name):
-        file = self.folder / name
-        return file.read_text(encoding='utf-8').strip() if file.exists() else ''
-
-    def wait_for(self, crate, below, has_seed, to):
-        """Waits until the crates below are proved and, where `rt ci` tries must-fail edits, until a copy of what it keeps
-        of the crate is in a folder, or none will come. Gives a crate that is not proved, or None."""
-        first = None
-        while True:
-            process, _, room = self.text_of('run').partition(' ')
-            # (asked first, since what is said is whole then)
-            has_ended = bool(process) and not os.path.exists(f'/proc/{process}')
-            said = dict(SAID.findall(self.text_of('said')))
-            refused = [it for it in (*below, crate) if said.get(it) == 'NOT PROVED']
-            lacking = [it for it in below if it not in said]
-            for check in checks_of(crate, room) if has_seed else ():
-                first = first or check
-                # The first check proves the crate, over the seed that others then copy or take themselves.
-                has_seed = has_seed and (check == first or not copy_seed(check[0], to))
-            if refused or has_ended or not lacking and not has_seed:
-                return next(iter(refused + lacking), None)
-            time.sleep(PAUSE)
-
-
 def copy_seed(kept, to):
     """Whether it could be copied, before it is removed. A release of the kit tries each edit over a copy of the seed."""
     seed = f'{os.path.dirname(kept)}/seed'
@@ -70,3 +40,26 @@ def copy_seed(kept, to):
     except (OSError, shutil.Error):
         shutil.rmtree(to, ignore_errors=True)
     return os.path.isdir(to)
+
+
+def wait_for(proofs, crate, below, has_seed, to):
+    """Waits until the crates below are proved and, where `rt ci` tries must-fail edits, until a copy of what it keeps of the
+    crate is in a folder, or none will come. Gives a crate that is not proved, or None."""
+    def text_of(name):
+        return (proofs / name).read_text(encoding='utf-8').strip() if (proofs / name).exists() else ''
+
+    first = None
+    while True:
+        process, _, room = text_of('run').partition(' ')
+        # (asked first, since what is said is whole then)
+        has_ended = bool(process) and not os.path.exists(f'/proc/{process}')
+        said = dict(SAID.findall(text_of('said')))
+        refused = [it for it in (*below, crate) if said.get(it) == 'NOT PROVED']
+        lacking = [it for it in below if it not in said]
+        for check in checks_of(crate, room) if has_seed else ():
+            first = first or check
+            # The first check proves the crate, over the seed that others then copy or take themselves.
+            has_seed = has_seed and (check == first or not copy_seed(check[0], to))
+        if refused or has_ended or not lacking and not has_seed:
+            return next(iter(refused + lacking), None)
+        time.sleep(PAUSE)

@@ -2,10 +2,10 @@
 
 import re
 
-VERDICT = re.compile(r'^(?:fn|struct|enum|impl|trait) (\S+): (.*)$')
+VERDICT = re.compile(r'^(?:fn|struct|enum|impl|trait) (\S+): (.*)$', re.M)
 BY_A_CALL = re.compile(r'no proof: it calls `|not proved; it waits for ')
-MESSAGE = re.compile(r'^(?:\./)?(\S+?):(\d+):\d+: (error|warning|note)(?:\[[\w-]+\])?: (.*)$')
-UNPROVED = re.compile(r'^note: \S+: it is not proved that .*?\(`([^`]+)`\)')
+ERROR = re.compile(r'^(?:\./)?(\S+?):(\d+):\d+: error(?:\[[\w-]+\])?: (.*(?:\n  .*)*)', re.M)
+UNPROVED = re.compile(r'^note: \S+: it is not proved that .*?\(`([^`]+)`\)', re.M)
 SEARCHED = re.compile(r'`search` did not prove (`[^`]+`(?:, `[^`]+`)*)')
 # How a message begins where a proof file names what an edit took away.
 NAMES = re.compile(r'has no field|is not in scope|has no `|was not admitted|^(?:`[^`]*`: )?record `[^`]*`')
@@ -53,36 +53,26 @@ def can_be_copied(edit, folder):
 
 
 def texts_with(copies, folder):
-    """The texts of a crate's files with copies in them, by their paths in the crate, and the lines of each copy."""
-    texts, spans = {path: text for copy in copies for path, text in copy.proofs(folder).items()}, {}
-    for copy in sorted(copies, key=lambda it: it.function.last):
+    """The texts of a crate's files with copies in them, by their paths in the crate."""
+    texts = {path: text for copy in copies for path, text in copy.proofs(folder).items()}
+    for copy in sorted(copies, key=lambda it: -it.function.last):
         path = copy.module.file.relative_to(folder).as_posix()
         lines = texts.get(path, copy.module.text).split('\n')
-        at = copy.function.last + len(lines) - copy.module.text.count('\n') - 1
-        new = ['', *copy.text.split('\n')]
-        texts[path] = '\n'.join([*lines[:at], *new, *lines[at:]])
-        spans[copy] = path, at + 1, at + len(new)
-    return texts, spans
+        lines[copy.function.last:copy.function.last] = ['', *copy.text.split('\n')]
+        texts[path] = '\n'.join(lines)
+    return texts
 
 
 class Report:
     """What a check wrote: the verdict of each function, and its errors, each joined to one line."""
 
     def __init__(self, output):
-        lines, notes, messages = output.rstrip('\n').split('\n'), [], []
-        self.last, self.verdicts, self.unproved = lines[-1], {}, {}
+        told = VERDICT.split(output)  # the notes on a function stand right above its verdict
+        self.verdicts = dict(zip(told[1::3], told[2::3]))
+        self.unproved = {place: UNPROVED.findall(notes) for notes, place in zip(told[::3], told[1::3])}
+        self.errors = [(path, int(line), re.sub(r'\n +', ' ', said)) for path, line, said in ERROR.findall(output)]
+        self.last = output.rstrip('\n').rpartition('\n')[2]
         self.is_told = self.last.startswith('logic=')
-        for line in lines:
-            found, verdict = MESSAGE.match(line), VERDICT.match(line)
-            if verdict:  # the notes on a function stand right above its verdict
-                self.verdicts[verdict[1]], self.unproved[verdict[1]], notes = verdict[2], notes, []
-            notes += UNPROVED.findall(line)
-            if found:
-                path, number, kind, said = found.groups()
-                messages.append([path, int(number), said, kind])
-            elif line.startswith('  ') and messages:
-                messages[-1][2] += ' ' + line.strip()
-        self.errors = [tuple(it[:3]) for it in messages if it[3] == 'error']
 
     def first_error(self):
         return '{}:{}: {}'.format(*self.errors[0]) if self.errors else self.last

@@ -2,6 +2,7 @@
 
 import contextlib
 import os
+import re
 import shutil
 import signal
 import subprocess
@@ -9,7 +10,7 @@ import tempfile
 import threading
 from pathlib import Path
 
-from beside import linked
+from beside import linked, wait_for
 from copies import Copy, Report, can_be_copied, clause_of, texts_with
 from shared.toolchain import checks_at_once, kept_work, load_rt
 
@@ -66,7 +67,7 @@ class Crate:
             # `rt ci` keeps what it proves of a crate where it tries more than one edit of it.
             has_seed = sum(edit.is_tried_alone for edit in self.found) > 1
             below = [it.name for it in self.crate.below()]
-            lacking = self.proofs.wait_for(self.crate.name, below, has_seed, self.kept)
+            lacking = wait_for(self.proofs, self.crate.name, below, has_seed, self.kept)
             if lacking:
                 return f'{lacking} is not proved'
         elif kept_work(rt, self.crate):
@@ -95,9 +96,9 @@ class Crate:
 
     def judged_in_copies(self, copies):
         """Judges copies by one check, and those that compile by another, where some do not."""
-        texts, spans = texts_with(copies, self.folder)
+        texts = texts_with(copies, self.folder)
         report = self.checked(texts)
-        blamed = {} if report.is_told else blamed_by(report, spans)
+        blamed = {} if report.is_told else blamed_by(report, copies, texts)
         if blamed:
             well = [it for it in copies if it not in blamed]
             return [*((it.edit, False, f'it does not compile: {why}') for it, why in blamed.items()),
@@ -132,10 +133,13 @@ def write(folder, texts):
         (folder / path).write_text(text, encoding='utf-8')
 
 
-def blamed_by(report, spans):
-    """The copies in whose lines the compiler finds faults."""
-    return {copy: why for path, line, why in reversed(report.errors)
-            for copy, (file, first, last) in spans.items() if file == path and first <= line <= last}
+def blamed_by(report, copies, texts):
+    """The copies in which the compiler finds faults, each by the name that stands above."""
+    found = {}
+    for path, line, why in report.errors:
+        names = re.findall(r'\bfn (\w+)', '\n'.join(texts.get(path, '').split('\n')[:line]))
+        found.setdefault(names[-1] if names else None, why)
+    return {copy: found[copy.name] for copy in copies if copy.name in found}
 
 
 def fault_of_the_rest(report, copies):

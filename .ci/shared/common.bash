@@ -1,5 +1,8 @@
 # shellcheck shell=bash
 # What scripts share: counted checks, each of which is shown where it fails, and functions side by side.
+# shellcheck source=bindings/tests/common.bash
+source bindings/tests/common.bash
+exec </dev/null # no check waits for what a terminal has
 
 passed=0
 failed=0
@@ -27,25 +30,11 @@ check() {
     if said=$("$@" 2>&1); then pass; else fail "$name${said:+$'\n'$said}"; fi
 }
 
-# `refuses STATUS TEXT COMMAND..`: whether a command ends with this status and says this on standard error.
-refuses() {
-    local wanted=$1 text=$2 status=0 said
-    shift 2
-    said=$("$@" 2>&1 >/dev/null </dev/null) || status=$?
-    printf '%s (status %s)\n' "$said" "$status"
-    [[ $status == "$wanted" && $said == *"$text"* ]]
-}
-
-# The same, where nothing else is said.
+# As `refuses` of bindings/tests/common.bash, where nothing else is said.
 refuses_in_a_line() {
     local said
     said=$(refuses "$@") || { echo "$said" && return 1; }
     [[ $said != *$'\n'* ]] || { echo "more than a line: $said" && return 1; }
-}
-
-# `check_with COMMAND NAME COMMAND..`: a check, where the first command is there.
-check_with() {
-    if command -v "$1" >/dev/null; then check "${@:2}"; else skip "$2" "there is no $1"; fi
 }
 
 # The script's last line and its status. One in which nothing passed fails.
