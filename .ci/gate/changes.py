@@ -2,9 +2,7 @@
 
 import os
 import re
-import shutil
 import subprocess
-import tempfile
 
 from shared import TOP
 from shared.sources import functions_in
@@ -31,11 +29,10 @@ def git(*words, **how):
 
 def tree_of_now():
     """All files as they are, as a tree of git: those too that it does not know yet."""
-    with tempfile.TemporaryDirectory() as room:
-        index = shutil.copy(TOP / git('rev-parse', '--git-path', 'index').strip(), room)
-        how = {'env': {**os.environ, 'GIT_INDEX_FILE': index}}
-        git('add', '--all', **how)
-        return git('write-tree', **how).strip()
+    GOOD.parent.mkdir(exist_ok=True)
+    how = {'env': {**os.environ, 'GIT_INDEX_FILE': str(GOOD.with_name('index'))}}
+    git('add', '--all', **how)
+    return git('write-tree', **how).strip()
 
 
 class Changes:
@@ -52,7 +49,6 @@ class Changes:
 
     def keep(self):
         """Notes that all is good as it was when this began."""
-        GOOD.parent.mkdir(exist_ok=True)
         GOOD.write_text(f'{self.now}\n{self.kit}', encoding='utf-8')
 
     def of(self, folder, *below):
