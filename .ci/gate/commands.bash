@@ -7,8 +7,8 @@ has_package() {
     command -v "$2" || [[ $(dpkg-query --show --showformat '${Status}' "$1") == *' installed' ]]
 }
 
-# Whether the Python that bindings/tests/python takes has modules: one that has python3-argon2, where there is one. Debian's
-# are those of /usr/bin/python3, which need not be the first in PATH.
+# Whether the Python that bindings/tests/python takes has modules: one that has python3-argon2, where there is one.
+# Debian's are those of /usr/bin/python3, which need not be the first in PATH.
 python_has() {
     local python=python3
     "$python" -c 'import argon2' || ! /usr/bin/python3 -c 'import argon2' || python=/usr/bin/python3

@@ -1,6 +1,6 @@
 #!/usr/bin/env -S python3 -B
-"""Whether what a step skips may be skipped: a check of skips.txt whose command fails, or a package that packages.txt has as
-`wanted`, or what says that there is none of its programs. A step says `skipped: CHECK (REASON)`, and of a whole part
+"""Whether what a step skips may be skipped: a check of skips.txt whose command fails, a package that packages.txt has
+as `wanted`, or what says that there is none of its programs. A step says `skipped: CHECK (REASON)`, and of a whole part
 `skipped: PART: all N checks (REASON)`.
 
     .ci/gate/skips.py STEP    reads what the step says, and prints a line for each check that may not be skipped
@@ -51,4 +51,5 @@ def judged(step, said):
 if __name__ == '__main__':
     if len(sys.argv) != 2:
         sys.exit(__doc__)
-    print(''.join(f'FAILED: {fault}\n' for _, fault in judged(sys.argv[1], sys.stdin.read().splitlines()) if fault), end='')
+    faults = [fault for _, fault in judged(sys.argv[1], sys.stdin.read().splitlines()) if fault]
+    print(''.join(f'FAILED: {fault}\n' for fault in faults), end='')

@@ -23,8 +23,8 @@ BEGUN = time.monotonic()
 
 class Step(threading.Thread):
     """A command, which begins when the steps that it needs have ended, and is left out where one of them has failed.
-    Each line that it says is shown behind its name, of those that `quiet` finds the errors alone, where it fails. It has
-    to count what passed, or else its status counts."""
+    Each line that it says is shown behind its name, of those that `quiet` finds the errors alone, where it fails. It
+    has to count what passed, or else its status counts."""
 
     def __init__(self, name, command=None, needed=(), folder=TOP, is_counted=True, quiet=None):
         super().__init__(name=name)

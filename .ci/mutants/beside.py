@@ -1,5 +1,6 @@
-"""What a `.ci/gate/proofs` that runs beside this has proved so far, and what its `rt ci` keeps of a crate meanwhile. It fills
-a folder: `said` is what `rt ci` has said, and `run` has the number of the process and the folder of temporary files."""
+"""What a `.ci/gate/proofs` that runs beside this has proved so far, and what its `rt ci` keeps of a crate meanwhile. It
+fills a folder: `said` is what `rt ci` says, and `run` has the number of the process and the folder of its temporary
+files."""
 
 import glob
 import os
@@ -21,7 +22,7 @@ def linked(folder, to):
 
 
 def checks_of(crate, room):
-    """The checks that run over what `rt ci` keeps of a crate: the folder where that is, and the one in which it runs."""
+    """The checks that run over what `rt ci` keeps of a crate: the folder with that, and the one in which it runs."""
     for process in glob.glob('/proc/[0-9]*') if glob.glob(f'{room}/rt-edits-*') else ():
         try:
             words = Path(process, 'cmdline').read_text(encoding='utf-8', errors='replace').split('\0')
@@ -33,7 +34,7 @@ def checks_of(crate, room):
 
 
 def copy_seed(kept, to):
-    """Whether it could be copied, before it is removed. A release of the kit tries each edit over a copy of the seed."""
+    """Whether it could be copied before it is removed. A release of the kit tries each edit over a copy of the seed."""
     seed = f'{os.path.dirname(kept)}/seed'
     try:
         linked(seed if os.path.isdir(seed) else kept, to)
@@ -43,8 +44,8 @@ def copy_seed(kept, to):
 
 
 def wait_for(proofs, crate, below, has_seed, to):
-    """Waits until the crates below are proved and, where `rt ci` tries must-fail edits, until a copy of what it keeps of the
-    crate is in a folder, or none will come. Gives a crate that is not proved, or None."""
+    """Waits until the crates below are proved and, where `rt ci` tries must-fail edits, until a copy of what it keeps of
+    the crate is in a folder, or none will come. Gives a crate that is not proved, or None."""
     def text_of(name):
         return (proofs / name).read_text(encoding='utf-8').strip() if (proofs / name).exists() else ''
 

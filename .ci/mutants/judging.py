@@ -34,8 +34,8 @@ class Crate:
         self.folder, self.kept = Path(crate.folder), f'{room}/{crate.name}'
 
     def checked(self, texts, kept=None, turn=turns):
-        """What the checker says of a copy of the crate with these texts in it, over the work in `kept`, which it adds to,
-        or else over a copy of what is kept."""
+        """What the checker says of a copy of the crate with these texts in it, over the work in `kept`, which it adds
+        to, or else over a copy of what is kept."""
         with tempfile.TemporaryDirectory(dir=room) as at:
             for part in (it for it in rt.rtlib.PARTS if (self.folder / it).is_dir()):
                 shutil.copytree(self.folder / part, f'{at}/{part}')
@@ -78,8 +78,8 @@ class Crate:
         return None if os.path.isdir(self.kept) else self.prove()
 
     def prove(self):
-        """Proves the crate without its mutants, and keeps that in its folder where nothing is. Gives the crate's fault, or
-        None."""
+        """Proves the crate without its mutants, and keeps that in its folder where nothing is. Gives the crate's fault,
+        or None."""
         say(f'{self.crate.name}: is proved from nothing')
         # Those who build the archive for C wait for what is kept of its crate.
         turn = contextlib.nullcontext() if self.crate.is_static else turns
