@@ -2,7 +2,6 @@
 # What scripts share: counted checks, each of which is shown where it fails, and functions side by side.
 # shellcheck source=bindings/tests/common.bash
 source bindings/tests/common.bash
-exec </dev/null # no check waits for what a terminal has
 
 passed=0
 failed=0

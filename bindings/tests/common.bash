@@ -21,7 +21,7 @@ skip() {
 refuses() {
     local wanted=$1 text=$2 status=0 said
     shift 2
-    said=$("$@" 2>&1 >/dev/null) || status=$?
+    said=$("$@" 2>&1 >/dev/null </dev/null) || status=$?
     printf '%s (status %s)\n' "$said" "$status"
     [[ $status == "$wanted" && $said == *"$text"* ]]
 }
