@@ -3,6 +3,7 @@
 import os
 import re
 import subprocess
+import tempfile
 
 from shared import TOP
 from shared.sources import functions_in
@@ -29,10 +30,10 @@ def git(*words, **how):
 
 def tree_of_now():
     """All files as they are, as a tree of git: those too that it does not know yet."""
-    GOOD.parent.mkdir(exist_ok=True)
-    how = {'env': {**os.environ, 'GIT_INDEX_FILE': str(GOOD.with_name('index'))}}
-    git('add', '--all', **how)
-    return git('write-tree', **how).strip()
+    with tempfile.TemporaryDirectory() as room:
+        how = {'env': {**os.environ, 'GIT_INDEX_FILE': f'{room}/index'}}
+        git('add', '--all', **how)
+        return git('write-tree', **how).strip()
 
 
 class Changes:
@@ -49,6 +50,7 @@ class Changes:
 
     def keep(self):
         """Notes that all is good as it was when this began."""
+        GOOD.parent.mkdir(exist_ok=True)
         GOOD.write_text(f'{self.now}\n{self.kit}', encoding='utf-8')
 
     def of(self, folder, *below):
