@@ -1,17 +1,17 @@
-/* Makes calls of the library for C over secrets that are marked as undefined. Memcheck carries the mark through all that
-   is computed from them, and reports each branch and each address that depends on it. Lengths, the salt, the associated
-   data, the settings and what is before the hash in a text are public, and stay defined.
+/* Makes calls of the library for C over secrets that are marked as undefined. Memcheck carries the mark through all
+   that is computed from them, and reports each branch and each address that depends on it. Lengths, the salt, the
+   associated data, the settings and what is before the hash in a text are public, and stay defined.
 
    usage: valgrind --tool=memcheck calls MEMORY <QUESTIONS >ANSWERS
 
-   MEMORY is `fresh` for the plain calls, which compute a hash in one call of what is proved, and `within` where a text is
-   verified within limits. For the calls with options it is `kept` over a memory that is kept from question to question,
-   `told` where they take their steps in this thread and tell how far they are, `threads` by four threads, and `lent` over a
-   memory of this program, which runs their tasks, one for each lane.
+   MEMORY is `fresh` for the plain calls, which compute a hash in one call of what is proved, and `within` where a text
+   is verified within limits. For the calls with options it is `kept` over a memory that is kept from question to
+   question, `told` where they take their steps in this thread and tell how far they are, `threads` by four threads, and
+   `lent` over a memory of this program, which runs their tasks, one for each lane.
 
-   A question is a `struct question`, and then fields behind their lengths. An answer is a `struct answer`, and then what was
-   written, and which of its bits are undefined. They are bytes as they stand in memory, so that to read and write them takes
-   the same instructions for all secrets (aarch64). With IS_LEAKING a branch looks at the password. */
+   A question is a `struct question`, and then fields behind their lengths. An answer is a `struct answer`, then what
+   was written, and which of its bits are undefined. They are bytes as they stand in memory, so that to read and write
+   them takes the same instructions for all secrets (aarch64). Without valgrind nothing is marked (wiping). */
 #include "proved_argon2.h"
 
 #include <stdbool.h>
@@ -21,13 +21,10 @@
 #include <unistd.h>
 #include <valgrind/memcheck.h>
 
-#ifndef IS_LEAKING
-#define IS_LEAKING 0
-#endif
-
 enum { ROOM = 4096, MAX_BLOCKS = 4096, FIELDS = 5 };
+enum { HASH_RAW, HASH_ENCODED, VERIFY_RAW, VERIFY_ENCODED, PASSWORD_HASH, PASSWORD_VERIFY, HASH_OVER, VERIFY_OVER };
 
-/* The call, by its place in CALLS; whether secrets are hidden; how much of what is verified is open nevertheless. */
+/* The call; whether secrets are hidden; how much of what is verified is open nevertheless. */
 static struct question {
   uint32_t call, is_hiding, open;
   proved_argon2_settings settings;
@@ -38,13 +35,13 @@ static struct bytes {
   uint8_t at[ROOM];
 } fields[FIELDS], out;
 
-enum { PASSWORD, SALT, SECRET, AD, GIVEN }; /* which field is which: the last is the hash or the text that is verified */
+enum { PASSWORD, SALT, SECRET, AD, GIVEN }; /* the fields: the last is the hash or the text that is verified */
 
 static struct answer {
   uint32_t reports, undefined, code, length;
 } answer;
 
-static void stop(const char *why) {
+static _Noreturn void stop(const char *why) {
   fprintf(stderr, "%s\n", why);
   exit(EXIT_FAILURE);
 }
@@ -97,80 +94,34 @@ static const struct memory *memory;
 /* ---- the calls */
 
 #define IN(field) fields[field].at, fields[field].length
+#define TEXT(field) (const char *)fields[field].at
+#define OUT(room) out.at, out.length = (room)
 #define INPUTS IN(PASSWORD), IN(SALT), IN(SECRET), IN(AD), &question.settings
 #define OF_TEXT IN(GIVEN), IN(PASSWORD), IN(SECRET), IN(AD)
 /* A call of the library: with options, or plain. */
 #define CALL(name, ...)                                                                                               \
   (memory->options ? proved_argon2_##name##_with(memory->options, __VA_ARGS__) : proved_argon2_##name(__VA_ARGS__))
 
-static uint32_t hash_raw(void) {
-  out.length = question.settings.hash_length;
-  return CALL(hash_raw, INPUTS, out.at, out.length);
-}
-
-static uint32_t hash_encoded(void) {
-  out.length = ROOM;
-  return CALL(hash_encoded, INPUTS, out.at, out.length);
-}
-
-static uint32_t verify_raw(void) { return CALL(verify_raw, INPUTS, IN(GIVEN)); }
-
-static uint32_t verify_encoded(void) {
-  return memory->limits ? proved_argon2_verify_encoded_within(OF_TEXT, memory->limits) : CALL(verify_encoded, OF_TEXT);
-}
-
-static uint32_t password_hash(void) {
-  out.length = ROOM;
-  return proved_argon2_password_hash((char *)out.at, (char *)fields[PASSWORD].at, fields[PASSWORD].length);
-}
-
-static uint32_t password_verify(void) {
-  return proved_argon2_password_verify((char *)fields[GIVEN].at, (char *)fields[PASSWORD].at, fields[PASSWORD].length);
-}
-
-/* ---- stand-ins: comparisons of what is verified with the associated data, which is not hidden */
-
-/* Gathers all differences, as the library does. */
-static __attribute__((noinline)) bool are_equal(const uint8_t *one, const uint8_t *other, size_t length) {
-  unsigned difference = 0;
-  for (size_t i = 0; i < length; i++) {
-    difference |= (unsigned)(one[i] ^ other[i]);
+static uint32_t make_call(void) {
+  static uint8_t tag[ROOM];
+  const uint32_t length = question.settings.hash_length;
+  const size_t blocks = proved_argon2_memory_len(&question.settings) / sizeof *lent;
+  switch (question.call) {
+  case HASH_RAW: return CALL(hash_raw, INPUTS, OUT(length));
+  case HASH_ENCODED: return CALL(hash_encoded, INPUTS, OUT(ROOM));
+  case VERIFY_RAW: return CALL(verify_raw, INPUTS, IN(GIVEN));
+  case VERIFY_ENCODED:
+    return memory->limits ? proved_argon2_verify_encoded_within(OF_TEXT, memory->limits)
+                          : CALL(verify_encoded, OF_TEXT);
+  case PASSWORD_HASH:
+    out.length = ROOM;
+    return proved_argon2_password_hash((char *)out.at, TEXT(PASSWORD), fields[PASSWORD].length);
+  case PASSWORD_VERIFY: return proved_argon2_password_verify(TEXT(GIVEN), TEXT(PASSWORD), fields[PASSWORD].length);
+  case HASH_OVER: return proved_argon2_hash_over(INPUTS, lent, blocks, OUT(length));
+  case VERIFY_OVER: return proved_argon2_verify_over(INPUTS, lent, blocks, IN(GIVEN), tag, length);
+  default: stop("there is no such call");
   }
-  return (difference - 1u) >> 31;
 }
-
-static __attribute__((noinline)) bool are_equal_to_a_difference(const uint8_t *one, const uint8_t *other, size_t length) {
-  for (size_t i = 0; i < length; i++) {
-    if (one[i] != other[i]) return false;
-  }
-  return true;
-}
-
-/* Looks at a byte where the hashes match. */
-static __attribute__((noinline)) bool are_equal_and_odd(const uint8_t *one, const uint8_t *other, size_t length) {
-  static volatile unsigned odd;
-  const bool is_equal = are_equal(one, other, length);
-  if (is_equal && (one[0] & 1) != 0) odd++;
-  return is_equal;
-}
-
-#define COMPARES(name, comparison)                                                                                    \
-  static uint32_t name(void) {                                                                                        \
-    const uint8_t *const one = fields[GIVEN].at, *const other = fields[AD].at;                                        \
-    const size_t length = fields[GIVEN].length;                                                                       \
-    return PROVED_ARGON2_MISMATCH * (1 - (uint32_t)(comparison));                                                     \
-  }
-COMPARES(to_the_end, are_equal(one, other, length))
-COMPARES(to_the_first_difference, are_equal_to_a_difference(one, other, length))
-COMPARES(at_both_ends_first,
-         ((one[0] ^ other[0]) | (one[length - 1] ^ other[length - 1])) == 0 && are_equal(one, other, length))
-COMPARES(by_halves, are_equal(one, other, length / 2) && are_equal(one, other, length))
-COMPARES(by_memcmp, memcmp(one, other, length) == 0)
-COMPARES(looking_at_a_match, are_equal_and_odd(one, other, length))
-
-static uint32_t (*const CALLS[])(void) = {hash_raw,      hash_encoded,    verify_raw, verify_encoded,
-                                          password_hash, password_verify, to_the_end, to_the_first_difference,
-                                          at_both_ends_first, by_halves,  by_memcmp,  looking_at_a_match};
 
 /* ---- questions and answers */
 
@@ -211,7 +162,6 @@ static void show_own_memory(void) {
 }
 
 int main(int argc, char **argv) {
-  static volatile unsigned odd;
   for (size_t i = 0; argc == 2 && i < sizeof MEMORIES / sizeof MEMORIES[0]; i++) {
     if (strcmp(argv[1], MEMORIES[i].name) == 0) memory = &MEMORIES[i];
   }
@@ -225,12 +175,13 @@ int main(int argc, char **argv) {
   while (fread(&question, sizeof question, 1, stdin) == 1) {
     read_fields();
     const unsigned before = VALGRIND_COUNT_ERRORS;
-    answer.code = CALLS[question.call]();
+    answer.code = make_call();
     answer.reports = VALGRIND_COUNT_ERRORS - before;
-    if (IS_LEAKING && (fields[PASSWORD].at[0] & 1) != 0) odd++;
     write_answer();
   }
   proved_argon2_memory_free(OF_ITS_OWN.memory, OF_ITS_OWN.memory_len);
   if (memory->options == &OF_THE_CALLER && runs == 0) stop("no task was run here");
   if (memory->options == &TOLD && tellings == 0) stop("nothing was told here");
+  fflush(stdout);
+  _exit(EXIT_SUCCESS); /* (where left.c looks: exit does not call it) */
 }

@@ -3,8 +3,9 @@ ors, products, shifts, rotations and shuffles, moves, comparisons and jumps. ARM
 not depend on what they compute with ("Data Independent Timing"), but of loads and stores, which take no longer for some data."""
 
 import re
-import subprocess
 from collections import Counter
+
+from leak import run
 
 X86 = re.compile(
     r'v?p((add|sub)[bdwq]|and|xor|or|mul(udq|ld)|maddwd|(max|min)ud|cmp(eq|gt)[bdq]|s[rl][la]v?[dwq]|shuf[bd]|shuf[lh]w|alignr'
@@ -32,15 +33,12 @@ OF_BUILD = re.compile(r'^proved_x86_64_v[23]_')
 
 
 def instructions(path, prefix=''):
-    """The instructions of what is proved in an object or an archive of some: how many of each kind each function has."""
-    found, function, is_proved = Counter(), None, False
-    said = subprocess.run([f'{prefix}objdump', '-d', '--no-show-raw-insn', path], stdout=subprocess.PIPE, text=True, check=True)
-    for line in said.stdout.splitlines():
-        if ' file format ' in line:  # (nothing proves what is C)
-            is_proved = not re.search('driver|calls', line.rpartition('/')[2])
-        elif re.match(r'[0-9a-f]+ <.*>:$', line):
+    """The instructions of what is proved, which is an object: how many of each kind each function has."""
+    found, function = Counter(), None
+    for line in run(f'{prefix}objdump', '-d', '--no-show-raw-insn', path).splitlines():
+        if re.match(r'[0-9a-f]+ <.*>:$', line):
             function = OF_BUILD.sub('proved_argon2_', line[line.index('<') + 1:-2].rpartition('::')[2])
-        elif is_proved and re.match(r' +[0-9a-f]+:', line):
+        elif re.match(r' +[0-9a-f]+:', line):
             found[function, 'nopw' if ' nopw' in line else line.split()[1]] += 1
     assert any(PRODUCT.fullmatch(kind) for _, kind in found), f'{path} has no product of 32 bits'
     return found

@@ -1,11 +1,12 @@
 #!/usr/bin/env python3
 """Plants a leak into functions of an object that a library is made of, so that a check can be seen to refuse it:
-`.ci/secrets/constant_time` or, where nothing is overwritten, `crates/argon2_c/c/run`. A function goes on to give what it gives.
+`.ci/secrets/constant_time`, `.ci/secrets/aarch64` or, where nothing is overwritten, `crates/argon2_c/c/run`. A
+function goes on to give what it gives. The scripts here also build their programs in C by this.
 
     leak.py OBJECT LEAK TO
 
 A leak is machine code that is run before or behind the function's own. It is put behind that code, in the function's
-section, and the function's first instructions become a jump to it. For ARM64 it is an instruction in the place of the first.
+section, and the function's first instructions become a jump to it.
 """
 import re
 import struct
@@ -14,6 +15,9 @@ import sys
 import tempfile
 from pathlib import Path
 
+HERE, TOP = Path(__file__).resolve().parent, Path(__file__).resolve().parents[2]
+FACE, DRIVER, CALLS = TOP / 'crates/argon2_c', TOP / 'bindings/c', HERE / 'calls.c'
+FLAGS = [*'-std=gnu11 -D_GNU_SOURCE -O2 -Wall -Wextra -Werror -pthread -I'.split(), FACE / 'include', '-I', DRIVER]
 COMPRESSION = 'argon2_blocks::block::kernel::fill_words'
 # The functions, and the code around what they were. The numbers of bytes say where C passes an argument.
 LEAKS = {
@@ -22,19 +26,19 @@ LEAKS = {
         "argon2_blocks::blake2b::wipe::<i8,20'core::clone::U8Clone{}>",
         "argon2_blocks::blake2b::wipe::<i64,21'core::clone::U64Clone{}>",
         'argon2_fill::stack::wipe_stack'), 'ret'),
-    # for ARM64, where only the list of instructions is compared
-    'division': {COMPRESSION: 'udiv x0, x0, x1'},
+    # for ARM64: divides where a word of the first block that is read is odd, which is the first argument
+    'branch_to_a_division': {COMPRESSION: 'ldr x9, [x0]; tbz x9, 0, 1f; udiv x9, x0, x1; 1:'},
     # each block that is written adds one to a number where c/sizes.c has it
     'blocks_are_counted': {COMPRESSION: 'push %rax; mov $0x10000000, %eax; lock incq (%rax); pop %rax'},
     # the block that was written is the third argument
     'branch_on_a_word': {COMPRESSION: 'push %rdx; call original; pop %rdx; testb $1, (%rdx); je 1f; 1: ret'},
     # the blocks that are read are the first two arguments, of which one is a reference's, at a multiple of 64
     'branch_on_a_reference': {COMPRESSION: 'mov %rdi, %rax; xor %rsi, %rax; test $0x400, %eax; je original'},
-    # the tag is the fourth argument, and its length is the fifth; any bytes are a table, and what is looked up is kept, or
-    # valgrind would leave the look-up out
+    # the tag is the fourth argument, and its length is the fifth; any bytes are a table, and what is looked up is kept,
+    # or valgrind would leave the look-up out
     'table_of_letters': {'proved_argon2_encode': """
         test %r8, %r8; je original
-        movzbl (%rcx), %eax; lea start(%rip), %r10; movzbl (%r10, %rax), %eax; movb %al, -8(%rsp)"""},
+        movzbl (%rcx), %eax; lea rest(%rip), %r10; movzbl (%r10, %rax), %eax; movb %al, -8(%rsp)"""},
     # as before, and divides by what it has of the tag
     'division_by_a_byte': {'proved_argon2_encode': """
         test %r8, %r8; je original
@@ -45,61 +49,66 @@ LEAKS = {
     'branch_on_a_letter': {'argon2_text::encoding::letters::is_item':
                            "test %rsi, %rsi; je original; cmpb $'A', (%rdi); je original"},
     # the hash is the fourth argument of each of the two
-    'branch_on_a_hash': dict.fromkeys(('proved_argon2_job_verify', 'proved_argon2_job_verify_over'), 'cmpb $0, (%rcx); je original'),
+    'branch_on_a_hash': dict.fromkeys(('proved_argon2_job_verify', 'proved_argon2_job_verify_over'),
+                                      'cmpb $0, (%rcx); je original'),
 }
-ARM, JUMP = 183, 5
+# What a machine's tools begin with, its jump, and how many bytes that has.
+X86, ARM64 = ('', 'jmp', 5), ('aarch64-linux-gnu-', 'b', 4)
 # What may be moved from the front of a function: it knows no place.
-MOVABLE = re.compile(r'(push|sub|mov|xor|movabs|cmp|test)[bwlq]?\b(?!.*%rip)')
-# The section of a function with code behind it, to which its front jumps, and where the front is; for ARM64 with an instruction
-# in the place of the first.
+MOVABLE = re.compile(r'(push|sub|mov|xor|movabs|cmp|test|st[pr])[bwlq]?\b(?!.*%rip)')
+# The section of a function with code behind it, to which its front jumps, and where the front is.
 BEHIND = """
-start:
-    .byte 0xe9
-    .long planted - rest + {moved} - 5
-    .fill {moved} - 5, 1, 0x90
+    {jump} planted
+    .org {moved}, 0x90
 rest:
     .incbin "{own}", {moved}
 planted:
     {code}
 original:
     .incbin "{own}", 0, {moved}
-    jmp rest
+    {jump} rest
 """
-IN_PLACE = '{code}\n.incbin "{own}", 4\n'
 
 
-def run(*command):
-    return subprocess.run(command, check=True, stdout=subprocess.PIPE, text=True).stdout
+def run(*command, **how):
+    return subprocess.run(command, check=True, stdout=subprocess.PIPE, text=True, **how).stdout
 
 
-def front(path, section):
+def objects(archive, folder, prefix=''):
+    """The objects of an archive, by their names."""
+    folder.mkdir()
+    run(f'{prefix}ar', 'x', archive.resolve(), cwd=folder)
+    return {it.name: it for it in folder.iterdir()}
+
+
+def library(folder, *words):
+    """The objects of the library, which is built where it is not up to date (c/library)."""
+    run(FACE / 'c/library', *words, '--to', folder.with_suffix('.a'))
+    return objects(folder.with_suffix('.a'), folder)
+
+
+def compiled(made, *words, prefix=''):
+    run(f'{prefix}gcc', *FLAGS, *words, '-o', made)
+    return made
+
+
+def front(path, section, prefix, least):
     """How many bytes the first instructions have that make room for a jump."""
-    found = re.findall(r'^ +([0-9a-f]+):\t(.*)$', run('objdump', '-d', '--no-show-raw-insn', '-j', section, path), re.M)
+    said = run(f'{prefix}objdump', '-d', '--no-show-raw-insn', '-j', section, path)
+    found = re.findall(r'^ +([0-9a-f]+):\t(.*)$', said, re.M)
     for (_, text), (end, _) in zip(found, found[1:]):
         assert MOVABLE.match(text), f'{section}: {text} cannot be moved'
-        if int(end, 16) >= JUMP:
+        if int(end, 16) >= least:
             return int(end, 16)
     raise AssertionError(f'{section} is too short')
 
 
-def header_of(elf, section):
-    """Where the header of a section is in a file of ELF64, and where its contents are and how long."""
-    begin, = struct.unpack_from('<Q', elf, 0x28)
-    size, count, names = struct.unpack_from('<HHH', elf, 0x3a)
-    names, = struct.unpack_from('<Q', elf, begin + names * size + 0x18)
-    for at in range(begin, begin + count * size, size):
-        name = names + struct.unpack_from('<I', elf, at)[0]
-        if elf[name:elf.index(0, name)].decode() == section:
-            return at, *struct.unpack_from('<QQ', elf, at + 0x18)
-    raise AssertionError(f'there is no section {section}')
-
-
-def with_code(own, moved, code, prefix):
+def with_code(own, prefix, **parts):
     """The contents of a section with code."""
     with tempfile.TemporaryDirectory() as room:
         before, source, made, flat = (Path(room, it) for it in ('own', 'code.s', 'made.o', 'flat'))
         before.write_bytes(own)
-        source.write_text((BEHIND if moved else IN_PLACE).format(code=code, own=before, moved=moved), encoding='ascii')
+        source.write_text(BEHIND.format(own=before, **parts), encoding='ascii')
         run(f'{prefix}as', '-o', made, source)
         run(f'{prefix}objcopy', '-O', 'binary', '-j', '.text', made, flat)
         return flat.read_bytes()
@@ -107,13 +116,14 @@ def with_code(own, moved, code, prefix):
 
 def plant(path, function, code, to):
     """Puts the longer contents of the function's section at the end of the file."""
-    section, elf = f'.text.{function}', bytearray(Path(path).read_bytes())
-    header, begin, size = header_of(elf, section)
-    is_for_arm = struct.unpack_from('<H', elf, 18) == (ARM,)
-    moved, prefix = (0, 'aarch64-linux-gnu-') if is_for_arm else (front(path, section), '')
-    longer = with_code(elf[begin:begin + size], moved, code, prefix)
-    elf += bytes(-len(elf) % 64)
-    struct.pack_into('<QQ', elf, header + 0x18, len(elf), len(longer))
+    section, elf = f'.text.{function}', Path(path).read_bytes()
+    prefix, jump, least = ARM64 if elf[18] == 183 else X86
+    found = re.search(rf'\[ *(\d+)\] {re.escape(section)} +PROGBITS +\w+ (\w+) (\w+) ', run('readelf', '-SW', path))
+    assert found, f'there is no section {section}'
+    begin, size = int(found[2], 16), int(found[3], 16)
+    longer = with_code(elf[begin:begin + size], prefix, code=code, jump=jump, moved=front(path, section, prefix, least))
+    (headers,), elf = struct.unpack_from('<Q', elf, 40), bytearray(elf)
+    struct.pack_into('<QQ', elf, headers + 64 * int(found[1]) + 24, len(elf), len(longer))
     Path(to).write_bytes(elf + longer)
 
 
