@@ -17,7 +17,7 @@ from pathlib import Path
 
 HERE, TOP = Path(__file__).resolve().parent, Path(__file__).resolve().parents[2]
 FACE, DRIVER, CALLS = TOP / 'crates/argon2_c', TOP / 'bindings/c', HERE / 'calls.c'
-FLAGS = [*'-std=gnu11 -D_GNU_SOURCE -O2 -Wall -Wextra -Werror -pthread -I'.split(), FACE / 'include', '-I', DRIVER]
+FLAGS = [*'-std=gnu11 -D_GNU_SOURCE= -O2 -Wall -Wextra -Werror -pthread -I'.split(), FACE / 'include', '-I', DRIVER]
 COMPRESSION = 'argon2_blocks::block::kernel::fill_words'
 # The functions, and the code around what they were. The numbers of bytes say where C passes an argument.
 LEAKS = {
