@@ -6,7 +6,7 @@ ghost use Rattle.argon2_standard.specs.Standard.Tag.{tag_of};
 use argon2::{Config, Result, hash_raw_sequential, verify_raw_sequential};
 use std::alloc::Global;
 
-/// The key of a password: the one tag that RFC 9106 defines, or an error, and never another key.
+/// The key of a password: the one tag that the definitions have, or an error, and never another key.
 pub fn derive(alloc: Global, password: &[u8], salt: &[u8], config: &Config) -> Result<Vec<u8>>
     ensures { IfOk result (λ key. key.items
         ≡ tag_of password.now salt.now config.now config.now.hash_length) }
