@@ -10,16 +10,6 @@ const PAGE = 65536, BLOCK = 1024;
 
 const hex = (bytes) => [...bytes].map((byte) => byte.toString(16).padStart(2, '0')).join('');
 
-// Engines before the standard count the pages of a 64-bit memory by numbers.
-function grow(memory, pages) {
-    try {
-        memory.grow(BigInt(pages));
-    } catch (error) {
-        if (!(error instanceof TypeError)) throw error;
-        memory.grow(pages);
-    }
-}
-
 function makeOurs(module) {
     const { exports } = new WebAssembly.Instance(module, {});
     const at = Number(exports.__heap_base.value), blocksAt = Math.ceil((at + 4096) / BLOCK) * BLOCK;
@@ -27,7 +17,7 @@ function makeOurs(module) {
     return (memory, passes, lanes) => {
         const size = Math.floor(memory / (4 * lanes)) * 4 * lanes * BLOCK;
         const lacking = blocksAt + size - exports.memory.buffer.byteLength;
-        if (lacking > 0) grow(exports.memory, Math.ceil(lacking / PAGE));
+        if (lacking > 0) exports.memory.grow(Math.ceil(lacking / PAGE));
         const bytes = new Uint8Array(exports.memory.buffer);
         new Uint32Array(exports.memory.buffer, settings, 6).set([2, 0x13, memory, passes, lanes, TAG_LENGTH]);
         bytes.set(PASSWORD, password);

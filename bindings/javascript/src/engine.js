@@ -1,20 +1,12 @@
 // The proved module, compiled once: with a memory of its own, and for one that workers share.
 import { Unsupported } from './errors.js';
-import { allowMemory64, readBeside } from './platform.js';
-
-/** A module of one memory with addresses of 64 bits, and nothing else. */
-const PROBE = Uint8Array.of(0, 0x61, 0x73, 0x6d, 1, 0, 0, 0, 5, 3, 1, 4, 0);
-
-const hasMemory64 = () => WebAssembly.validate(PROBE);
+import { readBeside } from './platform.js';
 
 const compiled = new Map();
 
 async function compile(url) {
-    if (!hasMemory64()) {
-        allowMemory64();
-    }
-    if (!hasMemory64()) {
-        throw new Unsupported('This engine has no WebAssembly memories with addresses of 64 bits');
+    if (globalThis.WebAssembly === undefined) {
+        throw new Unsupported('This engine has no WebAssembly');
     }
     return WebAssembly.compile(await readBeside(url));
 }

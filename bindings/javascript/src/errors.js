@@ -40,5 +40,5 @@ export const WorkerRefused = define('WorkerRefused', 21);
 // end
 export const TooCostly = define('TooCostly', 69);
 
-/** The engine has no memories with addresses of 64 bits. The library for C has no such error. */
+/** The engine has no WebAssembly. The library for C has no such error. */
 export const Unsupported = define('Unsupported', 256);

@@ -173,7 +173,7 @@ export class OutOfMemory extends Argon2Error {}
 export class WorkerRefused extends Argon2Error {}
 /** The PHC string is above the limits. No password was compared. */
 export class TooCostly extends Argon2Error {}
-/** The engine has no WebAssembly memories with addresses of 64 bits. */
+/** The engine has no WebAssembly. */
 export class Unsupported extends Argon2Error {}
 
 /** The same by one name, for `import argon2 from`. */

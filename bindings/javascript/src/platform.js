@@ -12,11 +12,6 @@ export function processors() {
     return threads ? builtin('os').availableParallelism() : globalThis.navigator?.hardwareConcurrency ?? 1;
 }
 
-/** Has Node 20 to 23 take memories with addresses of 64 bits. Other engines take them, or never will. */
-export function allowMemory64() {
-    builtin('v8')?.setFlagsFromString('--experimental-wasm-memory64');
-}
-
 /** What a file beside this one has. */
 export async function readBeside(url) {
     if (url.protocol === 'file:' && threads) {

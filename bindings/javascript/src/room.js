@@ -19,29 +19,12 @@ export class Place {
 /** Where a structure is, for the calls that take one. */
 export const pointer = (place) => BigInt(place.at);
 
-/** A memory that workers can share. Older engines name and count differently. */
+/** A memory that workers can share. */
 function sharedMemory() {
     try {
-        return new WebAssembly.Memory({
-            initial: BigInt(SMALLEST), maximum: BigInt(MAX_SHARED_PAGES), shared: true, address: 'i64',
-        });
+        return new WebAssembly.Memory({ initial: SMALLEST, maximum: MAX_SHARED_PAGES, shared: true });
     } catch (error) {
-        if (!(error instanceof TypeError)) {
-            throw new Rejected(OUT_OF_MEMORY);
-        }
-        return new WebAssembly.Memory({ initial: SMALLEST, maximum: MAX_SHARED_PAGES, shared: true, index: 'i64' });
-    }
-}
-
-/** Adds pages to a memory, whose number older engines do not take as a BigInt. */
-function grow(memory, pages) {
-    try {
-        memory.grow(BigInt(pages));
-    } catch (error) {
-        if (!(error instanceof TypeError)) {
-            throw error;
-        }
-        memory.grow(pages);
+        throw error instanceof RangeError ? new Rejected(OUT_OF_MEMORY) : error;
     }
 }
 
@@ -103,7 +86,7 @@ export class Room {
         const pages = Math.ceil((end - this.size) / PAGE);
         if (pages > 0) {
             try {
-                grow(this.#memory, pages);
+                this.#memory.grow(pages);
             } catch (error) {
                 throw error instanceof RangeError ? new Rejected(OUT_OF_MEMORY) : error;
             }

@@ -5,31 +5,14 @@ const PAGE = 65536, BLOCK = 1024, STACK = 65536;
 const MOST_PAGES = 65536;  // of a shared memory: 4 GiB
 const big = BigInt;
 
-// Engines before the standard count the pages of a 64-bit memory by numbers, and name its kind otherwise.
-export function makeSharedMemory(pages) {
-    try {
-        return new WebAssembly.Memory({ address: 'i64', initial: big(pages), maximum: big(MOST_PAGES), shared: true });
-    } catch {
-        return new WebAssembly.Memory({ index: 'i64', initial: pages, maximum: MOST_PAGES, shared: true });
-    }
-}
-
-function grow(memory, pages) {
-    try {
-        memory.grow(big(pages));
-    } catch (error) {
-        if (!(error instanceof TypeError)) throw error;
-        memory.grow(pages);
-    }
-}
-
 export const load = (file) => new WebAssembly.Module(readFileSync(file));
 
 // An instance of a module: its calls, each of which takes numbers and places, and places in its memory.
 export class Instance {
     constructor(module) {
         const isShared = WebAssembly.Module.imports(module).length > 0;
-        const imports = isShared ? { env: { memory: makeSharedMemory(64) } } : {};
+        const shared = () => new WebAssembly.Memory({ initial: 64, maximum: MOST_PAGES, shared: true });
+        const imports = isShared ? { env: { memory: shared() } } : {};
         const { exports } = new WebAssembly.Instance(module, imports);
         this.memory = imports.env?.memory ?? exports.memory;
         this.base = Math.ceil(Number(exports.__heap_base.value) / BLOCK) * BLOCK;
@@ -53,7 +36,7 @@ export class Instance {
 
     reserve(size) {
         const lacking = (this.next ?? this.base) + size + 2 * PAGE - this.memory.buffer.byteLength;
-        if (lacking > 0) grow(this.memory, Math.ceil(lacking / PAGE));
+        if (lacking > 0) this.memory.grow(Math.ceil(lacking / PAGE));
     }
 
     // All places are free again.
