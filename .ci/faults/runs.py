@@ -16,7 +16,8 @@ from typing import NamedTuple
 sys.path.insert(0, str(Path(__file__).resolve().parents[1]))
 from shared import TOP  # noqa: E402
 from shared.checks import Checks  # noqa: E402
-from shared.toolchain import build_preloaded, is_current  # noqa: E402
+from shared.toolchain import build_preloaded  # noqa: E402
+from toolchain import is_current  # noqa: E402
 
 PROGRAM, TOOL = (TOP / f'crates/{name}/out/{name}' for name in ('argon2_program', 'argon2_tool'))
 PASSWORD = b'password'

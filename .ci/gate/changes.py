@@ -7,7 +7,7 @@ import tempfile
 
 from shared import TOP
 from shared.sources import functions_in
-from shared.toolchain import stamp
+from toolchain import stamp
 
 GOOD = TOP / 'out/good'  # the files as they were found good, as a tree of git, and the kit
 

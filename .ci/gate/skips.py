@@ -1,19 +1,13 @@
-#!/usr/bin/env -S python3 -B
 """Whether what a step skips may be skipped: a check of skips.txt whose command fails, a package that packages.txt has
 as `wanted`, or what says that there is none of its programs. A step says `skipped: CHECK (REASON)`, and of a whole part
 `skipped: PART: all N checks (REASON)`.
-
-    .ci/gate/skips.py STEP    reads what the step says, and prints a line for each check that may not be skipped
 """
 
 import re
 import subprocess
-import sys
-from pathlib import Path
 
-sys.path.insert(0, str(Path(__file__).resolve().parents[1]))
-from shared import TOP  # noqa: E402
-from shared.blocks import lines, rows  # noqa: E402
+from shared import TOP
+from shared.blocks import lines, rows
 
 GATE = TOP / '.ci/gate'
 SKIPPED = re.compile(r'skipped: (.*?)(: all (\d+) checks)?(?: \((?:there is no (\S+)\)|.*))?')
@@ -47,9 +41,3 @@ def judged(step, said):
         why = f'it is skipped, and {commands[0]} succeeds' if commands else 'it may not be skipped'
         yield check, f'{why}: {check}' if all(map(succeeds, commands)) else None
 
-
-if __name__ == '__main__':
-    if len(sys.argv) != 2:
-        sys.exit(__doc__)
-    faults = [fault for _, fault in judged(sys.argv[1], sys.stdin.read().splitlines()) if fault]
-    print(''.join(f'FAILED: {fault}\n' for fault in faults), end='')

@@ -11,7 +11,7 @@ from shared import TOP
 
 # The steps that compare documents with the sources and, but for `readme`, need no build.
 PAGES = [f'.ci/pages/{it}' for it in ('definitions', 'cycles', 'layout', 'promises', 'presets', 'layers', 'peers',
-                                      'references', 'names')]
+                                      'references', 'names', 'places')]
 COUNTS = re.compile(r'(\d+) passed, (\d+) failed(?:, (\d+) skipped)?')
 PROVED = re.compile(r'^(?:fn|struct|enum|impl|trait) \S+: proved')
 printing = threading.Lock()

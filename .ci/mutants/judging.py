@@ -12,7 +12,8 @@ from pathlib import Path
 
 from beside import linked, wait_for
 from copies import Copy, Report, can_be_copied, clause_of, texts_with
-from shared.toolchain import checks_at_once, kept_work, load_rt
+from shared.toolchain import checks_at_once, kept_work
+from toolchain import load_rt
 
 rt = load_rt()
 room = tempfile.mkdtemp(prefix='edits-')

@@ -9,8 +9,8 @@ from pathlib import Path
 
 sys.path.insert(0, str(Path(__file__).resolve().parents[1]))
 from shared import TOP  # noqa: E402
+from parts import filled, marked  # noqa: E402
 from shared.checks import Checks  # noqa: E402
-from shared.pages import filled, marked  # noqa: E402
 
 os.environ['PATH'] += ':/opt/rattle/bin'
 

@@ -5,7 +5,7 @@ import re
 import subprocess
 
 from shared import TOP
-from shared.toolchain import is_current
+from toolchain import is_current
 
 CRATE, SECONDS = 'argon2_vectors', 600
 PROGRAM = TOP / 'crates' / CRATE / 'out' / CRATE

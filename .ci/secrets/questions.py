@@ -8,11 +8,13 @@ import ctypes
 import random
 import struct
 from collections import namedtuple
+from pathlib import Path
 from typing import NamedTuple
 
 from shared import TOP
 
-VECTORS = TOP / 'bindings/vectors'
+HERE = Path(__file__).resolve().parent
+CALLS, VECTORS = HERE / 'calls.c', TOP / 'bindings/vectors'
 VARIANTS = ('argon2d', 'argon2i', 'argon2id')
 # The calls of calls.c, in its order.
 HASH_RAW, HASH_ENCODED, VERIFY_RAW, VERIFY_ENCODED, PASSWORD_HASH, PASSWORD_VERIFY, HASH_OVER, VERIFY_OVER = range(8)

@@ -35,7 +35,7 @@ fn library_folder() -> Result<PathBuf, String> {
     }
     built_folder().or_else(released_folder).or_else(installed_folder).ok_or_else(|| {
         format!(
-            "there is no {ARCHIVE}: run ./install at the top of the repository, or bindings/build there, \
+            "there is no {ARCHIVE}: run ./install at the top of the repository, or build/all there, \
              or name its folder in {VARIABLE}"
         )
     })
@@ -76,7 +76,7 @@ fn released_folder() -> Option<PathBuf> {
     let root = here.parent()?.parent()?;
     let machine = target("ARCH");
     let file = format!("{machine}/{ARCHIVE}");
-    let is_current = || Command::new(root.join(".ci/release/released")).arg(&file).status().ok();
+    let is_current = || Command::new(root.join("build/released")).arg(&file).status().ok();
     (here.ends_with("bindings/rust") && is_current()?.success()).then(|| root.join("release").join(machine))
 }
 

@@ -48,5 +48,5 @@ END
 
 # Whether each file and folder that was installed has the mode of the list, and is whose it was that installed it.
 has_modes_of_the_list() {
-    .ci/release/modes.py installed "$1"
+    bindings/packages/modes.py installed "$1"
 }

@@ -1,7 +1,6 @@
 #!/usr/bin/env python3
-"""Plants a leak into functions of an object that a library is made of, so that a check can be seen to refuse it:
-`.ci/secrets/constant_time`, `.ci/secrets/aarch64` or, where nothing is overwritten, `crates/argon2_c/c/run`. A
-function goes on to give what it gives. The scripts here also build their programs in C by this.
+"""Plants a leak into functions of an object that a library is made of, so that a check can be seen to refuse it. A
+function goes on to give what it gives.
 
     leak.py OBJECT LEAK TO
 
@@ -15,8 +14,8 @@ import sys
 import tempfile
 from pathlib import Path
 
-HERE, TOP = Path(__file__).resolve().parent, Path(__file__).resolve().parents[2]
-FACE, DRIVER, CALLS = TOP / 'crates/argon2_c', TOP / 'bindings/c', HERE / 'calls.c'
+TOP = Path(__file__).resolve().parents[3]
+FACE, DRIVER = TOP / 'crates/argon2_c', TOP / 'bindings/c'
 FLAGS = [*'-std=gnu11 -D_GNU_SOURCE= -O2 -Wall -Wextra -Werror -pthread -I'.split(), FACE / 'include', '-I', DRIVER]
 COMPRESSION = 'argon2_blocks::block::kernel::fill_words'
 # The functions, and the code around what they were. The numbers of bytes say where C passes an argument.
@@ -82,8 +81,8 @@ def objects(archive, folder, prefix=''):
 
 
 def library(folder, *words):
-    """The objects of the library, which is built where it is not up to date (c/library)."""
-    run(FACE / 'c/library', *words, '--to', folder.with_suffix('.a'))
+    """The objects of the library, which is built where it is not up to date (build/archive)."""
+    run(TOP / 'build/archive', *words, '--to', folder.with_suffix('.a'))
     return objects(folder.with_suffix('.a'), folder)
 
 

@@ -1,4 +1,4 @@
-"""The parts of files that scripts of pages/ write, between lines with the comments `NAME, by SCRIPT` and `end`, as
+"""The parts of files that scripts write, between lines with the comments `NAME, by SCRIPT` and `end`, as
 `<!-- NAME, by SCRIPT -->` and `<!-- end -->` in a page."""
 
 import re

@@ -1,4 +1,4 @@
-"""The machines that the libraries are built for (bindings/machines), and the tools for them."""
+"""The machines that the libraries are built for (build/machines.txt), and the tools for them."""
 import os
 import subprocess
 from dataclasses import dataclass
@@ -38,6 +38,6 @@ def read_machine(line):
 
 
 def machines():
-    with open(f"{HERE}/machines", encoding="utf-8") as lines:
+    with open(f"{HERE}/machines.txt", encoding="utf-8") as lines:
         found = [read_machine(line) for line in lines if not line.startswith("#")]
     return {it.name: it for it in found}

@@ -1,0 +1,61 @@
+"""The toolchain's own code, which stands beside `rt`, and whether what it built is current."""
+import contextlib
+import importlib.machinery
+import importlib.util
+import os
+import shutil
+import subprocess
+import sys
+
+HERE = os.path.dirname(os.path.realpath(__file__))
+
+
+def load(path):
+    """A script as a module."""
+    sys.path.append(os.path.dirname(path))
+    loader = importlib.machinery.SourceFileLoader(os.path.basename(path), path)
+    module = importlib.util.module_from_spec(importlib.util.spec_from_loader(loader.name, loader))
+    loader.exec_module(module)
+    return module
+
+
+def load_rt():
+    """The command `rt` as a module; its library is `load_rt().rtlib`."""
+    os.environ["PATH"] = os.environ.get("PATH", "") + ":/opt/rattle/bin"
+    found = shutil.which("rt")
+    assert found, "there is no rt, which proves and builds"
+    return load(os.path.realpath(found))
+
+
+@contextlib.contextmanager
+def locked(crate):
+    """Keeps other commands of the kit out of a crate and those below it. A process that took this lock twice would wait for
+    itself."""
+    crate.held = load_rt().rtlib.lock([*crate.below(), crate])
+    try:
+        yield
+    finally:
+        for it in crate.held:
+            os.close(it)
+
+
+def stamp(*crates):
+    """What the sources of crates and of those below them are, in one line: `build/stamp` says how it is made."""
+    return subprocess.run([f"{HERE}/stamp", *crates], stdout=subprocess.PIPE, check=True, text=True).stdout.strip()
+
+
+def mark(crate, line, *files):
+    """Notes of files that they are built from these sources of a crate; gives whether the sources are still the same."""
+    return subprocess.run([f"{HERE}/stamp", "--mark", crate, line, *files], check=False).returncode == 0
+
+
+def is_current(crate, *files, says_why=False):
+    """Whether files of a crate's build are what they were when they were marked, and the crate's sources as well."""
+    errors = None if says_why else subprocess.DEVNULL
+    return subprocess.run([f"{HERE}/stamp", "--check", crate, *files], stderr=errors, check=False).returncode == 0
+
+
+def are_kept(libraries):
+    """Whether all these libraries are as a whole proof left them, and no source has changed since. They fit only each other:
+    where another command has built one anew, the mark in its folder is gone."""
+    return all(is_current(it.name, os.path.dirname(it.rlib)) for it in libraries)
