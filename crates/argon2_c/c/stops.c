@@ -107,18 +107,18 @@ typedef struct cancelled {
     proved_argon2_options with;
     size_t which;
     uint32_t code;
-    atomic_int is_in, is_after;
+    atomic_int is_in, is_cancelled, is_after;
 } cancelled;
 
-/* Waits to be cancelled, within a call. */
+/* Waits until it has been cancelled, within a call. */
 static int wait_here(void *arg, uint64_t done, uint64_t all)
 {
     cancelled *const self = arg;
     self->is_in = 1;
-    if (done == 1) {
-        usleep(20000);
-        pthread_testcancel();
+    while (!self->is_cancelled) {
+        usleep(100);
     }
+    pthread_testcancel();
     return done > all;
 }
 
@@ -147,7 +147,9 @@ static bool goes_on_to_its_end(size_t which, uint32_t threads)
     while (good && !one.is_in) {
         usleep(100);
     }
-    good = good && pthread_cancel(one.thread) == 0 && __real_pthread_join(one.thread, &result) == 0;
+    good = good && pthread_cancel(one.thread) == 0;
+    one.is_cancelled = 1;
+    good = good && __real_pthread_join(one.thread, &result) == 0;
     const bool is_answered = one.code == PROVED_ARGON2_OK || (which % 2 != 0 && !one.is_after);
     if (!good || !is_answered || held != 0) {
         printf("%d %u, %zu bytes are held, %zu joins of %zu\n", good, (unsigned)one.code, held, joins, granted);
