@@ -12,6 +12,7 @@ ROOT = Path(__file__).resolve().parent
 PACKAGE = "proved_argon2"
 WHEEL = "Wheel-Version: 1.0\nGenerator: proved_argon2\nRoot-Is-Purelib: {}\nTag: py3-none-{}\n"
 LICENCES = ("LICENSE", "NOTICE")
+OLDEST_LIBC = (2, 34)
 CLASSIFIERS = (
     "Intended Audience :: Developers",
     "License :: OSI Approved :: Apache Software License",
@@ -101,15 +102,32 @@ def _write_wheel(folder, files, platform="any"):
     return name
 
 
+def _require_libc():
+    """Stops where the library that ./install puts beside this package cannot be loaded."""
+    try:
+        found = os.confstr("CS_GNU_LIBC_VERSION") or ""
+    except ValueError:
+        found = ""
+    if tuple(map(int, re.findall(r"\d+", found))) < OLDEST_LIBC:
+        oldest = ".".join(map(str, OLDEST_LIBC))
+        raise SystemExit(
+            f"{_project('name')}: the library needs the GNU C library {oldest} or newer, and here is {found or 'another'}:"
+            " nothing is installed. For musl there is a wheel of ./package, with the library in it"
+        )
+
+
 def build_wheel(wheel_directory, config_settings=None, metadata_directory=None):
     """Writes the wheel and returns its name."""
     libraries, platform = _libraries()
+    if not libraries:
+        _require_libc()
     files = {file.relative_to(ROOT / "src").as_posix(): file.read_bytes() for file in [*_sources(), *libraries]}
     return _write_wheel(wheel_directory, files, platform)
 
 
 def build_editable(wheel_directory, config_settings=None, metadata_directory=None):
     """Writes a wheel that leads to the sources here, for `pip install -e`, and returns its name."""
+    _require_libc()
     return _write_wheel(wheel_directory, {f"{PACKAGE}.pth": f"{ROOT / 'src'}\n".encode()})
 
 

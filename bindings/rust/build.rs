@@ -1,5 +1,5 @@
-//! Finds `libproved_argon2.a` and links it: in the folder that `PROVED_ARGON2_LIB_DIR` names, in this crate as
-//! `./package` makes it, in the repository's build or its `release/`, or where `pkg-config` says that it was installed.
+//! Finds `libproved_argon2.a` for the target and links it: in the folder that `PROVED_ARGON2_LIB_DIR` names, in this crate
+//! as `./package` makes it, in the repository's `release/`, or where `pkg-config` says that it was installed.
 
 use std::env;
 use std::path::{Path, PathBuf};
@@ -30,58 +30,78 @@ fn library_folder() -> Result<PathBuf, String> {
             Err(format!("{VARIABLE} is {}, which has no {ARCHIVE}", folder.display()))
         };
     }
-    if let Some(folder) = packaged_folder()? {
-        return Ok(folder);
+    require_target()?;
+    let libraries = here().join("lib");
+    if libraries.is_dir() {
+        return packaged_folder(&libraries);
     }
-    built_folder().or_else(released_folder).or_else(installed_folder).ok_or_else(|| {
-        format!(
-            "there is no {ARCHIVE}: run ./install at the top of the repository, or build/all there, \
-             or name its folder in {VARIABLE}"
-        )
+    released_folder().or_else(|reason| {
+        installed_folder().ok_or_else(|| {
+            format!(
+                "there is no {ARCHIVE} for {}{reason}: run ./install at the top of the repository, or build/all \
+                 there and name its folder in {VARIABLE}",
+                named("TARGET")
+            )
+        })
     })
+}
+
+/// The folder of this crate.
+fn here() -> &'static Path {
+    Path::new(env!("CARGO_MANIFEST_DIR"))
+}
+
+/// What cargo tells in a variable.
+fn named(variable: &str) -> String {
+    env::var(variable).unwrap_or_default()
 }
 
 /// What is built for, as cargo names it.
 fn target(part: &str) -> String {
-    env::var(format!("CARGO_CFG_TARGET_{part}")).unwrap_or_default()
+    named(&format!("CARGO_CFG_TARGET_{part}"))
 }
 
-/// The folder of this crate for the machine that is built for, where the crate has archives.
-fn packaged_folder() -> Result<Option<PathBuf>, String> {
-    let libraries = Path::new(env!("CARGO_MANIFEST_DIR")).join("lib");
-    if !libraries.is_dir() {
-        return Ok(None);
+/// Whether archives are built for the target's system, C library and kind of processor at all.
+fn require_target() -> Result<(), String> {
+    let is_linux = target("OS") == "linux" && ["gnu", "musl"].contains(&&*target("ENV"));
+    if is_linux && target("POINTER_WIDTH") == "64" && target("ENDIAN") == "little" {
+        return Ok(());
     }
+    Err(format!("there is no archive for {}: they are for Linux with the GNU C library or musl", named("TARGET")))
+}
+
+/// The folder of this crate for the target, where the crate has archives.
+fn packaged_folder(libraries: &Path) -> Result<PathBuf, String> {
     let folder = libraries.join(target("ARCH"));
-    if target("OS") != "linux" || !["gnu", "musl"].contains(&&*target("ENV")) || !folder.is_dir() {
-        return Err(format!("the crate has no archive for {}", env::var("TARGET").unwrap_or_default()));
-    }
-    if has_archive(&folder) {
-        Ok(Some(folder))
+    if !folder.is_dir() {
+        Err(format!("the crate has no archive for {}", named("TARGET")))
+    } else if has_archive(&folder) {
+        Ok(folder)
     } else {
         Err(format!("{} has no {ARCHIVE}: the crate is not whole", folder.display()))
     }
 }
 
-/// The folder of the repository's build, where this crate stands in the repository.
-fn built_folder() -> Option<PathBuf> {
-    let here = Path::new(env!("CARGO_MANIFEST_DIR"));
-    let folder = here.parent()?.join("out").join(target("ARCH"));
-    (here.ends_with("bindings/rust") && has_archive(&folder)).then_some(folder)
+/// The folder of what the repository keeps, where this crate stands in it and no source has changed; or else why not.
+fn released_folder() -> Result<PathBuf, String> {
+    let root = here().ancestors().nth(2).filter(|_| here().ends_with("bindings/rust")).ok_or_else(String::new)?;
+    let folder = root.join("release").join(target("ARCH"));
+    if !has_archive(&folder) {
+        return Err(String::new());
+    }
+    let file = format!("{}/{ARCHIVE}", target("ARCH"));
+    match Command::new(root.join("build/released")).arg(file).output() {
+        Ok(answer) if answer.status.success() => Ok(folder),
+        Ok(answer) => Err(format!(" ({})", String::from_utf8_lossy(&answer.stderr).trim_end())),
+        Err(error) => Err(format!(" (release/ cannot be compared with its sources: {error})")),
+    }
 }
 
-/// The folder of what the repository keeps, where this crate stands in it and no source has changed.
-fn released_folder() -> Option<PathBuf> {
-    let here = Path::new(env!("CARGO_MANIFEST_DIR"));
-    let root = here.parent()?.parent()?;
-    let machine = target("ARCH");
-    let file = format!("{machine}/{ARCHIVE}");
-    let is_current = || Command::new(root.join("build/released")).arg(&file).status().ok();
-    (here.ends_with("bindings/rust") && is_current()?.success()).then(|| root.join("release").join(machine))
-}
-
-/// The folder that `pkg-config` names, where it has the archive.
+/// The folder that `pkg-config` names, where it has the archive. It tells of this machine's libraries alone.
 fn installed_folder() -> Option<PathBuf> {
+    if !named("HOST").starts_with(&format!("{}-", target("ARCH"))) {
+        return None;
+    }
     let answer = Command::new("pkg-config").args(["--variable=libdir", "proved_argon2"]).output().ok()?;
     let folder = PathBuf::from(String::from_utf8(answer.stdout).ok()?.trim_end_matches('\n'));
     has_archive(&folder).then_some(folder)

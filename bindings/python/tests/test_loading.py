@@ -51,11 +51,12 @@ class Objects(unittest.TestCase):
     def test_it_is_where_the_loader_looks_or_beside_this_python(self):
         self.assertEqual(self.files(), [_library.SONAME, f"/prefix/lib/{_library.SONAME}"])
 
-    def test_of_a_wheel_it_is_first_and_of_the_repository_last(self):
-        name, machine = _library.SONAME, os.uname().machine
-        self.assertEqual(self.files(has_libs=True)[0], f"/site/proved_argon2/libs/{name}")
+    def test_of_a_wheel_it_is_first(self):
+        self.assertEqual(self.files(has_libs=True)[0], f"/site/proved_argon2/libs/{_library.SONAME}")
+
+    def test_a_build_beside_the_sources_is_not_taken_unasked(self):
         found = self.files(folder="/it/bindings/python/src/proved_argon2")
-        self.assertEqual(found[-1], f"/it/bindings/out/{machine}/{name}")
+        self.assertEqual(found, [_library.SONAME, f"/prefix/lib/{_library.SONAME}"])
 
     def test_an_older_processor_is_refused_by_name(self):
         program = "import os\nos.environ['PROVED_ARGON2_CPU'] = 'none'\ntry:\n    import proved_argon2\nexcept ImportError as it:\n    print(it)"

@@ -8,6 +8,7 @@ import sys
 import time
 import unittest
 from concurrent.futures import ThreadPoolExecutor
+from unittest import mock
 
 from proved_argon2 import PasswordHasher, Type
 from proved_argon2.low_level import Memory, hash_secret, hash_secret_raw, verify_secret
@@ -86,6 +87,17 @@ class Progress(unittest.TestCase):
         self.assertEqual(ctypes.string_at(pages.address, pages.length), bytes(8192 << 10))
         for call, wanted in calls(4, 8192, 2, memory=memory, progress=None):
             self.assertEqual(call(), wanted)
+
+    def test_the_end_of_a_generator_is_raised_as_any_other_exception(self):
+        def ends(*_):
+            raise GeneratorExit("it")
+
+        lost = []
+        with mock.patch("sys.unraisablehook", lost.append):
+            for call in long_calls(progress=ends):
+                with self.assertRaisesRegex(GeneratorExit, "it"):
+                    call()
+        self.assertEqual(lost, [])
 
     def test_a_wrong_progress_stops_the_call(self):
         for call in long_calls(progress=lambda done: None):

@@ -15,9 +15,6 @@ if TYPE_CHECKING:
 SONAME = "libproved_argon2.so.1"
 VARIABLE = "PROVED_ARGON2_LIBRARY"
 
-# Where this file's folder is in the repository.
-IN_REPOSITORY = "/bindings/python/src/proved_argon2"
-
 # What a call returns: done or a match, a wrong password, a buffer of the wrong length, a string that is not UTF-8, a
 # hash above the limits.
 OK = 0
@@ -93,8 +90,8 @@ class Refused(Exception):
 
 
 def _files() -> "Iterator[str]":
-    """Where the shared object may be: where the environment says; otherwise in the wheel, where the loader looks,
-    beside this Python, or in the repository's build if this file is in the repository.
+    """Where the shared object may be: where the environment says; otherwise in the wheel, where the loader looks, or
+    beside this Python.
     """
     named = os.environ.get(VARIABLE)
     if named:
@@ -105,9 +102,6 @@ def _files() -> "Iterator[str]":
         yield os.path.join(here, "libs", SONAME)
     yield SONAME
     yield os.path.join(sys.prefix, "lib", SONAME)
-    bindings, inside = here[: -len(IN_REPOSITORY)], here[-len(IN_REPOSITORY) :]
-    if inside == IN_REPOSITORY:
-        yield os.path.join(bindings, "bindings", "out", os.uname().machine, SONAME)
 
 
 # The types of what each call takes, and of what it returns.
@@ -152,8 +146,8 @@ def _load() -> ctypes.CDLL:
             raise ImportError(f"{file} has no build for a processor as old as this one")
         return library
     raise ImportError(
-        f"{SONAME} cannot be loaded: run ./install in the repository of proved-argon2, or name the file in "
-        f"{VARIABLE} ({'; '.join(reasons)})"
+        f"{SONAME} cannot be loaded: run ./install in the repository of proved-argon2, which needs the GNU C library "
+        f"2.34 or newer, or name the file in {VARIABLE} ({'; '.join(reasons)})"
     )
 
 

@@ -24,6 +24,7 @@ class Telling:
 
     def __init__(self, progress: "Optional[Progress]", slices: int) -> None:
         self._raised: "List[BaseException]" = []
+        self._is_entered = False
         generator = self._answers(progress, slices)
         next(generator)
         self.send = generator.send
@@ -36,16 +37,18 @@ class Telling:
                 if progress is not None:
                     progress(done, slices)
                 yield 0
-        except GeneratorExit:  # the call is over
-            raise
         except BaseException as error:
+            if not self._is_entered:  # the generator is closed
+                raise
             self._raised.append(error)
         while True:
             yield 1
 
     def __enter__(self) -> "Telling":
+        self._is_entered = True
         return self
 
     def __exit__(self, *_: object) -> None:
+        self._is_entered = False
         if self._raised:
             raise self._raised.pop()
