@@ -2,6 +2,7 @@
 scripts of this folder find `shared` by it."""
 
 import ctypes
+import functools
 import os
 import re
 import shutil
@@ -90,6 +91,7 @@ class Hash(NamedTuple):
         workers = self.lanes if self.most is None else min(self.most, self.lanes)
         return SLICES * self.passes * workers if workers > 1 else 0
 
+    @functools.cache
     def output(self):
         """What is written, by libargon2."""
         tag, text = ctypes.create_string_buffer(self.length), ctypes.create_string_buffer(2 * self.length + 200)
