@@ -6,14 +6,18 @@ import subprocess
 import threading
 import time
 
-from gate.skips import SKIPPED, judged
+from gate.skips import GATE, SKIPPED, judged
 from shared import TOP
+from shared.blocks import rows
 
 # The steps that compare documents with the sources and, but for `readme`, need no build.
 PAGES = [f'.ci/pages/{it}' for it in ('definitions', 'cycles', 'layout', 'promises', 'presets', 'layers', 'peers',
                                       'references', 'names', 'places')]
 COUNTS = re.compile(r'(\d+) passed, (\d+) failed(?:, (\d+) skipped)?')
 PROVED = re.compile(r'^(?:fn|struct|enum|impl|trait) \S+: proved')
+# How many checks a step of .ci/run makes: so many, or `N or more`, where what it looks at may grow.
+WANTED = dict(it.rsplit(': ', 1) for runner, counts in rows(GATE / 'counts.txt') if runner == '.ci/run'
+              for it in counts.split('; '))
 printing = threading.Lock()
 # Within so many seconds all steps have ended, or else those that have not are stopped and named: CI may have three
 # hours, and names nothing when they are over.
@@ -93,12 +97,13 @@ class Step(threading.Thread):
                 self.tell(line)
 
     def judge(self, status):
-        """Counts what the step has not: that it failed, what it may not skip, and a skip without a name."""
+        """Counts what the step has not: that it failed, what it may not skip, a skip without a name, and lost checks."""
         if status is None:
             self.fail(f'it was stopped, since CI had run for {LIMIT // 60} minutes')
             return
         if not self.is_counted:
             self.counts = [int(status == 0), 0, 0]
+        self.compare_count(sum(self.counts))
         for name, fault in judged(self.name, self.skipped):
             self.names.append(name)
             if fault and f'FAILED: {fault}' not in self.faults:
@@ -108,6 +113,15 @@ class Step(threading.Thread):
             self.fail(f'{self.counts[2]} checks were skipped, and {named} are named')
         if not self.failed and (status or not self.counts[0]):
             self.fail(f'it ended with status {status}, and {self.counts[0]} passed')
+
+
+    def compare_count(self, reached):
+        """A step that ends early, or compares less than it did, would else pass with fewer checks. (What may be skipped
+        can stand for several.)"""
+        wanted = WANTED.get(self.name, f'{reached}') if not self.skipped else f'{reached}'
+        least, _, more = wanted.partition(' ')
+        if reached < int(least) or reached > int(least) and not more:
+            self.fail(f'it made {reached} checks, and .ci/gate/counts.txt has {wanted}')
 
 
 def close(steps, begun):
