@@ -12,6 +12,12 @@ const KEPT = '$argon2id$v=19$m=256,t=2,p=1$c29tZXNhbHQ$nf65EOgLrQMR/uIPnA4rEsF5h
 const stringOf = (memory, time, lanes) =>
     `$argon2id$v=19$m=${memory},t=${time},p=${lanes}$c29tZXNhbHQ$nf65EOgLrQMR/uIPnA4rEsF5h7TKyQwu9U1bMCHGi/4`;
 
+/** A string of so many characters, filled by its salt: its 11 passes are one above the default limit. */
+const stringOfLength = (length) => {
+    const [beginning, end] = ['$argon2id$v=19$m=8,t=11,p=1$', '$AAAAAAA'];
+    return beginning + 'A'.repeat(length - beginning.length - end.length) + end;
+};
+
 /** What a call is rejected by: the options of a hash. */
 const HASHING = [
     ['SaltTooShort', { salt: new Uint8Array(7) }],
@@ -63,6 +69,10 @@ const VERIFYING = [
     ['TooCostly', stringOf(256, 1, 17)],
     ['TooCostly', stringOf(1048576, 5, 1)],
     ['TooCostly', stringOf(0, 11, 1)],
+    ...[200, 1000, 100000].flatMap((length) => [
+        ['TooCostly', stringOfLength(length)],
+        ['TooCostly', stringOfLength(length), { limits: { memoryCost: 7, timeCost: 11 } }],
+    ]),
     ['LanesTooMany', stringOf(MOST, 1, 0x1000000), { limits: null }],
     ['LanesTooMany', stringOf(MOST, MOST, 0x1000000), { limits: null }],
     ['MemoryTooLittle', stringOf(7, 1, 1)],

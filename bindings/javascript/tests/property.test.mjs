@@ -98,6 +98,12 @@ test('a password is its UTF-8, and no other text has the same', async () => {
     assert.deepEqual(await argon2.hash(text, same), await argon2.hash(new TextEncoder().encode(text), same));
     assert.deepEqual(await argon2.hash(text, same), await argon2.hash(new TextEncoder().encode(text).buffer, same));
     assert.notDeepEqual(await argon2.hash(text, same), await argon2.hash(text.slice(0, -1), same));
+    // (what looks alike may have other bytes, and no form is made of another)
+    for (const form of ['NFC', 'NFD', 'NFKC', 'NFKD']) {
+        const normalized = 'pässwörd ﬁ \u212b'.normalize(form);
+        const bytes = new TextEncoder().encode(normalized);
+        assert.deepEqual(await argon2.hash(normalized, same), await argon2.hash(bytes, same), form);
+    }
 });
 
 test('what is left out are the library\'s own recommendations', async () => {

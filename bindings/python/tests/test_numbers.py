@@ -16,7 +16,7 @@ from proved_argon2 import (
     hash_password_raw,
     profiles,
 )
-from proved_argon2.exceptions import HashingError, TooCostlyError
+from proved_argon2.exceptions import HashingError, TooCostlyError, VerifyMismatchError
 from proved_argon2.low_level import error_to_str, hash_secret, hash_secret_raw, verify_secret
 
 NO_NUMBERS = (True, 64.0, "64", None)
@@ -155,6 +155,20 @@ class OfLimits(unittest.TestCase):
         self.assertEqual(PasswordHasher().limits.time_cost, 10)
         hasher.limits = None
         self.assertIsNone(hasher.limits)
+
+    def test_limits_hold_for_strings_of_any_length(self):
+        for length in (200, 1000, 100000):
+            text = "$argon2id$v=19$m=8,t=11,p=1$" + "A" * (length - 36) + "$AAAAAAA"
+            self.assertEqual(len(text), length)
+            for verify in (
+                lambda text=text: PasswordHasher().verify(text, "password"),
+                lambda text=text: PasswordHasher(limits=Limits(memory_cost=7, time_cost=11)).verify(text, "password"),
+                lambda text=text: verify_secret(text.encode(), b"password", Type.ID, limits=DEFAULT_LIMITS),
+            ):
+                with self.assertRaises(TooCostlyError):
+                    verify()
+            with self.assertRaises(VerifyMismatchError):
+                PasswordHasher(limits=Limits(time_cost=11)).verify(text, "password")
 
 
 class OwnSettings(unittest.TestCase):

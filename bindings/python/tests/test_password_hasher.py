@@ -3,6 +3,7 @@ import base64
 import inspect
 import subprocess
 import sys
+import unicodedata
 import unittest
 import warnings
 from dataclasses import replace
@@ -253,6 +254,13 @@ class Hashing(unittest.TestCase):
         hasher = PasswordHasher(**SMALL)
         self.assertEqual(len({hasher.hash("password") for _ in range(20)}), 20)
         self.assertEqual(extract_parameters(hasher.hash("password")).salt_len, 16)
+
+    def test_no_form_of_a_text_is_made_of_another(self):
+        hasher = PasswordHasher(**SMALL)
+        for form in ("NFC", "NFD", "NFKC", "NFKD"):
+            password = unicodedata.normalize(form, "pässwörd ﬁ \u212b")
+            self.assertIs(hasher.verify(hasher.hash(password), password.encode()), True)
+            self.assertIs(hasher.verify(hasher.hash(password.encode()), password), True)
 
     def test_any_bytes_are_a_password(self):
         hasher = PasswordHasher(**SMALL)

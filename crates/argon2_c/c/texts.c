@@ -166,6 +166,48 @@ static void check_limits(void)
     check_code(code, PROVED_ARGON2_LANES_TOO_FEW, "passes at their limit");
 }
 
+/* A text of so many characters, whose salt of zeros fills it. */
+static const char *text_of_length(size_t length)
+{
+    static const char beginning[] = "$argon2id$v=19$m=8,t=11,p=1$", end[] = "$AAAAAAA";
+    static char made[100001];
+    memset(made, 'A', length);
+    memcpy(made, beginning, strlen(beginning));
+    memcpy(made + length - strlen(end), end, sizeof end);
+    return made;
+}
+
+/* What each call with limits answers to a text, where that is one number, or else 0. */
+static uint32_t answer_within(const char *it, const proved_argon2_limits *limits)
+{
+    proved_argon2_options with = PROVED_ARGON2_OPTIONS;
+    proved_argon2_stored stored;
+    with.limits = limits;
+    const uint32_t code =
+        proved_argon2_verify_encoded_with(&with, bytes_of(it), strlen(it), NULL, 0, NULL, 0, NULL, 0);
+    const uint32_t within =
+        proved_argon2_verify_encoded_within(bytes_of(it), strlen(it), NULL, 0, NULL, 0, NULL, 0, limits);
+    const uint32_t read = proved_argon2_read_within(bytes_of(it), strlen(it), limits, &stored);
+    return code == within && (code == PROVED_ARGON2_MISMATCH ? read == PROVED_ARGON2_OK : read == code) ? code : 0;
+}
+
+/* Limits hold for a text of any length. Its 11 passes are one above the default limit. */
+static void check_limits_of_long_texts(void)
+{
+    static const size_t lengths[] = {200, 1000, 100000};
+    static const proved_argon2_limits at = {8, 11, 1, 88}, below = {8, 10, 1, 88};
+    char name[64];
+    for (size_t i = 0; i < sizeof lengths / sizeof *lengths; i++) {
+        const char *const it = text_of_length(lengths[i]);
+        snprintf(name, sizeof name, "a text of %zu characters at its limits", lengths[i]);
+        check_code(answer_within(it, &at), PROVED_ARGON2_MISMATCH, name);
+        snprintf(name, sizeof name, "a text of %zu characters above a limit", lengths[i]);
+        check_code(answer_within(it, &below), PROVED_ARGON2_TOO_COSTLY, name);
+        snprintf(name, sizeof name, "a text of %zu characters above the default limits", lengths[i]);
+        check_code(proved_argon2_password_verify(it, "", 0), PROVED_ARGON2_TOO_COSTLY, name);
+    }
+}
+
 /* ---- null pointers with the length 0 */
 
 static void check_null_inputs(void)
@@ -234,6 +276,7 @@ int main(void)
     check_bytes();
     check_reading_within();
     check_limits();
+    check_limits_of_long_texts();
     check_null_inputs();
     check_null_buffers();
     check_buffers();
