@@ -56,15 +56,11 @@ first_lines_of_c() {
 }
 
 tarball() {
-    local list
     tar -C / -xzf "proved-argon2-$VERSION-x86_64.tar.gz"
     ldconfig
     first_lines_of_the_shell
     first_lines_of_c
-    list=$(</usr/local/share/proved-argon2/installed)
-    sed -n 's/^file //p' <<<"$list" | xargs -d '\n' rm --
-    sed -n 's/^folder //p' <<<"$list" | sort -r | xargs -r -d '\n' rmdir --ignore-fail-on-non-empty --
-    ldconfig
+    /usr/local/share/proved-argon2/uninstall
     leaves_nothing
 }
 
@@ -113,6 +109,67 @@ libargon2() {
     leaves_nothing
 }
 
+# ---- in a fresh release of Debian, with a network and without a C compiler
+
+installs() {
+    DEBIAN_FRONTEND=noninteractive apt-get install -qq -y "$@" >/dev/null
+}
+
+# Whether these packages are installed, and all is whole: `are_there PACKAGE..`.
+are_there() {
+    local package
+    for package in "$@"; do
+        [[ $(dpkg-query -W -f '${Status}' "$package" 2>/dev/null) == *' installed' ]] || { echo "no $package"; return 1; }
+    done
+    [[ -z $(dpkg --audit) ]]
+    apt-get check -qq
+}
+
+# A hash and a verdict of PHP, by the library of this package: `php_calls PACKAGE`.
+php_calls() {
+    [[ $(php -r 'echo json_encode(password_verify("pw", password_hash("pw", PASSWORD_ARGON2ID)));') == true ]]
+    [[ $(dpkg -S "/usr/lib/$(uname -m)-linux-gnu/libargon2.so.1") == "$1"* ]]
+}
+
+# Installs packages, or takes them back to Debian's; PHP then calls the library of PACKAGE, and OTHERS are there:
+# `swaps 'PACKAGES' PACKAGE OTHER..`.
+swaps() {
+    # shellcheck disable=SC2086 # they are words, and patterns
+    installs $1
+    php_calls "$2"
+    are_there php-cli "${@:2}"
+}
+
+# Debian's development files stay with Debian's library or ours, and ours take their place if both files are named.
+changes_places() {
+    local ours=./proved-libargon2-1_*_amd64.deb development=./proved-libargon2-dev_*_amd64.deb
+    apt-get update -qq
+    swaps php-cli libargon2-1
+    swaps "$ours" proved-libargon2-1
+    swaps libargon2-1 libargon2-1
+    swaps libargon2-dev libargon2-1 libargon2-dev
+    swaps "$ours" proved-libargon2-1 libargon2-dev
+    swaps libargon2-1 libargon2-1 libargon2-dev
+    if installs ./proved-libargon2-dev_*_amd64.deb 2>/dev/null; then return 1; fi
+    swaps "$ours $development" proved-libargon2-1 proved-libargon2-dev
+    swaps 'libargon2-1 libargon2-dev' libargon2-1 libargon2-dev
+    [[ -z $(installed_of '*proved-libargon2*') ]]
+}
+
+# With Debian's development files, from this release to the next: `keeps_its_place RELEASE`.
+keeps_its_place() {
+    local former
+    swaps ./proved-libargon2-1_*_amd64.deb proved-libargon2-1 libargon2-dev
+    former=$(dpkg-query -W -f '${Version}' libargon2-dev)
+    sed -i "s/bookworm/$1/" /etc/apt/sources.list
+    apt-get update -qq
+    DEBIAN_FRONTEND=noninteractive apt-get full-upgrade -qq -y >/dev/null
+    grep -qx "VERSION_CODENAME=$1" /etc/os-release
+    swaps php-cli proved-libargon2-1 libargon2-dev
+    [[ $(dpkg-query -W -f '${Version}' libargon2-dev) != "$former" ]]
+    swaps libargon2-1 libargon2-1 libargon2-dev
+}
+
 wheel() {
     local in=$room/environment/bin
     /usr/bin/python3 -m venv "$room/environment" || python3 -m venv "$room/environment"
@@ -147,4 +204,4 @@ javascript() {
     [[ ! -e node_modules/proved-argon2 ]]
 }
 
-"$1"
+"$@"

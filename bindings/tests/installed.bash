@@ -42,6 +42,7 @@ share/doc/proved-argon2/NOTICE
 share/man/man1/proved-argon2.1
 share/man/man3/proved_argon2.3
 share/proved-argon2/installed
+share/proved-argon2/uninstall
 END
     )
 }
