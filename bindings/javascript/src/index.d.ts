@@ -30,19 +30,32 @@ export interface Settings {
     hashLength?: number;
 }
 
+/** What stops a call: an `AbortSignal`. The types need neither a page's library nor Node's. */
+export interface StopSignal {
+    /** Whether it has stopped the call. */
+    readonly aborted: boolean;
+    /** Has the call hear of it. */
+    addEventListener(type: 'abort', listener: () => void, options?: { once?: boolean }): void;
+    /** Has the call hear no more. */
+    removeEventListener(type: 'abort', listener: () => void): void;
+}
+
 /** How a call runs. */
 export interface Running {
     /** The progress callback: `done` of `all` slices are filled, four in a pass. What it throws stops the call. */
     onProgress?: (done: number, all: number) => void;
     /** Stops the call once the slice at work is filled. The call is rejected by the signal's reason. */
-    signal?: AbortSignal;
-    /** `false` computes in the caller's thread, which yields to other tasks after each slice. */
+    signal?: StopSignal;
+    /** `false` computes in the caller's thread, one call after another. It yields to other tasks after each slice. */
     worker?: boolean;
-    /** The most workers for the lanes of a slice. Without it there is one a lane, if there are enough processors. */
+    /** The most workers, at least 1, for the lanes of a slice. Without it there is one a lane, if there are enough processors. */
     threads?: number;
 }
 
-/** What a hash depends on besides the password, the salt and the settings. It is not in the PHC string. */
+/**
+ * What a hash depends on besides the password, the salt and the settings. It is not in the PHC string, except for the
+ * associated data in strings of node-argon2, by which these are verified if none is passed.
+ */
 export interface Keys {
     /** A key that is stored apart from the encoded hashes (a pepper). */
     secret?: Bytes;
@@ -169,7 +182,7 @@ export class IncorrectVersion extends Argon2Error {}
 export class DecodingFail extends Argon2Error {}
 /** The engine denied the memory. */
 export class OutOfMemory extends Argon2Error {}
-/** A worker could not be started, or has failed. `cause` says why. */
+/** A worker could not be started, or has failed. The message and `cause` say why. */
 export class WorkerRefused extends Argon2Error {}
 /** The PHC string is above the limits. No password was compared. */
 export class TooCostly extends Argon2Error {}

@@ -1,4 +1,7 @@
-// What a caller passes: checked, and copied at once, since it may change what it has passed.
+// What a caller passes: checked, and copied at once, since it may change what it has passed. Options are read once, and
+// only an object's own ones: what somebody adds to Object.prototype is nobody's option.
+import { allocate, bytesOf, passwordOf } from './bytes.js';
+import { Inputs } from './inputs.js';
 
 /** The variants: where a block's reference is drawn from (RFC 9106, 1). */
 export const argon2d = 0;
@@ -39,23 +42,25 @@ const NAMES = new Set([
     ...Object.keys(DEFAULTS), 'salt', 'secret', 'associatedData', 'raw', 'limits', 'onProgress', 'signal', 'worker',
     'threads',
 ]);
+const NAMES_OF_LIMITS = new Set(Object.keys(defaultLimits));
 
 const typeError = (name, wanted) => new TypeError(`'${name}' has to be ${wanted}`);
 
-function requireKnown(given, names, what) {
-    if (typeof given !== 'object' || given === null) {
+/** The own properties of an object that have a value, each read once. */
+function ownOf(given, names, what) {
+    if (Object.prototype.toString.call(given) !== '[object Object]') {
         throw typeError(what, 'an object');
     }
-    const unknown = Object.keys(given).find((name) => !names.has(name));
+    const all = { ...given };
+    const unknown = Object.keys(all).find((name) => !names.has(name));
     if (unknown !== undefined) {
         throw new TypeError(`there is no option '${unknown}'`);
     }
+    const isGiven = ([, value]) => value !== undefined;
+    return { __proto__: null, ...Object.fromEntries(Object.entries(all).filter(isGiven)) };
 }
 
-/** What is given, or else a default: `null` is something, and mostly of a wrong type. */
-function valueOf(given, name, value) {
-    return given[name] === undefined ? value : given[name];
-}
+export const optionsOf = (given) => ownOf(given, NAMES, 'options');
 
 function numberOf(name, value, most = MAX_NUMBER) {
     if (typeof value !== 'number') {
@@ -67,98 +72,75 @@ function numberOf(name, value, most = MAX_NUMBER) {
     return value;
 }
 
-function optionOf(given, name, type, value) {
-    const it = valueOf(given, name, value);
-    if (it !== undefined && typeof it !== type) {
+/** `null` is something, and mostly of a wrong type. */
+function optionOf(name, value, type) {
+    if (value !== undefined && typeof value !== type) {
         throw typeError(name, `a ${type}`);
     }
-    return it;
-}
-
-/** A copy of bytes, which the call overwrites at its end. */
-function bytesOf(name, value) {
-    if (ArrayBuffer.isView(value)) {
-        return new Uint8Array(value.buffer, value.byteOffset, value.byteLength).slice();
-    }
-    if (Object.prototype.toString.call(value) === '[object ArrayBuffer]') {
-        return new Uint8Array(value).slice();
-    }
-    throw typeError(name, 'bytes');
-}
-
-/** A password as bytes: characters are UTF-8. Half a surrogate pair has none, and other text would have the same. */
-function passwordOf(value) {
-    if (typeof value !== 'string') {
-        return bytesOf('password', value);
-    }
-    if (/\p{Surrogate}/u.test(value)) {
-        throw typeError('password', 'well-formed Unicode');
-    }
-    return new TextEncoder().encode(value);
+    return value;
 }
 
 /** The settings of a hash, as the library has them. */
-export function settingsOf(given) {
-    return Object.entries(DEFAULTS).map(([name, value]) => numberOf(name, valueOf(given, name, value)));
+export function settingsOf(own) {
+    const all = { ...DEFAULTS, ...own };
+    return Object.keys(DEFAULTS).map((name) => numberOf(name, all[name]));
 }
 
 /** The limits of a string: `null` are none. */
-export function limitsOf(given = {}) {
-    if (given === null) {
+export function limitsOf({ limits = {} }) {
+    if (limits === null) {
         return NO_LIMITS;
     }
-    requireKnown(given, new Set(Object.keys(defaultLimits)), 'limits');
-    const limit = (name, most) => numberOf(name, valueOf(given, name, defaultLimits[name]), most);
-    return {
-        memoryCost: limit('memoryCost'),
-        timeCost: limit('timeCost'),
-        parallelism: limit('parallelism'),
-        work: limit('work', Number.MAX_SAFE_INTEGER),
-    };
+    const all = { ...defaultLimits, ...ownOf(limits, NAMES_OF_LIMITS, 'limits') };
+    const most = (name) => (name === 'work' ? Number.MAX_SAFE_INTEGER : MAX_NUMBER);
+    Object.entries(all).forEach(([name, value]) => numberOf(name, value, most(name)));
+    return all;
 }
 
 export function encodedOf(encoded) {
     if (typeof encoded !== 'string') {
         throw typeError('encoded', 'a string');
     }
-    return new TextEncoder().encode(encoded);
+    return encoded;
 }
 
-/** The bytes that a hash is of. */
-export class Inputs {
-    constructor(password, given, salt = new Uint8Array()) {
-        this.salt = salt;
-        this.secret = bytesOf('secret', valueOf(given, 'secret', new Uint8Array()));
-        this.associatedData = bytesOf('associatedData', valueOf(given, 'associatedData', new Uint8Array()));
-        this.password = passwordOf(password);
-    }
-
-    clear() {
-        for (const bytes of Object.values(this)) {
-            bytes.fill(0);
-        }
-    }
-}
+/** The bytes of an option, or none. */
+const givenOf = (name, value) => (value === undefined ? allocate(0) : bytesOf(name, value));
 
 /** The salt that is given, or a new one of 16 bytes (RFC 9106, 3.1). */
-export function saltOf({ salt }) {
-    return salt === undefined ? crypto.getRandomValues(new Uint8Array(SALT_LENGTH)) : bytesOf('salt', salt);
+const saltOf = (salt) => (salt === undefined ? crypto.getRandomValues(allocate(SALT_LENGTH)) : bytesOf('salt', salt));
+
+/** The inputs of a hash. */
+export function inputsOf(password, { salt, secret, associatedData }) {
+    return new Inputs({
+        salt: saltOf(salt),
+        secret: givenOf('secret', secret),
+        associatedData: givenOf('associatedData', associatedData),
+        password: passwordOf(password),
+    });
+}
+
+/** .. and of a verification, whose salt is in the string. */
+export const inputsToVerify = (password, own) => inputsOf(password, { __proto__: null, ...own, salt: allocate(0) });
+
+function threadsOf(threads = MAX_NUMBER) {
+    if (numberOf('threads', threads) === 0) {
+        throw typeError('threads', 'at least 1');
+    }
+    return threads;
 }
 
 /** How a call runs. */
-export function runningOf(given) {
-    const { signal } = given;
+export function runningOf({ onProgress, signal, worker = true, threads }) {
     if (signal !== undefined && !(signal instanceof AbortSignal)) {
         throw typeError('signal', 'an AbortSignal');
     }
     return {
-        onProgress: optionOf(given, 'onProgress', 'function'),
+        onProgress: optionOf('onProgress', onProgress, 'function'),
         signal,
-        worker: optionOf(given, 'worker', 'boolean', true),
-        threads: numberOf('threads', valueOf(given, 'threads', MAX_NUMBER)),
+        worker: optionOf('worker', worker, 'boolean'),
+        threads: threadsOf(threads),
     };
 }
 
-export const isRaw = (given) => optionOf(given, 'raw', 'boolean', false);
-
-export const requireOptions = (given) => requireKnown(given, NAMES, 'options');
+export const isRaw = ({ raw = false }) => optionOf('raw', raw, 'boolean');

@@ -1,20 +1,28 @@
-// What Node and browsers do differently: files, workers, and how many processors there are.
+// What Node and browsers do differently: files, how many processors there are, and how other tasks get their turn.
 
 // Node's own modules are had without an import, which browsers and bundlers would stumble over.
 const builtin = (name) => globalThis.process?.getBuiltinModule?.(`node:${name}`);
-const threads = builtin('worker_threads');
+
+/** Node's workers, where this is Node. */
+export const nodeThreads = builtin('worker_threads');
 
 /** Whether workers can share a memory: always in Node, and in a page that is isolated from other origins. */
-export const canShare = () => threads !== undefined || globalThis.crossOriginIsolated === true;
+export const canShare = () => nodeThreads !== undefined
+    || (globalThis.crossOriginIsolated === true && globalThis.SharedArrayBuffer !== undefined);
+
+/** Whether this thread may start workers. Node's permission model may deny it. */
+export const canStartWorkers = () => (nodeThreads
+    ? globalThis.process.permission?.has('worker') !== false
+    : globalThis.Worker !== undefined);
 
 /** How many workers can run at the same time. */
 export function processors() {
-    return threads ? builtin('os').availableParallelism() : globalThis.navigator?.hardwareConcurrency ?? 1;
+    return nodeThreads ? builtin('os').availableParallelism() : globalThis.navigator?.hardwareConcurrency ?? 1;
 }
 
-/** What a file beside this one has. */
-export async function readBeside(url) {
-    if (url.protocol === 'file:' && threads) {
+/** What a file of the package has. */
+export async function readFile(url) {
+    if (url.protocol === 'file:' && nodeThreads) {
         return builtin('fs/promises').readFile(url);
     }
     const response = await fetch(url);
@@ -25,10 +33,10 @@ export async function readBeside(url) {
 }
 
 /** Where a worker hears from whom it works for. */
-export const caller = threads?.parentPort ?? globalThis;
+export const caller = nodeThreads?.parentPort ?? globalThis;
 
-/** Lets what waits in this thread run: messages, timers and, in a page, what is drawn. */
-export function takeTurn() {
+/** Yields to what waits in this thread: messages, timers and, in a page, what is drawn. */
+export function yieldToTasks() {
     return new Promise((resume) => {
         if (globalThis.setImmediate) {
             setImmediate(resume);
@@ -42,34 +50,3 @@ export function takeTurn() {
         port2.postMessage(0);
     });
 }
-
-/** A worker of Node. It keeps no process alive while it has nothing to do. */
-function startThread({ onMessage, onEnd }) {
-    // (the flags of the process are not for a file of ours: `--input-type` would keep it from starting)
-    const worker = new threads.Worker(new URL('./worker.js', import.meta.url), { execArgv: [] });
-    worker.on('message', onMessage);
-    worker.on('error', onEnd);
-    worker.on('exit', onEnd);
-    worker.unref();
-    return {
-        post: (message, moved = []) => worker.postMessage(message, moved),
-        keepsAlive: (does) => (does ? worker.ref() : worker.unref()),
-        end: () => worker.terminate(),
-    };
-}
-
-/** A worker of a page. */
-function startOfPage({ onMessage, onEnd }) {
-    const worker = new Worker(new URL('./worker.js', import.meta.url), { type: 'module' });
-    worker.onmessage = ({ data }) => onMessage(data);
-    worker.onerror = (event) => onEnd(event);
-    worker.onmessageerror = (event) => onEnd(event);
-    return {
-        post: (message, moved = []) => worker.postMessage(message, moved),
-        keepsAlive: () => {},
-        end: () => worker.terminate(),
-    };
-}
-
-/** Starts a worker. `onEnd` is called when it has failed or is gone. */
-export const startWorker = threads ? startThread : startOfPage;

@@ -1,132 +1,104 @@
-// The workers of this thread: at most as many as there are processors, each for one call at a time.
+// The workers of this thread: at most as many as there are processors. A worker leads a call, and others help it.
 import { Rejected, STOPPED, WORKER_REFUSED } from './codes.js';
-import { engine } from './engine.js';
-import { canShare, processors, startWorker } from './platform.js';
+import { LaneWorker } from './lane_worker.js';
+import { compiledModule } from './module.js';
+import { canShare, processors } from './platform.js';
+import { Queue } from './queue.js';
 
-/** How long a worker without work stays, in milliseconds. Its memory goes with it. */
-const STAYS = 5000;
-
+const workers = new Set();
 /** Workers with nothing to do. The last one to work is taken first, so that others can go. */
 const idle = [];
-/** Calls that wait for a worker. */
-const waiting = [];
-let started = 0;
+const queue = new Queue();
 
-function remove(list, item) {
-    const at = list.indexOf(item);
-    if (at >= 0) {
-        list.splice(at, 1);
-    }
-}
-
-class Hand {
-    call;
-    #worker;
-    #timer;
-    #isOver = false;
-
-    constructor() {
-        this.#worker = startWorker({
-            onMessage: (message) => this.call?.hear(message),
-            onEnd: (cause) => this.end(cause),
-        });
-        started += 1;
-    }
-
-    post(message, moved) {
-        this.#worker.post(message, moved);
-    }
-
-    wake() {
-        clearTimeout(this.#timer);
-        this.#worker.keepsAlive(true);
-        return this;
-    }
-
-    /** Hands it to a call that waits, or has it wait for one. */
-    rest() {
-        this.call = undefined;
-        if (this.#isOver) {
-            return;
-        }
-        if (waiting.length > 0) {
-            waiting.shift().resolve(this);
-            return;
-        }
-        this.#worker.keepsAlive(false);
-        this.#timer = setTimeout(() => this.end(), STAYS);
-        this.#timer.unref?.();
-        idle.push(this);
-    }
-
-    /** Ends the worker, and with it the call that it works for. */
-    end(cause) {
-        if (this.#isOver) {
-            return;
-        }
-        this.#isOver = true;
-        started -= 1;
-        remove(idle, this);
-        this.#worker.end();
-        this.call?.fail(cause);
-        resumeOne();
-    }
+/** Takes the last idle worker of those that are wanted, or else the last one. */
+function popIdle(isWanted) {
+    const wanted = idle.findLastIndex(isWanted);
+    return idle.splice(wanted < 0 ? idle.length - 1 : wanted, 1)[0];
 }
 
 /** A worker that is there at once, or none. */
-function takeHand() {
+function takeWorker(isWanted) {
+    if (idle.length > 0) {
+        return popIdle(isWanted).wake();
+    }
+    if (workers.size >= processors()) {
+        return undefined;
+    }
     try {
-        return idle.pop()?.wake() ?? (started < processors() ? new Hand().wake() : undefined);
+        const worker = new LaneWorker(forgetWorker);
+        workers.add(worker);
+        return worker.wake();
     } catch (cause) {
         throw new Rejected(WORKER_REFUSED, cause);
     }
 }
 
-/** Has a call that waits go on, where a worker has gone. */
-function resumeOne() {
-    const next = waiting.shift();
-    try {
-        const hand = next && takeHand();
-        if (hand) {
-            next.resolve(hand);
-        } else if (next) {
-            waiting.unshift(next);
-        }
-    } catch (error) {
-        next.reject(error);
+/** A worker with a memory leads, so that helpers need none. */
+const takeLeader = () => takeWorker((worker) => worker.hasMemory);
+const takeHelper = () => takeWorker((worker) => !worker.hasMemory);
+
+/**
+ * A worker has ended, and its memory is to go. Those that have joined this memory end too, once they have nothing to do:
+ * nothing else makes an engine let it go. Then there may be a worker for a call that waits.
+ */
+function forgetWorker(ended) {
+    workers.delete(ended);
+    if (idle.includes(ended)) {
+        idle.splice(idle.indexOf(ended), 1);
+    }
+    idle.filter((worker) => worker.joined.has(ended)).forEach((worker) => worker.end());
+    if (!queue.isEmpty) {
+        handWorkerOn();
     }
 }
 
-/** The next worker that has nothing to do. */
-async function waitForHand(progress) {
-    let forget;
-    const hand = new Promise((resolve, reject) => {
-        const wait = { resolve, reject };
-        waiting.push(wait);
-        forget = progress.whenAborted(() => {
-            remove(waiting, wait);
-            reject(new Rejected(STOPPED));
-        });
-    });
-    return hand.finally(forget);
+/** Has the call that waits in front go on, if a worker can be had. */
+function handWorkerOn() {
+    try {
+        const worker = takeLeader();
+        if (worker) {
+            queue.hand(worker);
+        }
+    } catch (error) {
+        queue.fail(error);
+    }
 }
 
-/** A worker to lead a run, and as many that help it as there are at once. */
-async function takeHands(most, progress) {
-    const hands = [takeHand() ?? await waitForHand(progress)];
-    while (hands.length < most && canShare()) {
-        const helper = takeHand();
+/** A worker has done its part of a call. */
+function release(worker) {
+    worker.call = undefined;
+    if (worker.isEnded) {
+        return;
+    }
+    if ([...worker.joined].some((leader) => leader.isEnded)) {
+        worker.end();
+    } else if (queue.isEmpty) {
+        idle.push(worker);
+        worker.rest();
+    } else {
+        queue.hand(worker);
+    }
+}
+
+/** A worker to lead a call, and as many that help it as there are at once. */
+async function takeWorkers(most, progress) {
+    const leader = takeLeader() ?? await queue.wait(progress);
+    const taken = [leader];
+    while (taken.length < most && canShare()) {
+        const helper = takeHelper();
         if (helper === undefined) {
             break;
         }
-        hands.push(helper);
+        helper.joined.add(leader);
+        taken.push(helper);
     }
-    return hands;
+    leader.hasMemory = true;
+    return taken;
 }
 
-/** A run by a worker that leads, and others that help it. */
+/** A call that a worker leads, and others help it. */
 class Call {
-    #hands;
+    #workers;
     #leader;
     #helpers;
     #progress;
@@ -136,67 +108,71 @@ class Call {
         this.#end = { resolve, reject };
     });
 
-    constructor(hands, progress) {
-        this.#hands = hands;
-        [this.#leader, ...this.#helpers] = hands;
+    constructor(taken, progress) {
+        this.#workers = taken;
+        [this.#leader, ...this.#helpers] = taken;
         this.#progress = progress;
         this.#ended.catch(() => {}); // (whoever awaits it may not do so yet)
-        for (const hand of hands) {
-            hand.call = this;
+        for (const worker of taken) {
+            worker.call = this;
         }
     }
 
     async run(task) {
-        const module = await engine(this.#hands.length > 1);
+        this.#module = await compiledModule();
         const forget = this.#progress.whenAborted(() => this.#stop());
         if (!this.#progress.isStopped) {
-            this.#begin(module, task);
+            this.#begin(task);
             return this.#ended.finally(forget);
         }
         forget();
         throw new Rejected(STOPPED);
     }
 
-    #begin(module, task) {
-        this.#module = module;
-        const { isTold: tells } = this.#progress;
-        // (what is moved leaves no copy here)
-        this.#leader.post({ module, task, helpers: this.#helpers.length, tells }, [task.job.buffer]);
+    /** A channel from the leader to each helper passes the memory, so that this thread never holds one. */
+    #begin(task) {
+        const channels = this.#helpers.map(() => new MessageChannel());
+        const ports = channels.map(({ port1 }) => port1);
+        const message = { module: this.#module, task, ports, isReported: this.#progress.isReported };
+        this.#leader.post(message, [...task.inputs.moved, ...ports]);
+        this.#helpers.forEach((helper, i) =>
+            helper.post({ module: this.#module, port: channels[i].port2 }, [channels[i].port2]));
     }
 
     #stop() {
         this.#leader.post({ stop: true });
     }
 
-    /** What a worker says: that it has failed, what has come of the run, who may join it, or how far it is. */
+    /** What a worker says: that it has failed, what has come of the call, how far it is, or who joins its memory. */
     hear(message) {
         if (message.failure !== undefined) {
-            this.fail(message.failure);
+            this.fail(new Error(message.failure));
         } else if (message.code !== undefined) {
             this.#end.resolve(message);
-        } else if (message.joining) {
-            this.#helpers.forEach((hand, i) => hand.post({ module: this.#module, joining: message.joining[i] }));
-        } else if (this.#progress.tell(message.done, message.all)) {
+        } else if (message.invitations) {
+            this.#helpers.forEach((helper, i) =>
+                helper.post({ module: this.#module, invitation: message.invitations[i] }));
+        } else if (this.#progress.report(message.done, message.all)) {
             this.#stop();
         }
     }
 
-    /** Ends all workers of the run, since they wait for each other. */
+    /** Ends all workers of the call, since they wait for each other. */
     fail(cause) {
         this.#end.reject(new Rejected(WORKER_REFUSED, cause));
-        for (const hand of this.#hands) {
-            hand.call = undefined;
-            hand.end(cause);
+        for (const worker of this.#workers) {
+            worker.call = undefined;
+            worker.end(cause);
         }
     }
 }
 
-/** Runs a job by at most so many workers, and returns its code and its tag. */
+/** Runs a task by at most so many workers, and returns its code and its tag. */
 export async function runByWorkers(task, most, progress) {
-    const hands = await takeHands(most, progress);
+    const taken = await takeWorkers(most, progress);
     try {
-        return await new Call(hands, progress).run(task);
+        return await new Call(taken, progress).run(task);
     } finally {
-        hands.forEach((hand) => hand.rest());
+        taken.forEach(release);
     }
 }

@@ -11,7 +11,7 @@ export class Progress {
     }
 
     /** Whether somebody listens. */
-    get isTold() {
+    get isReported() {
         return this.#onProgress !== undefined;
     }
 
@@ -20,7 +20,7 @@ export class Progress {
     }
 
     /** Reports that some slices of all are filled, and returns whether to stop. */
-    tell(done, all) {
+    report(done, all) {
         if (!this.isStopped) {
             try {
                 this.#onProgress?.(done, all);

@@ -1,4 +1,7 @@
-"""Random hashes of libargon2, another implementation, as lines of bindings/vectors/raw.txt: beside.py SEED COUNT"""
+"""Random hashes of libargon2, another implementation, as lines of bindings/vectors/raw.txt: beside.py SEED COUNT MEMORY,
+where MEMORY is the most KiB beyond the least. Or a string with associated data in it, as node-argon2 writes it:
+beside.py data"""
+import base64
 import ctypes
 import random
 import sys
@@ -19,14 +22,14 @@ class Context(ctypes.Structure):
     ]
 
 
-def drawn(source):
+def drawn(source, most):
     """A line's settings and inputs."""
     lanes = source.randint(1, 6)
     return {
         "variant": source.choice(list(VARIANTS)),
         "version": source.choice((16, 19)),
         "t": source.randint(1, 4),
-        "m": source.randint(8 * lanes, 8 * lanes + 600),
+        "m": source.randint(8 * lanes, 8 * lanes + most),
         "p": lanes,
         "length": source.randint(4, 140),
         "inputs": [
@@ -49,12 +52,22 @@ def tag(library, it):
     return out.raw
 
 
+def with_data(library):
+    inputs = [b"password", b"somesalt", b"", b"user 7"]
+    it = {"variant": "argon2id", "version": 19, "t": 2, "m": 256, "p": 1, "length": 32, "inputs": inputs}
+    salt, data, made = (base64.b64encode(part).decode().rstrip("=") for part in (inputs[1], inputs[3], tag(library, it)))
+    return f"$argon2id$v=19$m=256,t=2,p=1,data={data}${salt}${made}"
+
+
 def main():
-    seed, count = map(int, sys.argv[1:])
     library = ctypes.CDLL("libargon2.so.1")
+    if sys.argv[1:] == ["data"]:
+        print(with_data(library))
+        return
+    seed, count, most = map(int, sys.argv[1:])
     source = random.Random(seed)
     for _ in range(count):
-        it = drawn(source)
+        it = drawn(source, most)
         pieces = [piece.hex() or "-" for piece in it["inputs"]]
         print(it["variant"], it["version"], it["t"], it["m"], it["p"], it["length"], *pieces, tag(library, it).hex())
 

@@ -1,18 +1,25 @@
-// Chromium and Firefox without a window, each driven by what it has for that: pipes, or a socket.
+// Chromium, Firefox and WebKit without a window, each driven by what it has for that: pipes, a socket, or a server.
 import { spawn } from 'node:child_process';
 import { once } from 'node:events';
 import { existsSync, mkdtempSync, readFileSync, rmSync, writeFileSync } from 'node:fs';
-import { connect } from 'node:net';
+import { connect, createServer } from 'node:net';
 import { tmpdir } from 'node:os';
 import { join } from 'node:path';
 import { setTimeout as sleep } from 'node:timers/promises';
+
+/** A browser has ended while something waited for it. */
+export class BrowserEnded extends Error {}
 
 /** Requests by numbers, and what waits for their answers. */
 class Requests {
     #waiting = new Map();
     #last = 0;
+    #ended;
 
     begin(send) {
+        if (this.#ended) {
+            return Promise.reject(this.#ended);
+        }
         this.#last += 1;
         const number = this.#last;
         return new Promise((resolve, reject) => {
@@ -21,11 +28,20 @@ class Requests {
         });
     }
 
+    /** Rejects all that waits, and what is asked later. */
+    endAll(error) {
+        this.#ended = error;
+        for (const { reject } of this.#waiting.values()) {
+            reject(error);
+        }
+        this.#waiting.clear();
+    }
+
     end(number, error, result) {
         const waiting = this.#waiting.get(number);
         this.#waiting.delete(number);
         if (error) {
-            waiting?.reject(new Error(error.message ?? JSON.stringify(error)));
+            waiting?.reject(error instanceof Error ? error : new Error(error.message ?? JSON.stringify(error)));
         } else {
             waiting?.resolve(result);
         }
@@ -35,11 +51,14 @@ class Requests {
 /** What both have: a process with a profile of its own, which goes with it. */
 class Browser {
     profile = mkdtempSync(join(tmpdir(), 'browser-'));
+    requests = new Requests();
 
-    start(command, options, stdio) {
-        const env = { ...process.env, HOME: this.profile };
-        this.process = spawn(command, options, { stdio: ['ignore', 'ignore', 'ignore', ...stdio], env });
-        this.ended = once(this.process, 'exit');
+    start(command, options, { pipes = [], env = {} } = {}) {
+        const all = { ...process.env, HOME: this.profile, ...env };
+        this.process = spawn(command, options, { stdio: ['ignore', 'ignore', 'ignore', ...pipes], env: all });
+        this.ended = once(this.process, 'exit').then(([code, signal]) => {
+            this.requests.endAll(new BrowserEnded(`${command} has ended by itself: ${signal ?? `status ${code}`}`));
+        });
         process.once('exit', () => this.process.kill());
     }
 
@@ -79,12 +98,11 @@ class Browser {
 /** By its DevTools Protocol: messages that a zero ends, over two pipes. */
 export class Chromium extends Browser {
     static command = 'chromium';
-    #requests = new Requests();
     #rest = '';
 
     async open() {
         this.start(Chromium.command, ['--headless', '--no-sandbox', '--disable-gpu', '--disable-dev-shm-usage',
-            '--hide-scrollbars', '--remote-debugging-pipe', `--user-data-dir=${this.profile}`], ['pipe', 'pipe']);
+            '--hide-scrollbars', '--remote-debugging-pipe', `--user-data-dir=${this.profile}`], { pipes: ['pipe', 'pipe'] });
         this.process.stdio[4].setEncoding('utf8').on('data', (data) => this.#read(data));
         const { targetId } = await this.#send('Target.createTarget', { url: 'about:blank' });
         ({ sessionId: this.session } = await this.#send('Target.attachToTarget', { targetId, flatten: true }));
@@ -95,12 +113,12 @@ export class Chromium extends Browser {
         const messages = (this.#rest + data).split('\0');
         this.#rest = messages.pop();
         for (const { id, error, result } of messages.map((it) => JSON.parse(it))) {
-            this.#requests.end(id, error, result);
+            this.requests.end(id, error, result);
         }
     }
 
     #send(method, params = {}) {
-        return this.#requests.begin((id) =>
+        return this.requests.begin((id) =>
             this.process.stdio[3].write(`${JSON.stringify({ id, method, params, sessionId: this.session })}\0`));
     }
 
@@ -139,13 +157,12 @@ export class Chromium extends Browser {
 /** By Marionette: messages behind their lengths, over a socket whose port it writes to its profile. */
 export class Firefox extends Browser {
     static command = 'firefox-esr';
-    #requests = new Requests();
     #rest = Buffer.alloc(0);
 
     async open() {
         writeFileSync(join(this.profile, 'user.js'), 'user_pref("marionette.port", 0);\n');
         this.start(Firefox.command, ['--headless', '--marionette', '--remote-allow-system-access', '--no-remote',
-            '--profile', this.profile], []);
+            '--profile', this.profile]);
         const port = join(this.profile, 'MarionetteActivePort');
         while (!existsSync(port) || readFileSync(port, 'utf8') === '') {
             await sleep(50);
@@ -169,13 +186,13 @@ export class Firefox extends Browser {
             const message = JSON.parse(this.#rest.subarray(at + 1, end));
             this.#rest = this.#rest.subarray(end);
             if (Array.isArray(message)) {
-                this.#requests.end(message[1], message[2], message[3]);
+                this.requests.end(message[1], message[2], message[3]);
             }
         }
     }
 
     #send(name, parameters = {}) {
-        return this.#requests.begin((id) => {
+        return this.requests.begin((id) => {
             const message = JSON.stringify([0, id, name, parameters]);
             this.socket.write(`${Buffer.byteLength(message)}:${message}`);
         });
@@ -209,5 +226,96 @@ export class Firefox extends Browser {
     async close() {
         this.socket?.destroy();
         await super.close();
+    }
+}
+
+/** A port of this machine that nobody has. */
+async function freePort() {
+    const server = createServer().listen(0, '127.0.0.1');
+    await once(server, 'listening');
+    const { port } = server.address();
+    server.close();
+    return port;
+}
+
+/** A display that nobody looks at: WebKit wants one. */
+async function openDisplay() {
+    const display = spawn('Xvfb', ['-displayfd', '3', '-screen', '0', '1600x1200x24', '-nolisten', 'tcp'],
+        { stdio: ['ignore', 'ignore', 'ignore', 'pipe'] });
+    const [number] = await once(display.stdio[3].setEncoding('utf8'), 'data');
+    process.once('exit', () => display.kill());
+    return { name: `:${number.trim()}`, close: () => display.kill() };
+}
+
+/** By WebDriver: requests to a server, which starts the browser of WebKitGTK. WebKit is Safari's engine. */
+export class WebKit extends Browser {
+    static command = 'WebKitWebDriver';
+    #session = '';
+
+    async open() {
+        const port = await freePort();
+        this.display = await openDisplay();
+        this.address = `http://127.0.0.1:${port}/session`;
+        const env = { DISPLAY: this.display.name, GDK_BACKEND: 'x11', WEBKIT_DISABLE_SANDBOX_THIS_IS_DANGEROUS: '1' };
+        this.start(WebKit.command, [`--port=${port}`], { env });
+        const { sessionId, capabilities } = await this.#openSession();
+        this.#session = `/${sessionId}`;
+        this.name = `WebKit ${capabilities.browserVersion}`;
+        await this.#send('POST', '/timeouts', { script: 600000 });
+        return this;
+    }
+
+    /** Once the server hears. */
+    async #openSession() {
+        for (;;) {
+            try {
+                return await this.#send('POST', '', { capabilities: {} });
+            } catch (error) {
+                if (error.cause?.code !== 'ECONNREFUSED') {
+                    throw error;
+                }
+                await sleep(50);
+            }
+        }
+    }
+
+    /** A request that fails where the server has ended, too. */
+    #send(method, path, parameters) {
+        return this.requests.begin(async (number) => {
+            try {
+                const body = parameters && JSON.stringify(parameters);
+                const answer = await fetch(`${this.address}${this.#session}${path}`, { method, body });
+                const { value } = await answer.json();
+                this.requests.end(number, answer.ok ? undefined : value, value);
+            } catch (error) {
+                this.requests.end(number, error);
+            }
+        });
+    }
+
+    async visit(url) {
+        await this.#send('POST', '/url', { url });
+    }
+
+    async evaluate(expression) {
+        return this.#send('POST', '/execute/sync', { script: `return (${expression});`, args: [] });
+    }
+
+    async version() {
+        return this.name;
+    }
+
+    async show({ width, height }) {
+        await this.#send('POST', '/window/rect', { width, height });
+    }
+
+    async screenshot() {
+        return Buffer.from(await this.#send('GET', '/screenshot'), 'base64');
+    }
+
+    async close() {
+        await this.#send('DELETE', '').catch(() => {});
+        await super.close();
+        this.display.close();
     }
 }

@@ -1,7 +1,10 @@
 // Each error by its name, before a worker is started or memory is taken.
 import assert from 'node:assert/strict';
-import { readFileSync } from 'node:fs';
+import { execFile } from 'node:child_process';
+import { readFileSync, writeFileSync } from 'node:fs';
+import { join } from 'node:path';
 import { test } from 'node:test';
+import { promisify } from 'node:util';
 import { countWorkers } from './watching.mjs';
 import * as argon2 from 'proved-argon2';
 
@@ -48,8 +51,11 @@ const HASHING = [
     ['TypeError', { worker: 'no' }],
     ['TypeError', { raw: 1 }],
     ['TypeError', { memorycost: 65536 }],
+    ['TypeError', { threads: 0 }],
     ['TypeError', null],
     ['TypeError', 5],
+    ['TypeError', []],
+    ['TypeError', new Uint8Array()],
 ];
 
 /** .. a string and the options of a verification. */
@@ -78,7 +84,9 @@ const VERIFYING = [
     ['MemoryTooLittle', stringOf(7, 1, 1)],
     ['TypeError', 5],
     ['TypeError', new TextEncoder().encode(KEPT)],
+    ['TypeError', KEPT, []],
     ['TypeError', KEPT, { limits: 5 }],
+    ['TypeError', KEPT, { limits: [] }],
     ['TypeError', KEPT, { limits: { memory: 5 } }],
     ['TypeError', KEPT, { limits: { memoryCost: '256' } }],
     ['RangeError', KEPT, { limits: { work: -1 } }],
@@ -168,26 +176,49 @@ test('an aborted signal rejects by its reason, before a worker', async () => {
     assert.equal(started(), 0);
 });
 
-test('a job is overwritten where a call is stopped before it runs', async () => {
-    const JOB = 88; // bytes, of which the first 64 are H0
-    const { from } = Uint8Array;
+test('inputs are overwritten where a call is stopped before it runs', async () => {
+    const { ArrayBuffer: Buffers } = globalThis;
     const made = [];
-    Uint8Array.from = (...given) => {
-        made.push(from.apply(Uint8Array, given));
-        return made.at(-1);
+    const password = 'a password';
+    globalThis.ArrayBuffer = class extends Buffers {
+        constructor(length) {
+            super(length);
+            made.push(new Uint8Array(this));
+        }
     };
     try {
-        const calls = [(options) => argon2.hash('password', options), (options) => argon2.verify(KEPT, 'password', options)];
+        const secret = Uint8Array.of(1, 2, 3);
+        const calls = [argon2.hash, (...given) => argon2.verify(KEPT, ...given)];
         for (const call of calls) {
             const controller = new AbortController();
-            const stopped = call({ signal: controller.signal });
+            const stopped = call(password, { secret, signal: controller.signal });
+            assert.ok(made.some((bytes) => bytes.includes(0x70)), 'no copy was seen');
             controller.abort();
             await assert.rejects(stopped, { name: 'AbortError' });
         }
     } finally {
-        Uint8Array.from = from;
+        globalThis.ArrayBuffer = Buffers;
     }
-    const jobs = made.filter((it) => it.length === JOB);
-    assert.equal(jobs.length, 2);
-    assert.ok(jobs.every((job) => job.every((byte) => byte === 0)));
+    const inputs = made.filter((bytes) => bytes.length === 3 || bytes.length === 3 * password.length);
+    assert.equal(inputs.length, 4);
+    assert.ok(inputs.every((bytes) => bytes.every((byte) => byte === 0)));
+});
+
+/** What a program of these lines says, by Node with some flags. */
+async function saidWith(flags, lines) {
+    const program = join(import.meta.dirname, 'flagged.mjs');
+    writeFileSync(program, `import { hash, verify } from 'proved-argon2';\n${lines}\n`);
+    return (await promisify(execFile)(process.execPath, [...flags, program], { timeout: 600000 })).stdout.trim();
+}
+
+test('an engine without WebAssembly is Unsupported', async () => {
+    const said = await saidWith(['--jitless'], "console.log(await hash('password').catch((error) => String(error)));");
+    assert.equal(said, 'Unsupported: This engine has no WebAssembly');
+});
+
+test('where Node denies workers, the caller computes', async () => {
+    const flags = ['--experimental-permission', `--allow-fs-read=${join(import.meta.dirname, '*')}`];
+    const said = await saidWith(flags, `const encoded = await hash('password', { memoryCost: 64, parallelism: 2 });
+        console.log(process.permission.has('worker'), await verify(encoded, 'password'));`);
+    assert.equal(said, 'false true');
 });

@@ -74,12 +74,15 @@ test('a memory in use is seen, so that one that is overwritten is too', async ()
     await assertNothingHeld();
 });
 
-test('a memory that a long password has made large is not kept, and a small one is', async () => {
+test('a long password is hashed in a worker, and a memory that a long salt has made large is not kept', async () => {
+    const before = look().bytes;
     await argon2.hash('x'.repeat(2 ** 21), SMALL);
+    assert.equal(look().bytes, before);
+    await argon2.hash('password', { ...SMALL, raw: false, salt: new Uint8Array(2 ** 20) });
     const grown = look().bytes;
     await argon2.hash('password', SMALL);
     const small = look().bytes;
-    assert.ok(small > grown, 'the large one was used again');
+    assert.ok(small > grown && grown > before, 'the large one was used again');
     await argon2.hash('password', SMALL);
     assert.equal(look().bytes, small);
 });

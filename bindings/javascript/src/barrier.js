@@ -1,13 +1,14 @@
-// How workers that fill one memory wait for each other: by words of it. Messages would take an engine as long as a slice.
+// How workers that fill one memory wait for each other after each slice: by words of it. Messages would take an engine as
+// long as a slice.
 
 /** What a word has once there is no further step. */
 const OVER = -1;
 
 /**
- * Word 0 has how many steps the worker that leads has begun, and word i how many helper i has taken. Behind them are the
- * codes of these steps.
+ * Word 0 has how many steps the leader has begun, and word i how many helper i has taken. Behind them are the codes of
+ * these steps.
  */
-export class Board {
+export class Barrier {
     #words;
     #helpers;
 
@@ -54,7 +55,7 @@ export class Board {
         });
     }
 
-    /** Has the helpers go, and waits until no one looks at the memory any more. */
+    /** Ends the steps, and waits until no helper looks at the memory any more. */
     close() {
         this.#write(0, OVER);
         this.#eachHelper((helper) => this.#waitFor(helper, Infinity));
@@ -65,13 +66,13 @@ export class Board {
         return this.#waitFor(0, step) !== OVER;
     }
 
-    /** Has the one that leads know the code of a helper's step. */
-    tell(helper, step, code) {
+    /** Reports the code of a helper's step to the leader. */
+    report(helper, step, code) {
         Atomics.store(this.#words, this.#helpers + helper, code);
         this.#write(helper, step + 1);
     }
 
-    /** Has the one that leads know that a helper goes. */
+    /** Tells the leader that a helper has left. */
     leave(helper) {
         this.#write(helper, OVER);
     }

@@ -1,10 +1,11 @@
 // A memory with the proved module over it: what the calls are passed, and what is overwritten after them.
+import { copyOf } from './bytes.js';
 import { OUT_OF_MEMORY, Rejected } from './codes.js';
 
 const PAGE = 65536;
 /** The stack of an instance, PROVED_ARGON2_STACK_SIZE. The default one is in front of all else. */
 export const STACK = 65536;
-/** What the module for a shared memory says that this has at most: 4 GiB. */
+/** What the shared module says that its memory has at most: 4 GiB. */
 const MAX_SHARED_PAGES = 65536;
 const SMALLEST = 4;
 
@@ -19,16 +20,24 @@ export class Place {
 /** Where a structure is, for the calls that take one. */
 export const pointer = (place) => BigInt(place.at);
 
-/** A memory that workers can share. */
-function sharedMemory() {
-    try {
-        return new WebAssembly.Memory({ initial: SMALLEST, maximum: MAX_SHARED_PAGES, shared: true });
-    } catch (error) {
-        throw error instanceof RangeError ? new Rejected(OUT_OF_MEMORY) : error;
+/** A memory that workers can share. Phones have fewer addresses than it may grow to: then it may grow to less. */
+function makeShared() {
+    for (let maximum = MAX_SHARED_PAGES; maximum >= SMALLEST; maximum /= 2) {
+        try {
+            return new WebAssembly.Memory({ initial: SMALLEST, maximum, shared: true });
+        } catch (error) {
+            if (!(error instanceof RangeError)) {
+                throw error;
+            }
+        }
     }
+    throw new Rejected(OUT_OF_MEMORY);
 }
 
-export class Room {
+/** The module for shared memories is the one that imports its memory. */
+const importsMemory = (module) => WebAssembly.Module.imports(module).length > 0;
+
+export class Memory {
     #exports;
     #memory;
     #base;
@@ -41,31 +50,23 @@ export class Room {
         this.#top = this.#base;
     }
 
-    /** A memory of its own, for one thread. */
+    /** A new memory, which other workers can join if the module is the one for that. */
     static async open(module) {
-        const instance = await WebAssembly.instantiate(module, {});
-        return new Room(instance, instance.exports.memory);
-    }
-
-    /** A memory that other workers can join. */
-    static async openShared(module) {
-        const memory = sharedMemory();
-        return new Room(await WebAssembly.instantiate(module, { env: { memory } }), memory);
+        const memory = importsMemory(module) ? makeShared() : undefined;
+        const instance = await WebAssembly.instantiate(module, { env: { memory } });
+        return new Memory(instance, memory ?? instance.exports.memory);
     }
 
     /** The memory of another worker, with a stack of one's own in it. */
     static async join(module, memory, stack) {
         const instance = await WebAssembly.instantiate(module, { env: { memory } });
         instance.exports.__stack_pointer.value = BigInt(stack.at + stack.length);
-        return new Room(instance, memory);
+        return new Memory(instance, memory);
     }
 
-    get memory() {
+    /** What another worker joins. */
+    get shared() {
         return this.#memory;
-    }
-
-    get isShared() {
-        return !(this.#memory.buffer instanceof ArrayBuffer);
     }
 
     get size() {
@@ -117,9 +118,14 @@ export class Room {
         return new Uint8Array(this.#memory.buffer, place.at, place.length);
     }
 
+    /** The numbers of 32 bits at a place. */
+    numbersAt({ at }, count) {
+        return [...new Uint32Array(this.#memory.buffer, at, count)];
+    }
+
     /** A copy of some bytes, which stays. */
     read(place) {
-        return Uint8Array.from(this.view(place));
+        return copyOf(this.view(place));
     }
 
     /** What a call returns: a place is passed as an address and a length. */
@@ -135,7 +141,12 @@ export class Room {
         this.#top = this.#base;
     }
 
-    /** By words, since an engine may write to shared bytes one by one. */
+    /** Overwrites one place. */
+    clearPlace({ at, length }) {
+        this.#overwrite(at, at + length);
+    }
+
+    /** By words, since an engine may write to shared bytes one by one. Places of bytes begin at words. */
     #overwrite(from, to) {
         new BigUint64Array(this.#memory.buffer, from, Math.ceil((to - from) / 8)).fill(0n);
     }

@@ -1,0 +1,15 @@
+// The other files of the package, which lie beside this one. In the package's single file they are inlined instead.
+import { readFile } from './platform.js';
+
+// (each address is written out where it is used, so that bundlers see the files)
+
+/** The bytes of a module. */
+export const readModule = (isShared) => readFile(isShared
+    ? new URL('./proved_argon2_shared.wasm', import.meta.url)
+    : new URL('./proved_argon2.wasm', import.meta.url));
+
+/** A new worker of a page. */
+export const newPageWorker = () => new Worker(new URL('./worker.js', import.meta.url), { type: 'module' });
+
+/** A new worker of Node. */
+export const newThread = (Thread, options) => new Thread(new URL('./worker.js', import.meta.url), options);

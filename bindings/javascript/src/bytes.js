@@ -1,0 +1,62 @@
+// Bytes that a caller passes, copied at once. Nothing that a caller can override is asked for their length.
+
+const TypedArray = Object.getPrototypeOf(Uint8Array.prototype);
+
+/** A getter of the language's own, as a function of what it is read from. */
+function getterOf(prototype, name) {
+    const { get } = Object.getOwnPropertyDescriptor(prototype, name);
+    return (value) => get.call(value);
+}
+
+const NAMES = ['buffer', 'byteOffset', 'byteLength'];
+const [ofTypedArray, ofDataView] = [TypedArray, DataView.prototype].map((it) => NAMES.map((name) => getterOf(it, name)));
+const kindOf = getterOf(TypedArray, Symbol.toStringTag);
+const lengthOfBuffer = getterOf(ArrayBuffer.prototype, 'byteLength');
+const { keys: requireInBounds } = TypedArray;
+/** What a unit of UTF-16 takes in UTF-8, at most. */
+const MOST_BYTES_OF_UNIT = 3;
+
+/** Bytes outside the engine's own heap: there the garbage collector would copy them, and leave what was there before. */
+export const allocate = (length) => new Uint8Array(new ArrayBuffer(length));
+
+export function copyOf(bytes) {
+    const copy = allocate(bytes.length);
+    copy.set(bytes);
+    return copy;
+}
+
+/** The bytes of a view, or of a buffer. It throws a TypeError for all else, and where they are detached or out of bounds. */
+function viewOf(value) {
+    if (!ArrayBuffer.isView(value)) {
+        return new Uint8Array(value, 0, lengthOfBuffer(value));
+    }
+    if (kindOf(value) !== undefined) {
+        requireInBounds.call(value);
+    }
+    const getters = kindOf(value) === undefined ? ofDataView : ofTypedArray;
+    return new Uint8Array(...getters.map((get) => get(value)));
+}
+
+/** A copy of what a caller passes as bytes. */
+export function bytesOf(name, value) {
+    try {
+        return copyOf(viewOf(value));
+    } catch (cause) {
+        if (cause instanceof TypeError) {
+            throw new TypeError(`'${name}' has to be bytes that are neither detached nor out of bounds`, { cause });
+        }
+        throw cause;
+    }
+}
+
+/** A password as bytes: characters are UTF-8. Half a surrogate pair has none, and other text would have the same. */
+export function passwordOf(value) {
+    if (typeof value !== 'string') {
+        return bytesOf('password', value);
+    }
+    if (/\p{Surrogate}/u.test(value)) {
+        throw new TypeError("'password' has to be well-formed Unicode");
+    }
+    const most = allocate(MOST_BYTES_OF_UNIT * value.length);
+    return most.subarray(0, new TextEncoder().encodeInto(value, most).written);
+}

@@ -1,0 +1,122 @@
+// The calls that take no password and no blocks: settings are checked, and strings decoded and encoded, in the caller's own
+// thread, so that their errors come before a worker starts.
+import { NEEDS_REHASH, OK, Rejected, check } from './codes.js';
+import { JOB, SETTINGS } from './job.js';
+import { Memory, pointer } from './memory.js';
+import { compiledModule } from './module.js';
+
+/** Room for the words of each error, PROVED_ARGON2_MESSAGE_SIZE. */
+const MESSAGE = 64;
+/** proved_argon2_stored: the settings, and the length of the salt. */
+const STORED = SETTINGS + 1;
+/** Of proved_argon2_limits: its bytes, and where the work is. */
+const LIMITS = 24;
+const WORK = 16;
+/** The least length of a salt (RFC 9106, 3.1). A longer one is as good. */
+const MIN_SALT = 8;
+/** What a memory may have grown to and still be reused by the next call. */
+const KEPT = 2 ** 20;
+
+let opened;
+
+/** Limits, as C lays them out. */
+function limitsAsBytes({ memoryCost, timeCost, parallelism, work }) {
+    const view = new DataView(new ArrayBuffer(LIMITS));
+    [memoryCost, timeCost, parallelism].forEach((number, i) => view.setUint32(4 * i, number, true));
+    view.setBigUint64(WORK, BigInt(work), true);
+    return new Uint8Array(view.buffer);
+}
+
+/** The characters of a string that zeros end. */
+function textIn(memory, place) {
+    const text = new TextDecoder().decode(memory.read(place));
+    return text.slice(0, text.indexOf('\0'));
+}
+
+/** Checks settings and the length of a salt as a hash does: it makes the job of an empty password. */
+function checkSettings(memory, settings, saltLength) {
+    const none = memory.take(0);
+    const salt = memory.take(Math.min(saltLength, MIN_SALT));
+    const job = memory.take(JOB);
+    check(memory.call('job_make', none, salt, none, none, pointer(memory.putNumbers(settings)), pointer(job)));
+}
+
+export class Encoder {
+    #memory;
+
+    constructor(memory) {
+        this.#memory = memory;
+    }
+
+    /** The one of this thread. */
+    static async open() {
+        opened ??= compiledModule().then((module) => Memory.open(module)).then((memory) => new Encoder(memory));
+        opened.catch(() => {
+            opened = undefined;
+        });
+        return opened;
+    }
+
+    /** Calls with the memory, and overwrites it after. One that has grown much, or whose instance failed, is dropped. */
+    #withMemory(work) {
+        let isKept = false;
+        try {
+            const result = work(this.#memory);
+            isKept = true;
+            return result;
+        } catch (error) {
+            isKept = error instanceof Rejected;
+            throw error;
+        } finally {
+            this.#memory.clear();
+            opened = isKept && this.#memory.size <= KEPT ? opened : undefined;
+        }
+    }
+
+    /** The words for an error. */
+    message(code) {
+        return this.#withMemory((memory) => {
+            const text = memory.take(MESSAGE);
+            return memory.call('message', code, text) === OK ? textIn(memory, text) : `error ${code}`;
+        });
+    }
+
+    /** Throws where settings make no hash. */
+    checkSettings(settings, saltLength) {
+        this.#withMemory((memory) => checkSettings(memory, settings, saltLength));
+    }
+
+    /** The settings of a PHC string and the length of its salt. It is checked here, against the limits first. */
+    decode(encoded, limits) {
+        return this.#withMemory((memory) => {
+            const stored = memory.take(STORED, 4);
+            const bounds = pointer(memory.put(limitsAsBytes(limits)));
+            check(memory.call('read_within', memory.put(encoded), bounds, pointer(stored)));
+            const numbers = memory.numbersAt(stored, STORED);
+            const [settings, saltLength] = [numbers.slice(0, SETTINGS), numbers[SETTINGS]];
+            checkSettings(memory, settings, saltLength);
+            return { settings, saltLength };
+        });
+    }
+
+    /** The PHC string of a tag. */
+    encode(salt, settings, tag) {
+        return this.#withMemory((memory) => {
+            const numbers = pointer(memory.putNumbers(settings));
+            const text = memory.take(Number(memory.call('encoded_len', numbers, salt.length)) + 1);
+            check(memory.call('encode', memory.put(salt), numbers, memory.put(tag), text));
+            return textIn(memory, text);
+        });
+    }
+
+    /** Whether a PHC string has other settings than these. */
+    needsRehash(encoded, settings) {
+        return this.#withMemory((memory) => {
+            const code = memory.call('needs_rehash', memory.put(encoded), pointer(memory.putNumbers(settings)));
+            if (code !== NEEDS_REHASH) {
+                check(code);
+            }
+            return code === NEEDS_REHASH;
+        });
+    }
+}

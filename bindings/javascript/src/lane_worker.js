@@ -1,0 +1,86 @@
+// A worker, as its pool sees it: one call at a time, and an end when it has nothing to do.
+import { newPageWorker, newThread } from './assets.js';
+import { nodeThreads } from './platform.js';
+
+/** How long a worker without work stays, in milliseconds. Its memory goes with it. */
+const STAYS = 5000;
+
+/** A worker of Node. It keeps no process alive while it has nothing to do. */
+function startThread({ onMessage, onEnd }) {
+    // (the flags of the process are not for a file of ours: `--input-type` would keep it from starting)
+    const worker = newThread(nodeThreads.Worker, { execArgv: [] });
+    worker.on('message', onMessage);
+    worker.on('error', onEnd);
+    worker.on('exit', (status) => onEnd(new Error(`the worker has ended with status ${status}`)));
+    worker.unref();
+    return {
+        post: (message, moved) => worker.postMessage(message, moved),
+        keepsAlive: (does) => (does ? worker.ref() : worker.unref()),
+        end: () => worker.terminate(),
+    };
+}
+
+/** A worker of a page. */
+function startInPage({ onMessage, onEnd }) {
+    const worker = newPageWorker();
+    worker.onmessage = ({ data }) => onMessage(data);
+    worker.onerror = ({ message }) => onEnd(new Error(message || 'the file of the worker could not be loaded'));
+    worker.onmessageerror = () => onEnd(new Error('a message of the worker could not be read'));
+    return {
+        post: (message, moved) => worker.postMessage(message, moved),
+        keepsAlive: () => {},
+        end: () => worker.terminate(),
+    };
+}
+
+const start = nodeThreads ? startThread : startInPage;
+
+export class LaneWorker {
+    /** What hears of its messages and of its end while it works. */
+    call;
+    /** Whether it has a memory of its own, since it has led a run. */
+    hasMemory = false;
+    /** The workers whose memory it has joined. An engine may keep these memories as long as this worker lives. */
+    joined = new Set();
+    isEnded = false;
+    #worker;
+    #timer;
+    #onEnd;
+
+    constructor(onEnd) {
+        this.#onEnd = onEnd;
+        this.#worker = start({
+            onMessage: (message) => this.call?.hear({ __proto__: null, ...message }),
+            onEnd: (cause) => this.end(cause),
+        });
+    }
+
+    post(message, moved = []) {
+        this.#worker.post(message, moved);
+    }
+
+    wake() {
+        clearTimeout(this.#timer);
+        this.#worker.keepsAlive(true);
+        return this;
+    }
+
+    /** Has it wait for work. */
+    rest() {
+        this.#worker.keepsAlive(false);
+        this.#timer = setTimeout(() => this.end(), STAYS);
+        this.#timer.unref?.();
+    }
+
+    /** Ends the worker, and with it the call that it works for. */
+    end(cause) {
+        if (this.isEnded) {
+            return;
+        }
+        this.isEnded = true;
+        clearTimeout(this.#timer);
+        this.#worker.end();
+        this.call?.fail(cause);
+        this.#onEnd(this);
+    }
+}

@@ -1,0 +1,34 @@
+// Calls that wait for something, in their order.
+import { Rejected, STOPPED } from './codes.js';
+
+export class Queue {
+    #waiting = [];
+
+    get isEmpty() {
+        return this.#waiting.length === 0;
+    }
+
+    /** What the call in front is handed, once it is its turn. One that is aborted meanwhile goes. */
+    wait(progress) {
+        let forget;
+        const handed = new Promise((resolve, reject) => {
+            const it = { resolve, reject };
+            this.#waiting.push(it);
+            forget = progress.whenAborted(() => {
+                this.#waiting.splice(this.#waiting.indexOf(it), 1);
+                reject(new Rejected(STOPPED));
+            });
+        });
+        return handed.finally(forget);
+    }
+
+    /** Hands something to the call in front. */
+    hand(value) {
+        this.#waiting.shift().resolve(value);
+    }
+
+    /** Has the call in front fail. */
+    fail(error) {
+        this.#waiting.shift().reject(error);
+    }
+}

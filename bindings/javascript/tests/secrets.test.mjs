@@ -1,0 +1,71 @@
+// What is left of passwords and secrets in the memory of a process that passed them as bytes, and overwrote its own.
+import assert from 'node:assert/strict';
+import { spawn } from 'node:child_process';
+import { closeSync, openSync, readFileSync, readSync } from 'node:fs';
+import { createInterface } from 'node:readline';
+import { test } from 'node:test';
+
+/** No byte of a secret is in the process that looks: it has them changed by this. */
+const MASK = 0x5a;
+const ROUNDS = 60;
+/** Bytes of a secret that are enough to know it by. */
+const KNOWN_BY = 16;
+const CHUNK = 2 ** 24;
+
+/** The writable regions of a process. */
+function regionsOf(pid) {
+    const lines = readFileSync(`/proc/${pid}/maps`, 'utf8').split('\n');
+    return lines.filter((line) => / rw/.test(line)).map((line) => line.match(/^(\w+)-(\w+)/).slice(1).map((it) => parseInt(it, 16)));
+}
+
+/** The bytes of a region, piece by piece. Pages that are not there are left out. */
+function* piecesOf(file, [start, end]) {
+    for (let at = start; at < end; at += CHUNK) {
+        const piece = Buffer.alloc(Math.min(CHUNK + KNOWN_BY, end - at));
+        try {
+            yield piece.subarray(0, readSync(file, piece, 0, piece.length, at));
+        } catch (error) {
+            assert.equal(error.code, 'EIO');
+        }
+    }
+}
+
+/** How many of these begin somewhere in the memory of a process. */
+function countIn(pid, secrets) {
+    const found = new Set();
+    const file = openSync(`/proc/${pid}/mem`);
+    let bytes = 0;
+    for (const region of regionsOf(pid)) {
+        for (const piece of piecesOf(file, region)) {
+            bytes += piece.length;
+            secrets.filter((secret) => piece.includes(secret.subarray(0, KNOWN_BY))).forEach((it) => found.add(it));
+        }
+    }
+    closeSync(file);
+    return { bytes, found: found.size };
+}
+
+const unmask = (line) => Buffer.from(line, 'hex').map((byte) => byte ^ MASK);
+
+/** What a process says until it is done, and then what is in its memory. */
+async function lookInto(words) {
+    const child = spawn(process.execPath, words, { cwd: import.meta.dirname, stdio: ['pipe', 'pipe', 'inherit'] });
+    const lines = [];
+    for await (const line of createInterface({ input: child.stdout })) {
+        if (line === 'done') {
+            break;
+        }
+        lines.push(line);
+    }
+    assert.equal(lines.length, 2 * ROUNDS);
+    const seen = countIn(child.pid, lines.map(unmask));
+    const masked = countIn(child.pid, lines.map((line) => Buffer.from(line.slice(0, 2 * KNOWN_BY))));
+    child.kill();
+    return { ...seen, masked: masked.found };
+}
+
+test('of passwords and secrets that are bytes, nothing is left in the process', async () => {
+    const { bytes, found, masked } = await lookInto(['victim.mjs', String(MASK), String(ROUNDS)]);
+    assert.ok(bytes > 2 ** 20 && masked > 0, 'the memory was not seen');
+    assert.equal(found, 0);
+});
