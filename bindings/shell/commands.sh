@@ -25,6 +25,9 @@ tuned_memory=65536
 most_passes=10
 tuned_salt=736f6d6573616c74
 
+# Where Linux says how many programs have run at once in the last minute.
+loads=/proc/loadavg
+
 # What the processors of a build have, as Linux names it, beside what every one of 64 bits has.
 flags_of_v2='cx16 lahf_lm popcnt pni sse4_1 sse4_2 ssse3'
 flags_of_v3='avx avx2 bmi1 bmi2 f16c fma abm movbe'
@@ -332,10 +335,10 @@ new_salt() {
     [ "${#salt}" = 32 ] || fail 4 'there are no random bytes'
 }
 
-# Passes standard input on, and says on standard error where it ends with a newline, which `echo` adds. Where it
-# cannot be read to its end, this shell is told to end, so that no hash of a part is printed.
-watch_for_newline() {
-    { pass_on 3>&1 | tell_of_newline; } 4>&1
+# Passes standard input on, and says on standard error where it ends with a newline, which `echo` adds. This shell is told
+# where it is empty, and where it cannot be read to its end, so that no hash of nothing or of a part is printed.
+watch_input() {
+    { pass_on 3>&1 | tell_of_end; } 4>&1
 }
 
 # Passes standard input to the descriptors 3 and 4, as much as the tool reads. A status of 1 is that of a failed read; a
@@ -345,41 +348,36 @@ pass_on() {
         | tee /dev/fd/3 >&4 2>/dev/null
 }
 
-tell_of_newline() {
-    [ "$(tail -c 1 | od -An -tx1)" != ' 0a' ] || add 'the password ends with a newline, as echo adds one: use printf'
+tell_of_end() {
+    case $(tail -c 1 | od -An -tx1) in
+    '') kill -USR2 $$ ;;
+    ' 0a') add 'the password ends with a newline, as echo adds one: use printf' ;;
+    esac
 }
 
 # Prints the encoded hash of a password: `new_text VARIANT VERSION T M P LEN MODE`. The password is typed twice, or it
-# is all of standard input where that is no terminal.
+# is all of standard input where that is no terminal. An empty one comes from a command that failed, as in
+# `failing | proved-argon2 new`, and would let in anyone who types nothing.
 new_text() {
     make_ready argon2_tool
     new_salt
+    is_empty=
     if [ -t 0 ]; then
         ask 'Password: '
         password=$answer
         ask 'Password again: '
         [ "$password" = "$answer" ] || fail 1 'the two passwords are not the same'
+        [ -n "$password" ] || is_empty=yes
         lines=$(printf '%s' "$password" | call new "$@" "$salt") || end_with "$?" new "$@"
     else
         [ -e /dev/fd/0 ] || fail 4 'there is no input'
         trap 'exit 4' USR1
-        lines=$(watch_for_newline | call new "$@" "$salt") || end_with "$?" new "$@"
-        trap - USR1
+        trap 'is_empty=yes' USR2
+        lines=$(watch_input | call new "$@" "$salt") || end_with "$?" new "$@"
+        trap - USR1 USR2
     fi
-    text=${lines#*"$newline"}
-    refuse_empty_password "$text"
-    printf '%s\n' "$text" || exit 4
-}
-
-# Ends if an encoded hash is that of the empty password. That password comes from a command that failed, as in
-# `failing | proved-argon2 new`, and would let in anyone who types nothing.
-refuse_empty_password() {
-    call check "$1" </dev/null >/dev/null
-    case $? in
-    0) fail 2 'the password is empty' ;;
-    1) ;;
-    *) exit 2 ;;
-    esac
+    [ -z "$is_empty" ] || fail 2 'the password is empty'
+    printf '%s\n' "${lines#*"$newline"}" || exit 4
 }
 
 # Whether a password matches an encoded hash, with the tool's lines and statuses: `check TEXT`.
@@ -473,6 +471,13 @@ is_clock() {
     [ "${#1}" -ge 19 ]
 }
 
+# Says where other programs may have disturbed what was measured.
+tell_of_load() {
+    processors=$(getconf _NPROCESSORS_ONLN) && { read -r load _ <"$loads"; } 2>/dev/null || return 0
+    [ "${load%%.*}" -lt "$processors" ] || add "tune: the load is $load on $processors processors: without other programs \
+a hash takes less time than was measured"
+}
+
 # Prints settings whose hash took no longer than this, with as many passes as were found to fit:
 # `tune MILLISECONDS KIB`.
 tune() {
@@ -485,10 +490,12 @@ tune() {
     measure "$passes" "$2" || { progress '' && fail 5 "tune: check takes no hash of $2 KiB"; }
     if [ "$took" -gt "$1" ]; then
         progress ''
+        tell_of_load
         fail 1 "tune: $passes passes over $2 KiB, the least for passwords, take $took milliseconds"
     fi
     add_passes "$1" "$2"
     progress ''
+    tell_of_load
     [ ! -t 2 ] || printf '%s milliseconds:\n' "$took" >&2
     printf 'argon2id 19 %s %s 1 32 seq\n' "$passes" "$2" || exit 4
 }
