@@ -12,7 +12,7 @@ from shared.blocks import rows
 
 # The steps that compare documents with the sources and, but for `readme`, need no build.
 PAGES = [f'.ci/pages/{it}' for it in ('definitions', 'cycles', 'layout', 'promises', 'presets', 'layers', 'peers',
-                                      'references', 'names', 'places')]
+                                      'references', 'names', 'places', 'measured')]
 COUNTS = re.compile(r'(\d+) passed, (\d+) failed(?:, (\d+) skipped)?')
 PROVED = re.compile(r'^(?:fn|struct|enum|impl|trait) \S+: proved')
 # How many checks a step of .ci/run makes: so many, or `N or more`, where what it looks at may grow.
@@ -113,7 +113,6 @@ class Step(threading.Thread):
             self.fail(f'{self.counts[2]} checks were skipped, and {named} are named')
         if not self.failed and (status or not self.counts[0]):
             self.fail(f'it ended with status {status}, and {self.counts[0]} passed')
-
 
     def compare_count(self, reached):
         """A step that ends early, or compares less than it did, would else pass with fewer checks. (What may be skipped
