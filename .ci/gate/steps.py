@@ -12,7 +12,7 @@ from shared.blocks import rows
 
 # The steps that compare documents with the sources and, but for `readme`, need no build.
 PAGES = [f'.ci/pages/{it}' for it in ('definitions', 'cycles', 'layout', 'promises', 'presets', 'layers', 'peers',
-                                      'references', 'names', 'places', 'measured', 'verdicts')]
+                                      'references', 'names', 'places', 'measured', 'verdicts', 'theorem')]
 COUNTS = re.compile(r'(\d+) passed, (\d+) failed(?:, (\d+) skipped)?')
 PROVED = re.compile(r'^(?:fn|struct|enum|impl|trait) \S+: proved')
 # How many checks a step of .ci/run makes: so many, or `N or more`, where what it looks at may grow.
