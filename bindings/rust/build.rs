@@ -67,7 +67,10 @@ fn require_target() -> Result<(), String> {
     if is_linux && target("POINTER_WIDTH") == "64" && target("ENDIAN") == "little" {
         return Ok(());
     }
-    Err(format!("there is no archive for {}: they are for Linux with the GNU C library or musl", named("TARGET")))
+    Err(format!(
+        "there is no archive for {}: they are for Linux with the GNU C library or musl",
+        named("TARGET")
+    ))
 }
 
 /// The folder of this crate for the target, where the crate has archives.
@@ -84,13 +87,13 @@ fn packaged_folder(libraries: &Path) -> Result<PathBuf, String> {
 
 /// The folder of what the repository keeps, where this crate stands in it and no source has changed; or else why not.
 fn released_folder() -> Result<PathBuf, String> {
-    let root = here().ancestors().nth(2).filter(|_| here().ends_with("bindings/rust")).ok_or_else(String::new)?;
-    let folder = root.join("release").join(target("ARCH"));
-    if !has_archive(&folder) {
+    let root = here().ancestors().nth(2).ok_or_else(String::new)?;
+    let (released, folder) = (root.join("build/released"), root.join("release").join(target("ARCH")));
+    if !released.is_file() || !has_archive(&folder) {
         return Err(String::new());
     }
     let file = format!("{}/{ARCHIVE}", target("ARCH"));
-    match Command::new(root.join("build/released")).arg(file).output() {
+    match Command::new(released).arg(file).output() {
         Ok(answer) if answer.status.success() => Ok(folder),
         Ok(answer) => Err(format!(" ({})", String::from_utf8_lossy(&answer.stderr).trim_end())),
         Err(error) => Err(format!(" (release/ cannot be compared with its sources: {error})")),

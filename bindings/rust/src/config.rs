@@ -54,47 +54,56 @@ pub struct Config<'a> {
 impl<'a> Config<'a> {
     // presets, by .ci/pages/presets
     /// The defaults of the original C program: Argon2i, 4 MiB, 3 passes.
+    #[must_use]
     pub fn original() -> Config<'a> {
         Config::preset(Variant::Argon2i, 4096, 3)
     }
 
     /// OWASP's first recommendation: Argon2id, 46 MiB, 1 pass.
+    #[must_use]
     pub fn owasp1() -> Config<'a> {
         Config::preset(Variant::Argon2id, 47104, 1)
     }
 
     /// OWASP's second recommendation: Argon2id, 19 MiB, 2 passes.
+    #[must_use]
     pub fn owasp2() -> Config<'a> {
         Config::preset(Variant::Argon2id, 19456, 2)
     }
 
     /// OWASP's third recommendation: Argon2id, 12 MiB, 3 passes.
+    #[must_use]
     pub fn owasp3() -> Config<'a> {
         Config::preset(Variant::Argon2id, 12288, 3)
     }
 
     /// OWASP's fourth recommendation: Argon2id, 9 MiB, 4 passes.
+    #[must_use]
     pub fn owasp4() -> Config<'a> {
         Config::preset(Variant::Argon2id, 9216, 4)
     }
 
     /// OWASP's fifth recommendation: Argon2id, 7 MiB, 5 passes.
+    #[must_use]
     pub fn owasp5() -> Config<'a> {
         Config::preset(Variant::Argon2id, 7168, 5)
     }
 
     /// RFC 9106's first recommendation (section 4): Argon2id, 2 GiB, 1 pass.
+    #[must_use]
     pub fn rfc9106() -> Config<'a> {
         Config::preset(Variant::Argon2id, 2097152, 1)
     }
 
     /// RFC 9106's recommendation for little memory (section 4): Argon2id, 64 MiB, 3 passes.
+    #[must_use]
     pub fn rfc9106_low_mem() -> Config<'a> {
         Config::preset(Variant::Argon2id, 65536, 3)
     }
     // end
 
     /// Whether the caller's thread computes all lanes.
+    #[must_use]
     pub fn uses_sequential(&self) -> bool {
         match self.thread_mode {
             ThreadMode::Sequential => true,
@@ -104,6 +113,7 @@ impl<'a> Config<'a> {
     }
 
     /// How many threads compute the lanes, of which one is the caller's.
+    #[must_use]
     pub fn workers(&self) -> u32 {
         match self.thread_mode {
             _ if self.uses_sequential() => 1,

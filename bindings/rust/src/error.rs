@@ -74,6 +74,9 @@ pub enum Error {
 
     /// The library has no build for a processor as old as this one.
     OldProcessor,
+
+    /// The system had no random bytes for a salt.
+    NoRandomBytes,
 }
 
 impl Error {
@@ -146,6 +149,7 @@ impl Error {
             // end
             Error::Stopped => "The call was stopped",
             Error::OldProcessor => "The processor is too old",
+            Error::NoRandomBytes => "There are no random bytes",
         }
     }
 }

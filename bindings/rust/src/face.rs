@@ -3,13 +3,17 @@
 //! The library is passed a pointer and a length of each slice. It reads what is passed as `*const`, writes
 //! what is passed as `*mut` within its length, and keeps no pointer. A slice's pointer is never null.
 
+mod calls;
 mod kept;
+mod salt;
 mod telling;
 
 pub use kept::Kept;
+pub use salt::new_salt;
 pub use telling::Telling;
 
 use crate::{Config, Limits as LimitsOfCrate};
+use calls::*;
 use std::ffi::c_void;
 use std::mem::size_of;
 use std::os::raw::c_int;
@@ -130,85 +134,6 @@ impl Settings {
             hash_length: config.hash_length,
         }
     }
-}
-
-#[rustfmt::skip]
-extern "C" {
-    fn proved_argon2_hash_raw(
-        pwd: *const u8, pwd_len: usize,
-        salt: *const u8, salt_len: usize,
-        secret: *const u8, secret_len: usize,
-        ad: *const u8, ad_len: usize,
-        settings: *const Settings,
-        out: *mut u8, out_len: usize,
-    ) -> u32;
-    fn proved_argon2_hash_encoded(
-        pwd: *const u8, pwd_len: usize,
-        salt: *const u8, salt_len: usize,
-        secret: *const u8, secret_len: usize,
-        ad: *const u8, ad_len: usize,
-        settings: *const Settings,
-        text: *mut u8, text_len: usize,
-    ) -> u32;
-    fn proved_argon2_hash_raw_with(
-        options: *const Options,
-        pwd: *const u8, pwd_len: usize,
-        salt: *const u8, salt_len: usize,
-        secret: *const u8, secret_len: usize,
-        ad: *const u8, ad_len: usize,
-        settings: *const Settings,
-        out: *mut u8, out_len: usize,
-    ) -> u32;
-    fn proved_argon2_hash_encoded_with(
-        options: *const Options,
-        pwd: *const u8, pwd_len: usize,
-        salt: *const u8, salt_len: usize,
-        secret: *const u8, secret_len: usize,
-        ad: *const u8, ad_len: usize,
-        settings: *const Settings,
-        text: *mut u8, text_len: usize,
-    ) -> u32;
-    fn proved_argon2_verify_raw_with(
-        options: *const Options,
-        pwd: *const u8, pwd_len: usize,
-        salt: *const u8, salt_len: usize,
-        secret: *const u8, secret_len: usize,
-        ad: *const u8, ad_len: usize,
-        settings: *const Settings,
-        hash: *const u8, hash_len: usize,
-    ) -> u32;
-    fn proved_argon2_verify_encoded_with(
-        options: *const Options,
-        text: *const u8, text_len: usize,
-        pwd: *const u8, pwd_len: usize,
-        secret: *const u8, secret_len: usize,
-        ad: *const u8, ad_len: usize,
-    ) -> u32;
-    fn proved_argon2_default_limits() -> Limits;
-    fn proved_argon2_read(text: *const u8, text_len: usize, stored: *mut Stored) -> u32;
-    fn proved_argon2_needs_rehash(text: *const u8, text_len: usize, settings: *const Settings) -> u32;
-    fn proved_argon2_encoded_len(settings: *const Settings, salt_len: u32) -> u64;
-    fn proved_argon2_memory_len(settings: *const Settings) -> u64;
-    #[cfg(test)]
-    fn proved_argon2_message(number: u32, text: *mut u8, text_len: usize) -> u32;
-    #[cfg(test)]
-    fn proved_argon2_library_version() -> u32;
-    // presets, by .ci/pages/presets
-    #[cfg(test)]
-    fn proved_argon2_owasp1() -> Settings;
-    #[cfg(test)]
-    fn proved_argon2_owasp2() -> Settings;
-    #[cfg(test)]
-    fn proved_argon2_owasp3() -> Settings;
-    #[cfg(test)]
-    fn proved_argon2_owasp4() -> Settings;
-    #[cfg(test)]
-    fn proved_argon2_owasp5() -> Settings;
-    #[cfg(test)]
-    fn proved_argon2_rfc9106() -> Settings;
-    #[cfg(test)]
-    fn proved_argon2_rfc9106_low_mem() -> Settings;
-    // end
 }
 
 /// Checks the settings of a tag, without room to write to: `WRONG_LENGTH` says that all are

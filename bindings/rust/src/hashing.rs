@@ -10,6 +10,7 @@ use crate::{Config, Error, Memory, Result, Run, ThreadMode, Variant, Version};
 ///
 /// assert_eq!(argon2::encoded_len(Variant::Argon2i, 4096, 10, 10, 8, 32), 86);
 /// ```
+#[must_use]
 pub fn encoded_len(
     variant: Variant,
     mem_cost: u32,
@@ -152,7 +153,7 @@ pub(crate) fn tag_by(
 
 /// The error of a call that was passed no room to write to. The settings are checked before the room, and so
 /// no memory is allocated if they are rejected.
-fn require_settings(number: u32) -> Result<()> {
+pub(crate) fn require_settings(number: u32) -> Result<()> {
     if number == WRONG_LENGTH {
         Ok(())
     } else {

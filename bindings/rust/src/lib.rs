@@ -9,16 +9,14 @@
 //!
 //! # Examples
 //!
-//! Hash a password to an encoded hash (PHC string), and verify it within limits:
+//! Hash a password to an encoded hash (PHC string) with a new random salt, and verify it within the
+//! default limits:
 //!
 //! ```
-//! use proved_argon2::{self as argon2, Config, Limits};
-//! use std::io::Read;
+//! use proved_argon2 as argon2;
 //!
-//! let mut salt = [0; 16];
-//! std::fs::File::open("/dev/urandom")?.read_exact(&mut salt)?;
-//! let text = argon2::hash_encoded(b"password", &salt, &Config::default())?;
-//! assert!(argon2::verify_encoded_within(&text, b"password", &[], &[], &Limits::default())?);
+//! let text = argon2::hash_password(b"password")?;
+//! assert!(argon2::verify_password(&text, b"password")?);
 //! # Ok::<(), Box<dyn std::error::Error>>(())
 //! ```
 //!
@@ -51,7 +49,7 @@
 //! is verified with, up to 4 TiB, and the passes: use [`verify_encoded_within`] for a hash that
 //! others may have written.
 #![deny(unsafe_code)]
-#![warn(missing_docs)]
+#![warn(missing_docs, clippy::missing_errors_doc, clippy::must_use_candidate)]
 
 mod config;
 mod error;
@@ -60,10 +58,13 @@ mod face;
 mod hashing;
 mod limits;
 mod memory;
+mod password;
 mod result;
 mod run;
 mod stored;
 mod thread_mode;
+#[cfg(feature = "password-hash")]
+mod traits;
 mod variant;
 mod verifying;
 mod version;
@@ -73,11 +74,18 @@ pub use error::Error;
 pub use hashing::{encoded_len, hash_encoded, hash_encoded_in, hash_raw, hash_raw_in};
 pub use limits::{verify_encoded_within, verify_encoded_within_in, Limits, Unverified};
 pub use memory::Memory;
+pub use password::{hash_password, hash_password_with, verify_password};
+#[cfg(feature = "password-hash")]
+pub use password_hash;
 pub use result::Result;
 pub use run::Run;
 pub use stored::{read, Stored};
 pub use thread_mode::ThreadMode;
+#[cfg(feature = "password-hash")]
+pub use traits::{Argon2, Params};
 pub use variant::Variant;
+#[cfg(feature = "password-hash")]
+pub use variant::Variant as Algorithm;
 pub use verifying::{
     needs_rehash, verify_encoded, verify_encoded_ext, verify_encoded_in, verify_raw, verify_raw_in,
 };

@@ -33,6 +33,7 @@ impl Limits {
     /// assert!(argon2::verify_encoded_within(&text, b"password", &[], &[], &Limits::at_least(&config))?);
     /// # Ok::<(), argon2::Unverified>(())
     /// ```
+    #[must_use]
     pub fn at_least(config: &Config<'_>) -> Limits {
         let Limits { lanes, mem_cost, time_cost, work } = Limits::default();
         Limits {
@@ -41,6 +42,17 @@ impl Limits {
             time_cost: time_cost.max(config.time_cost),
             work: work.max(u64::from(config.mem_cost) * u64::from(config.time_cost)),
         }
+    }
+}
+
+#[cfg(feature = "password-hash")]
+impl Limits {
+    /// Whether settings are within.
+    pub(crate) fn allow(&self, config: &Config<'_>) -> bool {
+        config.lanes <= self.lanes
+            && config.mem_cost <= self.mem_cost
+            && config.time_cost <= self.time_cost
+            && u64::from(config.mem_cost) * u64::from(config.time_cost) <= self.work
     }
 }
 

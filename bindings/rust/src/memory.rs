@@ -27,11 +27,13 @@ pub struct Memory {
 
 impl Memory {
     /// An empty buffer, which allocates nothing yet.
+    #[must_use]
     pub fn new() -> Memory {
         Memory::default()
     }
 
     /// How many bytes it holds.
+    #[must_use]
     pub fn size(&self) -> usize {
         self.kept.length()
     }

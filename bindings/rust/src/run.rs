@@ -33,11 +33,13 @@ pub struct Run<'a> {
 impl<'a> Run<'a> {
     /// As the calls of the crate: each call allocates its memory, and there is no progress
     /// callback.
+    #[must_use]
     pub fn new() -> Run<'a> {
         Run::default()
     }
 
     /// The same, in a reusable buffer.
+    #[must_use]
     pub fn over(self, memory: &'a mut Memory) -> Run<'a> {
         Run { memory: Some(memory), ..self }
     }
@@ -45,6 +47,7 @@ impl<'a> Run<'a> {
     /// The same, with a progress callback: it is passed how many slices of all are filled, four in
     /// a pass, each time that one is, in the caller's thread. [`ControlFlow::Break`] stops the
     /// call, which clears its memory and returns [`Error::Stopped`].
+    #[must_use]
     pub fn telling(self, tell: impl FnMut(u64, u64) -> ControlFlow<()> + 'a) -> Run<'a> {
         Run { telling: Some(Telling::to(tell)), ..self }
     }

@@ -15,6 +15,7 @@ pub enum ThreadMode {
 
 impl ThreadMode {
     /// The mode for a number of threads: [`ThreadMode::Parallel`] where it is more than 1.
+    #[must_use]
     pub fn from_threads(threads: u32) -> ThreadMode {
         if threads > 1 {
             ThreadMode::Parallel

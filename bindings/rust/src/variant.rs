@@ -17,6 +17,7 @@ pub enum Variant {
 
 impl Variant {
     /// The name as in an encoded hash: `argon2d`, `argon2i` or `argon2id`.
+    #[must_use]
     pub fn as_lowercase_str(&self) -> &'static str {
         match self {
             Variant::Argon2d => "argon2d",
@@ -26,6 +27,7 @@ impl Variant {
     }
 
     /// The name with a capital: `Argon2d`, `Argon2i` or `Argon2id`.
+    #[must_use]
     pub fn as_uppercase_str(&self) -> &'static str {
         match self {
             Variant::Argon2d => "Argon2d",
@@ -35,17 +37,22 @@ impl Variant {
     }
 
     /// The number: 0, 1 or 2.
+    #[must_use]
     pub fn as_u32(&self) -> u32 {
         *self as u32
     }
 
     /// The number: 0, 1 or 2.
+    #[must_use]
     pub fn as_u64(&self) -> u64 {
         *self as u64
     }
 
-    /// The variant of a name, in lower case or with a capital; [`Error::DecodingFail`] for any
-    /// other string.
+    /// The variant of a name, in lower case or with a capital.
+    ///
+    /// # Errors
+    ///
+    /// [`Error::DecodingFail`] for any other string.
     #[allow(clippy::should_implement_trait)]
     pub fn from_str(name: &str) -> Result<Variant> {
         match name {
@@ -56,7 +63,11 @@ impl Variant {
         }
     }
 
-    /// The variant of a number; [`Error::IncorrectType`] above 2.
+    /// The variant of a number.
+    ///
+    /// # Errors
+    ///
+    /// [`Error::IncorrectType`] above 2.
     pub fn from_u32(number: u32) -> Result<Variant> {
         match number {
             0 => Ok(Variant::Argon2d),

@@ -12,13 +12,29 @@ pub enum Version {
     Version13 = 0x13,
 }
 
+/// The names in RustCrypto's `argon2`.
+#[cfg(feature = "password-hash")]
+#[allow(non_upper_case_globals)]
+impl Version {
+    /// [`Version::Version10`].
+    pub const V0x10: Version = Version::Version10;
+
+    /// [`Version::Version13`].
+    pub const V0x13: Version = Version::Version13;
+}
+
 impl Version {
     /// The number: 16 or 19.
+    #[must_use]
     pub fn as_u32(&self) -> u32 {
         *self as u32
     }
 
-    /// The version of `16` or `19`; [`Error::DecodingFail`] for any other string.
+    /// The version of `16` or `19`.
+    ///
+    /// # Errors
+    ///
+    /// [`Error::DecodingFail`] for any other string.
     #[allow(clippy::should_implement_trait)]
     pub fn from_str(number: &str) -> Result<Version> {
         match number {
@@ -28,7 +44,11 @@ impl Version {
         }
     }
 
-    /// The version of a number; [`Error::IncorrectVersion`] where it is neither 16 nor 19.
+    /// The version of a number.
+    ///
+    /// # Errors
+    ///
+    /// [`Error::IncorrectVersion`] if it is neither 16 nor 19.
     pub fn from_u32(number: u32) -> Result<Version> {
         match number {
             0x10 => Ok(Version::Version10),

@@ -1,15 +1,7 @@
+use super::calls::{proved_argon2_memory_free, proved_argon2_memory_new};
 use super::{Settings, OK};
 use std::ffi::c_void;
 use std::ptr::{null_mut, NonNull};
-
-extern "C" {
-    fn proved_argon2_memory_new(
-        settings: *const Settings,
-        memory: *mut *mut c_void,
-        memory_len: *mut usize,
-    ) -> u32;
-    fn proved_argon2_memory_free(memory: *mut c_void, memory_len: usize);
-}
 
 /// A memory that the library allocated, or none. Its contents are never looked at here: each call
 /// clears what it used.

@@ -1,0 +1,236 @@
+//! The traits of the crate `password-hash`, for programs that use RustCrypto's `argon2`.
+
+use crate::{face, hashing, Config, Error, Limits, Variant, Version};
+use password_hash::{
+    Decimal, Encoding, Error as HashError, Ident, Output, ParamsString, PasswordHash, PasswordHasher, Result,
+    Salt,
+};
+
+/// The most bytes of a salt in a string of the crate `password-hash`.
+const MOST_OF_A_SALT: usize = 64;
+
+/// The memory in KiB, the passes, the lanes and the length of the hash; or, by default, those of the
+/// hasher.
+#[derive(Clone, Copy, Debug, Default, Eq, PartialEq)]
+pub struct Params(Option<Costs>);
+
+#[derive(Clone, Copy, Debug, Eq, PartialEq)]
+struct Costs {
+    mem_cost: u32,
+    time_cost: u32,
+    lanes: u32,
+    hash_length: u32,
+}
+
+impl Costs {
+    fn of(config: &Config<'_>) -> Costs {
+        let Config { mem_cost, time_cost, lanes, hash_length, .. } = *config;
+        Costs { mem_cost, time_cost, lanes, hash_length }
+    }
+
+    fn put_in<'a>(self, config: &Config<'a>) -> Config<'a> {
+        let Costs { mem_cost, time_cost, lanes, hash_length } = self;
+        Config { mem_cost, time_cost, lanes, hash_length, ..*config }
+    }
+}
+
+impl Params {
+    /// These settings, and a hash of 32 bytes if no length is given.
+    ///
+    /// # Errors
+    ///
+    /// The first parameter error.
+    pub fn new(m_cost: u32, t_cost: u32, p_cost: u32, output_len: Option<usize>) -> crate::Result<Params> {
+        let default = Config::default();
+        let length = output_len.map_or(Ok(default.hash_length), u32::try_from);
+        let hash_length = length.map_err(|_| Error::OutputTooLong)?;
+        let costs = Costs { mem_cost: m_cost, time_cost: t_cost, lanes: p_cost, hash_length };
+        hashing::require_settings(face::judge_raw(&[], &[0; 8], &costs.put_in(&default)))?;
+        Ok(Params(Some(costs)))
+    }
+
+    fn costs(&self) -> Costs {
+        self.0.unwrap_or_else(|| Costs::of(&Config::default()))
+    }
+
+    /// The memory in KiB.
+    #[must_use]
+    pub fn m_cost(&self) -> u32 {
+        self.costs().mem_cost
+    }
+
+    /// The passes.
+    #[must_use]
+    pub fn t_cost(&self) -> u32 {
+        self.costs().time_cost
+    }
+
+    /// The lanes.
+    #[must_use]
+    pub fn p_cost(&self) -> u32 {
+        self.costs().lanes
+    }
+}
+
+/// The settings that a stored hash names.
+impl TryFrom<&PasswordHash<'_>> for Params {
+    type Error = HashError;
+
+    fn try_from(hash: &PasswordHash<'_>) -> Result<Params> {
+        if hash.params.iter().any(|(name, _)| !["m", "t", "p"].contains(&name.as_str())) {
+            return Err(HashError::ParamNameInvalid);
+        }
+        let cost = |name: &str| hash.params.get_decimal(name).ok_or(HashError::ParamNameInvalid);
+        let length = hash.hash.map(|it| it.len());
+        Ok(Params::new(cost("m")?, cost("t")?, cost("p")?, length)?)
+    }
+}
+
+impl TryFrom<Params> for ParamsString {
+    type Error = HashError;
+
+    fn try_from(params: Params) -> Result<ParamsString> {
+        let mut string = ParamsString::new();
+        string.add_decimal("m", params.m_cost())?;
+        string.add_decimal("t", params.t_cost())?;
+        string.add_decimal("p", params.p_cost())?;
+        Ok(string)
+    }
+}
+
+/// An error of this crate, as the traits tell it.
+impl From<Error> for HashError {
+    fn from(error: Error) -> HashError {
+        match error {
+            Error::IncorrectType => HashError::Algorithm,
+            Error::IncorrectVersion => HashError::Version,
+            _ => HashError::Crypto,
+        }
+    }
+}
+
+/// A hasher with settings of its own, as RustCrypto's of this name. By default it has those of
+/// [`Config::default`].
+///
+/// A stored hash is verified within [`Limits::at_least`] those settings.
+///
+/// # Examples
+///
+/// ```
+/// use proved_argon2 as argon2; // what stands below is RustCrypto's
+/// use argon2::password_hash::{rand_core::OsRng, PasswordHash, PasswordHasher, PasswordVerifier, SaltString};
+/// use argon2::Argon2;
+///
+/// let salt = SaltString::generate(&mut OsRng);
+/// let stored = Argon2::default().hash_password(b"password", &salt)?.to_string();
+/// let hash = PasswordHash::new(&stored)?;
+/// assert!(Argon2::default().verify_password(b"password", &hash).is_ok());
+/// assert!(Argon2::default().verify_password(b"Password", &hash).is_err());
+/// # Ok::<(), argon2::password_hash::Error>(())
+/// ```
+#[derive(Clone, Copy, Debug, Default)]
+pub struct Argon2<'key> {
+    config: Config<'key>,
+    params: Params,
+}
+
+impl<'key> Argon2<'key> {
+    /// A hasher without a secret.
+    #[must_use]
+    pub fn new(algorithm: Variant, version: Version, params: Params) -> Argon2<'key> {
+        let config = Config { variant: algorithm, version, ..Config::default() };
+        params.costs().put_in(&config).into()
+    }
+
+    /// A hasher with a secret (pepper).
+    ///
+    /// # Errors
+    ///
+    /// [`Error::SecretTooLong`].
+    pub fn new_with_secret(
+        secret: &'key [u8],
+        algorithm: Variant,
+        version: Version,
+        params: Params,
+    ) -> crate::Result<Argon2<'key>> {
+        let config = Config { secret, ..Argon2::new(algorithm, version, params).config };
+        hashing::require_settings(face::judge_raw(&[], &[0; 8], &config))?;
+        Ok(config.into())
+    }
+
+    /// The settings.
+    #[must_use]
+    pub fn params(&self) -> &Params {
+        &self.params
+    }
+
+    /// Writes the tag of the length of `out`.
+    ///
+    /// # Errors
+    ///
+    /// As [`hash_raw`](crate::hash_raw).
+    pub fn hash_password_into(&self, pwd: &[u8], salt: &[u8], out: &mut [u8]) -> crate::Result<()> {
+        let hash_length = u32::try_from(out.len()).map_err(|_| Error::OutputTooLong)?;
+        out.copy_from_slice(&crate::hash_raw(pwd, salt, &Config { hash_length, ..self.config })?);
+        Ok(())
+    }
+
+    /// The settings that a stored hash names, if they are within limits.
+    fn config_of(&self, name: Ident<'_>, version: Option<Decimal>, params: Params) -> Result<Config<'key>> {
+        let variant = Variant::from_str(name.as_str()).map_err(|_| HashError::Algorithm)?;
+        // (without a version it is of the older one)
+        let version = version.map_or(Ok(Version::Version10), Version::from_u32)?;
+        let config = Config { variant, version, ..self.with(params) };
+        if Limits::at_least(&self.config).allow(&config) {
+            Ok(config)
+        } else {
+            Err(HashError::Crypto)
+        }
+    }
+
+    fn with(&self, params: Params) -> Config<'key> {
+        params.0.map_or(self.config, |costs| costs.put_in(&self.config))
+    }
+}
+
+/// All settings of this crate, threads among them.
+impl<'key> From<Config<'key>> for Argon2<'key> {
+    fn from(config: Config<'key>) -> Argon2<'key> {
+        Argon2 { config, params: Params(Some(Costs::of(&config))) }
+    }
+}
+
+impl From<Params> for Argon2<'_> {
+    fn from(params: Params) -> Self {
+        Argon2::new(Variant::Argon2id, Version::default(), params)
+    }
+}
+
+impl PasswordHasher for Argon2<'_> {
+    type Params = Params;
+
+    fn hash_password_customized<'a>(
+        &self,
+        password: &[u8],
+        algorithm: Option<Ident<'a>>,
+        version: Option<Decimal>,
+        params: Params,
+        salt: impl Into<Salt<'a>>,
+    ) -> Result<PasswordHash<'a>> {
+        let config = match algorithm {
+            None => self.with(params),
+            Some(name) => self.config_of(name, version, params)?,
+        };
+        let salt = salt.into();
+        let mut room = [0; MOST_OF_A_SALT];
+        let bytes = Encoding::B64.decode(salt.as_str(), &mut room)?;
+        let tag = crate::hash_raw(password, bytes, &config)?;
+        Ok(PasswordHash {
+            algorithm: Ident::try_from(config.variant.as_lowercase_str())?,
+            version: Some(config.version.as_u32()),
+            params: Params(Some(Costs::of(&config))).try_into()?,
+            salt: Some(salt),
+            hash: Some(Output::new(&tag)?),
+        })
+    }
+}
