@@ -1,8 +1,20 @@
+#!/usr/bin/env python3
 """The table of the proved calls, for an archive with several builds: C that makes each call that of the build that
-builds.h chooses. Where there is none, a call returns PROVED_ARGON2_OLD_PROCESSOR, or zeros if it returns no code."""
-import re
+builds.h chooses. Where there is none, a call returns PROVED_ARGON2_OLD_PROCESSOR, or zeros if it returns no code.
 
-HEAD = '''/* Made by bindings/c/table.py: each proved call, in the build for this processor. */
+    bindings/c/table.py            prints it
+    bindings/c/table.py --write    writes it to bindings/c/proved_argon2_table.c, so that what links it needs no Python
+"""
+import re
+import sys
+from pathlib import Path
+
+HERE = Path(__file__).resolve().parent
+HEADERS, SOURCES = HERE.parents[1] / "crates/argon2_c/include", HERE.parents[1] / "crates/argon2_c/src"
+BUILDS = ("x86-64-v2", "x86-64-v3")
+PROVED = re.compile(r'^pub extern "C" fn (proved_argon2_\w+)', re.M)
+
+HEAD = '''/* Made by bindings/c/table.py --write: each proved call, in the build for this processor. */
 #include "builds.h"
 #define PROVED_ARGON2_NULL_H /* (each call here is the library's own) */
 #define PROVED_ARGON2_PASSWORD_H
@@ -52,3 +64,17 @@ def table_of(headers, exported, builds):
     declared = "".join(f"{answer} {in_build(build, name)}({taken});\n" for build in builds for name, (answer, taken) in calls)
     made = "\n".join(call_of(name, *it, builds) for name, it in calls)
     return f"{HEAD}{declared}#pragma GCC visibility pop\n\n{made}"
+
+
+def main():
+    headers = [(HEADERS / it).read_text(encoding="utf-8") for it in ("proved_argon2.h", "proved_argon2_jobs.h")]
+    proved = [name for it in sorted(SOURCES.rglob("*.rt")) for name in PROVED.findall(it.read_text(encoding="utf-8"))]
+    table = table_of(headers, proved, BUILDS)
+    if sys.argv[1:] == ["--write"]:
+        (HERE / "proved_argon2_table.c").write_text(table, encoding="utf-8")
+    else:
+        print(table, end="")
+
+
+if __name__ == "__main__":
+    main()

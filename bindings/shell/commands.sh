@@ -4,7 +4,8 @@
 #     name        what the user calls it
 #     version     the version
 #     help        the file help.txt, in which NAME is replaced by that name
-#     prepare     a function that makes a program ready, argon2_program or argon2_tool, and sets `program` to its file
+#     prepare     a function that makes a program ready, argon2_program or argon2_tool, and sets `program` to its file, and
+#                 `is_known` where it is known to be loaded here
 #
 # `--help` and `--version` are done here. argon2_tool does `new`, `check` and `tune`: it gets the salt and the settings
 # from here, or an encoded hash that is read from a descriptor. All other arguments go to argon2_program as they are, with
@@ -97,10 +98,16 @@ run_program() {
     end_with "$?" "$@"
 }
 
-# Makes a program ready: `make_ready NAME`. It ends where there is none, or where none can be loaded here: then the loader
-# names a version that the system's C library lacks, or the shell the loader itself.
+# Makes a program ready: `make_ready NAME`. It ends where there is none, or where none can be loaded here.
 make_ready() {
+    is_known=
     prepare "$1" || exit 70
+    [ "$is_known" ] || require_loader
+}
+
+# Ends where the program cannot be loaded: then the loader names a version that the system's C library lacks, or the shell
+# the loader itself.
+require_loader() {
     loaded=$(LD_TRACE_LOADED_OBJECTS=1 "$program" 2>&1 </dev/null)
     case $?:$loaded in
     126:* | 127:* | *'not found'*) fail 70 "the programs need glibc $least_glibc or newer, which this system does not have" ;;
@@ -114,19 +121,25 @@ call() {
 
 # ---- the processor
 
-# The builds that this processor runs, the newest first: nothing where it is older than all.
-builds_that_run() {
+# The builds that this processor runs, the newest first, into `builds`: nothing where it is older than all.
+find_builds() {
+    builds=
     case $(uname -m) in
-    aarch64) echo aarch64 && return ;;
-    x86_64) ;;
-    *) return ;;
+    aarch64) builds=aarch64 ;;
+    x86_64) find_builds_of_x86 ;;
     esac
-    flags=" $(sed -n '/^flags[^:]*:/{s///;p;q;}' /proc/cpuinfo 2>/dev/null) "
+}
+
+find_builds_of_x86() {
+    flags=
+    while [ ! "$flags" ] && read -r field line; do
+        case $field in flags*) flags=" ${line#: } " ;; esac
+    done 2>/dev/null </proc/cpuinfo
     # shellcheck disable=SC2086 # they are words
-    ! has_flags $flags_of_v2 $flags_of_v3 || echo x86-64-v3
+    ! has_flags $flags_of_v2 $flags_of_v3 || builds='x86-64-v3 '
     # (where the system does not say what the processor has, it is taken to be one)
     # shellcheck disable=SC2086
-    [ "$flags" != '  ' ] && ! has_flags $flags_of_v2 || echo x86-64-v2
+    [ "$flags" ] && ! has_flags $flags_of_v2 || builds=${builds}x86-64-v2
 }
 
 has_flags() {

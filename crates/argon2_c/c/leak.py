@@ -7,6 +7,7 @@ function goes on to give what it gives.
 A leak is machine code that is run before or behind the function's own. It is put behind that code, in the function's
 section, and the function's first instructions become a jump to it.
 """
+import os
 import re
 import struct
 import subprocess
@@ -80,10 +81,14 @@ def objects(archive, folder, prefix=''):
     return {it.name: it for it in folder.iterdir()}
 
 
-def library(folder, *words):
-    """The objects of the library, which is built where it is not up to date (build/archive)."""
-    run(TOP / 'build/archive', *words, '--to', folder.with_suffix('.a'))
-    return objects(folder.with_suffix('.a'), folder)
+def library(folder, cpu=''):
+    """The objects of the library, or of one with the build for a processor alone, of what is proved and up to date."""
+    run(TOP / 'build/all', 'x86_64')
+    built = TOP / 'bindings/out'
+    if cpu:
+        run(TOP / 'build/link', 'x86_64', built, folder.with_suffix('.built'), env={**os.environ, 'BUILDS': cpu})
+        built = folder.with_suffix('.built')
+    return objects(built / 'x86_64/libproved_argon2.a', folder)
 
 
 def compiled(made, *words, prefix=''):

@@ -1,7 +1,7 @@
 //! Each allocation and each start of a worker denied in turn.
 //!
 //! A test here makes one call, or calls that have to allocate nothing, and prints what came:
-//! `value` for the stated value, else the error. `.ci/faults/refusals` runs each of them again and
+//! `value` for the stated value, else the error. CI (refusals) runs each of them again and
 //! again, with another allocation or start denied each time.
 
 mod asks_for_nothing;

@@ -1,0 +1,195 @@
+# Whether what was built, and what release/ has, is of the sources as they are: functions for sh, for the repository `root`.
+# They start few processes, since each call of ./argon2 asks them. Each leaves in `why` what is wrong.
+# shellcheck shell=sh disable=SC2034,SC2154
+
+# The crates that are named, or all, and those below them, each behind those below it: `find_crates NAME..` leaves them in
+# `found`. Fails where one is not there, or stands above one below it.
+find_crates() {
+    lines='' seen=' ' wanted=" $* " found=''
+    while read -r line; do
+        lines="$line
+$lines"
+    done <"$root/crates.txt"
+    while IFS=':' read -r named below; do
+        crate=${named%% *}
+        seen="$seen$crate "
+        for it in $below; do
+            case $seen in *" $it "*) why="crates.txt has $crate above $it" && return 1 ;; esac
+        done
+        case $wanted in
+        '  ') ;;
+        *" $crate "*) wanted="$wanted$below " ;;
+        *) continue ;;
+        esac
+        found="$crate $found"
+    done <<END
+${lines%?}
+END
+    for it; do
+        case $seen in *" $it "*) ;; *) why="crates.txt has no $it" && return 1 ;; esac
+    done
+}
+
+# The hash of files, and of those in folders, by their names and what is in them: `sum_files PATH..` leaves it in `sum`.
+sum_files() {
+    sum=$(cd "$root" && find "$@" ! -type d -exec sha256sum -- {} + | LC_ALL=C sort -k 2 | sha256sum) && sum=${sum%% *}
+}
+
+# crates.txt and the sources (src, specs, proofs) of crates and of those below them: `find_sources NAME..` leaves them in
+# `sources`.
+find_sources() {
+    find_crates "$@" || return
+    sources=crates.txt
+    for crate in $found; do
+        for kind in src specs proofs; do
+            [ ! -d "$root/crates/$crate/$kind" ] || sources="$sources crates/$crate/$kind"
+        done
+    done
+}
+
+# The hash of these: `sum_crates NAME..`
+sum_crates() {
+    # shellcheck disable=SC2086 # they are words
+    find_sources "$@" && sum_files $sources
+}
+
+# Whether a command that judges files succeeds. It is not run again where they are as they were when it has, by their inodes,
+# sizes and times of change, of which a note in out/ tells: `holds NOTE PATHS COMMAND..`, where PATHS are words.
+holds() {
+    held=$root/out/$1 paths=$2
+    shift 2
+    [ ! -e "$held" ] || ! list_states | cmp -s - "$held" || return 0
+    states=$(list_states)
+    "$@" || return
+    # (what has just changed may change again within the same time)
+    # shellcheck disable=SC2086
+    [ ! "$(cd "$root" && find $paths -newerct '3 seconds ago' -print -quit 2>&1)" ] || return 0
+    { mkdir -p "$root/out" && printf '%s\n' "$states" >"$held.$$" && mv -f "$held.$$" "$held"; } 2>/dev/null || return 0
+}
+
+list_states() {
+    # shellcheck disable=SC2086
+    (cd "$root" && exec find $paths -printf '%p %i %s %C@\n' 2>/dev/null)
+}
+
+# A machine of build/machines.txt, by its name or that of a build: `find_machine NAME` leaves what the table has of it in
+# `machine`, `number`, `target`, `tool_prefix`, `base` and `builds`.
+find_machine() {
+    while read -r machine number target tool_prefix base builds; do
+        case $machine:" $machine $builds " in
+        '#'*) ;;
+        *" $1 "*) tool_prefix=${tool_prefix#-} base=${base%:} && return ;;
+        esac
+    done <"$root/build/machines.txt"
+    why="nothing is built for $1"
+    return 1
+}
+
+# The names of all machines, into `machines`.
+find_machines() {
+    machines=''
+    while read -r machine number; do
+        case $machine in '#'*) ;; *) machines="$machines $machine" ;; esac
+    done <"$root/build/machines.txt"
+}
+
+# ---- what is built here
+
+# The file that names the kit that is here, into `kit_file`, or nothing.
+find_kit() {
+    kit_file='' rt=$(PATH=$PATH:/opt/rattle/bin && command -v rt) || return 0
+    [ ! -L "$rt" ] || rt=$(readlink -f -- "$rt")
+    [ ! -e "${rt%/*}/../KIT-ID" ] || kit_file=${rt%/*}/../KIT-ID
+}
+
+# What a build of crates is made from, in a line: `line_of NAME..` leaves it in `line`, with the kit, as `rt version` says it.
+line_of() {
+    sum_crates "$@" || return
+    find_kit
+    line=$sum${kit_file:+ $(paste -s -d " " -- "$kit_file")}
+}
+
+# Whether a file, or what a folder has, is what was noted beside it, and was built of these sources of a crate, and by this
+# kit, where there is one: `is_built CRATE FILE`.
+is_built() {
+    why="$2 is not built"
+    [ -e "$2" ] || return
+    line_of "$1" || return
+    why="$2 is older than its sources" of=folder noted_sum='' note=$2/sources
+    [ -d "$2" ] || { of=$(sha256sum <"$2") note=$2.sources; }
+    ! [ -e "$note" ] || { read -r noted && read -r noted_sum; } <"$note"
+    [ "$noted_sum" = "$of" ] || return
+    case $noted in "$line" | "$line "*) ;; *) return 1 ;; esac
+}
+
+# ---- release/
+
+# What a folder of release/ is built from beside proved crates: `others_of FOLDER` leaves the paths in `others`.
+others_of() {
+    case $1 in
+    wasm32) others='build/link_wasm bindings/wasm/instance.s' ;;
+    x86-64-* | armv8-a) others='' ;;
+    *)
+        others='VERSION build/link build/library.map build/machines.txt bindings/c crates/argon2_c/include
+            bindings/libargon2/argon2.h bindings/libargon2/command.c bindings/libargon2/libargon2.c
+            bindings/libargon2/libargon2.map bindings/shell/words.c'
+        ;;
+    esac
+}
+
+# Which proved crate a file of release/ is built of: `crate_of FILE` leaves it in `crate_of`.
+crate_of() {
+    crate_of=argon2_c
+    case $1 in
+    x86-64-*/argon2_program | x86-64-*/argon2_tool) crate_of=${1#*/} ;;
+    esac
+}
+
+# Whether the manifest has a line: `says LINE`.
+says() {
+    case $manifest in *"
+$1
+"*) ;; *) return 1 ;; esac
+}
+
+# Reads the manifest, once.
+read_manifest() {
+    [ ! "${manifest-}" ] || return 0
+    why='there is no release/MANIFEST'
+    [ -f "$root/release/MANIFEST" ] || return
+    manifest='
+'
+    while read -r line; do
+        manifest="$manifest$line
+"
+    done <"$root/release/MANIFEST"
+}
+
+# Whether the manifest is of these sources of a crate, or of a folder's others: `is_of NAME SUM..`
+is_of() {
+    part=$1
+    shift
+    case ${known-} in *" $part "*) return ;; esac
+    "$@" || return
+    why="release/MANIFEST is of other sources of $part"
+    says "# sources $part $sum" && known="${known-} $part "
+}
+
+# Whether a file of release/ is of these sources, and what the manifest says: `is_released FILE`. Fails by 1 where it is of
+# other sources, and by 2 where it was changed.
+is_released() {
+    read_manifest || return 1
+    crate_of "$1"
+    is_of "$crate_of" sum_crates "$crate_of" || return 1
+    others_of "${1%%/*}"
+    # shellcheck disable=SC2086 # they are words
+    [ ! "$others" ] || is_of "${1%%/*}" sum_files $others || return 1
+    why="release/MANIFEST does not name $1"
+    case $1 in *[!A-Za-z0-9_./-]* | */*/* | *..*) return 2 ;; esac
+    case $manifest in *"  $1
+"*) ;; *) return 2 ;; esac
+    why="release/$1 is not there, and release/MANIFEST names it"
+    [ -f "$root/release/$1" ] || return 2
+    why="release/$1 is not the file that release/MANIFEST names: it was changed"
+    sum=$(sha256sum <"$root/release/$1") && says "${sum%% *}  $1" || return 2
+}
