@@ -89,6 +89,7 @@ static void check_refused(proved_argon2_settings settings, uint32_t number, cons
     uint32_t text = proved_argon2_hash_encoded(bytes_of("password"), 8, bytes_of("somesalt"), 8, NULL, 0, NULL, 0,
                                                &settings, out, sizeof out);
     check(raw == number && text == number && is_untouched(out, sizeof out), name);
+    check_code(proved_argon2_check(&settings, 8, 8, 0, 0), number, "the same, by a check");
 }
 
 static void check_refusals(void)
@@ -110,6 +111,20 @@ static void check_refusals(void)
     check_refused(bad, 11, "no passes");
     bad = settings_of_rfc(2), bad.hash_length = 3;
     check_refused(bad, 1, "too short a hash");
+}
+
+/* The least and the greatest length of each input (RFC 9106, 3.1, and 8 bytes of salt), and one beyond. */
+static void check_lengths(void)
+{
+    const proved_argon2_settings settings = settings_of_rfc(2);
+    const uint64_t most = UINT32_MAX;
+    check_code(proved_argon2_check(&settings, 0, 8, 0, 0), 0, "the least lengths");
+    check_code(proved_argon2_check(&settings, most, most, most, most), 0, "the greatest lengths");
+    check_code(proved_argon2_check(&settings, most + 1, 7, most + 1, most + 1), 4, "too long a password");
+    check_code(proved_argon2_check(&settings, most, 7, most + 1, most + 1), 5, "too short a salt");
+    check_code(proved_argon2_check(&settings, 0, most + 1, most + 1, most + 1), 6, "too long a salt");
+    check_code(proved_argon2_check(&settings, 0, 8, most + 1, most + 1), 10, "too long a secret");
+    check_code(proved_argon2_check(&settings, 0, 8, 0, most + 1), 8, "too much associated data");
 }
 
 static void check_buffers(void)
@@ -168,6 +183,31 @@ static void check_reading(void)
           "what a text without a version, a salt and a hash spells");
 }
 
+static uint32_t check_encoded(const char *text, uint64_t pwd_len, uint32_t passes, proved_argon2_stored *stored)
+{
+    const proved_argon2_limits limits = {256, passes, 16, 512};
+    return proved_argon2_check_encoded(bytes_of(text), strlen(text), &limits, pwd_len, 0, 0, stored);
+}
+
+static void check_checking(void)
+{
+    const proved_argon2_settings settings = {2, 0x13, 256, 2, 16, 32};
+    const uint64_t most = UINT32_MAX;
+    proved_argon2_stored stored;
+    memset(&stored, 7, sizeof stored);
+    check_code(check_encoded("\xff", most + 1, 1, &stored), 66, "what is not UTF-8 is not checked");
+    check_code(check_encoded("$argon2id$", most + 1, 1, &stored), 19, "the beginning of a text is not checked");
+    check_code(check_encoded(of_16_lanes, most + 1, 1, &stored), 69, "a text above the limits, before its password");
+    check_code(check_encoded(of_16_lanes, most + 1, 2, &stored), 4, "too long a password for a text");
+    check_code(check_encoded("$argon2id$v=19$m=8,t=0,p=1$c29tZXNhbHQ$AAAAAA", 0, 2, &stored), 11, "a text of no passes");
+    check_code(check_encoded("$argon2id$v=19$m=8,t=1,p=1$c29tZXNhbA$AAAAAA", 0, 2, &stored), 5, "a text of a short salt");
+    check_code(check_encoded("$argon2id$v=19$m=8,t=1,p=1$c29tZXNhbHQ$AAAA", 0, 2, &stored), 1, "a text of a short hash");
+    check(is_untouched(&stored, sizeof stored), "nothing is written of them");
+    const uint32_t code = check_encoded(of_16_lanes, most, 2, &stored);
+    check(code == 0 && memcmp(&stored.settings, &settings, sizeof settings) == 0 && stored.salt_length == 8,
+          "a text that can be verified");
+}
+
 static uint32_t needs_rehash(const char *text, proved_argon2_settings settings)
 {
     return proved_argon2_needs_rehash(bytes_of(text), strlen(text), &settings);
@@ -210,10 +250,12 @@ int main(void)
     check_tag(2, argon2id, "the tag of Argon2id");
     check_text();
     check_refusals();
+    check_lengths();
     check_buffers();
     check_no_texts();
     check_messages();
     check_reading();
+    check_checking();
     check_rehash();
     check(proved_argon2_library_version() == 1000000, "the version of the library");
     return checks_failed != 0;

@@ -21,6 +21,8 @@ CALL(job_make, INPUTS_OF(IT), &job)
 CALL(job_read, TEXT_OF(IT), &job, salt, 16, hash, TAG)
 CALL(read, TEXT_READ, &stored)
 CALL(read_within, TEXT_READ, &(proved_argon2_limits){2048, 2, 4, 4096}, &stored)
+CALL(check, &IT.settings, IT.pwd_len, IT.salt_len, IT.secret_len, IT.ad_len)
+CALL(check_encoded, TEXT_READ, &(proved_argon2_limits){2048, 2, 4, 4096}, IT.pwd_len, IT.secret_len, IT.ad_len, &stored)
 CALL(read_bytes, TEXT_READ, salt, 16, hash, TAG)
 CALL(needs_rehash, TEXT_READ, &IT.settings)
 CALL(encode, BYTES(IT, salt), &IT.settings, sought->tag, TAG, out, sizeof out)
@@ -104,7 +106,8 @@ static const struct row {
     ROW(job_hash_over, 0, OF_TAG, BUFFERS), ROW(job_verify_over, 64, OF_TAG, BUFFERS),
     ROW(hash_over, 0, OF_TAG, BUFFERS), ROW(verify_over, 64, OF_TAG, BUFFERS), OTHER(read, KINDS),
     OTHER(read_within, KINDS), OTHER(read_bytes, OF_TAG), OTHER(needs_rehash, KINDS), OTHER(encode, KINDS),
-    OTHER(encoded_len, KINDS), OTHER(memory_len, KINDS), OTHER(message, KINDS),
+    OTHER(encoded_len, KINDS), OTHER(memory_len, KINDS), OTHER(message, KINDS), OTHER(check, KINDS),
+    OTHER(check_encoded, KINDS),
 };
 
 static uint32_t does_row(const void *arg)

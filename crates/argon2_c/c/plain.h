@@ -5,6 +5,8 @@
 #undef proved_argon2_read_within
 #undef proved_argon2_read_bytes
 #undef proved_argon2_needs_rehash
+#undef proved_argon2_check
+#undef proved_argon2_check_encoded
 #undef proved_argon2_encoded_len
 #undef proved_argon2_memory_len
 #undef proved_argon2_message

@@ -27,6 +27,7 @@ CALL(read, BYTES(TEXT_READ), given[STORED].at)
 CALL(read_within, BYTES(TEXT_READ), given[LIMITS].at, given[STORED].at)
 CALL(read_bytes, BYTES(TEXT_READ), BYTES(SALT_WRITTEN), BYTES(HASH_WRITTEN))
 CALL(needs_rehash, BYTES(TEXT_READ), given[SETTINGS].at)
+CALL(check_encoded, BYTES(TEXT_READ), given[LIMITS].at, 8, 8, 8, given[STORED].at)
 CALL(message, PROVED_ARGON2_OUT_OF_MEMORY, BYTES(TEXT_WRITTEN))
 CALL(password_hash, given[ROOM].at, BYTES(PASSWORD))
 CALL(password_verify, given[TEXT_ENDED].at, BYTES(PASSWORD))
@@ -38,6 +39,11 @@ CALL(verify_raw_with, given[OPTIONS].at, INPUTS, BYTES(HASH))
 CALL(verify_encoded_with, given[OPTIONS].at, STORED_TEXT)
 CALL(job_run, given[OPTIONS].at, given[JOB].at, BYTES(TAG_OUT))
 CALL(job_run_verify, given[OPTIONS].at, given[JOB].at, BYTES(HASH))
+
+static uint32_t check_settings(void)
+{
+    return proved_argon2_check(given[SETTINGS].at, 8, 8, 8, 8);
+}
 
 /* Three that have no number for it: no settings have no length, and nothing is freed where there is no memory. */
 static uint32_t encoded_len(void)
@@ -99,7 +105,8 @@ static const struct row {
     ROW(job_hash_over, JOB, BLOCKS, OUT), ROW(job_verify_over, JOB, BLOCKS, HASH, TAG_WRITTEN),
     ROW(job_run, OPTIONS, JOB, TAG_OUT), ROW(job_run_verify, OPTIONS, JOB, HASH),
     ROW(memory_new, SETTINGS, MEMORY, MEMORY_LEN), ROW(memory_free, MEMORY),
-    ROW(encoded_len, SETTINGS), ROW(memory_len, SETTINGS),
+    ROW(encoded_len, SETTINGS), ROW(memory_len, SETTINGS), {"check", check_settings, {SETTINGS}},
+    ROW(check_encoded, TEXT_READ, LIMITS, STORED),
 };
 
 /* ---- null pointers */

@@ -286,6 +286,24 @@ uint32_t proved_argon2_needs_rehash(
     const uint8_t *text, size_t text_len, const proved_argon2_settings *settings);
 
 /*
+ * Whether a hash with these settings is made of inputs of these lengths: PROVED_ARGON2_OK only if a call that hashes such
+ * inputs returns no error but one of its buffers or of memory, and otherwise the error that it returns. Nothing is
+ * computed, and no input is passed.
+ */
+PROVED_ARGON2_CHECKED PROVED_ARGON2_NONNULL
+uint32_t proved_argon2_check(
+    const proved_argon2_settings *settings, uint64_t pwd_len, uint64_t salt_len, uint64_t secret_len, uint64_t ad_len);
+
+/*
+ * The same of an encoded hash within limits, for a call that verifies it with inputs of these lengths. The errors of
+ * proved_argon2_read_within come first, and what it writes is in stored.
+ */
+PROVED_ARGON2_CHECKED PROVED_ARGON2_NONNULL
+uint32_t proved_argon2_check_encoded(
+    const uint8_t *text, size_t text_len, const proved_argon2_limits *limits,
+    uint64_t pwd_len, uint64_t secret_len, uint64_t ad_len, proved_argon2_stored *stored);
+
+/*
  * The length in bytes of the encoded hash that proved_argon2_hash_encoded writes for a salt of salt_len bytes, without
  * the zero behind it. It returns 0 if no variant or no version has the given number, and for null settings.
  */

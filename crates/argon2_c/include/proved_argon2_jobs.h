@@ -123,7 +123,8 @@ uint32_t proved_argon2_job_verify_over(
 
 /*
  * The bytes of the blocks that a hash with these settings needs, 1024 a block. It returns 0 if no call with these
- * settings is accepted, and for null settings.
+ * settings is accepted, whatever its inputs, and for null settings. It judges the settings alone: of the lengths of the
+ * inputs proved_argon2_check tells.
  */
 PROVED_ARGON2_CHECKED PROVED_ARGON2_NONNULL
 uint64_t proved_argon2_memory_len(const proved_argon2_settings *settings);

@@ -106,6 +106,26 @@ static inline uint32_t proved_argon2_nullable_needs_rehash(
     return proved_argon2_needs_rehash(proved_argon2_readable(text, text_len), text_len, settings);
 }
 
+PROVED_ARGON2_CHECKED
+static inline uint32_t proved_argon2_nullable_check(
+    const proved_argon2_settings *settings, uint64_t pwd_len, uint64_t salt_len, uint64_t secret_len, uint64_t ad_len)
+{
+    return settings == NULL ? PROVED_ARGON2_NULL_POINTER
+        : proved_argon2_check(settings, pwd_len, salt_len, secret_len, ad_len);
+}
+
+PROVED_ARGON2_CHECKED
+static inline uint32_t proved_argon2_nullable_check_encoded(
+    const uint8_t *text, size_t text_len, const proved_argon2_limits *limits,
+    uint64_t pwd_len, uint64_t secret_len, uint64_t ad_len, proved_argon2_stored *stored)
+{
+    if (proved_argon2_is_missing(text, text_len) || limits == NULL || stored == NULL) {
+        return PROVED_ARGON2_NULL_POINTER;
+    }
+    return proved_argon2_check_encoded(
+        proved_argon2_readable(text, text_len), text_len, limits, pwd_len, secret_len, ad_len, stored);
+}
+
 /* The message of a number that nothing proved returns, or null. */
 static inline const char *proved_argon2_header_message(uint32_t number)
 {
@@ -394,6 +414,8 @@ static inline uint32_t proved_argon2_nullable_encode(
 #define proved_argon2_read_within proved_argon2_nullable_read_within
 #define proved_argon2_read_bytes proved_argon2_nullable_read_bytes
 #define proved_argon2_needs_rehash proved_argon2_nullable_needs_rehash
+#define proved_argon2_check proved_argon2_nullable_check
+#define proved_argon2_check_encoded proved_argon2_nullable_check_encoded
 #define proved_argon2_encoded_len proved_argon2_nullable_encoded_len
 #define proved_argon2_memory_len proved_argon2_nullable_memory_len
 #define proved_argon2_message proved_argon2_nullable_message

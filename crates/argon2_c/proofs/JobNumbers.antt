@@ -13,7 +13,7 @@ use Rattle.argon2_standard.proofs.Settings.Accepted.{accepted, long_segment}
 use Rattle.argon2_standard.proofs.Settings.HashLengths.{length-blake2b}
 use Rattle.argon2_standard.specs.declared.variant.Variant.{Variant}
 use Rattle.argon2_standard.specs.declared.version.Version.{Version}
-use Rattle.argon2_c.specs.Jobs.{is_out_of_bounds, job_of, setting_at, setting_of_job, setting_with}
+use Rattle.argon2_c.specs.Jobs.{is_out_of_bounds, max_blocks_in_slice, job_of, setting_at, setting_of_job, setting_with}
 use Rattle.argon2_c.specs.declared.jobs.LentJob.{LentJob}
 use Rattle.argon2_c.proofs.Numbers.{variant_of-number, version_of-number}
 
@@ -25,8 +25,8 @@ recovered s len good long =
     let none : (s.lanes == 0) ≡ false = ne_eqb s.lanes 0 (omega (arith, good.some_lane)) in
     let many : nat_lt max_lanes s.lanes ≡ false = le-ltb max_lanes s.lanes good.few_lanes in
     let short : nat_lt s.segment_length 2 ≡ false = le-ltb s.segment_length 2 good.long_segments in
-    let much : nat_lt 1073741823 (s.lanes * s.segment_length) ≡ false =
-    le-ltb 1073741823 (s.lanes * s.segment_length) (omega (arith, good.fits)) in
+    let much : nat_lt max_blocks_in_slice (s.lanes * s.segment_length) ≡ false =
+    le-ltb max_blocks_in_slice (s.lanes * s.segment_length) (omega (arith, good.fits)) in
     let passes : (s.passes == 0) ≡ false = ne_eqb s.passes 0 (omega (arith, good.some_pass)) in
     let tag : nat_lt len 4 ≡ false = le-ltb len 4 long in
     rw (variant, version, none, many, short, much, passes, tag) refl
@@ -74,7 +74,7 @@ bounded job v w prehash few h =
     let c = neither _ _ b.0 in
     let d = neither _ _ c.0 in
     let e = neither _ _ d.0 in
-    let fits = ltb-false 1073741823 (job.lanes * job.segment_length) c.1 in
+    let fits = ltb-false max_blocks_in_slice (job.lanes * job.segment_length) c.1 in
     record {
       prehash_length = prehash;
       some_lane = some job.lanes e.0;

@@ -37,11 +37,15 @@ job_of s len = record {
   hash_length = len;
 }
 
--- no accepted call has a job of these numbers: no lane or too many, segments of less than two blocks, 2^32
--- blocks or more in four slices, no pass, or a tag of less than four bytes
+-- the most blocks of a slice, 2^30 - 1: four slices have fewer than 2^32
+abbrev pub max_blocks_in_slice : ℕ
+max_blocks_in_slice = 1073741823
+
+-- no accepted call has a job of these numbers: no lane or too many, segments of less than two blocks, slices of
+-- too many, no pass, or a tag of less than four bytes
 abbrev pub is_out_of_bounds : LentJob → Bool
 is_out_of_bounds job =
-    (job.lanes == 0) || nat_lt max_lanes job.lanes || nat_lt job.segment_length 2 || nat_lt 1073741823 (job.lanes * job.segment_length)
+    (job.lanes == 0) || nat_lt max_lanes job.lanes || nat_lt job.segment_length 2 || nat_lt max_blocks_in_slice (job.lanes * job.segment_length)
     || (job.passes == 0) || nat_lt job.hash_length 4
 
 -- the setting of the numbers, with a variant and a version

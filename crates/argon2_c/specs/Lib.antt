@@ -4,6 +4,7 @@ pub mod Recommended
 pub mod Buffer
 pub mod Answers
 pub mod Reading
+pub mod Checks
 pub mod Heads
 pub mod Jobs
 pub mod Over

@@ -6,9 +6,10 @@
 //! length.
 #![tactic(auto)]
 
-ghost use Rattle.std.specs.Prelude.{◌≡◌, ℕ, List, []};
+ghost use Rattle.std.specs.Prelude.{◌≡◌, ℕ, List, [], length};
 ghost use Rattle.std.specs.Borrow.{Bor};
 ghost use Rattle.argon2_c.specs.Answers.{IsTextLength, WritesMessage};
+ghost use Rattle.argon2_c.specs.Checks.{Checks, ChecksText};
 ghost use Rattle.argon2_c.specs.Limits.{limits_of};
 ghost use Rattle.argon2_c.specs.Over.{HashesOver, JudgesOver, memory_len_of};
 ghost use Rattle.argon2_c.specs.Reading.{ComparesSettings, ReadsBytes, ReadsText, ReadsTextWithin};
@@ -109,6 +110,40 @@ pub extern "C" fn proved_argon2_read_within(
     code_of(&reading::read_within(text, limits, stored))
 }
 
+/// Returns 0 only where a hash with these settings is made of inputs of these lengths, if there is
+/// memory for it: the numbers of variant and version and the settings table are all that is looked
+/// at.
+#[unsafe(no_mangle)]
+pub extern "C" fn proved_argon2_check(
+    settings: &Settings,
+    pwd_len: u64,
+    salt_len: u64,
+    secret_len: u64,
+    ad_len: u64,
+) -> u32
+    ensures { (secret ad : Bor (List ℕ)) → length secret.now ≡ secret_len → length ad.now ≡ ad_len
+        → IsCodeOf (Checks (config_of settings.now secret ad) pwd_len salt_len) result }
+{
+    code_of(&settings.check(pwd_len, salt_len, secret_len, ad_len))
+}
+
+/// `proved_argon2_read_within` of an encoded hash that can be verified, with inputs of these
+/// lengths: its settings are checked too. On an error `stored` is unchanged.
+#[unsafe(no_mangle)]
+pub extern "C" fn proved_argon2_check_encoded(
+    text: &[u8],
+    limits: &Limits,
+    pwd_len: u64,
+    secret_len: u64,
+    ad_len: u64,
+    stored: &mut Stored,
+) -> u32
+    ensures { IsCodeOf (ChecksText (limits_of limits.now) pwd_len secret_len ad_len text.now
+        stored.old stored.new) result }
+{
+    code_of(&reading::check_encoded(text, limits, pwd_len, secret_len, ad_len, stored))
+}
+
 /// Writes the salt and the hash of an encoded hash to buffers of their lengths. On an error both
 /// are unchanged.
 #[unsafe(no_mangle)]
@@ -140,7 +175,7 @@ pub extern "C" fn proved_argon2_encoded_len(settings: &Settings, salt_len: u32) 
 }
 
 /// How many bytes the blocks of these settings have, 1,024 each, or 0 where no call with these
-/// settings is accepted. The lengths of the inputs are not checked.
+/// settings is accepted, whatever its inputs: `proved_argon2_check` judges their lengths too.
 #[unsafe(no_mangle)]
 pub extern "C" fn proved_argon2_memory_len(settings: &Settings) -> u64
     ensures { (secret ad : Bor (List ℕ)) → secret.now ≡ [] → ad.now ≡ []

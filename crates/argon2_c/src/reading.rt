@@ -1,12 +1,17 @@
 //! Decoding an encoded hash without verifying it.
 
-ghost use Rattle.std.specs.Prelude.{◌≡◌, ℕ, List, OnOk};
+ghost use Rattle.std.specs.Prelude.{◌≡◌, ℕ, List, OnOk, length};
 ghost use Rattle.std.specs.Borrow.{Bor};
 ghost use Rattle.argon2_standard.specs.Standard.Grammar.{IsItem};
+ghost use Rattle.argon2_standard.specs.Standard.SettingsTable.{refusal_of};
+ghost use Rattle.argon2_standard.specs.Standard.Stored.{IsStoredConfig};
 ghost use Rattle.argon2_standard.specs.Standard.Text.{Spelled};
+ghost use Rattle.argon2_standard.specs.declared.config.Config.{Config};
 ghost use Rattle.argon2_text.specs.Views.Texts.{numbers_of};
 ghost use Rattle.argon2_text.specs.Views.Faults.{IsSomeItem};
 ghost use Rattle.argon2_c.specs.Answers.{WritesWhere};
+ghost use Rattle.argon2.specs.Standard.Limits.{is_too_costly};
+ghost use Rattle.argon2_c.specs.Checks.{ChecksText, refusal_within};
 ghost use Rattle.argon2_c.specs.Limits.{limits_of};
 ghost use Rattle.argon2_c.specs.Reading.{AreLengths, ComparesSettings, Items, ReadsBytes, ReadsText, ReadsTextWithin, held, stored_of};
 ghost use Rattle.argon2_c.specs.Settings.{config_of};
@@ -15,7 +20,8 @@ use crate::limits::Limits;
 use crate::refusal::Refusal;
 use crate::settings::Settings;
 use crate::stored_text::head_of;
-use argon2::parts::stored::{Numbers, agrees, is_above};
+use argon2::parts::stored::{Numbers, agrees, config_of_numbers, is_above};
+use argon2_standard::context::refusal_of_lengths;
 use argon2_text::encoding::{Head, item_len, read_hash, read_salt};
 
 /// What an encoded hash decodes to, in numbers.
@@ -86,6 +92,60 @@ pub fn read_within(text: &[u8], limits: &Limits, stored: &mut Stored) -> Result<
         }
         Err(refusal) => Err(refusal),
     }
+}
+
+/// Decodes an encoded hash that is within the limits, and whose settings are accepted for inputs of
+/// these lengths. The errors of `read_within` come first, then those of the settings table.
+pub fn check_encoded(
+    text: &[u8],
+    limits: &Limits,
+    pwd_len: u64,
+    secret_len: u64,
+    ad_len: u64,
+    stored: &mut Stored,
+) -> Result<(), Refusal>
+    ensures { ChecksText (limits_of limits.now) pwd_len secret_len ad_len text.now stored.old
+        stored.new result }
+{
+    match head_of(text) {
+        Ok(head) => {
+            let numbers = head.numbers();
+            match refusal_for(&numbers, limits, pwd_len, secret_len, ad_len) {
+                Some(refusal) => Err(refusal),
+                None => {
+                    *stored = Stored::of(&numbers);
+                    Ok(())
+                }
+            }
+        }
+        Err(refusal) => Err(refusal),
+    }
+}
+
+/// Why an encoded hash of these numbers is not verified within the limits, for inputs of these
+/// lengths.
+fn refusal_for(
+    numbers: &Numbers,
+    limits: &Limits,
+    pwd_len: u64,
+    secret_len: u64,
+    ad_len: u64,
+) -> Option<Refusal>
+    ensures { (d : Spelled) (secret ad : List ℕ) (config : Config) → numbers.now ≡ numbers_of d
+        → length secret ≡ secret_len → length ad ≡ ad_len → IsStoredConfig d secret ad config
+        → result ≡ refusal_within (is_too_costly (limits_of limits.now) d)
+        (refusal_of config pwd_len (length d.salt) (length d.hash)) }
+{
+    let most = limits.of_library();
+    if is_above(numbers, &most) {
+        return Some(Refusal::TooCostly);
+    }
+    let config = config_of_numbers(numbers, &[], &[]);
+    // The length of the hash is checked apart, in 64 bits.
+    let (salt_len, hash_len) = (numbers.salt_len, numbers.hash_len);
+    refusal_of_lengths(&config, pwd_len, salt_len, secret_len, ad_len, hash_len).map(
+        Refusal::Library,
+    )
 }
 
 /// Writes the salt and the hash of an encoded hash to buffers of their lengths. The errors of

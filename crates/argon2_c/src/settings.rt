@@ -1,15 +1,18 @@
 //! The settings of a hash in numbers, as C passes them.
 
-ghost use Rattle.std.specs.Prelude.{◌≡◌, ℕ, List, [], Ok};
+ghost use Rattle.std.specs.Prelude.{◌≡◌, ℕ, List, [], Ok, length};
 ghost use Rattle.std.specs.Borrow.{Bor};
 ghost use Rattle.argon2_standard.specs.Standard.SettingsTable.{refusal_of};
 ghost use Rattle.argon2_c.specs.Answers.{IsTextLength};
+ghost use Rattle.argon2_c.specs.Checks.{Checks};
 ghost use Rattle.argon2_c.specs.Over.{memory_len_of};
 ghost use Rattle.argon2_c.specs.Settings.{config_of};
 
+use crate::refusal::Refusal;
 use argon2::parts::common::{MIN_SALT_LENGTH, SYNC_POINTS};
 use argon2::parts::context::first_refusal;
 use argon2::{Config, Error, ThreadMode, Variant, Version};
+use argon2_standard::context::refusal_of_lengths;
 
 /// The settings of a hash: all that a tag depends on except the password, the salt, the secret and
 /// the associated data.
@@ -57,8 +60,29 @@ impl Settings {
         })
     }
 
+    /// Whether a hash with these settings is made of inputs of these lengths. The numbers of variant
+    /// and version are checked first, then the settings table.
+    pub fn check(
+        &self,
+        pwd_len: u64,
+        salt_len: u64,
+        secret_len: u64,
+        ad_len: u64,
+    ) -> Result<(), Refusal>
+        ensures { (secret ad : Bor (List ℕ)) → length secret.now ≡ secret_len
+            → length ad.now ≡ ad_len
+            → Checks (config_of self.now secret ad) pwd_len salt_len result }
+    {
+        let config = self.config(&[], &[])?;
+        let hash_len = u64::from(self.hash_length);
+        match refusal_of_lengths(&config, pwd_len, salt_len, secret_len, ad_len, hash_len) {
+            Some(error) => Err(Refusal::Library(error)),
+            None => Ok(()),
+        }
+    }
+
     /// How many bytes the blocks of a hash with these settings have, or 0 where no call with them
-    /// is accepted. The lengths of the inputs are not checked.
+    /// is accepted, whatever its inputs: no input is judged here, as `check` judges its length.
     pub fn memory_len(&self) -> u64
         ensures { (secret ad : Bor (List ℕ)) → secret.now ≡ [] → ad.now ≡ []
             → result ≡ memory_len_of (config_of self.now secret ad) }

@@ -68,7 +68,7 @@ first_of false false false false false rows e = absurd (cc)
 refused_long : (config : Config) (password salt hash : ℕ) → nat_lt max_length password ≡ true → (e : Error) × (refusal_of config password salt hash ≡ Some e)
 unfolding refusal_of
 refused_long config password salt hash long =
-    first_of (config.lanes == 0) (nat_lt max_lanes config.lanes) (nat_lt config.mem_cost min_memory || nat_lt config.mem_cost (min_memory * config.lanes))
+    first_of (config.lanes == 0) (nat_lt max_lanes config.lanes) (nat_lt config.mem_cost (min_memory * config.lanes))
     (config.time_cost == 0) (nat_lt max_length password) (drop 5 (settings_table config password salt hash)) long
 
 same_refusal : (config : Config) (one other salt hash : ℕ) → nat_lt max_length one ≡ true → nat_lt max_length other ≡ true

@@ -1,6 +1,7 @@
 //! The settings table, and the inputs of an accepted call with H0, the hash of them.
 
-ghost use Rattle.std.specs.Prelude.{◌≡◌, ◌*◌, ◌/◌, ◌^◌, ◌<◌, length, IsNone, IsOkAnd, MatchOption};
+ghost use Rattle.std.specs.Prelude.{◌≡◌, ◌*◌, ◌/◌, ◌^◌, ◌<◌, ℕ, List, length, IsNone, IsOkAnd, MatchOption};
+ghost use Rattle.std.specs.Borrow.{Bor};
 ghost use Rattle.argon2_standard.specs.Views.Presets.{workers_of};
 ghost use Rattle.argon2_standard.specs.Standard.Prehash.{prehash_of};
 ghost use Rattle.argon2_standard.specs.Standard.SettingsTable.{refusal_of};
@@ -19,17 +20,33 @@ use std::fmt;
 /// The first parameter error for a password, a salt and a hash of these lengths, in the order of
 /// the settings table: only the first error is reported. It takes lengths and no bytes, since an
 /// encoded hash is checked before its salt and hash are decoded.
-#[tactic(auto, unfolding(crate::specs::Standard::SettingsTable::refusal_of))]
 pub fn first_refusal(config: &Config, pwd_len: u64, salt_len: u64, hash_len: u64) -> Option<Error>
     ensures { result ≡ refusal_of config.now pwd_len salt_len hash_len }
+{
+    let (secret_len, ad_len) = (config.secret.len() as u64, config.ad.len() as u64);
+    refusal_of_lengths(config, pwd_len, salt_len, secret_len, ad_len, hash_len)
+}
+
+/// The same for any secret and any associated data of these lengths. The configuration's own are
+/// not looked at.
+#[tactic(auto, unfolding(crate::specs::Standard::SettingsTable::refusal_of))]
+pub fn refusal_of_lengths(
+    config: &Config,
+    pwd_len: u64,
+    salt_len: u64,
+    secret_len: u64,
+    ad_len: u64,
+    hash_len: u64,
+) -> Option<Error>
+    ensures { (secret ad : Bor (List ℕ)) → length secret.now ≡ secret_len → length ad.now ≡ ad_len
+        → result ≡ refusal_of (record config.now { secret = secret; ad = ad }) pwd_len salt_len
+        hash_len }
 {
     if config.lanes < MIN_LANES {
         Some(Error::LanesTooFew)
     } else if config.lanes > MAX_LANES {
         Some(Error::LanesTooMany)
-    } else if config.mem_cost < MIN_MEMORY
-        || u64::from(config.mem_cost) < u64::from(MIN_MEMORY) * u64::from(config.lanes)
-    {
+    } else if u64::from(config.mem_cost) < u64::from(MIN_MEMORY) * u64::from(config.lanes) {
         Some(Error::MemoryTooLittle)
     } else if config.time_cost < MIN_TIME {
         Some(Error::TimeTooSmall)
@@ -39,9 +56,9 @@ pub fn first_refusal(config: &Config, pwd_len: u64, salt_len: u64, hash_len: u64
         Some(Error::SaltTooShort)
     } else if salt_len > u64::from(MAX_SALT_LENGTH) {
         Some(Error::SaltTooLong)
-    } else if config.secret.len() > MAX_SECRET_LENGTH as usize {
+    } else if secret_len > u64::from(MAX_SECRET_LENGTH) {
         Some(Error::SecretTooLong)
-    } else if config.ad.len() > MAX_AD_LENGTH as usize {
+    } else if ad_len > u64::from(MAX_AD_LENGTH) {
         Some(Error::AdTooLong)
     } else if hash_len < u64::from(MIN_HASH_LENGTH) {
         Some(Error::OutputTooShort)

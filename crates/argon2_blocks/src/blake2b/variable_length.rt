@@ -100,6 +100,15 @@ fn write_chain(out: &mut [u8], link: &mut Link)
     }
     blake2b(&mut out[HALF_LENGTH * r..], &[&link.bytes]);
     link.wipe();
+    wipe_frames();
+}
+
+/// Overwrites the stack below its caller, where frames of F held words of a chain. It is never
+/// inlined, so that its frame lies where theirs lay.
+#[inline(never)]
+fn wipe_frames() {
+    let mut frames = [[0u64; 16]; 16];
+    wipe(&mut frames, [0; 16]);
 }
 
 /// H' (RFC 9106, 3.3): fills `out`, of 1 to 2^32 - 1 bytes, with the hash of that length of

@@ -1,7 +1,7 @@
 -- What settings keep to that are not refused, and what H0 is the hash of.
 use Rattle.std.proofs.Common.{◌≡◌, ℕ, ◌*◌, ◌/◌, ◌^◌, ◌<◌, ◌≤◌, Bool, true, false, ltb, List, [], ◌∷◌, length, refl, arith, cond, inl, inr, ◌∙◌}
 use Rattle.std.proofs.Common.{ap, ◌++◌, append_assoc, append-nil}
-use Rattle.std.specs.Prelude.{◌==◌, ◌||◌, IsNone, min, ⊤}
+use Rattle.std.specs.Prelude.{◌==◌, IsNone, min, ⊤}
 use Rattle.std.specs.Int.{w32}
 use Rattle.std.proofs.lemmas.Bool.{ltb-false, cases_lt, le-leb, lt-leb}
 use Rattle.std.proofs.Math.Nat.{div-lt_iff_lt-mul, le-min, min-le_left}
@@ -29,11 +29,6 @@ none_applies [] h = tt
 none_applies ((true, refusal) ∷ rows) h = absurd (let e : true ≡ false = h in cc)
 none_applies ((false, refusal) ∷ rows) h = (refl, none_applies rows h)
 
--- where the `or` of two truth values is false, each of them is false
-neither : (a b : Bool) → (a || b) ≡ false → (a ≡ false) × (b ≡ false)
-neither true b h = absurd (cc)
-neither false b h = (refl, h)
-
 -- a number that is told not to be 0 is greater than 0
 some : (n : ℕ) → (n == 0) ≡ false → 0 < n
 some n h = elim (eqb_tells n 0) [ inl w ↦ absurd (cc (w.0)) | inr w ↦ omega (arith, w.1) ]
@@ -55,7 +50,7 @@ accepted config p s h none =
     record {
       some_lane = some config.lanes lanes;
       few_lanes = ltb-false max_lanes config.lanes many;
-      much = ltb-false config.mem_cost (8 * config.lanes) (neither _ _ memory).1;
+      much = ltb-false config.mem_cost (8 * config.lanes) memory;
       some_pass = some config.time_cost passes;
       salt_fits = ltb-false max_length s salt;
       hash_suffices = ltb-false h 4 short;

@@ -1,5 +1,5 @@
 -- The settings table: the refusal of the first row that applies.
-use Rattle.std.specs.Prelude.{ℕ, ◌*◌, Bool, ◌==◌, ◌||◌, nat_lt, if◌then◌else◌, Option, Some, None, List, [], ◌∷◌, length}
+use Rattle.std.specs.Prelude.{ℕ, ◌*◌, Bool, ◌==◌, nat_lt, if◌then◌else◌, Option, Some, None, List, [], ◌∷◌, length}
 use Rattle.argon2_standard.specs.declared.config.Config.{Config}
 use Rattle.argon2_standard.specs.declared.error.Error.{Error}
 use Rattle.argon2_standard.specs.declared.error.Error.TheVariants.{LanesTooFew, LanesTooMany, MemoryTooLittle, TimeTooSmall, PwdTooLong, SaltTooShort}
@@ -31,7 +31,7 @@ abbrev pub settings_table : Config → ℕ → ℕ → ℕ → List (Bool × Err
 settings_table config pwd_len salt_len hash_len =
     (config.lanes == 0, LanesTooFew)
     ∷ (nat_lt max_lanes config.lanes, LanesTooMany)
-    ∷ (nat_lt config.mem_cost min_memory || nat_lt config.mem_cost (min_memory * config.lanes), MemoryTooLittle)
+    ∷ (nat_lt config.mem_cost (min_memory * config.lanes), MemoryTooLittle)
     ∷ (config.time_cost == 0, TimeTooSmall)
     ∷ (nat_lt max_length pwd_len, PwdTooLong)
     ∷ (nat_lt salt_len min_salt_length, SaltTooShort)

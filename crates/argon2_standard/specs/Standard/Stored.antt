@@ -1,5 +1,5 @@
 -- What the verifying calls make of a stored text.
-use Rattle.std.specs.Prelude.{◌≡◌, ℕ, List, if◌then◌else◌, length}
+use Rattle.std.specs.Prelude.{◌≡◌, ℕ, List, length}
 use Rattle.argon2_standard.specs.declared.config.Config.{Config}
 use Rattle.argon2_standard.specs.Standard.Text.{Spelled}
 

@@ -78,7 +78,9 @@ pub fn read_salt(text: &str, salt: &mut [u8])
     };
 }
 
-/// Decodes a hash's base64 into a buffer of exactly its length.
+/// Decodes a hash's base64 into a buffer of exactly its length. Its caller stays one that calls, so
+/// that the machine code of neither keeps anything below the stack pointer, where Windows may write.
+#[inline(never)]
 pub fn read_hash(text: &str, hash: &mut [u8])
     requires item { IsSomeItem text.now }
     requires length { length hash.old ≡ 3 * length text.now / 4 }

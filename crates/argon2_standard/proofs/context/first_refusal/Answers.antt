@@ -1,0 +1,6 @@
+-- The secret and the data of the configuration are of their own lengths.
+use Rattle.std.proofs.Common.{refl}
+use Rattle.argon2_standard.proofs.context.first_refusal.Goals as goal
+
+pub returns : goal.returns
+returns c = c.refusal_of_lengths.ensures c.args.config.now.secret c.args.config.now.ad refl refl
