@@ -5,6 +5,8 @@
 #include "proved_argon2.h"
 
 #pragma GCC visibility push(hidden)
+uint32_t proved_x86_64_v2_check(const proved_argon2_settings *settings, uint64_t pwd_len, uint64_t salt_len, uint64_t secret_len, uint64_t ad_len);
+uint32_t proved_x86_64_v2_check_encoded(const uint8_t *text, size_t text_len, const proved_argon2_limits *limits, uint64_t pwd_len, uint64_t secret_len, uint64_t ad_len, proved_argon2_stored *stored);
 proved_argon2_limits proved_x86_64_v2_default_limits(void);
 uint32_t proved_x86_64_v2_encode(const uint8_t *salt, size_t salt_len, const proved_argon2_settings *settings, const uint8_t *tag, size_t tag_len, uint8_t *text, size_t text_len);
 uint64_t proved_x86_64_v2_encoded_len(const proved_argon2_settings *settings, uint32_t salt_len);
@@ -32,6 +34,8 @@ uint32_t proved_x86_64_v2_read_within(const uint8_t *text, size_t text_len, cons
 proved_argon2_settings proved_x86_64_v2_rfc9106(void);
 proved_argon2_settings proved_x86_64_v2_rfc9106_low_mem(void);
 uint32_t proved_x86_64_v2_verify_over(const uint8_t *pwd, size_t pwd_len, const uint8_t *salt, size_t salt_len, const uint8_t *secret, size_t secret_len, const uint8_t *ad, size_t ad_len, const proved_argon2_settings *settings, proved_argon2_block *blocks, size_t blocks_len, const uint8_t *hash, size_t hash_len, uint8_t *tag, size_t tag_len);
+uint32_t proved_x86_64_v3_check(const proved_argon2_settings *settings, uint64_t pwd_len, uint64_t salt_len, uint64_t secret_len, uint64_t ad_len);
+uint32_t proved_x86_64_v3_check_encoded(const uint8_t *text, size_t text_len, const proved_argon2_limits *limits, uint64_t pwd_len, uint64_t secret_len, uint64_t ad_len, proved_argon2_stored *stored);
 proved_argon2_limits proved_x86_64_v3_default_limits(void);
 uint32_t proved_x86_64_v3_encode(const uint8_t *salt, size_t salt_len, const proved_argon2_settings *settings, const uint8_t *tag, size_t tag_len, uint8_t *text, size_t text_len);
 uint64_t proved_x86_64_v3_encoded_len(const proved_argon2_settings *settings, uint32_t salt_len);
@@ -60,6 +64,22 @@ proved_argon2_settings proved_x86_64_v3_rfc9106(void);
 proved_argon2_settings proved_x86_64_v3_rfc9106_low_mem(void);
 uint32_t proved_x86_64_v3_verify_over(const uint8_t *pwd, size_t pwd_len, const uint8_t *salt, size_t salt_len, const uint8_t *secret, size_t secret_len, const uint8_t *ad, size_t ad_len, const proved_argon2_settings *settings, proved_argon2_block *blocks, size_t blocks_len, const uint8_t *hash, size_t hash_len, uint8_t *tag, size_t tag_len);
 #pragma GCC visibility pop
+
+uint32_t proved_argon2_check(const proved_argon2_settings *settings, uint64_t pwd_len, uint64_t salt_len, uint64_t secret_len, uint64_t ad_len)
+{
+    const int build = build_here();
+    if (build == X86_64_V3) return proved_x86_64_v3_check(settings, pwd_len, salt_len, secret_len, ad_len);
+    if (build == X86_64_V2) return proved_x86_64_v2_check(settings, pwd_len, salt_len, secret_len, ad_len);
+    return PROVED_ARGON2_OLD_PROCESSOR;
+}
+
+uint32_t proved_argon2_check_encoded(const uint8_t *text, size_t text_len, const proved_argon2_limits *limits, uint64_t pwd_len, uint64_t secret_len, uint64_t ad_len, proved_argon2_stored *stored)
+{
+    const int build = build_here();
+    if (build == X86_64_V3) return proved_x86_64_v3_check_encoded(text, text_len, limits, pwd_len, secret_len, ad_len, stored);
+    if (build == X86_64_V2) return proved_x86_64_v2_check_encoded(text, text_len, limits, pwd_len, secret_len, ad_len, stored);
+    return PROVED_ARGON2_OLD_PROCESSOR;
+}
 
 proved_argon2_limits proved_argon2_default_limits(void)
 {
