@@ -17,7 +17,8 @@ STYLES = {
     'libgcrypt': ('#8a8d91', '2 4'),
 }
 LABELS = {
-    'ours': 'this library', 'ours-v3': 'this library, AVX2', 'with': 'this library, no AVX2', 'with-v3': 'this library, AVX2',
+    'ours': 'this library', 'ours-v3': 'this library, AVX2', 'with': 'this library, no AVX2',
+    'with-v3': 'this library, AVX2',
     'upstream-v3': 'C reference, AVX2', 'upstream-native': 'C reference, native', 'rust-argon2-1': 'rust-argon2 1.0.0',
     'rust-argon2-3': 'rust-argon2 3.0.0', 'rustcrypto': 'RustCrypto argon2', 'openssl': 'OpenSSL',
 }
@@ -74,7 +75,8 @@ class LogScale:
 
 
 def draw_lines(path, title, caption, below, places, series):
-    """A plot: `places` are the words below, and each series has milliseconds at some of them. The axis is logarithmic."""
+    """A plot: `places` are the words below, and each series has milliseconds at some of them. The axis is
+    logarithmic."""
     left, right, top, bottom, height = 70, 210, 66, 380, 466
     at_x = [left + (WIDTH - left - right) * (index + 0.3) / len(places) for index in range(len(places))]
     scale = LogScale([number for points in series.values() for number in points.values()], top, bottom)

@@ -29,8 +29,8 @@ def load_rt():
 
 @contextlib.contextmanager
 def locked(crate):
-    """Keeps other commands of the kit out of a crate and those below it. A process that took this lock twice would wait for
-    itself."""
+    """Keeps other commands of the kit out of a crate and those below it. A process that took this lock twice would wait
+    for itself."""
     crate.held = load_rt().rtlib.lock([*crate.below(), crate])
     try:
         yield
@@ -45,7 +45,8 @@ def stamp(*crates):
 
 
 def mark(crate, line, *files):
-    """Notes of files that they are built from these sources of a crate; gives whether the sources are still the same."""
+    """Notes of files that they are built from these sources of a crate; gives whether the sources are still the
+    same."""
     return subprocess.run([f"{HERE}/stamp", "--mark", crate, line, *files], check=False).returncode == 0
 
 
@@ -56,6 +57,6 @@ def is_current(crate, *files, says_why=False):
 
 
 def are_kept(libraries):
-    """Whether all these libraries are as a whole proof left them, and no source has changed since. They fit only each other:
-    where another command has built one anew, the mark in its folder is gone."""
+    """Whether all these libraries are as a whole proof left them, and no source has changed since. They fit only each
+    other: where another command has built one anew, the mark in its folder is gone."""
     return all(is_current(it.name, os.path.dirname(it.rlib)) for it in libraries)

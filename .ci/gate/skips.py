@@ -40,4 +40,3 @@ def judged(step, said):
         commands += [f'command -v {program}'] if program in wanted.values() else []
         why = f'it is skipped, and {commands[0]} succeeds' if commands else 'it may not be skipped'
         yield check, f'{why}: {check}' if all(map(succeeds, commands)) else None
-

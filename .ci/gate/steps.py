@@ -97,7 +97,8 @@ class Step(threading.Thread):
                 self.tell(line)
 
     def judge(self, status):
-        """Counts what the step has not: that it failed, what it may not skip, a skip without a name, and lost checks."""
+        """Counts what the step has not: that it failed, what it may not skip, a skip without a name, and lost
+        checks."""
         if status is None:
             self.fail(f'it was stopped, since CI had run for {LIMIT // 60} minutes')
             return

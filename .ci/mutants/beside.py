@@ -44,8 +44,8 @@ def copy_seed(kept, to):
 
 
 def wait_for(proofs, crate, below, has_seed, to):
-    """Waits until the crates below are proved and, where `rt ci` tries must-fail edits, until a copy of what it keeps of
-    the crate is in a folder, or none will come. Gives a crate that is not proved, or None."""
+    """Waits until the crates below are proved and, where `rt ci` tries must-fail edits, until a copy of what it keeps
+    of the crate is in a folder, or none will come. Gives a crate that is not proved, or None."""
     def text_of(name):
         return (proofs / name).read_text(encoding='utf-8').strip() if (proofs / name).exists() else ''
 

@@ -44,7 +44,7 @@ def call(name, *arguments):
 
 def is_right(settings, inputs, threads):
     """Makes the calls of one drawing, and prints what they give."""
-    length, (pwd, salt, *others) = min(settings.hash_length, MOST), inputs
+    length, (pwd, _, *others) = min(settings.hash_length, MOST), inputs
     tag, same, room = (ctypes.create_string_buffer(it) for it in (length, length, ROOM))
     by, options = ctypes.byref(settings), ctypes.byref(Options(ctypes.sizeof(Options), threads))
     made = [call('hash_raw', *inputs, by, tag), call('hash_raw_with', options, *inputs, by, same),

@@ -142,6 +142,7 @@ swaps() {
 
 # Debian's development files stay with Debian's library or ours, and ours take their place if both files are named.
 changes_places() {
+    # shellcheck disable=SC2125 # each is a word for apt-get
     local ours=./proved-libargon2-1_*_amd64.deb development=./proved-libargon2-dev_*_amd64.deb
     apt-get update -qq
     swaps php-cli libargon2-1

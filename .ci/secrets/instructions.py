@@ -1,6 +1,7 @@
-"""Which instructions of what is proved may take another time for other operands, by lists of those that do not: sums, exclusive
-ors, products, shifts, rotations and shuffles, moves, comparisons and jumps. ARM says of those for ARM64 that their time does
-not depend on what they compute with ("Data Independent Timing"), but of loads and stores, which take no longer for some data."""
+"""Which instructions of what is proved may take another time for other operands, by lists of those that do not: sums,
+exclusive ors, products, shifts, rotations and shuffles, moves, comparisons and jumps. ARM says of those for ARM64 that
+their time does not depend on what they compute with ("Data Independent Timing"), but of loads and stores, which take no
+longer for some data."""
 
 import re
 from collections import Counter
@@ -8,16 +9,20 @@ from collections import Counter
 from leak import run
 
 X86 = re.compile(
-    r'v?p((add|sub)[bdwq]|and|xor|or|mul(udq|ld)|maddwd|(max|min)ud|cmp(eq|gt)[bdq]|s[rl][la]v?[dwq]|shuf[bd]|shuf[lh]w|alignr'
-    r'|erm[dq]|unpck[lh](bw|wd|dq|qdq)|ack[us]s(dw|wb)|blend[dw]|broadcast[bdq]|(ext|ins)r[bdwq]|mov[sz]x[a-z]+|test)'
-    r'|v?mov[adhlpqsuz]+|mov([zs][bw]|ab|[bw]|be)?[lqsw]*|v?movmskpd|vpmaskmovd|xchg|v?xorp[ds]|vzeroupper|vbroadcasti128'
-    r'|v(insert|extract)i128|push|pop|lea|tzcnt'
-    r'|(i?mul|mulx)[lq]?|(add|adc|sub|sbb|inc|dec|xor|or|and|not|neg|shl|shr|sar|shld|ror|rol|rorx|bswap|cmp|test)[bwlq]?'
+    r'v?p((add|sub)[bdwq]|and|xor|or|mul(udq|ld)|maddwd|(max|min)ud|cmp(eq|gt)[bdq]|s[rl][la]v?[dwq]|shuf[bd]'
+    r'|shuf[lh]w|alignr|erm[dq]|unpck[lh](bw|wd|dq|qdq)|ack[us]s(dw|wb)|blend[dw]|broadcast[bdq]'
+    r'|(ext|ins)r[bdwq]|mov[sz]x[a-z]+|test)'
+    r'|v?mov[adhlpqsuz]+|mov([zs][bw]|ab|[bw]|be)?[lqsw]*|v?movmskpd|vpmaskmovd|xchg|v?xorp[ds]'
+    r'|vzeroupper|vbroadcasti128|v(insert|extract)i128|push|pop|lea|tzcnt'
+    r'|(i?mul|mulx)[lq]?|(add|adc|sub|sbb|inc|dec|xor|or|and|not|neg|shl|shr|sar|shld|ror|rol|rorx'
+    r'|bswap|cmp|test)[bwlq]?'
     r'|set[a-z]+|cmov[a-z]+|j[a-z]+|call|ret|nop[lw]?|endbr64|ud2')
 ARM64 = re.compile('|'.join((
-    '(add|sub|adc|sbc|neg|ngc)s?|[us]add[lw]2?|addp|addv|m(add|sub|neg|ul|la|ls)|[us]m(addl|subl|negl|ulh|ull2?|lal2?|lsl2?)',
+    '(add|sub|adc|sbc|neg|ngc)s?|[us]add[lw]2?|addp|addv|m(add|sub|neg|ul|la|ls)'
+    '|[us]m(addl|subl|negl|ulh|ull2?|lal2?|lsl2?)',
     'ands?|bics?|orr|orn|eor|eon|mvn|not|bif|bit|bsl|rbit|cl[sz]|cnt|extr?|rev(16|32|64)?',
-    '[la]s[lr]|ror|shl|sli|sri|[us]sh[lr]|[us]sra|shrn2?|[us]shll2?|[us]xt[bhwl]|[us]xtl2?|xtn2?|[us]?bf(m|i|x|iz|xil|c)',
+    '[la]s[lr]|ror|shl|sli|sri|[us]sh[lr]|[us]sra|shrn2?|[us]shll2?|[us]xt[bhwl]|[us]xtl2?|xtn2?'
+    '|[us]?bf(m|i|x|iz|xil|c)',
     'zip[12]|uzp[12]|trn[12]|tb[lx]|dup|ins|[us]mov|movi|mvni|f?mov[knz]?',
     'cmp|cmn|ccm[pn]|tst|cm(eq|hi|hs|ge|gt|le|lt|tst)|cs(el|inc|inv|neg|et|etm)|c(inc|inv|neg)|[us](max|min)[pv]?',
     '(ld|st)(n?p|u?rs?[bhw]?|ur|[1-4]r?)|adrp?',
@@ -54,7 +59,8 @@ def hold_list(checks, label, steady):
 
 def hold_instructions(checks, label, found, steady, division):
     """Whether what is proved divides where it is named alone."""
-    others, wanted = unsteady(found, steady), Counter({(function, division): count for function, count in DIVIDING.items()})
+    others = unsteady(found, steady)
+    wanted = Counter({(function, division): count for function, count in DIVIDING.items()})
     if checks.hold(f'{label}: instructions', others == wanted, f'not on the list: {dict(others)}'):
         kinds = len({kind for _, kind in found})
         print(f'{label}: {sum(found.values())} instructions of {kinds} kinds, {sum(others.values())} of them divisions')

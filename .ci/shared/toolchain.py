@@ -7,8 +7,8 @@ from shared import TOP
 
 
 def kept_work(rt, crate):
-    """The folder of kept work that a check of a crate best begins with, or None: that of another checkout too, where the kit
-    knows of them."""
+    """The folder of kept work that a check of a crate best begins with, or None: that of another checkout too, where
+    the kit knows of them."""
     if hasattr(rt, 'work_for'):
         return rt.work_for(crate)
     own = os.path.join(crate.folder, 'out/incremental')
@@ -21,9 +21,10 @@ def checks_at_once(rt):
 
 
 def build_preloaded(name, folder):
-    """Builds a library to be preloaded (`faults/faults`), and gives its path. What it calls is bound at once, since what binds
-    it later saves the program's registers on the stack."""
+    """Builds a library to be preloaded (`faults/faults`), and gives its path. What it calls is bound at once, since
+    what binds it later saves the program's registers on the stack."""
     made = os.path.join(folder, f'{os.path.basename(name)}.so')
-    subprocess.run(['gcc', '-std=gnu11', '-O1', '-Wall', '-Wextra', '-Werror', '-D_GNU_SOURCE', '-shared', '-fPIC', '-nostdlib',
+    subprocess.run(['gcc', '-std=gnu11', '-O1', '-Wall', '-Wextra', '-Werror', '-D_GNU_SOURCE', '-shared', '-fPIC',
+                    '-nostdlib',
                     '-Wl,-z,now', '-o', made, TOP / f'.ci/{name}.c'], check=True)
     return made

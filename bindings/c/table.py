@@ -22,7 +22,8 @@ HEAD = '''/* Made by bindings/c/table.py --write: each proved call, in the build
 
 #pragma GCC visibility push(hidden)
 '''
-CALL = re.compile(r"^(uint32_t|uint64_t|proved_argon2_settings|proved_argon2_limits) (proved_argon2_\w+)\(([^)]*)\);", re.M)
+CALL = re.compile(
+    r"^(uint32_t|uint64_t|proved_argon2_settings|proved_argon2_limits) (proved_argon2_\w+)\(([^)]*)\);", re.M)
 ANSWERS_NO_CODE = {"proved_argon2_library_version"}
 COMMENT = re.compile(r"/\*.*?\*/", re.S)
 
@@ -56,12 +57,14 @@ def call_of(name, answer, taken, builds):
     given = ", ".join(re.findall(r"(\w+)(?:,|$)", taken)) if taken != "void" else ""
     tests = "".join(f"    if (build == {build.upper().replace('-', '_')}) return {in_build(build, name)}({given});\n"
                     for build in reversed(builds))
-    return f"{answer} {name}({taken})\n{{\n    const int build = build_here();\n{tests}    return {refusal_of(name, answer)};\n}}\n"
+    return (f"{answer} {name}({taken})\n{{\n    const int build = build_here();\n"
+            f"{tests}    return {refusal_of(name, answer)};\n}}\n")
 
 
 def table_of(headers, exported, builds):
     calls = declared_calls(headers, exported)
-    declared = "".join(f"{answer} {in_build(build, name)}({taken});\n" for build in builds for name, (answer, taken) in calls)
+    declared = "".join(f"{answer} {in_build(build, name)}({taken});\n"
+                       for build in builds for name, (answer, taken) in calls)
     made = "\n".join(call_of(name, *it, builds) for name, it in calls)
     return f"{HEAD}{declared}#pragma GCC visibility pop\n\n{made}"
 

@@ -2,8 +2,8 @@
 """Compares modes and owners with the list bindings/packages/modes.txt.
 
     bindings/packages/modes.py installed PREFIX    of what ./install has put into a folder
-    bindings/packages/modes.py packed FOLDER       of what is in each package of a folder; and archives have no entry for a
-                                             folder of others, which would change that of the system
+    bindings/packages/modes.py packed FOLDER       of what is in each package of a folder; and archives have no entry
+                                             for a folder of others, which would change that of the system
 
 A line for each fault; the status is then 1.
 """

@@ -1,4 +1,5 @@
-"""Builds the package by the standard library alone (PEP 517, PEP 660), so that pip needs no network and no setuptools."""
+"""Builds the package by the standard library alone (PEP 517, PEP 660), so that pip needs no network and no
+setuptools."""
 import base64
 import hashlib
 import os
@@ -111,7 +112,8 @@ def _require_libc():
     if tuple(map(int, re.findall(r"\d+", found))) < OLDEST_LIBC:
         oldest = ".".join(map(str, OLDEST_LIBC))
         raise SystemExit(
-            f"{_project('name')}: the library needs the GNU C library {oldest} or newer, and here is {found or 'another'}:"
+            f"{_project('name')}: the library needs the GNU C library {oldest} or newer, and here is "
+            f"{found or 'another'}:"
             " nothing is installed. For musl there is a wheel of ./package, with the library in it"
         )
 

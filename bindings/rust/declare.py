@@ -48,7 +48,8 @@ def declared_calls():
 def named_calls():
     """The calls that the crate names."""
     files = [FACE.with_suffix(".rs"), *(it for it in FACE.glob("*.rs") if it != MADE)]
-    return sorted({name for it in files for name in re.findall(r"\b(proved_argon2_\w+)\(", it.read_text(encoding="utf-8"))})
+    texts = (it.read_text(encoding="utf-8") for it in files)
+    return sorted({name for text in texts for name in re.findall(r"\b(proved_argon2_\w+)\(", text)})
 
 
 def argument(declaration):

@@ -144,7 +144,8 @@ class Answers(unittest.TestCase):
             (lambda **it: hash_secret_raw(*hashing, **it), f"raw {pieces}", f"raw {pieces}"),
             (lambda **it: hash_secret(*hashing, **it), f"encoded {pieces}", f"encoded {pieces}"),
             (lambda **it: verify_secret(*verifying, **it), f"text {TEXT} word key data 0 0 0 0", None),
-            (lambda **it: verify_secret(*verifying, limits=limits, **it), f"text {TEXT} word key data 10 11 12 13", None),
+            (lambda **it: verify_secret(*verifying, limits=limits, **it), f"text {TEXT} word key data 10 11 12 13",
+             None),
         ):
             for named, lent in ((PIECES, -1), ({**PIECES, "memory": Memory()}, 0)):
                 call(**named)
@@ -156,7 +157,8 @@ class Answers(unittest.TestCase):
 
     def test_a_hasher_passes_what_it_is_given_in_its_place(self):
         for keep_memory in (False, True):
-            hasher = PasswordHasher(3, 64, 4, 5, 8, "utf-8", Type.I, limits=Limits(10, 11, 12, 13), keep_memory=keep_memory)
+            limits = Limits(10, 11, 12, 13)
+            hasher = PasswordHasher(3, 64, 4, 5, 8, "utf-8", Type.I, limits=limits, keep_memory=keep_memory)
             lent = 0 if keep_memory else -1
             hasher.hash("word", salt=b"somesalt")
             found = (passed(COMPUTING), STUB.bytes_lent_to_the_last())
@@ -286,7 +288,8 @@ class Answers(unittest.TestCase):
             self.runs_beside(lambda: verify_secret(TEXT.encode(), b"p", Type.ID, memory=memory))
 
     def runs_beside(self, call):
-        """Holds a call in the library until this thread lets it go, which it cannot if the call keeps it from running."""
+        """Holds a call in the library until this thread lets it go, which it cannot if the call keeps it from
+        running."""
         STUB.hold()
         thread = threading.Thread(target=call)
         thread.start()

@@ -1,5 +1,5 @@
-"""Random hashes of libargon2, another implementation, as lines of bindings/vectors/raw.txt: beside.py SEED COUNT MEMORY,
-where MEMORY is the most KiB beyond the least. Or a string with associated data in it, as node-argon2 writes it:
+"""Random hashes of libargon2, another implementation, as lines of bindings/vectors/raw.txt: beside.py SEED COUNT
+MEMORY, where MEMORY is the most KiB beyond the least. Or a string with associated data in it, as node-argon2 writes it:
 beside.py data"""
 import base64
 import ctypes
@@ -45,7 +45,8 @@ def tag(library, it):
     out = ctypes.create_string_buffer(it["length"])
     given = [part for piece in it["inputs"] for part in (piece, len(piece))]
     context = Context(
-        ctypes.cast(out, ctypes.c_char_p), it["length"], *given, it["t"], it["m"], it["p"], 1, it["version"], None, None, 0)
+        ctypes.cast(out, ctypes.c_char_p), it["length"], *given, it["t"], it["m"], it["p"], 1, it["version"], None,
+        None, 0)
     code = library.argon2_ctx(ctypes.byref(context), VARIANTS[it["variant"]])
     if code != 0:
         raise ValueError(f"libargon2 answers {code} for {it}")
@@ -55,7 +56,8 @@ def tag(library, it):
 def with_data(library):
     inputs = [b"password", b"somesalt", b"", b"user 7"]
     it = {"variant": "argon2id", "version": 19, "t": 2, "m": 256, "p": 1, "length": 32, "inputs": inputs}
-    salt, data, made = (base64.b64encode(part).decode().rstrip("=") for part in (inputs[1], inputs[3], tag(library, it)))
+    parts = inputs[1], inputs[3], tag(library, it)
+    salt, data, made = (base64.b64encode(part).decode().rstrip("=") for part in parts)
     return f"$argon2id$v=19$m=256,t=2,p=1,data={data}${salt}${made}"
 
 

@@ -1,5 +1,5 @@
-"""A package for Python as one of the others: `others.py MODULE` reads `verify STRING HEX` and `hash - HEX` from lines, and
-writes a verdict or a string. The module is `proved_argon2`, or `argon2`, which computes by libargon2."""
+"""A package for Python as one of the others: `others.py MODULE` reads `verify STRING HEX` and `hash - HEX` from lines,
+and writes a verdict or a string. The module is `proved_argon2`, or `argon2`, which computes by libargon2."""
 import importlib
 import sys
 

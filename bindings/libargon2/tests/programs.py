@@ -1,6 +1,7 @@
 #!/usr/bin/env python3
 """Runs Debian's own programs over two libraries with libargon2's interface, Debian's and ours, and compares what they
-answer: PHP, cryptsetup, OpenLDAP, argon2-cffi and the command argon2. What is made over one is verified over the other too.
+answer: PHP, cryptsetup, OpenLDAP, argon2-cffi and the command argon2. What is made over one is verified over the other
+too.
 
     programs.py FOLDER     FOLDER has libargon2.so.1 and the command argon2
 

@@ -78,7 +78,8 @@ CALLS = [
     lambda it: it.low_level.verify_secret(STORED.encode(), b"password", it.low_level.Type.ID),
     lambda it: it.low_level.verify_secret(STORED, b"password", it.low_level.Type.I),
     lambda it: it.low_level.verify_secret(STORED.encode(), "password", it.low_level.Type.I),
-    *[lambda it, hash=hash: it.PasswordHasher().verify(hash, "password") for hash in ("", "x", "$argon2x" + STORED[8:])],
+    *[lambda it, hash=hash: it.PasswordHasher().verify(hash, "password")
+      for hash in ("", "x", "$argon2x" + STORED[8:])],
     *[lambda it, hash=hash: it.PasswordHasher().check_needs_rehash(hash) for hash in ("", "x", STORED, OLDER, ID)],
     *[lambda it, hash=hash: it.extract_parameters(hash).memory_cost for hash in ("", "x", "$", STORED, OLDER)],
     *[lambda it, name=name: getattr(it.extract_parameters(STORED), name) for name in (*SETTINGS, "version")],

@@ -59,7 +59,8 @@ class Objects(unittest.TestCase):
         self.assertEqual(found, [_library.SONAME, f"/prefix/lib/{_library.SONAME}"])
 
     def test_an_older_processor_is_refused_by_name(self):
-        program = "import os\nos.environ['PROVED_ARGON2_CPU'] = 'none'\ntry:\n    import proved_argon2\nexcept ImportError as it:\n    print(it)"
+        program = ("import os\nos.environ['PROVED_ARGON2_CPU'] = 'none'\n"
+                   "try:\n    import proved_argon2\nexcept ImportError as it:\n    print(it)")
         self.assertIn("has no build for a processor as old as this one", fresh(program))
 
 

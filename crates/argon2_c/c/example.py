@@ -133,7 +133,8 @@ def main():
 
     text = argon2.hash_encoded(password, salt, settings, secret, ad)
     expect(argon2.verify_encoded(text, password, secret, ad), "the encoded hash verifies")
-    expect(not argon2.verify_encoded(text, password, ad, secret), "with the secret and the associated data swapped it does not match")
+    expect(not argon2.verify_encoded(text, password, ad, secret),
+           "with the secret and the associated data swapped it does not match")
     read = argon2.read(text)
     numbers = [getattr(read.settings, name) for name, _ in Settings._fields_] + [read.salt_length]
     expect(numbers == [2, 0x13, 64, 3, 4, 24, 16], "the encoded hash is decoded")
