@@ -16,7 +16,7 @@
 #include <ucontext.h>
 #include <unistd.h>
 
-enum { PIECE = 16, MOST_PIECES = 256, MOST_PLACES = 1024, MOST_OF_MAPS = 1 << 20, ROOM = 1 << 16, BELOW = 1 << 15,
+enum { PIECE = 16, MOST_PIECES = 512, MOST_PLACES = 1024, MOST_OF_MAPS = 1 << 20, ROOM = 1 << 16, BELOW = 1 << 15,
        ABOVE = 1 << 16, PAGE = 4096, OF_A_CALL = 5 };
 enum { NOTHING = 0x90, JUMP = 0xE9, RETURN = 0xC3, BREAKPOINT = 0xCC };
 enum { LEFT, FREED, IN_CALLERS, AT_STOPS };
