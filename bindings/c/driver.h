@@ -6,11 +6,11 @@
 #define _GNU_SOURCE
 #include "proved_argon2.h"
 
-#include <pthread.h>
+#include "platform.h"
 #include <stdatomic.h>
 
 #if __has_attribute(zero_call_used_regs)
-#define CLEARS_REGISTERS __attribute__((zero_call_used_regs("all")))
+#define CLEARS_REGISTERS __attribute__((noinline, zero_call_used_regs("all")))
 #else
 #define CLEARS_REGISTERS
 #endif
@@ -28,8 +28,6 @@ typedef proved_argon2_options options;
 
 /* What has some lanes: worker i the lanes i, i + tasks, i + 2 tasks .. */
 typedef struct worker {
-    struct call *call;
-    pthread_t thread;
     _Atomic uint64_t state; /* 2 n before it takes step n, 2 n + 1 meanwhile, 2 n + 2 behind it */
     uint32_t code;
 } worker;
@@ -40,13 +38,15 @@ typedef struct call {
     proved_argon2_job job;
     uint8_t *bytes;        /* malloc's, for a hash, a tag and a salt */
     size_t len;
-    int error, cancel;     /* the caller's errno, and whether his thread can be cancelled */
+    caller kept;
     block *blocks;
     size_t slice;          /* how many blocks one of their four slices has */
     worker *workers;
     uint32_t tasks;        /* how many workers there are */
+    team *team;            /* the call's own threads, for all workers from 1 on that were granted one */
     uint64_t step;         /* step 0 writes the first blocks, and step n + 1 fills slice number n, over all passes */
-    atomic_int is_astray;  /* a task was run that is not there, or once too often */
+    bool is_over;          /* there is no step any more */
+    atomic_bool is_astray; /* a task was run that is not there, or once too often */
 } call;
 
 /* How many bytes the blocks of a job have. */

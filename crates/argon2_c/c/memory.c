@@ -5,7 +5,7 @@
 #include "calls.h"
 #include "system.h"
 
-enum { TAG = 32, SMALL = 256, LARGE = 3072 };
+enum { TAG = 32, SMALL = 256, LARGE = 3072, HUGE_PAGE = 2 << 20 };
 
 /* What a call may write to, which an error leaves unchanged. */
 static uint8_t buffer[256], before[256];
@@ -66,9 +66,9 @@ static bool is_value(uint32_t code)
         && (is_untouched || memcmp(buffer, tag, TAG) == 0 || memcmp(buffer, text, sizeof buffer) == 0);
 }
 
-/* A call with one request refused: a shortage that writes nothing, or the value where it asked for no more; nothing is
- * held then, and errno is as it was. */
-static bool ends_well(const struct row *row, size_t number)
+/* A call with one request refused: a shortage that writes nothing, or the value where it asked for no more, or for a team
+ * of threads, which it goes on without. Nothing is held then, and errno is as it was. */
+static bool ends_well(const struct row *row, size_t number, size_t of_team)
 {
     fill_bytes(buffer, sizeof buffer, 7);
     memcpy(before, buffer, sizeof buffer);
@@ -78,23 +78,24 @@ static bool ends_well(const struct row *row, size_t number)
     const uint32_t code = row->does();
     const bool is_errno = errno == 77;
     const bool is_short = code == PROVED_ARGON2_OUT_OF_MEMORY && memcmp(buffer, before, sizeof buffer) == 0;
-    return is_errno && held == 0 && (requests < number ? is_value(code) : is_short);
+    return is_errno && held == 0 && (requests < number || number == of_team ? is_value(code) : is_short);
 }
 
 /* Refuses the first request, the second and so on, until a run asks for no more. */
 static void check_call(const struct row *row, uint32_t threads)
 {
     const size_t blocks = (size_t)it.settings.mem_cost * 1024;
-    const size_t wanted = 1 + row->bytes + (threads > 1 || with.tell != NULL ? 1 : 0);
+    const bool has_team = threads > 1 && it.settings.mem_cost == LARGE;
+    const size_t wanted = 1 + row->bytes + (has_team ? 2 : with.tell != NULL ? 1 : 0);
     size_t number = 1;
     bool good = true;
     char name[96];
     with.threads = threads;
     do {
-        good = ends_well(row, number);
+        good = ends_well(row, number, has_team ? wanted : 0);
     } while (good && requests >= number++ && number < 100);
     /* (a mapping is cut out of one that has a huge page more) */
-    const size_t most = blocks < 2048 * 1024 ? blocks + 2048 : (blocks / 2097152 + 2) * 2097152 + 2048;
+    const size_t most = blocks + 2048 + (blocks < HUGE_PAGE ? 0 : HUGE_PAGE);
     snprintf(name, sizeof name, "%s of %u KiB by %u threads makes %zu requests, each of which may be refused", row->name,
              (unsigned)it.settings.mem_cost, (unsigned)threads, wanted);
     check(good && requests == wanted && most_held >= blocks && most_held <= most, name);
@@ -123,7 +124,7 @@ static void check_populating(const struct row *row, uint32_t threads)
     const size_t blocks = (size_t)it.settings.mem_cost * 1024;
     char name[96];
     with = by(threads);
-    bool good = ends_well_unpopulated(row, 0, 0) && populated == blocks && in_huge_pages >= blocks
+    bool good = ends_well_unpopulated(row, 0, 0) && populated == blocks && in_huge_pages == blocks / HUGE_PAGE * HUGE_PAGE
         && (populatings > 1) == (threads > 1);
     for (size_t number = populatings; good && number > 0; number--) {
         good = ends_well_unpopulated(row, number, ENOMEM) && ends_well_unpopulated(row, number, EFAULT)
@@ -143,6 +144,62 @@ static void check_populatings(void)
             check_populating(&rows[i], 4);
         }
     }
+}
+
+/* ---- what the system has to have of memory for it */
+
+/* The bytes that are there of this process, as the system counts them when it looks at each page. */
+static size_t resident(void)
+{
+    FILE *const sums = fopen("/proc/self/smaps_rollup", "r");
+    char line[256];
+    unsigned long found = 0;
+    while (sums != NULL && found == 0 && fgets(line, sizeof line, sums) != NULL) {
+        sscanf(line, "Rss: %lu kB", &found);
+    }
+    if (sums != NULL) {
+        fclose(sums);
+    }
+    return (size_t)found * 1024;
+}
+
+static int measures(void *arg, uint64_t done, uint64_t all)
+{
+    *(size_t *)arg = resident();
+    return done > all;
+}
+
+/* Whether a hash of so many KiB has no more bytes than these, and a little beside them for a thread. */
+static bool takes_no_more(uint32_t mem_cost, uint32_t threads)
+{
+    enum { BESIDE = 64 * 1024, OF_A_THREAD = 48 * 1024 };
+    size_t at_its_end = 0;
+    it.settings = (proved_argon2_settings){PROVED_ARGON2_ID, PROVED_ARGON2_VERSION_13, mem_cost, 1, 4, TAG};
+    with = by(threads);
+    with.tell = measures;
+    with.arg = &at_its_end;
+    bool good = resident() != 0 && does_hash_raw_with() == PROVED_ARGON2_OK;
+    const size_t before = resident(), blocks = (size_t)mem_cost * 1024;
+    good = good && does_hash_raw_with() == PROVED_ARGON2_OK && at_its_end >= before;
+    const size_t more = at_its_end - before, most = blocks + BESIDE + threads * OF_A_THREAD;
+    if (!good || more < blocks || more > most) {
+        printf("%u KiB by %u threads took %zu bytes more\n", (unsigned)mem_cost, (unsigned)threads, more);
+    }
+    return good && more >= blocks && more <= most;
+}
+
+/* Sizes around multiples of a huge page, and the ones that presets have. */
+static void check_resident(void)
+{
+    static const uint32_t sizes[] = {2048, 2064, 3072, 4080, 4096, 4112, 6128, 6160, 7168, 9216, 12288, 19456, 65552};
+    bool good = true, by_threads = true;
+    refuse_nothing();
+    for (size_t i = 0; i < sizeof sizes / sizeof *sizes; i++) {
+        good &= takes_no_more(sizes[i], 1);
+        by_threads &= takes_no_more(sizes[i], 4);
+    }
+    check(good, "a hash takes the memory of its settings, and little more");
+    check(by_threads, "a hash by threads takes the memory of its settings, and little more");
 }
 
 static int tells_nothing(void *arg, uint64_t done, uint64_t all)
@@ -232,6 +289,7 @@ int main(void)
     check_calls(SMALL);
     check_calls(LARGE);
     check_populatings();
+    check_resident();
     check_memory_new(SMALL);
     check_memory_new(LARGE);
     check_without_memory();

@@ -12,7 +12,7 @@
 #include <time.h>
 
 enum { DRAWS = 30, MOST_LANES = 400, MOST_PASSES = 8, MOST_TAG = 1 << 20, MOST_FOR_A_TEXT = 16, BLOCK = 1024,
-       WORDS_AT_ONCE = 128, WAYS = 6, SLACK = 4 << 20 };
+       WORDS_AT_ONCE = 128, WAYS = 6, SLACK = 4 << 20, LEAST_FOR_THREADS = 2 << 20, LEAST_WORK_FOR_THREADS = 4 << 20 };
 
 /* Where the library counts the blocks that it writes. */
 #define COUNTER 0x10000000
@@ -67,6 +67,14 @@ static size_t blocks_of(const proved_argon2_settings *of)
  * twice. */
 enum way { RAW, ENCODED, VERIFY, VERIFY_ENCODED, PLAIN, KEPT };
 
+/* How many threads it takes, of at most so many: the caller's alone where others do not pay. */
+static size_t threads_of(const proved_argon2_settings *of, uint32_t most)
+{
+    const size_t bytes = 4 * length_of(of) * of->lanes * BLOCK;
+    const bool is_paying = bytes >= LEAST_FOR_THREADS && bytes >= LEAST_WORK_FOR_THREADS / of->time_cost;
+    return !is_paying ? 1 : most < of->lanes ? most : of->lanes;
+}
+
 typedef struct counted {
     size_t starts, requests, blocks, most_held;
 } counted;
@@ -75,10 +83,10 @@ static counted counts_of(const call *it, enum way way, uint32_t threads)
 {
     const proved_argon2_settings *const of = &it->settings;
     const uint32_t most = way == PLAIN ? 1 : way == VERIFY_ENCODED && threads > MOST_FOR_A_TEXT ? MOST_FOR_A_TEXT : threads;
-    const size_t tasks = most < of->lanes ? most : of->lanes, calls_made = way == KEPT ? 2 : 1;
+    const size_t tasks = threads_of(of, most), calls_made = way == KEPT ? 2 : 1;
     const size_t beside = way == ENCODED || way == VERIFY || way == VERIFY_ENCODED ? 1 : 0;
-    return (counted){.starts = calls_made * (tasks - 1) * (4 * of->time_cost + 1),
-                     .requests = 1 + beside + (tasks == 1 ? 0 : calls_made),
+    return (counted){.starts = calls_made * (tasks - 1),
+                     .requests = 1 + beside + (tasks == 1 ? 0 : 2 * calls_made),
                      .blocks = calls_made * blocks_of(of),
                      .most_held = 4 * length_of(of) * of->lanes * BLOCK};
 }

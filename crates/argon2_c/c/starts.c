@@ -1,13 +1,12 @@
 /*
- * The threads of the calls with options: as many as there are to be are started and joined for each slice, or a pool
- * of the caller's is asked to run as many tasks; a thread that is refused, whose lanes the caller's own fills; tasks
- * that are left out; eight hashes at once. Tags are compared with libargon2's. It is linked with --wrap for what it
- * counts and refuses.
+ * The threads of the calls with options: as many as pay are started once and joined, or a pool of the caller's is asked to
+ * run as many tasks for each slice; the lanes of a thread that is refused are filled by the caller's; eight hashes at once.
+ * Tags are compared with libargon2's. It is linked with --wrap for what it counts and refuses.
  */
 #include "calls.h"
 #include "system.h"
 
-enum { CALLS = 6, MOST_FOR_A_TEXT = 16, TEXT = 3, STEPS = 9, BESIDE = 3 };
+enum { CALLS = 6, MOST_FOR_A_TEXT = 16, TEXT = 3, LARGE = 2400, PASSES = 2, BESIDE = 3 };
 
 static const char *const names[CALLS] = {
     "hash_raw", "hash_encoded", "verify_raw", "verify_encoded", "job_run", "job_run_verify"};
@@ -17,11 +16,11 @@ static call it;
 static proved_argon2_job job;
 static uint8_t expected[LONGEST], text[512];
 
-/* Makes the call of some lanes and passes, and its text in the caller's own thread. */
-static bool make(uint32_t lanes, uint32_t passes)
+/* Makes the call of some lanes, memory and passes, and its text in the caller's own thread. */
+static bool make(uint32_t lanes, uint32_t mem_cost, uint32_t passes)
 {
     const proved_argon2_options alone = by(1);
-    it = (call){{PROVED_ARGON2_ID, PROVED_ARGON2_VERSION_13, 8 * lanes, passes, lanes, 32},
+    it = (call){{PROVED_ARGON2_ID, PROVED_ARGON2_VERSION_13, mem_cost, passes, lanes, 32},
                 "password", "somesalt", "secret", "data", 8, 8, 6, 4};
     return peer(&it, expected) && hash_encoded(&alone, &it, text, sizeof text) == PROVED_ARGON2_OK
         && proved_argon2_job_make(it.pwd, it.pwd_len, it.salt, it.salt_len, it.secret, it.secret_len, it.ad, it.ad_len,
@@ -45,7 +44,7 @@ static uint32_t answer(size_t which, const proved_argon2_options *with)
     return memcmp(out, before, sizeof out) == 0 ? code : PROVED_ARGON2_UNKNOWN_NUMBER;
 }
 
-/* How many tasks a slice has: one for each thread, and no more than lanes, or 16 for a stored text. */
+/* How many threads a call may have, and tasks a slice has: no more than lanes, or 16 for a stored text. */
 static uint32_t tasks_of(size_t which, uint32_t threads, uint32_t lanes)
 {
     const uint32_t most = which == TEXT && threads > MOST_FOR_A_TEXT ? MOST_FOR_A_TEXT : threads == 0 ? 1 : threads;
@@ -58,60 +57,14 @@ static size_t steps_of(uint32_t passes)
     return 4 * (size_t)passes + 1;
 }
 
-/* ---- a pool that looks at what it is asked, and does it as it is told to */
+/* ---- a pool that looks at what it is asked */
 
 typedef struct pool {
     uint32_t tasks;     /* as many as it is to be asked for */
     size_t runs;        /* as often as it was asked */
     bool is_asked_well; /* for so many, of one call */
-    bool is_threaded;   /* whether it runs them at the same time, in threads of its own */
-    size_t bad_run;     /* the run, counted from 1, at which it leaves a task out or answers -1; 0 for none */
-    uint32_t left_out;  /* the task that it leaves out, or UINT32_MAX for none */
-    int bad_answer;     /* what it answers then */
     void *arg;
 } pool;
-
-typedef struct piece {
-    pthread_t thread;
-    void (*task)(void *, uint32_t);
-    void *arg;
-    uint32_t number;
-} piece;
-
-static void *run_piece(void *self)
-{
-    const piece *const own = self;
-    own->task(own->arg, own->number);
-    return NULL;
-}
-
-/* Runs the tasks in threads that nobody counts, all but one that is left out. */
-static void run_at_once(uint32_t tasks, uint32_t left_out, void (*task)(void *, uint32_t), void *arg)
-{
-    piece pieces[100];
-    for (uint32_t i = 0; i < tasks; i++) {
-        pieces[i] = (piece){.task = task, .arg = arg, .number = i};
-        if (i != left_out && __real_pthread_create(&pieces[i].thread, NULL, run_piece, &pieces[i]) != 0) {
-            abort();
-        }
-    }
-    for (uint32_t i = 0; i < tasks; i++) {
-        if (i != left_out) {
-            __real_pthread_join(pieces[i].thread, NULL);
-        }
-    }
-}
-
-/* Runs them one after another, from a drawn one on. */
-static void run_in_turn(uint32_t tasks, uint32_t left_out, void (*task)(void *, uint32_t), void *arg)
-{
-    const uint32_t first = below(tasks);
-    for (uint32_t i = 0; i < tasks; i++) {
-        if ((first + i) % tasks != left_out) {
-            task(arg, (first + i) % tasks);
-        }
-    }
-}
 
 static int run(void *self, uint32_t tasks, void (*task)(void *, uint32_t), void *arg)
 {
@@ -119,15 +72,13 @@ static int run(void *self, uint32_t tasks, void (*task)(void *, uint32_t), void 
     own->runs++;
     own->is_asked_well = own->is_asked_well && tasks == own->tasks && (own->runs == 1 || arg == own->arg);
     own->arg = arg;
-    const bool is_bad = own->runs == own->bad_run;
-    (own->is_threaded ? run_at_once : run_in_turn)(tasks, is_bad ? own->left_out : UINT32_MAX, task, arg);
-    return is_bad ? own->bad_answer : 0;
+    return backwards(NULL, tasks, task, arg);
 }
 
 /* ---- how many are started */
 
-static const uint32_t of_threads[] = {0, 1, 2, 3, 4, 7, 15, 16, 17, 33, 100, UINT32_MAX};
-static const uint32_t of_lanes[] = {1, 2, 3, 4, 16, 17, 40};
+static const uint32_t of_threads[] = {0, 1, 2, 3, 4, 15, 16, 17, 100, UINT32_MAX};
+static const uint32_t of_lanes[] = {1, 2, 4, 17, 40};
 
 /* The signals that the caller blocks, of which one is blocked before each call. */
 static bool has_its_signals(void)
@@ -140,40 +91,38 @@ static bool has_its_signals(void)
     return good;
 }
 
-/* The call's own threads: the caller's is one of them, and does a part itself. */
-static bool starts_as_many(size_t which, uint32_t threads)
+/* The call's own threads: the caller's is one of them, and does a part itself. Where some starts are refused from one on,
+ * it asks for no more, and does their part. */
+static bool starts_as_many(size_t which, uint32_t threads, size_t beside, size_t refused)
 {
     const proved_argon2_options with = by(threads);
-    const size_t beside = tasks_of(which, threads, it.settings.lanes) - 1, steps = steps_of(it.settings.time_cost);
-    refuse_nothing();
+    const size_t given = refused != 0 && refused <= beside ? refused - 1 : beside;
+    if (refused == 0) {
+        refuse_nothing();
+    } else {
+        refuse_starts(refused, SIZE_MAX);
+    }
     const uint32_t code = answer(which, &with);
-    const bool good = code == PROVED_ARGON2_OK && granted == beside * steps && starts == granted && joins == granted
-        && running == 0 && most_running == beside && bursts == (beside == 0 ? 0 : steps) && open_to_signals == 0
-        && large_stacks == 0 && has_its_signals();
+    const bool good = code == PROVED_ARGON2_OK && granted == given && starts == given + (given < beside)
+        && joins == granted && running == 0 && most_running == given && open_to_signals == 0 && large_stacks == 0
+        && has_its_signals();
     if (!good) {
-        printf("%u: %zu starts and %zu joins, %zu at once, by %u threads for %u lanes\n", (unsigned)code, granted,
-               joins, most_running, (unsigned)threads, (unsigned)it.settings.lanes);
+        printf("%u: %zu starts of %zu and %zu joins, by %u threads for %u lanes\n", (unsigned)code, granted, starts,
+               joins, (unsigned)threads, (unsigned)it.settings.lanes);
     }
     return good;
 }
 
-/* A pool runs as many tasks as there would be threads, and the call starts none. */
-static bool asks_for_as_many(size_t which, uint32_t threads, bool is_threaded)
+/* A pool runs as many tasks as there may be threads, of each step, and the call starts none. */
+static bool asks_for_as_many(size_t which, uint32_t threads)
 {
     proved_argon2_options with = by(threads);
-    pool own = {.is_asked_well = true, .is_threaded = is_threaded};
-    own.tasks = tasks_of(which, threads, it.settings.lanes);
+    pool own = {.is_asked_well = true, .tasks = tasks_of(which, threads, it.settings.lanes)};
     with.run = run;
     with.pool = &own;
     refuse_nothing();
-    const uint32_t code = answer(which, &with);
-    const bool good = code == PROVED_ARGON2_OK && own.is_asked_well && own.runs == steps_of(it.settings.time_cost)
+    return answer(which, &with) == PROVED_ARGON2_OK && own.is_asked_well && own.runs == steps_of(it.settings.time_cost)
         && starts == 0;
-    if (!good) {
-        printf("%u: %zu runs, by %u threads for %u lanes\n", (unsigned)code, own.runs, (unsigned)threads,
-               (unsigned)it.settings.lanes);
-    }
-    return good;
 }
 
 static void check_numbers(size_t which)
@@ -181,86 +130,41 @@ static void check_numbers(size_t which)
     const size_t threads = sizeof of_threads / sizeof *of_threads, lanes = sizeof of_lanes / sizeof *of_lanes;
     bool own = true, pooled = true;
     char name[96];
-    for (size_t n = 0; n < lanes * 2 * threads; n++) {
+    for (size_t n = 0; n < lanes * threads; n++) {
         const uint32_t by_threads = of_threads[n % threads];
         if (n % threads == 0) {
-            own &= make(of_lanes[n / threads % lanes], n / threads < lanes ? 1 : 2);
+            own &= make(of_lanes[n / threads], LARGE, PASSES);
         }
-        own &= starts_as_many(which, by_threads);
-        pooled &= asks_for_as_many(which, by_threads, false) && asks_for_as_many(which, by_threads, true);
+        own &= starts_as_many(which, by_threads, tasks_of(which, by_threads, it.settings.lanes) - 1, 0);
+        pooled &= asks_for_as_many(which, by_threads);
     }
-    snprintf(name, sizeof name, "%s starts as many threads as it is to for each slice, and joins them", names[which]);
+    snprintf(name, sizeof name, "%s starts as many threads as it is to, once, and joins them", names[which]);
     check(own, name);
     snprintf(name, sizeof name, "%s has a pool run as many tasks, and starts none", names[which]);
     check(pooled, name);
 }
 
-/* ---- what is refused */
-
-/* A start that is refused, and so many after it: in a step the caller's own thread does what is left, and asks for no more
- * threads. The tag is the right one. */
-static bool goes_on_after(size_t which, size_t start, size_t count)
-{
-    const proved_argon2_options with = by(BESIDE + 1);
-    size_t asked = 0, given = 0;
-    for (size_t step = 0; step < STEPS; step++) {
-        size_t in_step = 0;
-        bool is_refused = false;
-        while (in_step < BESIDE && !is_refused) {
-            asked++;
-            is_refused = asked >= start && asked - start < count;
-            in_step += is_refused ? 0 : 1;
-        }
-        given += in_step;
-    }
-    refuse_starts(start, count);
-    const uint32_t code = answer(which, &with);
-    const bool good = code == PROVED_ARGON2_OK && starts == asked && granted == given && joins == granted && running == 0
-        && has_its_signals();
-    if (!good) {
-        printf("%u: %zu of %zu starts, %zu of %zu granted and %zu joined, refused from %zu on\n", (unsigned)code, starts,
-               asked, granted, given, joins, start);
-    }
-    return good;
-}
-
 static void check_refusals(size_t which)
 {
-    bool alone = make(4, 2), goes_on = true;
+    bool good = make(4, LARGE, PASSES);
     char name[96];
-    for (size_t start = 1; start <= STEPS * BESIDE; start++) {
-        alone &= goes_on_after(which, start, SIZE_MAX);
-        goes_on &= goes_on_after(which, start, 1) && goes_on_after(which, start, 2) && goes_on_after(which, start, 7);
+    for (size_t start = 1; start <= BESIDE + 1; start++) {
+        good &= starts_as_many(which, BESIDE + 1, BESIDE, start);
     }
-    refuse_nothing();
-    snprintf(name, sizeof name, "%s goes on alone where each start is refused from one on", names[which]);
-    check(alone, name);
-    snprintf(name, sizeof name, "%s goes on where some starts are refused", names[which]);
-    check(goes_on, name);
+    snprintf(name, sizeof name, "%s goes on where starts are refused from one on", names[which]);
+    check(good, name);
 }
 
-/* A pool that leaves out a task at one of its runs, or answers another number than 0: it is not asked again. */
-static bool is_refused_at(size_t which, size_t bad_run, uint32_t left_out, int bad_answer)
+/* Less memory or work than pays for threads: the caller's thread is alone. */
+static void check_small(void)
 {
-    proved_argon2_options with = by(4);
-    pool own = {.tasks = 4, .is_asked_well = true, .bad_run = bad_run, .left_out = left_out, .bad_answer = bad_answer};
-    with.run = run;
-    with.pool = &own;
-    return answer(which, &with) == PROVED_ARGON2_WORKER_REFUSED && own.runs == bad_run;
-}
-
-static void check_pool(size_t which)
-{
-    bool leaves_out = make(4, 2), refuses = true;
-    char name[96];
-    for (size_t n = 0; n < 9 * 4; n++) {
-        leaves_out &= is_refused_at(which, n / 4 + 1, n % 4, 0);
-        refuses &= is_refused_at(which, n / 4 + 1, n % 4 < 2 ? UINT32_MAX : n % 4, n % 2 == 0 ? -1 : 1);
+    static const uint32_t sizes[][2] = {{32, 9}, {1024, 3}, {2032, 40}, {2048, 1}, {4080, 1}};
+    bool good = true;
+    for (size_t i = 0; i < sizeof sizes / sizeof *sizes; i++) {
+        good &= make(4, sizes[i][0], sizes[i][1]) && starts_as_many(0, 4, 0, 0);
     }
-    snprintf(name, sizeof name, "%s is refused where a pool leaves out a task", names[which]);
-    check(leaves_out, name);
-    snprintf(name, sizeof name, "%s is refused where a pool refuses", names[which]);
-    check(refuses, name);
+    good &= make(4, 4096, 1) && starts_as_many(0, 4, BESIDE, 0);
+    check(good, "a hash starts threads only where they pay");
 }
 
 /* ---- eight at once */
@@ -292,7 +196,7 @@ static void check_at_once(void)
     refuse_nothing();
     for (size_t i = 0; i < 8; i++) {
         logins[i].own = any_call(1);
-        logins[i].own.settings = (proved_argon2_settings){(uint32_t)i % 3, 0x13, 256, 2, 4, 32};
+        logins[i].own.settings = (proved_argon2_settings){(uint32_t)i % 3, 0x13, LARGE, PASSES, 4, 32};
         good &= peer(&logins[i].own, logins[i].expected);
     }
     for (size_t i = 0; i < 8; i++) {
@@ -302,7 +206,7 @@ static void check_at_once(void)
         good &= __real_pthread_join(logins[i].thread, NULL) == 0 && logins[i].good;
     }
     printf("%zu threads were started, %zu at once at most\n", granted, most_running);
-    check(good && granted == 8 * 8 * 27 && joins == granted && running == 0, "eight hashes at once, eight times");
+    check(good && granted == 8 * 8 * BESIDE && joins == granted && running == 0, "eight hashes at once, eight times");
 }
 
 int main(void)
@@ -314,8 +218,8 @@ int main(void)
     for (size_t which = 0; which < CALLS; which++) {
         check_numbers(which);
         check_refusals(which);
-        check_pool(which);
     }
+    check_small();
     check_at_once();
     return checks_failed != 0;
 }

@@ -102,7 +102,7 @@ static inline bool has_blocked_signals(void)
 static inline bool has_small_stack(const pthread_attr_t *attributes)
 {
     size_t size = 0;
-    return attributes != NULL && pthread_attr_getstacksize(attributes, &size) == 0 && size == 256 * 1024;
+    return attributes != NULL && pthread_attr_getstacksize(attributes, &size) == 0 && size / (256 * 1024) == 1;
 }
 
 int __wrap_pthread_create(pthread_t *thread, const pthread_attr_t *attributes, void *(*run)(void *), void *arg)

@@ -18,10 +18,11 @@
  * take. If the processor can run none, each call that can fail returns PROVED_ARGON2_OLD_PROCESSOR, after null
  * pointers, and each other call returns zeros.
  *
- * Memory. A call that hashes or verifies allocates at most the settings' mem_cost KiB for its blocks, in whole huge
- * pages if that is 2 MiB or more, and memory for the tag, and for the hash and the salt of an encoded hash. No other
- * call allocates. All of it is freed before the call returns: it is overwritten first, or returned to the system, which
- * clears it. Such a call also overwrites the stack below it and the vector registers.
+ * Memory. A call that hashes or verifies allocates at most the settings' mem_cost KiB for its blocks, and memory for the
+ * tag, and for the hash and the salt of an encoded hash. Of 2 MiB or more, each whole 2 MiB are a huge page where the
+ * system has them, and the rest are small pages. No other call allocates. All of it is freed before the call returns: it
+ * is overwritten first, or returned to the system, which clears it. Such a call also overwrites the stack below it and
+ * the vector registers.
  *
  * Threads. Calls are thread-safe, as long as none writes to what another one is passed: the library has no state but
  * which build it runs. A thread is not cancelled within a call. Calls are not async-signal-safe: make none from a
