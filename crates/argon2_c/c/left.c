@@ -5,6 +5,7 @@
  *
  *     left            all checks
  *     left unwiped    what is left where nothing is cleared: each call has to fail
+ *     left late       the same where a name is bound late behind a call (for a program that is linked so)
  *     left few        each call but those of a password alone, done once, where all else takes too long
  *     left unwiped few
  */
@@ -278,6 +279,113 @@ static void check_memory_free(size_t which)
     check(is_nothing_found("memory_free") && is_made, "memory_free clears what stands there");
 }
 
+/* ---- signals on a stack of their own, where the system puts what the registers hold */
+
+static uint8_t alternate[1 << 16];
+
+static void handle(int signal)
+{
+    (void)signal;
+}
+
+/* Sets up the handler of a signal. */
+static bool has_handler(void)
+{
+    const stack_t stack = {.ss_sp = alternate, .ss_size = sizeof alternate};
+    const struct sigaction action = {.sa_handler = handle, .sa_flags = SA_ONSTACK};
+    return sigaltstack(&stack, NULL) == 0 && sigaction(SIGUSR1, &action, NULL) == 0;
+}
+
+static int signals(void *arg, uint64_t done, uint64_t all)
+{
+    (void)arg;
+    return raise(SIGUSR1) != 0 || done > all;
+}
+
+/* A pool with a signal behind each of its tasks. */
+static int signals_behind(void *pool, uint32_t tasks, void (*task)(void *, uint32_t), void *arg)
+{
+    (void)pool;
+    while (tasks > 0) {
+        task(arg, --tasks);
+        raise(SIGUSR1);
+    }
+    return 0;
+}
+
+static void check_signals(size_t name)
+{
+    bool good = has_handler();
+    for (size_t n = 0; n < MEMORIES * 4; n++) {
+        refuse_nothing();
+        trial it = trial_of(name, n / 4, n % 2 == 0 ? 1 : 4);
+        it.with.tell = signals;
+        it.with.run = n / 2 % 2 == 0 ? NULL : signals_behind;
+        good = good && is_cleared(name, &it);
+    }
+    check_cleared(name, good, "signals have a stack of their own");
+}
+
+/* ---- a name that is bound late behind a call */
+
+/* (whose name nothing else here calls) */
+static void calls_late(void)
+{
+    (void)!getpgrp();
+}
+
+/* Whether the loader saves what a register holds where a name is bound late: else nothing of this is tried. */
+static int is_bound_late(const void *unused)
+{
+    static uint8_t piece[PART];
+    (void)unused;
+    seek(MAPPED);
+    for (size_t i = 0; i < PART; i++) {
+        piece[i] = sought->parts[0].bytes[i] ^ MASK;
+    }
+    __asm__ volatile("movdqu %0, %%xmm15" : : "m"(piece) : "xmm15");
+    __real_explicit_bzero(piece, PART);
+    calls_late();
+    NOTE_ALL();
+    look((const uint8_t *)__builtin_frame_address(0) - 8192, 8192);
+    return found[OF_H0] + found[OF_SEED] + found[OF_FIRST] != 0 ? 0 : 1;
+}
+
+/* A call with what it may be refused, and how it may end; each in a process of its own, since a name is bound once. */
+static int ends_before_a_late_call(const void *arg)
+{
+    const struct asked *const asked = arg;
+    calls_behind = calls_late;
+    return is_cleared(asked->name, asked->it) ? 0 : 1;
+}
+
+static bool is_cleared_before_a_late_call(size_t name, const trial *it)
+{
+    return status_of(ends_before_a_late_call, &(struct asked){name, it}) == 0;
+}
+
+static void check_late(size_t name)
+{
+    uint64_t at = 1;
+    trial it = trial_of(name, 0, 4);
+    bool good = is_cleared_before_a_late_call(name, &it);
+    it.is_right = true;
+    it.expected = it.or_else = PROVED_ARGON2_OK;
+    good &= is_cleared_before_a_late_call(name, &it);
+    it.with.tell = stops_at;
+    it.with.arg = &at;
+    it.expected = it.or_else = PROVED_ARGON2_STOPPED;
+    good &= name >= WITH || is_cleared_before_a_late_call(name, &it);
+    for (size_t request = 1; request <= 2; request++) {
+        it = trial_of(name, 0, 1);
+        it.or_else = PROVED_ARGON2_OUT_OF_MEMORY;
+        refuse_request(request);
+        good &= is_cleared_before_a_late_call(name, &it);
+    }
+    refuse_nothing();
+    check_cleared(name, good, "a name is bound late behind it");
+}
+
 /* ---- out of core dumps */
 
 /* Whether the system has noted that a core dump leaves out what is left of the last mapping. */
@@ -324,7 +432,7 @@ static void check_dumps(void)
 
 /* ---- the stack of a call that is computed in the caller's thread */
 
-enum { STACK = 1 << 17, PAINT = 0xa5, OWN = 2048, FEW = 128 };
+enum { STACK = 1 << 17, PAINT = 0xa5, OWN = 2048, FEW = 160 };
 
 static uint8_t *stack_of_call, *frame_of_call;
 
@@ -357,10 +465,22 @@ static void check_stack(void)
     check(ran && left <= FEW && cleared > 8192, "what a call leaves on the stack below");
 }
 
+static int check_all_late(void)
+{
+    check(status_of(is_bound_late, NULL) == 0, "what a register holds is found where a name is bound late");
+    for (size_t name = 0; name < NAMES; name++) {
+        check_late(name);
+    }
+    return checks_failed != 0;
+}
+
 int main(int argc, char **argv)
 {
     const bool is_few = argc > 1 && strcmp(argv[argc - 1], "few") == 0;
     check_nothing_before();
+    if (argc > 1 && strcmp(argv[1], "late") == 0) {
+        return check_all_late();
+    }
     no_wiping = argc > 1 && strcmp(argv[1], "unwiped") == 0;
     if (!no_wiping && !is_few) {
         check_dumps();
@@ -380,6 +500,7 @@ int main(int argc, char **argv)
             check_starts(name);
             check_pools(name);
             check_stops(name);
+            check_signals(name);
         }
         if (name < PLAIN && refusal_of(name) != PROVED_ARGON2_MISMATCH) {
             check_arguments(name);

@@ -222,20 +222,31 @@ static inline void look_everywhere(void)
     }
 }
 
-/* What the vector registers held when a call had returned. */
-static uint8_t registers[32][32];
+/* What the vector registers held when a call had returned: all that the processor has. */
+static uint8_t registers[32][64];
 
-#define EACH_BY(note) note(0); note(1); note(2); note(3); note(4); note(5); note(6); note(7); note(8); note(9); \
-    note(10); note(11); note(12); note(13); note(14); note(15)
+#define EACH_BY(note, first) note(first##0); note(first##1); note(first##2); note(first##3); note(first##4); \
+    note(first##5); note(first##6); note(first##7); note(first##8); note(first##9)
+#define EACH_OF_16(note) EACH_BY(note, ); note(10); note(11); note(12); note(13); note(14); note(15)
+#define EACH_OF_32(note) EACH_BY(note, ); EACH_BY(note, 1); EACH_BY(note, 2); note(30); note(31)
+#define NOTE_AS(instruction, number) __asm__ volatile(instruction #number ", %0" : "=m"(registers[number]))
 #if defined(__aarch64__)
-#define NOTE(number) __asm__ volatile("str q" #number ", %0" : "=m"(registers[number]))
-#define NOTE_ALL() EACH_BY(NOTE); NOTE(16); NOTE(17); NOTE(18); NOTE(19); NOTE(20); NOTE(21); NOTE(22); NOTE(23); \
-    NOTE(24); NOTE(25); NOTE(26); NOTE(27); NOTE(28); NOTE(29); NOTE(30); NOTE(31)
+#define NOTE(number) NOTE_AS("str q", number)
+#define NOTE_ALL() EACH_OF_32(NOTE)
+#define REGISTERS "v0 to v31"
 #else
-#define NOTE(number) __asm__ volatile("vmovdqu %%ymm" #number ", %0" : "=m"(registers[number]))
-#define NOTE_HALF(number) __asm__ volatile("movdqu %%xmm" #number ", %0" : "=m"(registers[number]))
-#define NOTE_ALL() if (__builtin_cpu_supports("avx")) { EACH_BY(NOTE); } else { EACH_BY(NOTE_HALF); }
+#define NOTE(number) NOTE_AS("vmovdqu64 %%zmm", number)
+#define NOTE_LOWER(number) NOTE_AS("vmovdqu %%ymm", number)
+#define NOTE_LOWEST(number) NOTE_AS("movdqu %%xmm", number)
+#define NOTE_ALL() if (__builtin_cpu_supports("avx512f")) { EACH_OF_32(NOTE); } \
+    else if (__builtin_cpu_supports("avx")) { EACH_OF_16(NOTE_LOWER); } else { EACH_OF_16(NOTE_LOWEST); }
+#define REGISTERS (__builtin_cpu_supports("avx512f") ? "zmm0 to zmm31" \
+    : __builtin_cpu_supports("avx") ? "ymm0 to ymm15, and zmm0 to zmm31 not, which this processor has not" \
+    : "xmm0 to xmm15, and ymm0 to ymm15 and zmm0 to zmm31 not, which this processor has not")
 #endif
+
+/* What a program calls behind a call of the library, where it does: bound late, it has the loader save the registers. */
+static void (*calls_behind)(void);
 
 /* Makes a call with so much room above it that what looks afterwards has its frames there, and not where the call's
  * frames were. */
@@ -244,6 +255,9 @@ __attribute__((noinline)) static uint32_t far_below(uint32_t (*does)(const void 
     volatile uint8_t room[1 << 16];
     room[0] = 0;
     const uint32_t code = does(arg);
+    if (calls_behind != NULL) {
+        calls_behind();
+    }
     NOTE_ALL();
     return code + room[0];
 }
@@ -285,6 +299,7 @@ static inline void check_nothing_before(void)
     seek(MAPPED);
     look_everywhere();
     check(is_nothing_found("nobody"), "nothing is there before");
+    printf("of the registers are looked at: %s\n", REGISTERS);
 }
 
 #endif
