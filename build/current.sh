@@ -1,9 +1,9 @@
-# Whether what was built, and what release/ has, is of the sources as they are: functions for sh, for the repository `root`.
-# They start few processes, since each call of ./argon2 asks them. Each leaves in `why` what is wrong.
+# Whether what was built, and what release/ has, is of the sources as they are: functions for sh, for the repository
+# `root`. They start few processes, since each call of ./argon2 asks them. Each leaves in `why` what is wrong.
 # shellcheck shell=sh disable=SC2034,SC2154
 
-# The crates that are named, or all, and those below them, each behind those below it: `find_crates NAME..` leaves them in
-# `found`. Fails where one is not there, or stands above one below it.
+# The crates that are named, or all, and those below them, each behind those below it: `find_crates NAME..` leaves them
+# in `found`. Fails where one is not there, or stands above one below it.
 find_crates() {
     lines='' seen=' ' wanted=" $* " found=''
     while read -r line; do
@@ -35,8 +35,8 @@ sum_files() {
     sum=$(cd "$root" && find "$@" ! -type d -exec sha256sum -- {} + | LC_ALL=C sort -k 2 | sha256sum) && sum=${sum%% *}
 }
 
-# crates.txt and the sources (src, specs, proofs) of crates and of those below them: `find_sources NAME..` leaves them in
-# `sources`.
+# crates.txt and the sources (src, specs, proofs) of crates and of those below them: `find_sources NAME..` leaves them
+# in `sources`.
 find_sources() {
     find_crates "$@" || return
     sources=crates.txt
@@ -53,8 +53,8 @@ sum_crates() {
     find_sources "$@" && sum_files $sources
 }
 
-# Whether a command that judges files succeeds. It is not run again where they are as they were when it has, by their inodes,
-# sizes and times of change, of which a note in out/ tells: `holds NOTE PATHS COMMAND..`, where PATHS are words.
+# Whether a command that judges files succeeds. It is not run again where they are as they were when it has, by their
+# inodes, sizes and times of change, of which a note in out/ tells: `holds NOTE PATHS COMMAND..`, where PATHS are words.
 holds() {
     held=$root/out/$1 paths=$2
     shift 2
@@ -72,8 +72,8 @@ list_states() {
     (cd "$root" && exec find $paths -printf '%p %i %s %C@\n' 2>/dev/null)
 }
 
-# A machine of build/machines.txt, by its name or that of a build: `find_machine NAME` leaves what the table has of it in
-# `machine`, `number`, `target`, `tool_prefix`, `base` and `builds`.
+# A machine of build/machines.txt, by its name or that of a build: `find_machine NAME` leaves what the table has of it
+# in `machine`, `number`, `target`, `tool_prefix`, `base` and `builds`.
 find_machine() {
     while read -r machine number target tool_prefix base builds; do
         case $machine:" $machine $builds " in
@@ -102,15 +102,16 @@ find_kit() {
     [ ! -e "${rt%/*}/../KIT-ID" ] || kit_file=${rt%/*}/../KIT-ID
 }
 
-# What a build of crates is made from, in a line: `line_of NAME..` leaves it in `line`, with the kit, as `rt version` says it.
+# What a build of crates is made from, in a line: `line_of NAME..` leaves it in `line`, with the kit, as `rt version`
+# says it.
 line_of() {
     sum_crates "$@" || return
     find_kit
     line=$sum${kit_file:+ $(paste -s -d " " -- "$kit_file")}
 }
 
-# Whether a file, or what a folder has, is what was noted beside it, and was built of these sources of a crate, and by this
-# kit, where there is one: `is_built CRATE FILE`.
+# Whether a file, or what a folder has, is what was noted beside it, and was built of these sources of a crate, and by
+# this kit, where there is one: `is_built CRATE FILE`.
 is_built() {
     why="$2 is not built"
     [ -e "$2" ] || return
@@ -175,8 +176,8 @@ is_of() {
     says "# sources $part $sum" && known="${known-} $part "
 }
 
-# Whether a file of release/ is of these sources, and what the manifest says: `is_released FILE`. Fails by 1 where it is of
-# other sources, and by 2 where it was changed.
+# Whether a file of release/ is of these sources, and what the manifest says: `is_released FILE`. Fails by 1 where it is
+# of other sources, and by 2 where it was changed.
 is_released() {
     read_manifest || return 1
     crate_of "$1"

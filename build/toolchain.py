@@ -45,8 +45,7 @@ def stamp(*crates):
 
 
 def mark(crate, line, *files):
-    """Notes of files that they are built from these sources of a crate; gives whether the sources are still the
-    same."""
+    """Notes of files that they are built from these sources of a crate; gives whether these are still the same."""
     return subprocess.run([f"{HERE}/stamp", "--mark", crate, line, *files], check=False).returncode == 0
 
 
