@@ -1,17 +1,18 @@
 // The least times of hashes by the package, here and in the pages of browsers: lanes.mjs PAGE ROUNDS
 import { execFileSync } from 'node:child_process';
 import * as argon2 from 'proved-argon2';
-import { Chromium, Firefox } from './browsers.mjs';
+import { Chromium, Firefox, WebKit } from './browsers.mjs';
 import { serve } from './server.mjs';
 
 const [page, rounds] = process.argv.slice(2);
 
-/** Milliseconds: of the default settings, and of four lanes by one, two and four workers. It goes to pages as its text. */
-async function times({ hash }, rounds) {
+/** Milliseconds: of the default settings, and of four lanes by one, two and four workers. Pages get it as its text. */
+async function times({ hash }, count) {
     const lanes = { memoryCost: 65536, timeCost: 3, parallelism: 4 };
-    const cases = { default: {}, 1: { ...lanes, threads: 1 }, 2: { ...lanes, threads: 2 }, 4: { ...lanes, threads: 4 } };
+    const by = (threads) => ({ ...lanes, threads });
+    const cases = { default: {}, 1: by(1), 2: by(2), 4: by(4) };
     const least = {};
-    for (let round = 0; round <= rounds; round++) {
+    for (let round = 0; round <= count; round++) {
         for (const [name, options] of Object.entries(cases)) {
             const began = performance.now();
             await hash('password', options);
@@ -23,7 +24,8 @@ async function times({ hash }, rounds) {
 }
 
 function say(engine, { default: alone, ...least }) {
-    const cells = [engine, Math.round(alone), ...Object.values(least).map(Math.round), (least[4] / least[1]).toFixed(2)];
+    const part = (least[4] / least[1]).toFixed(2);
+    const cells = [engine, Math.round(alone), ...Object.values(least).map(Math.round), part];
     console.log(`| ${cells.join(' | ')} |`);
 }
 
@@ -45,9 +47,11 @@ async function inPage(Browser) {
     server.close();
 }
 
-console.log(`| Engine | 19 MiB, 2 passes, 1 lane | 64 MiB, 3 passes, 4 lanes: by 1 worker | by 2 | by 4 | by 4, part of 1 |
-|---|---:|---:|---:|---:|---:|`);
+const HEAD = ['Engine', '19 MiB, 2 passes, 1 lane', '64 MiB, 3 passes, 4 lanes: by 1 worker', 'by 2', 'by 4',
+    'by 4, part of 1'];
+console.log(`| ${HEAD.join(' | ')} |\n|---${'|---:'.repeat(HEAD.length - 1)}|`);
 say(`Node ${process.versions.node}`, await times(argon2, Number(rounds)));
 await inPage(Chromium);
 await inPage(Firefox);
+await inPage(WebKit);
 process.exit();

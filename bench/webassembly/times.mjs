@@ -23,8 +23,9 @@ function makeOurs(module) {
         bytes.set(PASSWORD, password);
         bytes.set(SALT, salt);
         const big = BigInt;
-        const refused = exports.proved_argon2_hash_over(big(password), big(PASSWORD.length), big(salt), big(SALT.length),
-            big(tag), 0n, big(tag), 0n, big(settings), big(blocksAt), big(size / BLOCK), big(tag), big(TAG_LENGTH));
+        const refused = exports.proved_argon2_hash_over(
+            big(password), big(PASSWORD.length), big(salt), big(SALT.length), big(tag), 0n,
+            big(tag), 0n, big(settings), big(blocksAt), big(size / BLOCK), big(tag), big(TAG_LENGTH));
         // Upstream overwrites its memory too.
         bytes.fill(0, blocksAt, blocksAt + size);
         return refused ? `refused: ${refused}` : hex(bytes.subarray(tag, tag + TAG_LENGTH));
@@ -41,8 +42,8 @@ function makeUpstream(module) {
     return (memory, passes, lanes) => {
         new Uint8Array(exports.memory.buffer).set(PASSWORD, password);
         new Uint8Array(exports.memory.buffer).set(SALT, salt);
-        const refused = exports.argon2id_hash_raw(passes, memory, lanes, password, PASSWORD.length, salt, SALT.length, tag,
-            TAG_LENGTH);
+        const refused = exports.argon2id_hash_raw(
+            passes, memory, lanes, password, PASSWORD.length, salt, SALT.length, tag, TAG_LENGTH);
         return refused ? `refused: ${refused}` : hex(new Uint8Array(exports.memory.buffer, tag, TAG_LENGTH));
     };
 }

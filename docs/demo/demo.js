@@ -1,5 +1,5 @@
 // The page: it hashes and verifies by the package, shows how far a call is, and stops it.
-import { hash, presets, verify } from './proved-argon2/index.js';
+import { defaultLimits, hash, presets, verify } from './proved-argon2/index.js';
 
 const $ = (id) => document.getElementById(id);
 
@@ -32,11 +32,19 @@ function presetOf(name) {
     return { memoryCost, timeCost, parallelism: name.startsWith('rfc') ? 4 : 1 };
 }
 
+const counted = (count, one, many) => `${count} ${count === 1 ? one : many}`;
+
+/** Shows what a slider is at, and has it told so to whoever hears the page. */
+function showValue(name, text) {
+    $(`${name}-shown`).value = text;
+    $(name).setAttribute('aria-valuetext', text);
+}
+
 function showSettings() {
     const settings = chosen();
-    $('memory-shown').value = sizeOf(settings.memoryCost);
-    $('passes-shown').value = settings.timeCost;
-    $('lanes-shown').value = settings.parallelism;
+    showValue('memory', sizeOf(settings.memoryCost));
+    showValue('passes', counted(settings.timeCost, 'pass', 'passes'));
+    showValue('lanes', counted(settings.parallelism, 'lane', 'lanes'));
     const text = JSON.stringify(settings);
     $('preset').value = Object.keys(presets).find((name) => JSON.stringify(presetOf(name)) === text) ?? '';
     $('estimate').textContent = speed === undefined ? 'Measuring how fast this browser is…'
@@ -59,11 +67,28 @@ function tell(form, text, className = 'quiet') {
     status.className = className;
 }
 
+/** What went wrong, for a visitor. */
+const WORDS = {
+    AbortError: 'Cancelled. The memory is overwritten.',
+    DecodingFail: 'This is no encoded hash of Argon2. It begins with $argon2id$, $argon2i$ or $argon2d$.',
+    MemoryTooLittle: 'Argon2 needs at least 8 KiB of memory for each lane.',
+    OutOfMemory: 'This browser does not provide so much memory.',
+    TooCostly: `This encoded hash needs more than the page allows: ${sizeOf(defaultLimits.memoryCost)}, ` +
+        `${defaultLimits.timeCost} passes, ${defaultLimits.parallelism} lanes.`,
+    Unsupported: 'This browser has no WebAssembly, or its settings switch it off.',
+};
+
+const wordsOf = (error) => WORDS[error.name] ?? `This did not work: ${error.message}.`;
+
 /** Makes a call for a form, whose bar shows how far it is, and whose button stops it. */
 async function callFor(form, call) {
     const controller = new AbortController();
     const [submit, cancel, bar] = ['[type=submit]', '.cancel', 'progress'].map((it) => form.querySelector(it));
-    cancel.onclick = () => controller.abort();
+    cancel.onclick = () => {
+        cancel.disabled = true;
+        tell(form, 'Stopping after the slice at work…');
+        controller.abort();
+    };
     submit.disabled = true;
     cancel.disabled = false;
     bar.value = 0;
@@ -72,8 +97,7 @@ async function callFor(form, call) {
         await call({ signal: controller.signal, onProgress: (done, all) => { bar.value = done / all; } });
     } catch (error) {
         bar.value = 0;
-        const isCancelled = error.name === 'AbortError';
-        tell(form, isCancelled ? 'Cancelled. The memory is overwritten.' : `${error.name}: ${error.message}`, 'bad');
+        tell(form, wordsOf(error), 'bad');
     } finally {
         submit.disabled = false;
         cancel.disabled = true;
@@ -89,9 +113,12 @@ $('hashing').onsubmit = (event) => {
         const encoded = await hash($('password').value, { ...settings, ...running });
         const took = performance.now() - began;
         speed = took / workOf(settings);
+        $('made').value = encoded;
+        $('result').hidden = false;
+        $('copied').textContent = '';
         $('encoded').value = encoded;
         $('guess').value = $('password').value;
-        tell(form, `Hashed in ${timeOf(took)}. The form for verifying has the string.`, 'good');
+        tell(form, `Hashed in ${timeOf(took)}. The other form can verify it now.`, 'good');
         showSettings();
     });
 };
@@ -99,15 +126,32 @@ $('hashing').onsubmit = (event) => {
 $('verifying').onsubmit = (event) => {
     event.preventDefault();
     const form = $('verifying');
+    const encoded = $('encoded').value.trim();
+    if (encoded === '') {
+        tell(form, 'Enter an encoded hash first.', 'bad');
+        $('encoded').focus();
+        return;
+    }
     callFor(form, async (running) => {
         const began = performance.now();
-        const isRight = await verify($('encoded').value.trim(), $('guess').value, running);
-        const verdict = isRight ? 'This is the password' : 'This is not the password';
-        tell(form, `${verdict} of the string (${timeOf(performance.now() - began)}).`, isRight ? 'good' : 'bad');
+        const isRight = await verify(encoded, $('guess').value, running);
+        const verdict = isRight ? 'The password is right' : 'The password is wrong';
+        tell(form, `${verdict} (${timeOf(performance.now() - began)}).`, isRight ? 'good' : 'bad');
     });
 };
 
-$('copy').onclick = () => navigator.clipboard.writeText($('encoded').value);
+/** Copies the encoded hash or, where a browser does not let a page do so, selects it. */
+async function copy() {
+    try {
+        await navigator.clipboard.writeText($('made').value);
+        $('copied').textContent = 'Copied.';
+    } catch {
+        $('made').select();
+        $('copied').textContent = 'Selected. Copy it by the keyboard or the menu.';
+    }
+}
+
+$('copy').onclick = copy;
 $('preset').onchange = takePreset;
 for (const name of ['memory', 'passes', 'lanes']) {
     $(name).oninput = showSettings;
@@ -128,6 +172,6 @@ $('engine').textContent = processors > 1
     : 'Lanes are filled one after another: for workers to share a memory, the server has to isolate this page from ' +
         'other origins (Cross-Origin-Opener-Policy and Cross-Origin-Embedder-Policy).';
 measure().then(showSettings, (error) => {
-    $('estimate').textContent = `${error.name}: ${error.message}`;
+    $('estimate').textContent = wordsOf(error);
     $('estimate').className = 'bad';
 });

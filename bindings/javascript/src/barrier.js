@@ -1,5 +1,5 @@
-// How workers that fill one memory wait for each other after each slice: by words of it. Messages would take an engine as
-// long as a slice.
+// How workers that fill one memory wait for each other after each slice: by words of it. Messages would take an engine
+// as long as a slice.
 
 /** What a word has once there is no further step. */
 const OVER = -1;

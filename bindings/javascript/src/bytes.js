@@ -9,14 +9,16 @@ function getterOf(prototype, name) {
 }
 
 const NAMES = ['buffer', 'byteOffset', 'byteLength'];
-const [ofTypedArray, ofDataView] = [TypedArray, DataView.prototype].map((it) => NAMES.map((name) => getterOf(it, name)));
+const gettersOf = (prototype) => NAMES.map((name) => getterOf(prototype, name));
+const ofTypedArray = gettersOf(TypedArray);
+const ofDataView = gettersOf(DataView.prototype);
 const kindOf = getterOf(TypedArray, Symbol.toStringTag);
 const lengthOfBuffer = getterOf(ArrayBuffer.prototype, 'byteLength');
 const { keys: requireInBounds } = TypedArray;
 /** What a unit of UTF-16 takes in UTF-8, at most. */
 const MOST_BYTES_OF_UNIT = 3;
 
-/** Bytes outside the engine's own heap: there the garbage collector would copy them, and leave what was there before. */
+/** Bytes outside the engine's own heap. There the garbage collector would move them, and leave a copy behind. */
 export const allocate = (length) => new Uint8Array(new ArrayBuffer(length));
 
 export function copyOf(bytes) {
@@ -25,7 +27,7 @@ export function copyOf(bytes) {
     return copy;
 }
 
-/** The bytes of a view, or of a buffer. It throws a TypeError for all else, and where they are detached or out of bounds. */
+/** The bytes of a view or a buffer. All else is a TypeError, and so are bytes that are detached or out of bounds. */
 function viewOf(value) {
     if (!ArrayBuffer.isView(value)) {
         return new Uint8Array(value, 0, lengthOfBuffer(value));

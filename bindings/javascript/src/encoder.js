@@ -1,5 +1,5 @@
-// The calls that take no password and no blocks: settings are checked, and strings decoded and encoded, in the caller's own
-// thread, so that their errors come before a worker starts.
+// The calls that take no password and no blocks: settings are checked, and strings decoded and encoded, in the caller's
+// own thread, so that their errors come before a worker starts.
 import { NEEDS_REHASH, OK, Rejected, check } from './codes.js';
 import { JOB, SETTINGS } from './job.js';
 import { Memory, pointer } from './memory.js';
@@ -57,7 +57,7 @@ export class Encoder {
         return opened;
     }
 
-    /** Calls with the memory, and overwrites it after. One that has grown much, or whose instance failed, is dropped. */
+    /** Works with the memory, and overwrites it. One that has grown much, or whose instance failed, is dropped. */
     #withMemory(work) {
         let isKept = false;
         try {

@@ -25,7 +25,8 @@ async function compute(task, { worker, threads }, progress) {
     try {
         progress.throwIfStopped();
         const most = Math.min(threads, lanesOf(task.settings));
-        const answer = await (worker && canStartWorkers() ? runByWorkers(task, most, progress) : runInPlace(task, progress));
+        const byWorkers = worker && canStartWorkers();
+        const answer = await (byWorkers ? runByWorkers(task, most, progress) : runInPlace(task, progress));
         progress.throwIfStopped();
         return answer;
     } catch (error) {

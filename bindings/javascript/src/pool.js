@@ -38,8 +38,8 @@ const takeLeader = () => takeWorker((worker) => worker.hasMemory);
 const takeHelper = () => takeWorker((worker) => !worker.hasMemory);
 
 /**
- * A worker has ended, and its memory is to go. Those that have joined this memory end too, once they have nothing to do:
- * nothing else makes an engine let it go. Then there may be a worker for a call that waits.
+ * A worker has ended, and its memory is to go. Those that have joined this memory end too, once they have nothing to
+ * do: nothing else makes an engine let it go. Then there may be a worker for a call that waits.
  */
 function forgetWorker(ended) {
     workers.delete(ended);

@@ -24,7 +24,7 @@ class Context(ctypes.Structure):
 
 def drawn(source, most):
     """A line's settings and inputs."""
-    lanes = source.randint(1, 6)
+    lanes = source.randint(1, 8)
     return {
         "variant": source.choice(list(VARIANTS)),
         "version": source.choice((16, 19)),

@@ -55,17 +55,37 @@ class Browser {
 
     start(command, options, { pipes = [], env = {} } = {}) {
         const all = { ...process.env, HOME: this.profile, ...env };
-        this.process = spawn(command, options, { stdio: ['ignore', 'ignore', 'ignore', ...pipes], env: all });
-        this.ended = once(this.process, 'exit').then(([code, signal]) => {
-            this.requests.endAll(new BrowserEnded(`${command} has ended by itself: ${signal ?? `status ${code}`}`));
-        });
-        process.once('exit', () => this.process.kill());
+        const stdio = ['ignore', 'ignore', 'ignore', ...pipes];
+        this.process = spawn(command, options, { stdio, env: all, detached: true });
+        this.ended = once(this.process, 'exit').then(([code, signal]) => this.hasEnded(signal ?? `status ${code}`));
+        process.once('exit', () => this.#end());
+    }
+
+    /** Ends all its processes, of which it is the first. */
+    #end() {
+        try {
+            process.kill(-this.process.pid, 'SIGKILL');
+        } catch (error) {
+            if (error.code !== 'ESRCH') {
+                throw error;
+            }
+        }
     }
 
     async close() {
-        this.process.kill();
+        this.#end();
         await this.ended;
         rmSync(this.profile, { recursive: true, force: true, maxRetries: 10 });
+    }
+
+    /** Ends it as a fault would. */
+    kill() {
+        this.process.kill('SIGKILL');
+    }
+
+    /** What waits for it fails, and what is asked later. */
+    hasEnded(how) {
+        this.requests.endAll(new BrowserEnded(`${this.constructor.name} has ended by itself: ${how}`));
     }
 
     /** Waits until an expression of the page is true. */
@@ -77,7 +97,8 @@ class Browser {
 
     /** What a program gives that runs as a module of the page. */
     async told(program) {
-        const module = `const told = await (async () => {${program}})().catch((error) => ({ error: String(error.stack) }));
+        const module = `const failed = (error) => ({ error: String(error.stack) });
+            const told = await (async () => {${program}})().catch(failed);
             document.documentElement.dataset.told = JSON.stringify(told);`;
         await this.evaluate(`(() => {
             delete document.documentElement.dataset.told;
@@ -101,9 +122,11 @@ export class Chromium extends Browser {
     #rest = '';
 
     async open() {
-        this.start(Chromium.command, ['--headless', '--no-sandbox', '--disable-gpu', '--disable-dev-shm-usage',
-            '--hide-scrollbars', '--remote-debugging-pipe', `--user-data-dir=${this.profile}`], { pipes: ['pipe', 'pipe'] });
+        const options = ['--headless', '--no-sandbox', '--disable-gpu', '--disable-dev-shm-usage', '--hide-scrollbars',
+            '--remote-debugging-pipe', `--user-data-dir=${this.profile}`];
+        this.start(Chromium.command, options, { pipes: ['pipe', 'pipe'] });
         this.process.stdio[4].setEncoding('utf8').on('data', (data) => this.#read(data));
+        await this.#send('Target.setDiscoverTargets', { discover: true });
         const { targetId } = await this.#send('Target.createTarget', { url: 'about:blank' });
         ({ sessionId: this.session } = await this.#send('Target.attachToTarget', { targetId, flatten: true }));
         return this;
@@ -112,8 +135,12 @@ export class Chromium extends Browser {
     #read(data) {
         const messages = (this.#rest + data).split('\0');
         this.#rest = messages.pop();
-        for (const { id, error, result } of messages.map((it) => JSON.parse(it))) {
-            this.requests.end(id, error, result);
+        for (const { id, error, result, method } of messages.map((it) => JSON.parse(it))) {
+            if (method === 'Target.targetCrashed') {
+                this.hasEnded('its page has crashed');
+            } else {
+                this.requests.end(id, error, result);
+            }
         }
     }
 
@@ -213,7 +240,8 @@ export class Firefox extends Browser {
     async show({ width, height, isDark }) {
         await this.#send('WebDriver:SetWindowRect', { width, height });
         await this.#send('Marionette:SetContext', { value: 'chrome' });
-        const setting = `Services.prefs.setIntPref('layout.css.prefers-color-scheme.content-override', ${isDark ? 0 : 1})`;
+        const name = 'layout.css.prefers-color-scheme.content-override';
+        const setting = `Services.prefs.setIntPref('${name}', ${isDark ? 0 : 1})`;
         await this.#send('WebDriver:ExecuteScript', { script: setting, args: [] });
         await this.#send('Marionette:SetContext', { value: 'content' });
     }
@@ -256,10 +284,12 @@ export class WebKit extends Browser {
         const port = await freePort();
         this.display = await openDisplay();
         this.address = `http://127.0.0.1:${port}/session`;
-        const env = { DISPLAY: this.display.name, GDK_BACKEND: 'x11', WEBKIT_DISABLE_SANDBOX_THIS_IS_DANGEROUS: '1' };
+        // (in Safari the memories of an isolated page can be shared; WebKitGTK wants to be told)
+        const env = { DISPLAY: this.display.name, GDK_BACKEND: 'x11', JSC_useSharedArrayBuffer: '1' };
         this.start(WebKit.command, [`--port=${port}`], { env });
         const { sessionId, capabilities } = await this.#openSession();
         this.#session = `/${sessionId}`;
+        this.isOpen = true;
         this.name = `WebKit ${capabilities.browserVersion}`;
         await this.#send('POST', '/timeouts', { script: 600000 });
         return this;
@@ -286,8 +316,14 @@ export class WebKit extends Browser {
                 const body = parameters && JSON.stringify(parameters);
                 const answer = await fetch(`${this.address}${this.#session}${path}`, { method, body });
                 const { value } = await answer.json();
+                if (value?.error === 'invalid session id') {
+                    this.hasEnded(value.message);
+                }
                 this.requests.end(number, answer.ok ? undefined : value, value);
             } catch (error) {
+                if (this.isOpen) {
+                    this.hasEnded(error.cause?.message ?? error.message);
+                }
                 this.requests.end(number, error);
             }
         });

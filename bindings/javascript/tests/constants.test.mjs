@@ -27,7 +27,8 @@ test('the presets are those of the module', async () => {
     for (const [name, preset] of Object.entries(argon2.presets)) {
         const call = name.replace(/[A-Z]/g, (letter) => `_${letter.toLowerCase()}`);
         const { type, version, memoryCost, timeCost, parallelism, hashLength } = preset;
-        assert.deepEqual(await numbersOf(call, 6), [type, version, memoryCost, timeCost, parallelism, hashLength], name);
+        const numbers = [type, version, memoryCost, timeCost, parallelism, hashLength];
+        assert.deepEqual(await numbersOf(call, 6), numbers, name);
     }
 });
 

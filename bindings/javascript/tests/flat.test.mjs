@@ -28,7 +28,7 @@ os.availableParallelism = () => WORKERS;
 
 let stays = STAYS;
 const { setTimeout: wait } = globalThis;
-globalThis.setTimeout = (call, milliseconds, ...more) => wait(call, milliseconds === STAYS ? stays : milliseconds, ...more);
+globalThis.setTimeout = (call, delay, ...more) => wait(call, delay === STAYS ? stays : delay, ...more);
 
 const argon2 = await import('proved-argon2');
 await argon2.hash('password', { memoryCost: 64 });

@@ -58,8 +58,9 @@ const FORGED = {
 
 for (const [what, make] of Object.entries({ ...GONE, ...FORGED })) {
     test(`${what} is a TypeError that names the input`, async () => {
-        await assert.rejects(argon2.hash(make(), CHEAP), { name: 'TypeError', message: /^'password' has to be bytes/ });
-        await assert.rejects(argon2.verify(KEPT, make()), { name: 'TypeError', message: /^'password' has to be bytes/ });
+        const wanted = { name: 'TypeError', message: /^'password' has to be bytes/ };
+        await assert.rejects(argon2.hash(make(), CHEAP), wanted);
+        await assert.rejects(argon2.verify(KEPT, make()), wanted);
         for (const name of ['salt', 'secret', 'associatedData']) {
             const message = new RegExp(`^'${name}' has to be bytes`);
             await assert.rejects(argon2.hash('password', { ...CHEAP, [name]: make() }), { name: 'TypeError', message });
@@ -73,8 +74,8 @@ test('each kind of view has the bytes that it shows', async () => {
     const shared = new Uint8Array(new SharedArrayBuffer(8));
     shared.set(PASSWORD);
     const views = [
-        new Uint8Array(buffer, 8, 8), new DataView(buffer, 8, 8), new Float64Array(buffer, 8, 1), new Int16Array(buffer, 8, 4),
-        new BigUint64Array(buffer, 8, 1), buffer.slice(8, 16), shared,
+        new Uint8Array(buffer, 8, 8), new DataView(buffer, 8, 8), new Float64Array(buffer, 8, 1),
+        new Int16Array(buffer, 8, 4), new BigUint64Array(buffer, 8, 1), buffer.slice(8, 16), shared,
     ];
     for (const view of views) {
         assert.equal(await argon2.verify(KEPT, view), true, view.constructor.name);
@@ -92,8 +93,8 @@ test('what a view says of itself is not asked', async () => {
 test('what is added to Object.prototype is no option', async () => {
     // (and no `signal`, by which Node's own streams are ended)
     const added = {
-        memoryCost: 8, timeCost: 1, parallelism: 8, type: 0, version: 16, hashLength: 4, salt: SALT, limits: null, raw: true,
-        secret: SALT, associatedData: SALT, worker: 1, threads: 0, onProgress: 1, work: 1,
+        memoryCost: 8, timeCost: 1, parallelism: 8, type: 0, version: 16, hashLength: 4, salt: SALT, limits: null,
+        raw: true, secret: SALT, associatedData: SALT, worker: 1, threads: 0, onProgress: 1, work: 1,
         encoded: KEPT, code: 0, helpers: 1, failure: 'x', invitations: 1,
     };
     const costly = KEPT.replace('t=2', 't=11');
@@ -128,7 +129,8 @@ test('an option is read once', async () => {
 });
 
 test('options without a prototype, or with undefined ones, are as those that are left out', async () => {
-    const bare = Object.assign(Object.create(null), CHEAP, { secret: undefined, limits: undefined, timeCost: undefined });
+    const missing = { secret: undefined, limits: undefined, timeCost: undefined };
+    const bare = Object.assign(Object.create(null), CHEAP, missing);
     assert.equal(await argon2.hash('password', bare), KEPT);
 });
 

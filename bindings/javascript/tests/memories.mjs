@@ -21,7 +21,7 @@ function held(memory, from, to) {
     return bytes;
 }
 
-/** How many bytes of the memories are in words that are not zero, but for the module's tables, and how many there are. */
+/** How many bytes of the memories are in words that are not zero, but for the module's tables, and how many in all. */
 export function look() {
     const memories = instances.map(({ base, memory }) => {
         const bytes = memory.buffer.byteLength;

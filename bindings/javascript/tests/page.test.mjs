@@ -4,11 +4,12 @@ import assert from 'node:assert/strict';
 import { readFileSync, writeFileSync } from 'node:fs';
 import { after, before, describe, test } from 'node:test';
 import * as argon2 from 'proved-argon2';
-import { Chromium, Firefox } from './browsers.mjs';
+import { BrowserEnded, Chromium, Firefox, WebKit } from './browsers.mjs';
 import { serve } from './server.mjs';
 
-const { BROWSER, PAGE, PICTURES, VECTORS } = process.env;
-const RAW = readFileSync(`${VECTORS}/raw.txt`, 'utf8');
+const { BROWSER, PAGE, PICTURES, RANDOM_HASHES, VECTORS } = process.env;
+const linesOf = (file) => readFileSync(file, 'utf8').split('\n').filter(Boolean);
+const WORKERS = 8;
 const SIZES = {
     light: { width: 1040, height: 700, isDark: false },
     dark: { width: 1040, height: 700, isDark: true },
@@ -40,23 +41,25 @@ async function submit(browser, form) {
     return statusOf(browser, form);
 }
 
-const VECTORS_IN_PAGE = `
+/** Lines of hashes, computed in the page by at most so many workers. */
+const hashesInPage = (lines, threads) => `
+    Object.defineProperty(navigator, 'hardwareConcurrency', { value: ${WORKERS}, configurable: true });
     const argon2 = await import('/proved-argon2/index.js');
     const variants = { argon2d: 0, argon2i: 1, argon2id: 2 };
     const bytes = (hex) => Uint8Array.from(hex === '-' ? [] : hex.match(/../g), (it) => parseInt(it, 16));
     const hex = (it) => [...it].map((byte) => byte.toString(16).padStart(2, '0')).join('');
     const wrong = [];
-    const lines = ${literal(RAW)}.split('\\n').filter(Boolean);
-    for (const line of lines) {
+    for (const line of ${literal(lines)}) {
         const [type, version, timeCost, memoryCost, parallelism, hashLength, ...rest] = line.split(' ');
         const [password, salt, secret, associatedData] = rest.slice(0, 4).map(bytes);
         const settings = { type: variants[type], version: +version, timeCost: +timeCost, memoryCost: +memoryCost,
             parallelism: +parallelism, hashLength: +hashLength };
-        const tag = await argon2.hash(password, { ...settings, salt, secret, associatedData, raw: true })
+        const others = { salt, secret, associatedData, raw: true, threads: ${threads} };
+        const tag = await argon2.hash(password, { ...settings, ...others })
             .then(hex, (error) => 'ERR ' + error.message);
         if (tag !== rest.slice(4).join(' ')) wrong.push([line, tag]);
     }
-    return { count: lines.length, wrong, isIsolated: crossOriginIsolated };`;
+    return { wrong, isIsolated: crossOriginIsolated };`;
 
 const REFUSED_IN_PAGE = `
     const argon2 = await import('/proved-argon2/index.js');
@@ -76,11 +79,17 @@ function tests(Browser, isIsolated) {
     let browser;
     let server;
 
-    before(async () => {
-        server = await serve(PAGE, { isIsolated });
+    let restarts = 1;
+
+    async function open() {
         browser = await new Browser().open();
         await browser.visit(server.url);
         await browser.until(MEASURED);
+    }
+
+    before(async () => {
+        server = await serve(PAGE, { isIsolated });
+        await open();
     });
 
     after(async () => {
@@ -88,21 +97,45 @@ function tests(Browser, isIsolated) {
         server.close();
     });
 
-    const named = (what) => `${isIsolated ? 'isolated' : 'not isolated'}: ${what}`;
-
-    test(named('the outside hashes'), async () => {
-        const { count, wrong, isIsolated: found } = await browser.told(VECTORS_IN_PAGE);
-        assert.deepEqual(wrong, []);
-        assert.ok(count >= 240);
-        assert.equal(found, isIsolated);
+    /** A test of the page. A browser that ends by itself is started anew, once. */
+    const pageTest = (what, call) => test(`${isIsolated ? 'isolated' : 'not isolated'}: ${what}`, async (context) => {
+        try {
+            await call();
+        } catch (error) {
+            if (!(error instanceof BrowserEnded) || restarts === 0) {
+                throw error;
+            }
+            restarts -= 1;
+            context.diagnostic(error.message);
+            await browser.close();
+            await open();
+            await call();
+        }
     });
 
-    test(named('errors have their names'), async () => {
+    async function compare(lines, least, threads) {
+        assert.ok(lines.length >= least, `${lines.length} lines`);
+        const { wrong, isIsolated: found } = await browser.told(hashesInPage(lines, threads));
+        assert.deepEqual(wrong, []);
+        assert.equal(found, isIsolated);
+    }
+
+    pageTest('the outside hashes', () => compare(linesOf(`${VECTORS}/raw.txt`), 240, WORKERS));
+
+    pageTest('2,000 random hashes of libargon2, by 1 to 8 workers', async () => {
+        const lines = linesOf(RANDOM_HASHES);
+        const part = Math.ceil(lines.length / WORKERS);
+        for (let threads = 1; threads <= WORKERS; threads++) {
+            await compare(lines.slice((threads - 1) * part, threads * part), 2000 / WORKERS, threads);
+        }
+    });
+
+    pageTest('errors have their names', async () => {
         assert.deepEqual(await browser.told(REFUSED_IN_PAGE),
             ['OutOfMemory', 'OutOfMemory', 'OutOfMemory', 'TimeTooSmall', 'TooCostly', 'AbortError']);
     });
 
-    test(named('a visitor hashes and verifies'), async () => {
+    pageTest('a visitor hashes and verifies', async () => {
         await set(browser, 'password', 'pässwörd');
         await set(browser, 'memory', '12');
         await set(browser, 'lanes', '3');
@@ -111,29 +144,48 @@ function tests(Browser, isIsolated) {
         assert.match(encoded, /^\$argon2id\$v=19\$m=4096,t=2,p=3\$/);
         assert.equal(await argon2.verify(encoded, 'pässwörd'), true);
         assert.equal(await browser.evaluate(`${of('hashing', 'progress')}.value`), 1);
-        assert.match(await submit(browser, 'verifying'), /^This is the password /);
+        assert.equal(await browser.evaluate(`document.getElementById('made').value`), encoded);
+        assert.match(await submit(browser, 'verifying'), /^The password is right /);
         await set(browser, 'guess', 'password');
-        assert.match(await submit(browser, 'verifying'), /^This is not the password /);
+        assert.match(await submit(browser, 'verifying'), /^The password is wrong /);
         await set(browser, 'encoded', encoded.slice(1));
-        assert.equal(await submit(browser, 'verifying'), 'DecodingFail: Decoding failed');
+        assert.match(await submit(browser, 'verifying'), /^This is no encoded hash of Argon2/);
         await set(browser, 'encoded', encoded.replace('m=4096', 'm=4194304'));
-        assert.match(await submit(browser, 'verifying'), /^TooCostly: /);
+        assert.match(await submit(browser, 'verifying'), /^This encoded hash needs more than .* 2 GiB, 10 passes/);
+        await set(browser, 'encoded', ' ');
+        assert.equal(await submit(browser, 'verifying'), 'Enter an encoded hash first.');
     });
 
-    test(named('a visitor cancels, and the page is alive meanwhile'), async () => {
+    pageTest('what is shown is told to whoever hears the page', async () => {
+        await set(browser, 'memory', '14');
+        await set(browser, 'passes', '1');
+        const told = await browser.evaluate(`[...document.querySelectorAll('[type=range]')].map((it) =>
+            it.getAttribute('aria-valuetext')).join()`);
+        assert.equal(told, '16 MiB,1 pass,3 lanes');
+        const named = await browser.evaluate(`[...document.querySelectorAll('input, textarea, select, progress')].map(
+            (it) => it.labels?.[0]?.firstChild.textContent.trim() || it.getAttribute('aria-label')).join('; ')`);
+        assert.equal(named.split('; ').filter(Boolean).length, 10, named);
+        assert.equal(new Set(named.split('; ')).size, 10, named);
+        await browser.evaluate(`document.getElementById('copy').click()`);
+        await browser.until(`document.getElementById('copied').textContent !== ''`);
+        assert.match(await browser.evaluate(`document.getElementById('copied').textContent`), /^(Copied|Selected)\./);
+    });
+
+    pageTest('a visitor cancels, and the page is alive meanwhile', async () => {
         await set(browser, 'memory', '17');
         await set(browser, 'passes', '20');
         await press(browser, 'hashing', '[type=submit]');
         await browser.until(`${of('hashing', 'progress')}.value > 0`);
         await set(browser, 'passes', '1');
-        assert.equal(await browser.evaluate(`document.getElementById('passes-shown').value`), '1');
+        assert.equal(await browser.evaluate(`document.getElementById('passes-shown').value`), '1 pass');
         await press(browser, 'hashing', '.cancel');
+        assert.match(await textOf(browser, 'hashing'), /^(Stopping|Cancelled)/);
         assert.equal(await statusOf(browser, 'hashing'), 'Cancelled. The memory is overwritten.');
         await set(browser, 'memory', '10');
         assert.match(await submit(browser, 'hashing'), /^Hashed in /);
     });
 
-    test(named('the page is seen'), async () => {
+    pageTest('the page is seen', async () => {
         await browser.visit(server.url);
         await browser.until(MEASURED);
         await submit(browser, 'hashing');
@@ -149,7 +201,17 @@ function tests(Browser, isIsolated) {
     });
 }
 
-const Browser = [Chromium, Firefox].find((it) => it.command === BROWSER);
+const Browser = [Chromium, Firefox, WebKit].find((it) => it.command === BROWSER);
+
+test('a browser that ends fails what waits for it', async () => {
+    const browser = await new Browser().open();
+    const waiting = browser.evaluate('new Promise(() => {})');
+    setTimeout(() => browser.kill(), 200);
+    await assert.rejects(waiting, BrowserEnded);
+    await assert.rejects(browser.evaluate('1'), BrowserEnded);
+    await browser.close();
+});
+
 for (const isIsolated of [true, false]) {
     describe(Browser.name, () => tests(Browser, isIsolated));
 }

@@ -23,8 +23,8 @@ const bytesOf = (draw, length) => Uint8Array.from({ length }, () => draw(256));
 function settingsOf(draw) {
     const parallelism = 1 + draw(5);
     return {
-        type: draw(3), version: [0x10, 0x13][draw(2)], memoryCost: 8 * parallelism + draw(300), timeCost: 1 + draw(3), parallelism,
-        hashLength: 4 + draw(90),
+        type: draw(3), version: [0x10, 0x13][draw(2)], memoryCost: 8 * parallelism + draw(300), timeCost: 1 + draw(3),
+        parallelism, hashLength: 4 + draw(90),
     };
 }
 
@@ -63,7 +63,8 @@ async function holds(draw) {
     assert.equal(await argon2.verify(encoded, password, { ...keys, worker: false }), true);
     assert.equal(await argon2.verify(encoded, changed(draw, password), keys), false);
     assert.equal(await argon2.verify(encoded, password, { ...keys, secret: changed(draw, keys.secret) }), false);
-    assert.equal(await argon2.verify(encoded, password, { ...keys, associatedData: changed(draw, keys.associatedData) }), false);
+    const otherData = { ...keys, associatedData: changed(draw, keys.associatedData) };
+    assert.equal(await argon2.verify(encoded, password, otherData), false);
     assert.equal(await argon2.needsRehash(encoded, settings), false);
     assert.equal(await argon2.needsRehash(encoded, changedSettings(draw, settings)), true);
 }

@@ -37,7 +37,8 @@ for (const [name, running] of Object.entries(RUNNINGS)) {
                 throw reason;
             }
         };
-        await assert.rejects(argon2.hash('password', { ...SMALL, ...running, onProgress }), (error) => error === reason);
+        const stopped = argon2.hash('password', { ...SMALL, ...running, onProgress });
+        await assert.rejects(stopped, (error) => error === reason);
         assert.equal(told, 5);
         await assertNothingHeld();
     });
@@ -69,7 +70,10 @@ for (const [name, running] of Object.entries(RUNNINGS)) {
 
 test('a memory in use is seen, so that one that is overwritten is too', async () => {
     let held = 0;
-    await argon2.hash('password', { ...SMALL, worker: false, onProgress: () => { held = Math.max(held, look().held); } });
+    const onProgress = () => {
+        held = Math.max(held, look().held);
+    };
+    await argon2.hash('password', { ...SMALL, worker: false, onProgress });
     assert.ok(held > 1000 * 1024, `${held} bytes`);
     await assertNothingHeld();
 });
@@ -91,7 +95,8 @@ test('a signal stops a verification too', async () => {
     const encoded = await argon2.hash('password', { ...SMALL, raw: false });
     const signal = AbortSignal.timeout(5);
     const costly = { limits: null, signal };
-    await assert.rejects(argon2.verify(encoded.replace('t=3', 't=100000'), 'password', costly), { name: 'TimeoutError' });
+    const stopped = argon2.verify(encoded.replace('t=3', 't=100000'), 'password', costly);
+    await assert.rejects(stopped, { name: 'TimeoutError' });
     assert.equal(await argon2.verify(encoded, 'password'), true);
     await assertNothingHeld();
 });
@@ -155,7 +160,8 @@ test('a process ends while a worker waits for work', async () => {
         process.once('beforeExit', () => console.log(workers.length));
         console.log(await verify(await hash('password', { memoryCost: 64 }), 'password'));`;
     const words = ['--input-type=module', '--eval', program];
-    const { stdout } = await promisify(execFile)(process.execPath, words, { cwd: import.meta.dirname, timeout: 600000 });
+    const how = { cwd: import.meta.dirname, timeout: 600000 };
+    const { stdout } = await promisify(execFile)(process.execPath, words, how);
     assert.equal(stdout, 'true\n1\n');
 });
 

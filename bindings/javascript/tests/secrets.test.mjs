@@ -14,8 +14,8 @@ const CHUNK = 2 ** 24;
 
 /** The writable regions of a process. */
 function regionsOf(pid) {
-    const lines = readFileSync(`/proc/${pid}/maps`, 'utf8').split('\n');
-    return lines.filter((line) => / rw/.test(line)).map((line) => line.match(/^(\w+)-(\w+)/).slice(1).map((it) => parseInt(it, 16)));
+    const lines = readFileSync(`/proc/${pid}/maps`, 'utf8').matchAll(/^(\w+)-(\w+) rw/gm);
+    return Array.from(lines, ([, start, end]) => [parseInt(start, 16), parseInt(end, 16)]);
 }
 
 /** The bytes of a region, piece by piece. Pages that are not there are left out. */

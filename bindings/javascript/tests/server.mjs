@@ -13,18 +13,22 @@ const installed = dirname(fileURLToPath(import.meta.resolve('proved-argon2')));
 /** The file of a path: those of the package are the installed ones. */
 function fileOf(path, page) {
     const [, inPackage] = path.match(/^\/proved-argon2\/(.*)/) ?? [];
-    return inPackage === undefined ? join(page, path.endsWith('/') ? `${path}index.html` : path) : join(installed, inPackage);
+    if (inPackage !== undefined) {
+        return join(installed, inPackage);
+    }
+    return join(page, path.endsWith('/') ? `${path}index.html` : path);
 }
 
-/** Serves a folder with the page. Gives the address, and what ends it. */
-export async function serve(page, { isIsolated = true, port = 0 } = {}) {
+/** Serves a folder with a page, by a policy for its content. Gives the address, and what ends it. */
+export async function serve(page, { isIsolated = true, port = 0, policy } = {}) {
+    const headers = { ...(isIsolated && ISOLATED), ...(policy && { 'Content-Security-Policy': policy }) };
     const server = createServer((request, response) => {
         const file = fileOf(normalize(new URL(request.url, 'http://localhost').pathname), page);
         if (!existsSync(file)) {
             response.writeHead(404).end();
             return;
         }
-        response.writeHead(200, { 'Content-Type': TYPES[extname(file)] ?? 'text/plain', ...(isIsolated ? ISOLATED : {}) });
+        response.writeHead(200, { 'Content-Type': TYPES[extname(file)] ?? 'text/plain', ...headers });
         createReadStream(file).pipe(response);
     });
     await new Promise((resolve) => {

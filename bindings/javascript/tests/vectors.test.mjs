@@ -1,11 +1,14 @@
-// The outside vectors (bindings/vectors), and 300 random hashes beside libargon2's (tests/beside.py writes them).
+// The outside vectors (bindings/vectors), and 2,000 random hashes beside libargon2's (tests/beside.py writes them).
 import assert from 'node:assert/strict';
 import { readFileSync } from 'node:fs';
+import os from 'node:os';
 import { test } from 'node:test';
 import * as argon2 from 'proved-argon2';
 
 const VECTORS = process.env.VECTORS;
 const RANDOM = process.env.RANDOM_HASHES;
+const WORKERS = 8;
+os.availableParallelism = () => WORKERS;
 const VARIANTS = new Map([['argon2d', argon2.argon2d], ['argon2i', argon2.argon2i], ['argon2id', argon2.argon2id]]);
 
 const linesOf = (file) => readFileSync(file, 'utf8').split('\n').filter(Boolean);
@@ -23,8 +26,8 @@ async function answerOf(call) {
 
 /** A line of raw.txt: the settings, the inputs, and the hash or the error. */
 async function compareRaw(line, running) {
-    const [type, version, timeCost, memoryCost, parallelism, hashLength, password, salt, secret, associatedData, ...wanted] =
-        line.split(' ');
+    const [type, version, timeCost, memoryCost, parallelism, hashLength, ...inputs] = line.split(' ');
+    const [password, salt, secret, associatedData, ...wanted] = inputs;
     const settings = { type: VARIANTS.get(type), version: +version, timeCost: +timeCost, memoryCost: +memoryCost,
         parallelism: +parallelism, hashLength: +hashLength };
     const keys = { salt: bytes(salt), secret: bytes(secret), associatedData: bytes(associatedData) };
@@ -43,7 +46,14 @@ async function compareAll(file, least, running) {
 test('the outside hashes, by one worker', () => compareAll(`${VECTORS}/raw.txt`, 240, { threads: 1 }));
 test('the outside hashes, by a worker for each lane', () => compareAll(`${VECTORS}/raw.txt`, 240, {}));
 test('the outside hashes, in place', () => compareAll(`${VECTORS}/raw.txt`, 240, { worker: false }));
-test('300 random hashes of libargon2', () => compareAll(RANDOM, 300, {}));
+
+test('2,000 random hashes of libargon2, by 1 to 8 workers', async () => {
+    const lines = linesOf(RANDOM);
+    assert.ok(lines.length >= 2000, `${lines.length} lines`);
+    for (const [i, line] of lines.entries()) {
+        await compareRaw(line, { threads: 1 + i % WORKERS });
+    }
+});
 
 test('the outside strings', async () => {
     const lines = linesOf(`${VECTORS}/texts.txt`);

@@ -27,7 +27,7 @@ export function letStay(milliseconds) {
     stays = milliseconds;
 }
 
-globalThis.setTimeout = (call, milliseconds, ...more) => wait(call, milliseconds === STAYS ? stays : milliseconds, ...more);
+globalThis.setTimeout = (call, delay, ...more) => wait(call, delay === STAYS ? stays : delay, ...more);
 
 /** A call that says how many workers were started since this one. */
 export function countWorkers() {

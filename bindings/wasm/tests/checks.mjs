@@ -120,7 +120,7 @@ function answersOddSettings(module) {
 function answersOddJobs(module) {
     const instance = new Instance(module), answers = new Answers();
     const slices = [0, 1, 2, 3].map(() => instance.blocks(2)), job = instance.numbers(JOB);
-    const tag = instance.slice(new Uint8Array(32)), hash = instance.slice(new Uint8Array(32));
+    const tag = instance.slice(new Uint8Array(32)), stored = instance.slice(new Uint8Array(32));
     for (let one = 0; one < 9; one++) {
         for (let two = 0; two < one; two++) {
             for (const odd of ODD) {
@@ -134,7 +134,7 @@ function answersOddJobs(module) {
                     answers.take(instance.call('job_begin', job, place[2], own));
                     answers.take(instance.call('job_fill', job, ...place, ...others, own));
                     answers.take(instance.call('job_finish', job, own, tag));
-                    answers.take(instance.call('job_verify', job, own, hash, tag));
+                    answers.take(instance.call('job_verify', job, own, stored, tag));
                 }
             }
         }
@@ -176,14 +176,16 @@ function trapsForGood(module) {
         return false;
     };
     const beyond = BigInt(instance.memory.buffer.byteLength);
-    return !traps('read', [stored, 8n], stored) && traps('read', [beyond, 8n], stored) && traps('read', [stored, 8n], stored)
-        && traps('library_version') && new Instance(module).call('library_version') === 1000000;
+    return !traps('read', [stored, 8n], stored) && traps('read', [beyond, 8n], stored)
+        && traps('read', [stored, 8n], stored) && traps('library_version')
+        && new Instance(module).call('library_version') === 1000000;
 }
 
 check('the module imports nothing', () => importsNothing(OWN));
 check('the shared module imports a memory alone', () => importsAMemory(SHARED));
 check('the module exports its calls, its memory and the end of its tables', () => exportsItsCalls(OWN));
-check('the shared module exports its calls, its stack and the end of its tables', () => exportsItsCallsAndStack(SHARED));
+check('the shared module exports its calls, its stack and the end of its tables',
+    () => exportsItsCallsAndStack(SHARED));
 check('a module that imports is found', () => !importsNothing(SHARED) && !importsAMemory(OWN));
 check('a module that exports more, or less, is found',
     () => !exportsItsCalls(SHARED) && !exportsItsCallsAndStack(OWN));
