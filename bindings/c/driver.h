@@ -9,11 +9,6 @@
 #include "platform.h"
 #include <stdatomic.h>
 
-#if __has_attribute(zero_call_used_regs)
-#define CLEARS_REGISTERS __attribute__((noinline, zero_call_used_regs("all")))
-#else
-#define CLEARS_REGISTERS
-#endif
 #define INPUTS const uint8_t *pwd, size_t pwd_len, const uint8_t *salt, size_t salt_len, const uint8_t *secret, \
     size_t secret_len, const uint8_t *ad, size_t ad_len, const proved_argon2_settings *settings
 #define OF_BYTES pwd, pwd_len, salt, salt_len, secret, secret_len, ad, ad_len

@@ -7,6 +7,13 @@
 #include <stddef.h>
 #include <stdint.h>
 
+/* A function that clears the registers which a caller does not need. */
+#if __has_attribute(zero_call_used_regs)
+#define CLEARS_REGISTERS __attribute__((noinline, zero_call_used_regs("all")))
+#else
+#define CLEARS_REGISTERS
+#endif
+
 /* What a call changes of its caller's thread: errno, and whether it can be cancelled. */
 typedef struct caller {
     int error, cancel;

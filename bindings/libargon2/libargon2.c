@@ -2,6 +2,7 @@
  * translates errors. Each tag and each verdict is a proved call's. What differs on purpose: docs/LIBARGON2.md */
 #define _GNU_SOURCE
 #include "argon2.h"
+#include "platform.h"
 #include <inttypes.h>
 #include <proved_argon2.h>
 #include <proved_argon2_threads.h>
@@ -174,8 +175,8 @@ static int encode(const argon2_context *c, argon2_type type, char *encoded, size
     return code == PROVED_ARGON2_OK ? ARGON2_OK : ARGON2_ENCODING_FAIL;
 }
 
-int argon2_hash(INPUTS, void *hash, const size_t hashlen, char *encoded, const size_t encodedlen, argon2_type type,
-    const uint32_t version)
+CLEARS_REGISTERS int argon2_hash(INPUTS, void *hash, const size_t hashlen, char *encoded, const size_t encodedlen,
+    argon2_type type, const uint32_t version)
 {
     if (pwdlen > ARGON2_MAX_PWD_LENGTH) return ARGON2_PWD_TOO_LONG;
     if (saltlen > ARGON2_MAX_SALT_LENGTH) return ARGON2_SALT_TOO_LONG;

@@ -1,14 +1,17 @@
-/* What calls of libargon2.so.1 leave: no H0 and no tag on their stack, nor in what they free. With H0 a password is tried at
- * the cost of one hash. Where they are to be sought, the proved call beside it says (libproved_argon2.a). Prints a line for
- * each call; the status is 0 where all is right. */
+/* What calls of libargon2.so.1 leave: no H0 and no tag on their stack, in what they free or in registers, though a name is
+ * bound late behind them. With H0 a password is tried at the cost of one hash. Where they are to be sought, the proved call
+ * beside it says (libproved_argon2.a). Prints a line for each call; the status is 0 where all is right. */
 #define _GNU_SOURCE
 #include "../argon2.h"
+#include "registers.h"
 #include <malloc.h>
 #include <proved_argon2.h>
 #include <pthread.h>
 #include <stdio.h>
 #include <stdlib.h>
 #include <string.h>
+#include <sys/wait.h>
+#include <unistd.h>
 
 #define LENGTH 32
 #define STACK (256 * 1024)
@@ -19,11 +22,12 @@
 
 static const char password[] = "the password", salt[] = "somesaltsomesalt";
 static const uint8_t zeros[LENGTH];
-static uint8_t stack[STACK] __attribute__((aligned(4096))), seen[STACK + FREED], tag[LENGTH];
+static uint8_t stack[STACK] __attribute__((aligned(4096))), seen[STACK + FREED + sizeof registers], tag[LENGTH];
 static char encoded[128];
 static size_t freed;      /* bytes that were noted */
-static int is_noting;
+static int is_noting, is_out_of_memory;
 void __libc_free(void *block);
+void *__libc_memalign(size_t alignment, size_t len);
 
 /* Stands in for the C library's, and notes what small blocks have. */
 void free(void *block)
@@ -34,6 +38,11 @@ void free(void *block)
         freed += len;
     }
     __libc_free(block);
+}
+
+void *aligned_alloc(size_t alignment, size_t len)
+{
+    return is_out_of_memory ? NULL : __libc_memalign(alignment, len);
 }
 
 static argon2_context context(uint8_t *out)
@@ -58,20 +67,28 @@ static int does_verify_ctx(uint8_t *out)
 typedef struct row {
     const char *name;
     int (*does)(uint8_t *out);
+    int code;
 } row;
 
-static const row rows[] = {{"a hash", does_hash}, {"an encoded hash", does_hash_encoded}, {"a verified one", does_verify},
-    {"a context", does_ctx}, {"a verified context", does_verify_ctx}};
+static const row rows[] = {{"a hash", does_hash, ARGON2_OK}, {"an encoded hash", does_hash_encoded, ARGON2_OK},
+    {"a verified one", does_verify, ARGON2_OK}, {"a context", does_ctx, ARGON2_OK},
+    {"a verified context", does_verify_ctx, ARGON2_OK},
+    {"a hash without memory", does_hash, ARGON2_MEMORY_ALLOCATION_ERROR},
+    {"a verified one without memory", does_verify, ARGON2_MEMORY_ALLOCATION_ERROR}};
 
-/* The call, which writes to memory that is not looked at. */
+/* The call, which writes to memory that is not looked at. What is called behind it is bound late, and then the loader has
+ * put registers on the stack. */
 static void *call(void *arg)
 {
     static uint8_t out[sizeof encoded];
     const row *const it = arg;
     is_noting = 1;
+    is_out_of_memory = it->code != ARGON2_OK;
     const int code = it->does(out);
-    is_noting = 0;
-    return code == ARGON2_OK ? arg : NULL;
+    (void)!getpgrp();
+    NOTE_ALL();
+    is_noting = is_out_of_memory = 0;
+    return code == it->code ? arg : NULL;
 }
 
 /* Makes a call over a stack of its own, and keeps what it leaves. */
@@ -87,6 +104,7 @@ static int is_done(const row *it)
     const int is_made = pthread_attr_setstack(&attributes, stack, STACK) == 0
         && pthread_create(&thread, &attributes, call, (void *)(uintptr_t)it) == 0 && pthread_join(thread, &result) == 0;
     memcpy(seen, stack, STACK);
+    memcpy(seen + STACK + FREED, registers, sizeof registers);
     return is_made && result != NULL;
 }
 
@@ -100,6 +118,20 @@ static int found(const uint8_t *bytes, size_t len)
     return count;
 }
 
+/* Whether a call leaves nothing, in a process of its own, since a name is bound once. */
+static int leaves_nothing(const row *it, const proved_argon2_job *job)
+{
+    int status = 1;
+    const pid_t child = fork();
+    if (child != 0) {
+        return child > 0 && waitpid(child, &status, 0) == child && status == 0;
+    }
+    const int is_made = is_done(it), of_job = found(job->prehash, sizeof job->prehash), of_tag = found(tag, LENGTH);
+    printf("%s leaves %d pieces of H0 and %d of the tag, in %zu bytes that it freed\n", it->name, of_job, of_tag, freed);
+    fflush(stdout);
+    _exit(is_made && of_job == 0 && of_tag == 0 ? 0 : 1);
+}
+
 int main(void)
 {
     static const proved_argon2_settings settings = {PROVED_ARGON2_ID, PROVED_ARGON2_VERSION_13, MEMORY, PASSES, 1, LENGTH};
@@ -108,10 +140,10 @@ int main(void)
         && argon2id_hash_raw(INPUTS, tag, LENGTH) == ARGON2_OK
         && proved_argon2_job_make((const uint8_t *)password, sizeof password - 1, (const uint8_t *)salt, sizeof salt - 1,
             zeros, 0, zeros, 0, &settings, &job) == PROVED_ARGON2_OK;
+    printf("of the registers are looked at: %s\n", REGISTERS);
+    fflush(stdout);
     for (size_t i = 0; i < sizeof rows / sizeof *rows; i++) {
-        const int is_made = is_done(&rows[i]), of_job = found(job.prehash, sizeof job.prehash), of_tag = found(tag, LENGTH);
-        printf("%s leaves %d pieces of H0 and %d of the tag, in %zu bytes that it freed\n", rows[i].name, of_job, of_tag, freed);
-        good &= is_made && of_job == 0 && of_tag == 0;
+        good &= leaves_nothing(&rows[i], &job);
     }
     return !good;
 }
