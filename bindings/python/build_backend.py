@@ -11,7 +11,7 @@ from pathlib import Path
 
 ROOT = Path(__file__).resolve().parent
 PACKAGE = "proved_argon2"
-WHEEL = "Wheel-Version: 1.0\nGenerator: proved_argon2\nRoot-Is-Purelib: {}\nTag: py3-none-{}\n"
+WHEEL = "Wheel-Version: 1.0\nGenerator: proved_argon2\nRoot-Is-Purelib: {}\n"
 LICENCES = ("LICENSE", "NOTICE")
 OLDEST_LIBC = (2, 34)
 CLASSIFIERS = (
@@ -89,7 +89,8 @@ def _time():
 def _write_wheel(folder, files, platform="any"):
     """Writes a wheel of these files and of what tells of them, and returns its name."""
     told = f"{_stem()}.dist-info"
-    kind = WHEEL.format(str(platform == "any").lower(), platform)
+    kind = WHEEL.format(str(platform == "any").lower())
+    kind += "".join(f"Tag: py3-none-{it}\n" for it in platform.split("."))
     files = {**files, f"{told}/METADATA": _metadata().encode(), f"{told}/WHEEL": kind.encode()}
     files.update({f"{told}/{name}": (ROOT / name).read_bytes() for name in LICENCES})
     lines = [_record_line(name, content) for name, content in files.items()]

@@ -152,6 +152,18 @@ class KeptMemory(unittest.TestCase):
             del memory
             self.assertEqual(memories.there, 0)
 
+    def test_a_buffer_that_no_call_used_for_a_minute_is_freed_when_another_call_ends(self):
+        memory, now = Memory(), [1000.0]
+        with mock.patch("time.monotonic", lambda: now[0]):
+            with memory.lent() as large, memory.lent() as small:
+                for pages, memory_cost in ((large, 9000), (small, 64)):
+                    self.assertTrue(pages.grow(_library.Settings(2, 19, memory_cost, 1, 1, 32)))
+            for waited, kept in ((59, 2), (2, 1), (1000, 1)):
+                now[0] += waited
+                hash_secret_raw(b"password", b"somesalt", 1, 64, 1, 16, Type.ID, memory=memory)
+                self.assertEqual(len(memory._free), kept, waited)
+        self.assertEqual(sum(1 for pages in (large, small) if pages.length), 1)
+
     def test_each_call_clears_what_it_used_of_a_kept_memory(self):
         for memory_cost, lanes in ((256, 1), (4096, 4), (1003, 4)):
             memory = Memory()

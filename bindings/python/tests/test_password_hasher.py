@@ -1,6 +1,7 @@
 """The names, defaults and answers of argon2-cffi."""
 import base64
 import inspect
+import pickle
 import subprocess
 import sys
 import unicodedata
@@ -34,6 +35,28 @@ from proved_argon2.exceptions import (
 SMALL = {"time_cost": 1, "memory_cost": 32, "parallelism": 2}
 
 
+class Secret(unittest.TestCase):
+    def test_a_password_matches_with_the_secret_of_its_hash_alone(self):
+        given = {"secret": b"password", "salt": b"somesalt", "time_cost": 1, "memory_cost": 32, "parallelism": 2}
+        wanted = low_level.hash_secret(**given, hash_len=32, type=Type.ID, key=b"pepper").decode()
+        for keep_memory in (False, True):
+            hasher = PasswordHasher(**SMALL, secret=b"pepper", keep_memory=keep_memory)
+            self.assertEqual(hasher.hash("password", salt=b"somesalt"), wanted)
+            self.assertTrue(hasher.verify(wanted, "password"))
+            self.assertRaises(VerifyMismatchError, hasher.verify, wanted, "Password")
+            self.assertTrue(pickle.loads(pickle.dumps(hasher)).verify(wanted, "password"))
+        for secret in ({}, {"secret": b"Pepper"}):
+            self.assertRaises(VerifyMismatchError, PasswordHasher(**SMALL, **secret).verify, wanted, "password")
+        parameters = extract_parameters(wanted)
+        self.assertTrue(PasswordHasher.from_parameters(parameters, secret=b"pepper").verify(wanted, "password"))
+
+    def test_it_is_bytes_and_is_not_shown(self):
+        self.assertNotIn("pepper", repr(PasswordHasher(secret=b"pepper")))
+        for secret in ("pepper", None, bytearray(b"pepper")):
+            with self.assertRaisesRegex(TypeError, "'secret' must be bytes"):
+                PasswordHasher(secret=secret)
+
+
 class Names(unittest.TestCase):
     def test_the_constructor_has_the_arguments_and_defaults_of_argon2_cffi_and_then_its_own(self):
         arguments = inspect.signature(PasswordHasher).parameters
@@ -49,6 +72,7 @@ class Names(unittest.TestCase):
                 ("type", Type.ID),
                 ("limits", DEFAULT_LIMITS),
                 ("keep_memory", False),
+                ("secret", b""),
             ],
         )
 

@@ -1,5 +1,6 @@
 """Reusable buffers: the memory of hashes."""
 import ctypes
+import time
 from collections import deque
 
 from ._library import Refused, Settings, memory_free, memory_len, memory_new
@@ -7,6 +8,9 @@ from ._library import Refused, Settings, memory_free, memory_len, memory_new
 TYPE_CHECKING = False
 if TYPE_CHECKING:
     from typing import Callable, Deque, Tuple, Type
+
+# So many seconds is a buffer kept that no call uses.
+IDLE_SECONDS = 60
 
 # Where a memory of no bytes is: a call without an address would allocate memory of its own.
 _NOTHING = ctypes.c_uint64()
@@ -16,10 +20,11 @@ _NOWHERE = ctypes.addressof(_NOTHING)
 class Pages:
     """A memory that the library allocated, or none yet. Each call clears what it uses of it."""
 
-    __slots__ = ("address", "length")
+    __slots__ = ("address", "length", "used")
 
     def __init__(self) -> None:
         self.address, self.length = _NOWHERE, 0
+        self.used = time.monotonic()
 
     def grow(self, settings: Settings) -> bool:
         """Whether it was too small for settings, and was grown to what they need. The old memory is freed first."""
@@ -45,7 +50,8 @@ class Pages:
 
 class Memory:
     """Reusable buffers: the memory of hashes. There is one buffer a concurrent call: as many as have run at once, each
-    as large as the largest call in it needed.
+    as large as the largest call in it needed. When a call ends, those are freed that none has used for a minute. A
+    memory that no call uses any more keeps what it has until it is deleted.
 
     A copy starts without buffers, and so does an unpickled one.
     """
@@ -79,4 +85,18 @@ class _Lent:
         return self._pages
 
     def __exit__(self, *_: object) -> None:
+        self._pages.used = time.monotonic()
         self._free.append(self._pages)
+        self._give_back_idle(self._pages.used - IDLE_SECONDS)
+
+    def _give_back_idle(self, since: float) -> None:
+        """Free what no call has used since then: it is at the left. Other threads take from the right meanwhile."""
+        while self._free:
+            try:
+                longest_idle = self._free.popleft()
+            except IndexError:
+                return
+            if longest_idle.used >= since:
+                self._free.appendleft(longest_idle)
+                return
+            longest_idle.give_back()

@@ -44,10 +44,13 @@ class PasswordHasher:
 
     `limits` are what an encoded hash may cost that is verified: the given ones; `None` for whatever the hash names;
     without the argument `DEFAULT_LIMITS`, raised to these settings. With `keep_memory` the hasher reuses the buffers of
-    its calls, as `low_level.Memory` does, until it is deleted.
+    its calls, as `low_level.Memory` does.
+
+    `secret` is a key (pepper) that is kept apart from the encoded hashes. With another secret no password matches.
+    Copies and pickles of the hasher have it, and `repr` does not.
     """
 
-    __slots__ = ("_limits", "_memory", "_parameters", "encoding")
+    __slots__ = ("_limits", "_memory", "_parameters", "_secret", "encoding")
 
     def __init__(
         self,
@@ -61,6 +64,7 @@ class PasswordHasher:
         *,
         limits: "Optional[Limits]" = DEFAULT_LIMITS,
         keep_memory: bool = False,
+        secret: bytes = b"",
     ) -> None:
         _require_types({
             "time_cost": (time_cost, int),
@@ -71,6 +75,7 @@ class PasswordHasher:
             "encoding": (encoding, str),
             "type": (type, Type),
             "keep_memory": (keep_memory, bool),
+            "secret": (secret, bytes),
         })
         self._parameters = Parameters(
             type=type,
@@ -85,10 +90,16 @@ class PasswordHasher:
         is_default = limits is DEFAULT_LIMITS
         self.limits = default_limits_of(memory_cost, time_cost, parallelism) if is_default else limits
         self._memory = Memory() if keep_memory else None
+        self._secret = secret
 
     @classmethod
     def from_parameters(
-        cls, params: Parameters, *, limits: "Optional[Limits]" = DEFAULT_LIMITS, keep_memory: bool = False
+        cls,
+        params: Parameters,
+        *,
+        limits: "Optional[Limits]" = DEFAULT_LIMITS,
+        keep_memory: bool = False,
+        secret: bytes = b"",
     ) -> "PasswordHasher":
         """A hasher with these settings. Its version is `ARGON2_VERSION`, whatever theirs is."""
         return cls(
@@ -100,6 +111,7 @@ class PasswordHasher:
             type=params.type,
             limits=limits,
             keep_memory=keep_memory,
+            secret=secret,
         )
 
     @property
@@ -175,6 +187,7 @@ class PasswordHasher:
             parallelism=self.parallelism,
             hash_len=self.hash_len,
             type=self.type,
+            key=self._secret,
             memory=self._memory,
             progress=progress,
         ).decode("ascii")
@@ -190,8 +203,15 @@ class PasswordHasher:
         settings are rejected or memory cannot be allocated.
         """
         text = self._text_bytes(hash)
-        secret, variant = self._password_bytes(password), self._variant_of(text)
-        return verify_secret(text, secret, variant, limits=self.limits, memory=self._memory, progress=progress)
+        return verify_secret(
+            text,
+            self._password_bytes(password),
+            self._variant_of(text),
+            key=self._secret,
+            limits=self.limits,
+            memory=self._memory,
+            progress=progress,
+        )
 
     def check_needs_rehash(self, hash: "Union[str, bytes]") -> bool:
         """Whether an encoded hash was made with other settings than these, or with a salt of another length.
