@@ -1,4 +1,4 @@
-/** Argon2 password hashing (RFC 9106) by a WebAssembly module that is proved. */
+/** Argon2 password hashing (RFC 9106) by a WebAssembly module that is compiled from proved code. */
 
 /** The variant whose references are drawn from the blocks, and so from the password (RFC 9106, 1). */
 export const argon2d: 0;

@@ -1,0 +1,202 @@
+"""The instructions of ARM64 that are known, as objdump prints them, with its procedure call standard."""
+
+import functools
+import re
+from itertools import chain
+
+from machine import RETURN, Machine, add, computed, each, half_known, jump_if, left, right
+from rfc9106 import MASK, rotated
+from terms import Fault, picked, variable
+
+PARTS = re.compile(r'(?:[^,\[]|\[[^\]]*\])+')
+REGISTER = re.compile(r'([xw])(\d+)|v(\d+)\.(?:2d|4s|2s|16b)|([xw]zr)')
+PLACE = re.compile(r'\[(x\d+|sp)(?:, #(-?\d+))?\](!?)')
+LOW = (1 << 32) - 1
+CONDITIONS = {'eq': 'e', 'ne': 'ne', 'cc': 'b', 'cs': 'ae', 'hi': 'a', 'ls': 'be'}
+SHIFTS = {'lsl': left, 'lsr': right, 'ror': rotated}
+
+
+class Arm64(Machine):
+    arguments, stack_pointer = tuple(f'x{it}' for it in range(5)), 'sp'
+    saved, entries = (*(f'x{it}' for it in range(19, 30)), *(f'd{it}' for it in range(8, 16))), (0, 16, 32, 48)
+
+    @staticmethod
+    def fresh(when):
+        """The lower halves of vectors, of which some are kept, have names of their own: d0, and h0 is the upper one."""
+        return {f'{kind}{it}': variable(f'{when} {kind}{it}') for kind in 'xdh' for it in range(32)}
+
+    def enter(self, address, *arguments, flag):
+        """Begins a function, which is passed the flag as 32 bits."""
+        self.registers.update(zip(self.arguments, (*arguments, half_known(flag))))
+        self.registers['x30'] = RETURN
+        return address
+
+    def return_address(self):
+        return self.registers['x30']
+
+
+def general(name, mask):
+    def write(machine, word):
+        machine.registers[name] = word & mask
+    return (lambda machine: machine.registers[name] & mask), write
+
+
+def vector(number, size):
+    def write(machine, words):
+        machine.registers[f'd{number}'], machine.registers[f'h{number}'] = (*words, 0)[:2]
+    return (lambda machine: (machine.registers[f'd{number}'], machine.registers[f'h{number}'])[:size]), write
+
+
+def operand(text):
+    """What reads a register or a number, and what writes it."""
+    if re.fullmatch(r'#-?(0x[0-9a-f]+|\d+)|0x[0-9a-f]+', text):
+        number = int(text.removeprefix('#'), 0) & MASK
+        return (lambda machine: number), None
+    if text == 'sp':
+        return general('sp', MASK)
+    found = REGISTER.fullmatch(text)
+    if not found:
+        raise Fault(f'the operand {text} is not known')
+    kind, number, of_vector, zero = found.groups()
+    if zero:  # (what is written to it is lost)
+        return (lambda machine: 0), (lambda machine, word: None)
+    if of_vector:
+        return vector(of_vector, 2)
+    return general(f'x{number}', LOW if kind == 'w' else MASK)
+
+
+def readers(words):
+    """What reads operands, of which the last may say how the one before is shifted."""
+    shift, _, count = words[-1].partition(' ')
+    if shift not in SHIFTS:
+        return [operand(it)[0] for it in words]
+    *plain, last = (operand(it)[0] for it in words[:-1])
+    return [*plain, lambda machine: SHIFTS[shift](last(machine), int(count.removeprefix('#')))]
+
+
+def halves(words):
+    return words[0] & LOW, words[0] >> 32
+
+
+# What instructions make of their operands; behind those for vectors stands how each operand is divided.
+VECTOR = {
+    'add 2d 2d 2d': each(add), 'eor 16b 16b 16b': each(lambda x, y: x ^ y), 'shl 2d 2d': each(left),
+    'mov 16b 16b': tuple,
+    'xtn 2s 2d': lambda words: picked(words, (0, 2), 32), 'rev64 4s 4s': lambda words: picked(words, (1, 0, 3, 2), 32),
+    'umull 2d 2s 2s': lambda one, other: tuple(x * y & MASK for x, y in zip(halves(one), halves(other))),
+    'ext 16b 16b 16b': lambda low, high, count: picked((*low, *high), tuple(range(count, count + 16)), 8)}
+GENERAL = {'add': add, 'sub': lambda x, y: x - y & MASK, 'eor': lambda x, y: x ^ y, 'mov': lambda x: x, **SHIFTS}
+
+
+def stored(registers, is_vector):
+    def access(machine, place):
+        values = [read(machine) for read, _ in registers]
+        machine.store(place, [*chain(*values)] if is_vector else values)
+    return access
+
+
+def loaded(registers, is_vector, size):
+    def access(machine, place):
+        words = machine.load(place, size * len(registers))
+        for index, (_, write) in enumerate(registers):
+            write(machine, words[size * index:][:size] if is_vector else words[index])
+    return access
+
+
+def moved(mnemonic, words):
+    """Loads and stores of one register or two. The address may be left in its base, or the base be moved afterwards."""
+    index = next((index for index, it in enumerate(words) if it.startswith('[')), len(words) - 1)
+    found, behind, kind = PLACE.fullmatch(words[index]), words[index + 1:], words[0][0]
+    if not found or len(behind) > (not found[2]) or kind not in 'xdq':
+        raise Fault(f'the operands {words} of {mnemonic} are not known')
+    base, offset, size = found[1], int(found[2] or 0), 2 if kind == 'q' else 1
+    registers = [operand(it) if kind == 'x' else vector(it[1:], size) for it in words[:index]]
+    access = stored(registers, kind in 'dq') if mnemonic[0] == 's' else loaded(registers, kind in 'dq', size)
+
+    def step(machine):
+        place = add(machine.registers[base], offset)
+        if found[3]:
+            machine.registers[base] = place
+        access(machine, place)
+        if behind:
+            machine.registers[base] = add(place, int(behind[0].removeprefix('#')))
+    return step
+
+
+def call(to):
+    def step(machine):
+        machine.registers['x30'] = machine.after
+        return to(machine)
+    return step
+
+
+def jump_if_zero(source, to):
+    """Leaves the flags as they are."""
+    def step(machine):
+        if not isinstance(number := source(machine), int):
+            raise Fault('it branches on data')
+        return None if number else to(machine)
+    return step
+
+
+def in_part(read, write, number, shift):
+    """movk, which writes 16 bits of a number."""
+    def step(machine):
+        if not isinstance(word := read(machine), int):
+            raise Fault('it writes a part of data')
+        write(machine, word & ~(0xffff << shift) | number(machine) << shift)
+    return step
+
+
+def added(read, write, source, count):
+    """usra, which shifts and adds."""
+    def step(machine):
+        by = count(machine)
+        write(machine, tuple(add(x, right(y, by)) for x, y in zip(read(machine), source(machine))))
+    return step
+
+
+def inverted_if(condition, source, target):
+    return lambda machine: target(machine, source(machine) ^ (MASK if machine.holds(condition) else 0))
+
+
+def control(mnemonic, words):
+    """What has operands of its own kind, or none."""
+    name, _, condition = mnemonic.partition('.')
+    sources = [operand(it)[0] for it in words if not it.startswith('lsl #') and it not in CONDITIONS]
+    match name, len(words):
+        case 'ret', 0:
+            return Arm64.return_address
+        case 'b', 1:
+            return jump_if(CONDITIONS.get(condition), sources[0]) if condition else sources[0]
+        case 'bl', 1:
+            return call(sources[0])
+        case 'cbz', 2:
+            return jump_if_zero(*sources)
+        case 'cmp', 2:
+            return lambda machine: machine.compare(*(it(machine) for it in sources))
+        case 'cinv', 3:
+            return inverted_if(CONDITIONS.get(words[2]), sources[1], operand(words[0])[1])
+        case 'usra', 3:
+            return added(*operand(words[0]), *sources[1:])
+        case 'movk', (2 | 3):
+            return in_part(*operand(words[0]), sources[1], int(words[2].removeprefix('lsl #')) if words[2:] else 0)
+    raise Fault(f'the instruction {mnemonic} of {len(words)} operands is not known')
+
+
+@functools.cache
+def decode(text):
+    """The step that an instruction is."""
+    mnemonic, _, rest = text.partition('\t')
+    words = [it.strip() for it in PARTS.findall(rest)]
+    if mnemonic == 'nop':
+        return lambda machine: None
+    if re.fullmatch('(ld|st)(p|u?r)', mnemonic) and words:
+        return moved(mnemonic, words)
+    divided = [it.partition('.')[2] for it in words if it.startswith('v')]
+    function = VECTOR.get(' '.join((mnemonic, *divided))) if divided else GENERAL.get(mnemonic)
+    is_shifted = any(it.partition(' ')[0] in SHIFTS for it in (mnemonic, *words))  # (by a number, all 64 bits)
+    is_known = divided or not is_shifted or '#' in words[-1] and not any(it.startswith('w') for it in words)
+    if function and len(words) > 1 and is_known:
+        return computed(function, readers(words[1:]), operand(words[0])[1])
+    return control(mnemonic, words)

@@ -1,0 +1,71 @@
+"""The two functions, with their definitions (crates/argon2_vectors), and a run of one over terms."""
+
+import re
+from dataclasses import dataclass
+from typing import Callable
+
+import rfc7693
+import rfc9106
+from linked import Code
+from machine import WORD
+from terms import Fault, variable
+from wasm import Module
+
+
+def compressed_block(flag, prev, reference, old):
+    """G (RFC 9106, 3.5), to which the old block is added if the flag is set."""
+    block = rfc9106.compress(prev, reference)
+    return [one ^ other for one, other in zip(block, old)] if flag else block
+
+
+def compressed_state(flag, h, m, counter):
+    """F (RFC 7693, 3.2)."""
+    return rfc7693.compress(h, m, *counter, flag)
+
+
+@dataclass(frozen=True)
+class Function:
+    """A function's name; what it is passed before the flag: regions of memory, by their sizes in words, and words; and
+    what it leaves in one of the regions. In a module, which may have no names, it is the one with some instructions."""
+    name: str
+    regions: dict
+    words: tuple
+    written: str
+    wanted: Callable
+    only: tuple
+
+    def run(self, code, begin, flag, entry, values=None):
+        """A machine after a run over values, or else a variable for each word; and what is wrong with it, or None."""
+        sizes = {name: WORD * size for name, size in self.regions.items()}
+        machine = code.kind(code, sizes, self.written, entry)
+        regions = {name: [variable(f'{name}{it}') for it in range(size)] for name, size in self.regions.items()}
+        words = [*map(variable, self.words)]
+        if values:
+            regions, words = {name: [values() for _ in it] for name, it in regions.items()}, [values() for _ in words]
+            machine.memory = {(name, WORD * at): word for name, it in regions.items() for at, word in enumerate(it)}
+        try:
+            machine.run(machine.enter(begin, *map(variable, regions), *words, flag=flag))
+            return machine, machine.fault(self.wanted(flag, *regions.values(), *([words] if words else [])))
+        except Fault as fault:
+            return machine, f'{fault} ({machine.after:#x})'
+
+
+FUNCTIONS = (
+    Function('fill_words', {'prev': 128, 'reference': 128, 'next': 128}, (), 'next', compressed_block,
+             ('i64.mul', 'i64.rotl')),
+    Function('compress_f', {'h': 8, 'm': 16}, ('low', 'high'), 'h', compressed_state,
+             (f'i64.const {rfc7693.IV[4]}', 'i64.rotl')))
+FLAGS = 0, 1
+
+
+# What does nothing, and need not be run.
+IDLE = re.compile(r'local\[|end$|unreachable$|(data16 |cs )*nop|xchg +ax,ax|int3')
+
+
+def code_of(path):
+    return Module(path) if path.suffix == '.wasm' else Code(path)
+
+
+def missed(code, begin, met):
+    """The instructions of a function that were not met."""
+    return [text for at, (text, _) in code.bodies[begin].items() if at not in met and not IDLE.match(text)]

@@ -1,0 +1,100 @@
+"""Linked code for a machine and its constants, as binutils link and disassemble it."""
+
+import re
+import shutil
+import subprocess
+import tempfile
+from pathlib import Path
+
+import arm64
+import x86
+from machine import WORD
+from terms import Fault
+
+X86, ARM64, OBJECT = 62, 183, 1  # (numbers of ELF)
+# For each machine how the names of binutils begin, what objdump has to be told, and what runs and reads instructions.
+KINDS = {X86: ('', ('-M', 'intel'), x86.X86, x86.decode), ARM64: ('aarch64-linux-gnu-', (), arm64.Arm64, arm64.decode)}
+SECTION = re.compile(r' *\d+ \S+ +([0-9a-f]+)  ([0-9a-f]+)  [0-9a-f]+  ([0-9a-f]+)  2\*\*\d+')
+LABEL = re.compile(r'([0-9a-f]+) <(.*)>:')
+LINE = re.compile(r' *([0-9a-f]+):\t([0-9a-f ]+?) *\t(.*?)(?:\s*(?:# |//).*)?')
+TARGET = re.compile(r'([0-9a-f]+) <.*')  # (of a jump)
+# Where memset is in what is linked here of objects, which have no C library.
+OUTSIDE, CLEARS = 16, ('memset', 'memset@plt')
+
+
+class Missing(Exception):
+    """A program that is needed and not there."""
+
+
+def need(program):
+    if not shutil.which(program):
+        raise Missing(program)
+    return program
+
+
+def run(*command):
+    done = subprocess.run(command, capture_output=True, text=True, check=False)
+    if done.returncode:
+        raise Fault(f'{command[0]} fails: {done.stderr.strip()}')
+    return done.stdout
+
+
+class Code:
+    """The instructions of a linked file, or of an archive, which is linked here: texts and sizes by their addresses. So
+    for each function by where it begins (`bodies`), with its name (`names`)."""
+
+    def __init__(self, path):
+        content = path.read_bytes()
+        header = content[max(content.find(b'\x7fELF'), 0):]
+        prefix, self.words, self.kind, self.decode = KINDS.get(int.from_bytes(header[18:20], 'little')) or no_kind(path)
+        self.objdump = need(f'{prefix}objdump')
+        if content == header and header[16] != OBJECT:
+            self.read(path)
+        else:
+            with tempfile.NamedTemporaryFile() as linked:
+                run(f'{prefix}ld', '--entry=0', '--unresolved-symbols=ignore-all', f'--defsym=memset={OUTSIDE}',
+                    '-o', linked.name, '--whole-archive', path)
+                self.read(Path(linked.name))
+
+    def read(self, path):
+        self.content, self.sections, self.names, self.bodies, self.instructions = path.read_bytes(), [], {}, {}, {}
+        body = {}
+        for line in run(self.objdump, '-h', '-d', '-z', '-w', *self.words, path).splitlines():
+            if found := LINE.fullmatch(line):
+                body[int(found[1], 16)] = TARGET.sub(r'0x\1', found[3]), len(found[2].replace(' ', '')) // 2
+            elif found := LABEL.fullmatch(line):
+                begin = int(found[1], 16)
+                self.names[begin], body = found[2], self.bodies.setdefault(begin, {})
+            elif found := SECTION.match(line):
+                self.sections.append([int(it, 16) for it in found.groups()])
+        self.instructions = {at: it for body in self.bodies.values() for at, it in body.items()}
+        self.clears = {OUTSIDE, *(begin for begin, name in self.names.items() if name in CLEARS)}
+
+    def validate(self):
+        """Nothing is wrong with what objdump has read."""
+
+    def begins(self, function):
+        """Where a function begins, once for each build."""
+        return sorted(begin for begin, name in self.names.items() if name.endswith(f'::{function.name}'))
+
+    def at(self, address):
+        """What an instruction does, and its size."""
+        if address not in self.instructions:
+            raise Fault(f'there is no instruction at {address:#x}')
+        text, size = self.instructions[address]
+        return self.decode(text), size
+
+    def place(self, address):
+        """Where in the file an address is."""
+        return next((offset + address - begin for size, begin, offset in self.sections
+                     if begin and 0 <= address - begin < size), None)
+
+    def constant(self, address):
+        places = [self.place(address + it) for it in range(WORD)]
+        if None in places:
+            raise Fault(f'it reads at {address:#x}')
+        return int.from_bytes(self.content[places[0]:places[0] + WORD], 'little')
+
+
+def no_kind(path):
+    raise Fault(f'{path.name} is for no machine that is known')

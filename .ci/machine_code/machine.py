@@ -1,0 +1,151 @@
+"""What the machines have in common: memory, and a function that is run over terms instead of numbers."""
+
+import operator
+
+from terms import BITS, MASK, Fault, joined, linear, variable
+
+WORD, LARGEST_UNIT = 8, 64
+# More than any function takes: instructions, and bytes of stack.
+STEPS, FRAME = 100_000, 1 << 14
+STACK, RETURN = variable('stack'), variable('return')
+CONDITIONS = {'e': operator.eq, 'ne': operator.ne, 'b': operator.lt, 'ae': operator.ge, 'a': operator.gt,
+              'be': operator.le}
+
+
+class Machine:
+    """A processor that begins a function. Its registers hold terms. Memory is of regions: the stack, and those that the
+    function is passed, by their size in bytes, of which it may write `written` alone."""
+    # Where integers are passed, the stack pointer, what a function leaves as it was, what of its caller's stack is its
+    # own, and where the stack pointer may be when it begins, in bytes above a multiple of the largest alignment.
+    arguments, stack_pointer, saved, own_of_caller, entries = (), '', (), 0, ()
+
+    def __init__(self, code, regions, written, entry):
+        self.code, self.regions, self.written, self.end = code, regions, written, entry + self.own_of_caller
+        self.memory, self.flags, self.after, self.met, self.constants, self.below = {}, None, 0, set(), set(), 0
+        self.registers = {**self.fresh('first'), self.stack_pointer: STACK + entry}
+        self.before = {**self.registers, self.stack_pointer: STACK + self.end}
+
+    def run(self, address):
+        """Runs a function until it returns."""
+        for _ in range(STEPS):
+            if address is RETURN:
+                return
+            if not isinstance(address, int):
+                raise Fault('it jumps to what it computed')
+            if address in self.code.clears:
+                address = self.clear_words()
+            else:
+                step, size = self.code.at(address)
+                self.met.add(address)
+                self.after = address + size
+                address = step(self) or self.after
+        raise Fault(f'it has not returned after {STEPS} instructions')
+
+    def find(self, word):
+        """The region of what is an address, and how far in it that is; or None."""
+        number, terms = linear(word)
+        (base, factor), = terms.items() if len(terms) == 1 else [(STACK, 0)]
+        if factor != 1 or base is not STACK and base.parts[0] not in self.regions:
+            return None
+        return base.parts[0], number if number < 1 << BITS - 1 else number - (1 << BITS)
+
+    def places(self, address, count, unit):
+        """The places of words in memory, for an instruction that needs them aligned to a unit."""
+        region, at = self.find(address) or (None, 0)
+        if region is None:
+            raise Fault('it computes an address')
+        if at % unit or region != 'stack' and unit > WORD:
+            raise Fault(f'it needs {region} {at:+} aligned to {unit} bytes')
+        begin, end = (self.end - FRAME, self.end) if region == 'stack' else (0, self.regions[region])
+        if not begin <= at <= end - WORD * count:
+            raise Fault(f'it looks at {region} {at:+}')
+        if region == 'stack':
+            self.below += at < self.find(self.registers[self.stack_pointer])[1]
+        return [(region, at + WORD * it) for it in range(count)]
+
+    def word_at(self, region, at):
+        if region == 'stack' and (region, at) not in self.memory:
+            raise Fault('it reads of its stack what it did not write')
+        return self.memory.get((region, at), variable(f'{region}{at // WORD}'))
+
+    def load(self, address, count, unit=WORD):
+        if not isinstance(address, int):
+            return tuple(self.word_at(*it) for it in self.places(address, count, unit))
+        self.constants.update(range(address, address + WORD * count))
+        return tuple(self.code.constant(address + WORD * it) for it in range(count))
+
+    def store(self, address, words, unit=WORD):
+        places = self.places(address, len(words), unit)
+        if places and places[0][0] not in {self.written, 'stack'}:
+            raise Fault(f'it writes to {places[0][0]}')
+        self.memory.update(zip(places, words))
+
+    def clear(self, address, byte, size):
+        """What memset does."""
+        if not isinstance(size, int) or size % WORD or byte != 0:
+            raise Fault('it fills memory with other than words of zero')
+        self.store(address, [0] * (size // WORD))
+
+    def clear_words(self):
+        """A call of memset, which may leave in the other registers what it likes."""
+        self.clear(*(self.registers[it] for it in self.arguments[:3]))
+        back, self.flags = self.return_address(), None
+        kept = *self.saved, self.stack_pointer
+        self.registers |= {name: it for name, it in self.fresh('left').items() if name not in kept}
+        return back
+
+    def masked(self, word, mask):
+        """An and; of an address of the stack too, whose lowest bits are known."""
+        region, at = self.find(word) or (None, 0)
+        if region != 'stack' or not isinstance(mask, int) or MASK - mask >= LARGEST_UNIT:
+            return word & mask
+        return STACK + (at & mask - (1 << BITS))
+
+    def compare(self, one, other):
+        self.flags = (one, other) if isinstance(one, int) and isinstance(other, int) else None
+
+    def holds(self, condition):
+        """Whether a condition does, which may depend on numbers alone."""
+        if self.flags is None or condition not in CONDITIONS:
+            raise Fault(f'it depends on data, or the condition {condition} is not known')
+        return CONDITIONS[condition](*self.flags)
+
+    def fault(self, words):
+        """What is wrong with what a function left, which had to be words in the region that is written."""
+        wrong = [at for at, word in enumerate(words) if self.word_at(self.written, WORD * at) != word]
+        changed = [it for it in (*self.saved, self.stack_pointer) if self.registers[it] != self.before[it]]
+        return (f'{len(wrong)} of {len(words)} words are other ones' if wrong else
+                f'it leaves another {", ".join(changed)}' if changed else None)
+
+
+def half_known(number):
+    """A register of whose upper half nothing is known."""
+    return joined((number, 0, BITS // 2), (variable('upper half'), 0, BITS // 2))
+
+
+def computed(function, sources, target):
+    """The step that writes what a function makes of operands."""
+    return lambda machine: target(machine, function(*(it(machine) for it in sources)))
+
+
+def jump_if(condition, to):
+    return lambda machine: to(machine) if machine.holds(condition) else None
+
+
+def each(function):
+    """A function for all words of its operands, or with the same number for all of the first one's."""
+    def done(words, other):
+        return tuple(function(*it) for it in zip(words, other if isinstance(other, tuple) else (other,) * len(words)))
+    return done
+
+
+def add(x, y):
+    return x + y & MASK
+
+
+def left(x, count):
+    return x << count & MASK if count < BITS else 0
+
+
+def right(x, count):
+    return x >> count

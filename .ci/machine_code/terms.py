@@ -1,0 +1,175 @@
+"""Words of 64 bits as terms over variables, in a normal form: words of one form are equal for all values of the
+variables. Of words of two forms nothing is known. Numbers are Python's, below 2^64."""
+
+import functools
+from itertools import accumulate, chain, pairwise
+
+BITS = 64
+MASK = (1 << BITS) - 1
+
+
+class Fault(Exception):
+    """What is wrong with code, or not known of it."""
+
+
+class Term:
+    """A word that is no number. Of each form there is one object, which `make` gives. Its parts are: of a `variable`
+    its name; of a `sum` and of an exclusive or (`xor`) a number and the other terms, in a sum with their factors; of a
+    `product` its factors; of `bits` pieces of other words, from the lowest on: (word, first bit, number of bits)."""
+    __slots__ = 'kind', 'parts'
+
+    def __init__(self, kind, *parts):
+        self.kind, self.parts = kind, parts
+
+    @functools.cache
+    def __add__(self, other):
+        if 'bits' == self.kind == getattr(other, 'kind', '') and (whole := merged(self, other)):
+            return whole
+        (number, terms), (more, others) = linear(self), linear(other)
+        return total(number + more, {it: terms.get(it, 0) + others.get(it, 0) for it in terms | others})
+
+    @functools.cache
+    def __mul__(self, other):
+        if isinstance(other, int):
+            number, terms = linear(self)
+            return total(number * other, {it: factor * other for it, factor in terms.items()})
+        (left, first), (right, second) = factored(self), factored(other)
+        return total(0, {make('product', frozenset((left, right))): first * second})
+
+    @functools.cache
+    def __xor__(self, other):
+        return exclusive_or(self, other)
+
+    @functools.cache
+    def __and__(self, mask):
+        if not isinstance(mask, int) or mask & (mask + 1):
+            raise Fault('it masks other bits of data than the lowest')
+        return joined(*cut(self, 0, mask.bit_length()), (0, 0, BITS - mask.bit_length()))
+
+    @functools.cache
+    def __or__(self, other):
+        if (whole := merged(self, other)) is None:
+            raise Fault('it joins words that have a bit in common')
+        return whole
+
+    @functools.cache
+    def __rshift__(self, count):
+        return joined(*cut(self, count, BITS - count), (0, 0, count)) if count < BITS else 0
+
+    def __lshift__(self, count):
+        return self * (1 << count)
+
+    def __sub__(self, other):
+        return self + other * MASK
+
+    def __rsub__(self, other):
+        return other + self * MASK
+
+    __radd__, __rmul__, __rxor__, __rand__, __ror__ = __add__, __mul__, __xor__, __and__, __or__
+
+
+make = functools.cache(Term)
+
+
+def variable(name):
+    return make('variable', name)
+
+
+def forget():
+    """Frees all terms: those that are still held are no longer the ones that `make` gives."""
+    for cached in (make, cut, *(it for it in vars(Term).values() if hasattr(it, 'cache_clear'))):
+        cached.cache_clear()
+
+
+def linear(word):
+    """A word as a number and terms with their factors, whose sum it is."""
+    if isinstance(word, int):
+        return word, {}
+    if word.kind == 'sum':
+        return word.parts[0], dict(word.parts[1])
+    if word.kind == 'bits' and word.parts[0][0] == 0:  # it was shifted
+        (_, _, count), (shifted, *rest), *_ = word.parts
+        number, terms = linear(shifted) if rest == [0, BITS - count] else (0, {word >> count: 1})
+        return number << count, {it: factor << count for it, factor in terms.items()}
+    return 0, {word: 1}
+
+
+def total(number, terms):
+    """The sum of a number and of terms by their factors."""
+    number, terms = number & MASK, {it: factor & MASK for it, factor in terms.items() if factor & MASK}
+    if number == 0 and len(terms) == 1:
+        (term, factor), = terms.items()
+        if factor & (factor - 1) == 0:
+            count = factor.bit_length() - 1
+            return joined((0, 0, count), *cut(term, 0, BITS - count))
+    return make('sum', number, frozenset(terms.items())) if terms else number
+
+
+def exclusive_or(*words):
+    number, terms = 0, set()
+    for word in words:
+        part, parts = (word, ()) if isinstance(word, int) else word.parts if word.kind == 'xor' else (0, (word,))
+        number ^= part
+        terms.symmetric_difference_update(parts)
+    return terms.pop() if (number, len(terms)) == (0, 1) else make('xor', number, frozenset(terms)) if terms else number
+
+
+def factored(word):
+    """A word as another one and a factor."""
+    number, terms = linear(word)
+    return next(iter(terms.items())) if (number, len(terms)) == (0, 1) else (word, 1)
+
+
+@functools.cache
+def cut(word, first, width):
+    """Pieces that make some bits of a word."""
+    if isinstance(word, int):
+        return ((word >> first & (1 << width) - 1, 0, width),)
+    found, at = [], 0
+    for part, begin, size in word.parts if word.kind == 'bits' else [(word, 0, BITS)]:
+        low, high = max(first, at), min(first + width, at + size)
+        if low < high:
+            bits = begin + low - at, high - low
+            found += cut(part, *bits) if isinstance(part, int) else [(part, *bits)]
+        at += size
+    return tuple(found)
+
+
+def joined(*pieces):
+    """The word that pieces make. Of pieces of one exclusive or it is that of the same pieces of its terms."""
+    found = []
+    for word, first, width in (it for it in pieces if it[2]):
+        last, begin, size = found[-1] if found else (None, 0, 0)
+        if isinstance(word, int) and isinstance(last, int):
+            found[-1] = last | word << size, 0, size + width
+        elif word is last and first == begin + size:
+            found[-1] = last, begin, size + width
+        else:
+            found.append((word, first, width))
+    word = found[0][0]
+    if len(found) == 1:
+        return word
+    if isinstance(word, int) or word.kind != 'xor' or any(it[0] is not word for it in found):
+        return make('bits', *found)
+    number, terms = word.parts
+    return exclusive_or(*(joined(*(piece for _, *place in found for piece in cut(it, *place)))
+                          for it in (number, *terms)))
+
+
+def merged(one, other):
+    """The word whose bits are those of two words that have none in common, or None."""
+    pieces = []
+    ends = {end for word in (one, other) for end in accumulate(it[2] for it in cut(word, 0, BITS))}
+    for begin, end in pairwise(sorted({0, *ends})):
+        (first,), (second,) = (cut(it, begin, end - begin) for it in (one, other))
+        if first[0] != 0 and second[0] != 0:
+            return None
+        pieces.append(second if first[0] == 0 else first)
+    return joined(*pieces)
+
+
+def picked(words, places, width):
+    """The words made of elements of other words, each of so many bits, by their places. Behind the words are zeros."""
+    per, words = BITS // width, (*words, 0)
+    parts = [cut(words[min(at // per, len(words) - 1)], at % per * width, width) for at in places]
+    return tuple(joined(*chain(*parts[at:at + per])) for at in range(0, len(parts), per))

@@ -1,0 +1,207 @@
+"""The functions of a WebAssembly module, as wasm-objdump prints them, and the instructions that are known."""
+
+import functools
+import re
+
+from linked import need, run
+from machine import RETURN, Machine, add, left, right
+from rfc9106 import MASK, rotated
+from terms import BITS, Fault, variable
+
+TYPE = re.compile(r' - type\[(\d+)\] \((.*)\) -> \w+')
+SIGNATURE = re.compile(r' - func\[(\d+)\] sig=(\d+)')
+HEAD = re.compile(r'[0-9a-f]+ func\[(\d+)\](?: <.*>)?:')
+LINE = re.compile(r' ([0-9a-f]+):((?: [0-9a-f]{2})+) +\| *(.*)')
+OPENS, LOW = ('block', 'loop'), (1 << 32) - 1
+# The global that is the stack pointer, how much room a function asks for on the stack, and that this is not there.
+STACK_POINTER, LEAST_ROOM, NO_ROOM = '0', 16, variable('the stack has no room')
+
+
+class Module:
+    """The instructions of a module by their places in the file, and so for each function by its number (`bodies`)."""
+    clears = ()
+
+    def __init__(self, path):
+        self.kind, self.path, self.content = Wasm, path, path.read_bytes()
+        lines = run(need('wasm-objdump'), '-x', '-d', path).splitlines()
+        counts = {it[1]: len(it[2].split()) for it in map(TYPE.fullmatch, lines) if it}
+        self.arguments = {it[1]: counts[it[2]] for it in map(SIGNATURE.match, lines) if it}
+        self.bodies, body, at = {}, {}, 0
+        for head, found in ((HEAD.fullmatch(line), LINE.fullmatch(line)) for line in lines):
+            if head:
+                body = self.bodies[head[1]] = {}
+            elif found and found[3]:
+                at, body[at] = int(found[1], 16), (found[3].split(' <')[0], len(found[2].split()))
+            elif found:  # (the rest of the bytes of the instruction before)
+                body[at] = body[at][0], body[at][1] + len(found[2].split())
+        self.instructions = {at: it for body in self.bodies.values() for at, it in led(body)}
+
+    def at(self, address):
+        text, size, to = self.instructions[address]
+        return decode(text, to), size
+
+    @staticmethod
+    def place(address):
+        """Where in the file an instruction is."""
+        return address
+
+    def traps(self, address):
+        """Whether nothing but a trap is where a jump leads."""
+        text, size, _ = self.instructions[address]
+        return self.traps(address + size) if text == 'end' else text == 'unreachable'
+
+    def validate(self):
+        run('wasm-validate', '--enable-memory64', '--enable-threads', self.path)
+
+    def begins(self, function):
+        """The functions that have what only this one has."""
+        return [number for number, body in self.bodies.items()
+                if {*function.only} <= {text for text, _ in body.values()}]
+
+
+def led(body):
+    """The instructions of a function, each with where a jump leads, and the last one with RETURN."""
+    body = {at: it for at, it in body.items() if not it[0].startswith('local[')}
+    begun, targets, jumps, last = [], {}, {}, [*body][-1]
+    for at, (text, _) in body.items():
+        name, *words = text.split()
+        if name in OPENS:
+            begun.append(at)
+        elif name == 'end' and begun:
+            opened = begun.pop()
+            targets[opened] = opened if body[opened][0] == 'loop' else at
+        elif name in ('br', 'br_if') and int(words[0]) < len(begun):
+            jumps[at] = begun[-1 - int(words[0])]
+    for at, (text, size) in body.items():
+        yield at, (text, size, RETURN if at == last else targets.get(jumps.get(at)))
+
+
+class Wasm(Machine):
+    """Of the globals a function may use the stack pointer alone. In a memory of 32 bits addresses are below 2^32, and
+    stay what they are when they are cut to that."""
+    stack_pointer, entries = STACK_POINTER, (0, 16, 32, 48)
+
+    def __init__(self, code, regions, written, entry):
+        super().__init__(code, regions, written, entry)
+        self.local, self.operands, self.frames = {}, [], []
+
+    @staticmethod
+    def fresh(when):
+        return {}
+
+    def enter(self, number, *arguments, flag=None):
+        """Begins a function, which is passed the flag last."""
+        self.frames.append((self.local, self.operands, self.after))
+        self.local, self.operands = dict(enumerate((*arguments, *([] if flag is None else [flag])))), []
+        return next(at for at, (text, _) in self.code.bodies[number].items() if not text.startswith('local['))
+
+    def leave(self):
+        self.local, self.operands, back = self.frames.pop()
+        return back if self.frames else RETURN
+
+    def pop(self):
+        if not self.operands:
+            raise Fault('it has no operand')
+        return self.operands.pop()
+
+    def known_global(self, number):
+        if number != STACK_POINTER:
+            raise Fault(f'it uses the global {number}')
+        return number
+
+    def step(self, name, words):
+        """Most instructions; what they leave, if anything."""
+        match name:
+            case 'local.get':
+                return self.local.get(int(words[0]), 0)
+            case 'local.set' | 'local.tee':
+                self.local[int(words[0])] = word = self.pop()
+                return word if name == 'local.tee' else None
+            case 'global.get':
+                return self.registers[self.known_global(words[0])]
+            case 'global.set':
+                self.registers[self.known_global(words[0])] = self.pop()
+            case 'i64.const' | 'i32.const':
+                return int(words[0]) & MASK
+            case 'i64.load':
+                return self.load(add(self.pop(), int(words[1])), 1)[0]
+            case 'i64.store':
+                word = self.pop()
+                self.store(add(self.pop(), int(words[1])), [word])
+            case 'memory.fill':
+                size, byte, address = self.pop(), self.pop(), self.pop()
+                self.clear(address, byte, size)
+            case 'i32.wrap_i64':
+                word = self.pop()
+                return word if self.find(word) else word & LOW
+            case 'i64.lt_s':
+                return self.has_no_room(self.pop(), self.pop())
+            case 'select':
+                chooses, other, one = self.pop(), self.pop(), self.pop()
+                return one if self.chosen(chooses) else other
+            case 'i64.eqz' | 'i32.eqz':
+                return self.compared(0, self.pop(), 'e')
+            case 'i64.lt_u' | 'i64.gt_u':
+                return self.compared(self.pop(), self.pop(), 'b' if name == 'i64.lt_u' else 'a')
+            case 'unreachable':
+                raise Fault('it traps')
+            case _ if name in BINARY:
+                other = self.pop()
+                return BINARY[name](self, self.pop(), other)
+            case _ if name not in OPENS and name != 'end' or words and name in OPENS:
+                raise Fault(f'the instruction {" ".join([name, *words])} is not known')
+        return None
+
+    def has_no_room(self, least, at):
+        """It is asked before anything else whether the stack has room, which is so."""
+        if least != LEAST_ROOM or (self.find(at) or [''])[0] != 'stack':
+            raise Fault('it compares data')
+        return NO_ROOM
+
+    def compared(self, other, one, condition):
+        self.compare(one, other)
+        return int(self.holds(condition))
+
+    def chosen(self, chooses):
+        if not isinstance(chooses, int):
+            raise Fault('it chooses by data')
+        return chooses
+
+    def jump(self, to):
+        """Whether it jumps, which it would to a trap if the stack had no room."""
+        chooses = self.pop()
+        if chooses is NO_ROOM and self.code.traps(to):
+            return None
+        return to if self.chosen(chooses) else None
+
+
+BINARY = {f'i64.{name}': function for name, function in {
+    'add': lambda _, x, y: add(x, y), 'sub': lambda _, x, y: x - y & MASK, 'mul': lambda _, x, y: x * y & MASK,
+    'xor': lambda _, x, y: x ^ y, 'or': lambda _, x, y: x | y, 'and': Machine.masked,
+    'shl': lambda _, x, count: left(x, count % BITS), 'shr_u': lambda _, x, count: right(x, count % BITS),
+    'rotl': lambda _, x, count: rotated(x, -count % BITS)}.items()}
+
+
+def call(number):
+    def step(machine):
+        arguments = [machine.pop() for _ in range(machine.code.arguments[number])]
+        return machine.enter(number, *arguments[::-1])
+    return step
+
+
+@functools.cache
+def decode(text, to):
+    """The step that an instruction is."""
+    name, *words = text.split()
+    if to is RETURN or name == 'return':
+        return Wasm.leave
+    if name == 'call':
+        return call(words[0])
+    if name in ('br', 'br_if') and to:
+        return (lambda machine: to) if name == 'br' else lambda machine: machine.jump(to)
+
+    def step(machine):
+        left_over = machine.step(name, words)
+        if left_over is not None:
+            machine.operands.append(left_over)
+    return step

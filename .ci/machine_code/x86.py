@@ -1,0 +1,222 @@
+"""The instructions of x86-64 that are known, as objdump prints them in Intel's syntax, with the calling convention of
+System V."""
+
+import functools
+import re
+from itertools import chain
+
+from machine import CONDITIONS, RETURN, WORD, Machine, add, computed, each, half_known, jump_if, left, right
+from rfc9106 import MASK, rotated
+from terms import BITS, Fault, picked, variable
+
+OLD = 'ax', 'bx', 'cx', 'dx', 'si', 'di', 'bp', 'sp'
+# The registers for integers, the names of their lower halves, those for vectors, and sizes in words.
+WHOLE = [f'r{it}' for it in (*OLD, *range(8, 16))]
+LOWER = dict(zip([*(f'e{it}' for it in OLD), *(f'r{it}d' for it in range(8, 16))], WHOLE))
+VECTORS = [f'mm{it}' for it in range(16)]
+SIZES = {'x': 2, 'y': 4, 'QWORD': 1, 'XMMWORD': 2, 'YMMWORD': 4}
+PLACE = re.compile(r'(?:(\w+) PTR )?\[(\w+)(?:\+(\w+)\*(\d))?([+-]0x[0-9a-f]+)?\]')
+PARTS = re.compile(r'(?:[^,\[]|\[[^\]]*\])+')
+LOW, NAMES_OF_LOW = (1 << 32) - 1, {'mov', 'add', 'sub', 'xor', 'cmp', 'test'}
+
+
+class X86(Machine):
+    arguments, stack_pointer, own_of_caller = ('rdi', 'rsi', 'rdx', 'rcx', 'r8'), 'rsp', WORD
+    saved, entries = ('rbx', 'rbp', 'r12', 'r13', 'r14', 'r15'), (8, 24, 40, 56)
+
+    @staticmethod
+    def fresh(when):
+        return {it: variable(f'{when} {it}') for it in WHOLE} | \
+            {it: tuple(variable(f'{when} {it} {at}') for at in range(4)) for it in VECTORS}
+
+    def enter(self, address, *arguments, flag):
+        """Begins a function, which is passed the flag as 32 bits."""
+        self.push(RETURN)
+        self.registers.update(zip(self.arguments, (*arguments, half_known(flag))))
+        return address
+
+    def push(self, word):
+        if word is not RETURN:
+            self.registers['rsp'] -= WORD
+        self.store(self.registers['rsp'], [word])
+
+    def pop(self):
+        word, = self.load(self.registers['rsp'], 1)
+        self.registers['rsp'] += WORD
+        return word
+
+    return_address = pop
+
+
+def register(name, mask):
+    def write(machine, word):
+        machine.registers[name] = word & mask
+    return (lambda machine: machine.registers[name] & mask), write
+
+
+def vector(name, size, keeps_rest):
+    def write(machine, words):
+        machine.registers[name] = (*words, *(machine.registers[name][size:] if keeps_rest else (0,) * (4 - size)))
+    return (lambda machine: machine.registers[name][:size]), write
+
+
+def address(base, index, scale, offset):
+    """What reads the address of a place in memory."""
+    offset = int(offset or '0', 16)
+    if {base, index} - {None, 'rip', *WHOLE}:
+        raise Fault(f'the address over {base} and {index} is not known')
+    return lambda machine: (machine.after if base == 'rip' else machine.registers[base]) + offset + (
+        machine.registers[index] * int(scale) if index else 0) & MASK
+
+
+def memory(size, unit, at):
+    def write(machine, words):
+        machine.store(at(machine), [words] if size == 1 else words, unit)
+    return (lambda machine: machine.load(at(machine), size, unit)[0 if size == 1 else slice(None)]), write
+
+
+def operand(text, mnemonic):
+    """What reads an operand, and what writes it."""
+    if text in WHOLE or text in LOWER and mnemonic in NAMES_OF_LOW:
+        return register(LOWER.get(text, text), LOW if text in LOWER else MASK)
+    if text[1:] in VECTORS and text[0] in SIZES:
+        return vector(text[1:], SIZES[text[0]], not mnemonic.startswith('v'))
+    if re.fullmatch(r'0x[0-9a-f]+|\d', text):
+        return (lambda machine: int(text, 0)), None
+    found = PLACE.fullmatch(text)
+    if not found or mnemonic != 'lea' and found[1] not in SIZES:
+        raise Fault(f'the operand {text} of {mnemonic} is not known')
+    at = address(*found.groups()[1:])
+    if mnemonic == 'lea':
+        return at, None
+    size, is_new = SIZES[found[1]], mnemonic.startswith('v')
+    is_aligned = size > 1 and mnemonic[is_new:] not in UNALIGNED and not (is_new and mnemonic[1:] not in MOVES)
+    return memory(size, WORD * size if is_aligned else WORD, at)
+
+
+def by_lanes(function):
+    """A function of two words each of vectors, and of a number."""
+    def done(*operands):
+        vectors, rest = [it for it in operands if isinstance(it, tuple)], [it for it in operands if isinstance(it, int)]
+        lanes = ([it[at:at + 2] for it in vectors] for at in range(0, len(vectors[0]), 2))
+        return tuple(chain.from_iterable(function(*it, *rest) for it in lanes))
+    return done
+
+
+def places(words, width, count):
+    """The elements of words that are numbers, each of them a place. In the upper half of a vector LLVM counts on."""
+    found = [word >> at & (1 << width) - 1 for word in words if isinstance(word, int) for at in range(0, BITS, width)]
+    if len(found) < len(words) * BITS // width or {it // count for it in found} not in ({0}, {1}):
+        raise Fault('it shuffles by other than places')
+    return tuple(it % count for it in found)
+
+
+def below_size(count):
+    if not 0 < count < BITS:
+        raise Fault(f'it shifts by {count} bits')
+    return count
+
+
+def four_of(order):
+    return tuple(order >> 2 * it & 3 for it in range(4))
+
+
+# What instructions make of the operands that they read. For old ones of vectors the first is the one that is written.
+UNALIGNED = 'movups', 'movupd', 'movdqu'
+MOVES = 'movaps', 'movapd', 'movdqa', *UNALIGNED
+XOR = dict.fromkeys(('pxor', 'xorps', 'xorpd'), each(lambda x, y: x ^ y))
+ONTO = {
+    **XOR, 'paddq': each(add), 'pmuludq': each(lambda x, y: (x & LOW) * (y & LOW)), 'por': each(lambda x, y: x | y),
+    'psrlq': each(right), 'psllq': each(left),
+    'pshufb': by_lanes(lambda words, order: picked(words, places(order, 8, 16), 8)),
+    'palignr': by_lanes(lambda high, low, count: picked((*low, *high), tuple(range(count, count + 16)), 8))}
+FROM = {
+    **dict.fromkeys(MOVES, tuple), 'pshufd': by_lanes(lambda words, order: picked(words, four_of(order), 32)),
+    'vpermq': lambda words, order: picked(words, four_of(order), 64),
+    'vpermd': lambda order, words: picked(words, places(order, 32, 8), 32)}
+VECTOR = FROM | ONTO | {f'v{name}': it for name, it in (FROM | ONTO).items() if name[0] != 'v'}
+PLAIN = {**dict.fromkeys(('mov', 'movabs', 'lea'), lambda x: x), 'rorx': lambda x, count: rotated(x, below_size(count))}
+WITH_FLAGS = {
+    'add': add, 'sub': lambda x, y: x - y & MASK, 'xor': lambda x, y: x ^ y,
+    'shl': lambda x, count: left(x, below_size(count)), 'shr': lambda x, count: right(x, below_size(count)),
+    'shld': lambda x, y, count: left(x, below_size(count)) | right(y, BITS - count)}
+
+
+def without_flags(step):
+    """A step after which nothing is known of the flags."""
+    def done(machine):
+        step(machine)
+        machine.flags = None
+    return done
+
+
+def call(to):
+    def step(machine):
+        machine.push(machine.after)
+        return to(machine)
+    return step
+
+
+def masked(one, other, target):
+    return lambda machine: target(machine, machine.masked(one(machine), other(machine)))
+
+
+def compared(one, other):
+    return lambda machine: machine.compare(one(machine), other(machine))
+
+
+def tested(one, other):
+    return lambda machine: machine.compare(one(machine) & other(machine), 0)
+
+
+def moved_if(condition, source, target):
+    return lambda machine: target(machine, source(machine)) if machine.holds(condition) else None
+
+
+def clear_upper(machine):
+    machine.registers |= {it: (*machine.registers[it][:2], 0, 0) for it in VECTORS}
+
+
+def control(mnemonic, sources, target):
+    """What has operands of its own kind, or none."""
+    match mnemonic, len(sources):
+        case 'cmp', 2:
+            return compared(*sources)
+        case 'test', 2:
+            return tested(*sources)
+        case 'and', 2:
+            return without_flags(masked(*sources, target))
+        case 'push', 1:
+            return lambda machine: machine.push(sources[0](machine))
+        case 'pop', 1:
+            return lambda machine: target(machine, machine.pop())
+        case 'call', 1:
+            return call(sources[0])
+        case 'jmp', 1:
+            return sources[0]
+        case 'ret', 0:
+            return X86.pop
+        case 'vzeroupper', 0:
+            return clear_upper
+    if mnemonic[:1] == 'j' and mnemonic[1:] in CONDITIONS:
+        return jump_if(mnemonic[1:], sources[0])
+    if mnemonic[:4] == 'cmov' and mnemonic[4:] in CONDITIONS:
+        return moved_if(mnemonic[4:], sources[1], target)
+    raise Fault(f'the instruction {mnemonic} of {len(sources)} operands is not known')
+
+
+@functools.cache
+def decode(text):
+    """The step that an instruction is."""
+    mnemonic, _, rest = text.partition(' ')
+    if re.match('(data16 |cs )*(nop|endbr64)', text):
+        return lambda machine: None
+    operands = [operand(it.strip(), mnemonic) for it in PARTS.findall(rest)]
+    sources, target = [read for read, _ in operands], operands[0][1] if operands else None
+    if mnemonic in VECTOR and 'mm' in rest:
+        return computed(VECTOR[mnemonic], sources if mnemonic in ONTO else sources[1:], target)
+    if mnemonic in PLAIN and len(sources) > 1:
+        return computed(PLAIN[mnemonic], sources[1:], target)
+    if mnemonic in WITH_FLAGS and len(sources) > 1:
+        return without_flags(computed(WITH_FLAGS[mnemonic], sources, target))
+    return control(mnemonic, sources, target)
