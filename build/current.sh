@@ -130,6 +130,10 @@ others_of() {
     case $1 in
     wasm32) others='build/link_wasm bindings/wasm/instance.s' ;;
     x86-64-* | armv8-a) others='' ;;
+    portable)
+        others='build/portable bindings/wasm/instance.s bindings/portable/translate.py bindings/portable/module.h
+            bindings/portable/proved_argon2_module.c bindings/c crates/argon2_c/include'
+        ;;
     *)
         others='VERSION build/link build/library.map build/machines.txt bindings/c crates/argon2_c/include
             bindings/libargon2/argon2.h bindings/libargon2/command.c bindings/libargon2/libargon2.c

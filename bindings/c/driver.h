@@ -44,10 +44,13 @@ typedef struct call {
     atomic_bool is_astray; /* a task was run that is not there, or once too often */
 } call;
 
-/* How many bytes the blocks of a job have. */
+/* How many bytes the blocks of a job have: with addresses of 32 bits, where they are more than there are, so many that no
+ * memory has them. */
 static inline size_t bytes_of(const proved_argon2_job *job)
 {
-    return 4 * sizeof(block) * job->lanes * job->segment_length;
+    const uint64_t bytes = (uint64_t)4 * sizeof(block) * job->lanes * job->segment_length;
+    const size_t most = SIZE_MAX / 16 * 15;
+    return bytes < most ? (size_t)bytes : most;
 }
 
 /* (their names in an archive, beside a program's own) */

@@ -194,7 +194,7 @@ static uint32_t tasks_of(const call *it, size_t bytes)
 static uint32_t memory_error(const call *it, size_t bytes)
 {
     const bool is_lent = it->with.memory != NULL;
-    if ((uintptr_t)it->blocks % _Alignof(block) != 0) {
+    if ((uintptr_t)it->blocks % sizeof(uint64_t) != 0) {
         return PROVED_ARGON2_WRONG_BLOCKS;
     }
     return it->blocks == NULL || (is_lent && it->with.memory_len < bytes) ? PROVED_ARGON2_OUT_OF_MEMORY

@@ -1,7 +1,9 @@
 //! Finds `libproved_argon2.a` for the target and links it: in the folder that `PROVED_ARGON2_LIB_DIR` names, in this crate
-//! as `./package` makes it, in the repository's `release/`, or where `pkg-config` says that it was installed.
+//! as `./package` makes it, in the repository's `release/`, or where `pkg-config` says that it was installed. Where
+//! `release/` has none for the target, a C compiler makes it of the library as C.
 
 use std::env;
+use std::fs;
 use std::path::{Path, PathBuf};
 use std::process::{exit, Command};
 
@@ -30,11 +32,20 @@ fn library_folder() -> Result<PathBuf, String> {
             Err(format!("{VARIABLE} is {}, which has no {ARCHIVE}", folder.display()))
         };
     }
-    require_target()?;
     let libraries = here().join("lib");
     if libraries.is_dir() {
+        require_target()?;
         return packaged_folder(&libraries);
     }
+    let found = require_target().and_then(|()| found_folder());
+    match sources_in_c() {
+        Some(sources) if found.is_err() => compiled_folder(&sources),
+        _ => found,
+    }
+}
+
+/// The folder of the archive that the repository keeps, or that is installed.
+fn found_folder() -> Result<PathBuf, String> {
     released_folder().or_else(|reason| {
         installed_folder().ok_or_else(|| {
             format!(
@@ -85,18 +96,80 @@ fn packaged_folder(libraries: &Path) -> Result<PathBuf, String> {
     }
 }
 
-/// The folder of what the repository keeps, where this crate stands in it and no source has changed; or else why not.
+/// The repository, where this crate stands in it.
+fn repository() -> Option<&'static Path> {
+    here().ancestors().nth(2).filter(|root| root.join("build/released").is_file())
+}
+
+/// The folder of what the repository keeps, where no source has changed; or else why not.
 fn released_folder() -> Result<PathBuf, String> {
-    let root = here().ancestors().nth(2).ok_or_else(String::new)?;
-    let (released, folder) = (root.join("build/released"), root.join("release").join(target("ARCH")));
-    if !released.is_file() || !has_archive(&folder) {
+    let root = repository().ok_or_else(String::new)?;
+    let folder = root.join("release").join(target("ARCH"));
+    if !has_archive(&folder) {
         return Err(String::new());
     }
-    let file = format!("{}/{ARCHIVE}", target("ARCH"));
-    match Command::new(released).arg(file).output() {
-        Ok(answer) if answer.status.success() => Ok(folder),
-        Ok(answer) => Err(format!(" ({})", String::from_utf8_lossy(&answer.stderr).trim_end())),
-        Err(error) => Err(format!(" (release/ cannot be compared with its sources: {error})")),
+    require_released(root, &format!("{}/{ARCHIVE}", target("ARCH")))
+        .map_err(|reason| format!(" ({reason})"))?;
+    Ok(folder)
+}
+
+/// Whether a file or a folder of `release/` is of the sources.
+fn require_released(root: &Path, part: &str) -> Result<(), String> {
+    match Command::new(root.join("build/released")).arg(part).output() {
+        Ok(answer) if answer.status.success() => Ok(()),
+        Ok(answer) => Err(String::from_utf8_lossy(&answer.stderr).trim_end().to_string()),
+        Err(error) => Err(format!("release/ cannot be compared with its sources: {error}")),
+    }
+}
+
+/// The library as C, where the target is one for which `release/` has no archive.
+fn sources_in_c() -> Option<PathBuf> {
+    let release = repository()?.join("release");
+    let has_none = require_target().is_err() || !has_archive(&release.join(target("ARCH")));
+    let sources = release.join("portable");
+    (has_none && target("OS") == "linux" && sources.is_dir()).then_some(sources)
+}
+
+/// The folder of the archive that a C compiler makes of the library as C, where that is of the repository's sources.
+fn compiled_folder(sources: &Path) -> Result<PathBuf, String> {
+    let names = names_in(sources)?;
+    require_released(repository().unwrap_or(sources), "portable")?;
+    let folder = PathBuf::from(named("OUT_DIR"));
+    let stems: Vec<_> = names.iter().filter_map(|name| name.strip_suffix(".c")).collect();
+    let c = stems.iter().map(|stem| sources.join(format!("{stem}.c")));
+    let objects = stems.iter().map(|stem| format!("{stem}.o"));
+    run(Command::new(tool("CC", "cc")?).args(["-O2", "-fPIC", "-c"]).args(c).current_dir(&folder))?;
+    run(Command::new(tool("AR", "ar")?).args(["rcs", ARCHIVE]).args(objects).current_dir(&folder))?;
+    println!("cargo:warning=there is no archive for {}: the library as C was compiled", named("TARGET"));
+    println!("cargo:rerun-if-changed={}", sources.display());
+    Ok(folder)
+}
+
+/// The names of the files of a folder.
+fn names_in(folder: &Path) -> Result<Vec<String>, String> {
+    let entries = fs::read_dir(folder).map_err(|error| format!("{}: {error}", folder.display()))?;
+    Ok(entries.flatten().filter_map(|entry| entry.file_name().into_string().ok()).collect())
+}
+
+/// A tool for the target, as cargo's variables name it, or this machine's own.
+fn tool(variable: &str, usual: &str) -> Result<String, String> {
+    let for_target = format!("{variable}_{}", named("TARGET").replace('-', "_"));
+    println!("cargo:rerun-if-env-changed={for_target}");
+    println!("cargo:rerun-if-env-changed={variable}");
+    let own = || (named("HOST") == named("TARGET")).then(|| usual.to_string());
+    env::var(for_target).or_else(|_| env::var(variable)).ok().or_else(own).ok_or_else(|| {
+        format!(
+            "there is no archive for {}: name a compiler and an archiver for it in CC and AR",
+            named("TARGET")
+        )
+    })
+}
+
+fn run(command: &mut Command) -> Result<(), String> {
+    match command.output() {
+        Ok(done) if done.status.success() => Ok(()),
+        Ok(done) => Err(format!("{command:?}: {}", String::from_utf8_lossy(&done.stderr))),
+        Err(error) => Err(format!("{command:?}: {error}")),
     }
 }
 

@@ -41,10 +41,6 @@
 extern "C" {
 #endif
 
-#if SIZE_MAX != UINT64_MAX
-#error "proved_argon2 is built for 64-bit processors"
-#endif
-
 #if defined(__GNUC__)
 #define PROVED_ARGON2_CHECKED __attribute__((warn_unused_result))
 #define PROVED_ARGON2_NONNULL __attribute__((nonnull))

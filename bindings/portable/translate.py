@@ -1,0 +1,186 @@
+"""Translates the proved code from WebAssembly to C, by wabt: every address becomes one of the C program's own memory.
+
+    translate.py MODULE OTHER FILE
+
+wasm2c knows no memory with addresses of 64 bits, and gives a module a memory of its own, into which all would have to
+be copied. So each instruction that loads or stores becomes a call of a function of its name (module.h), and the module
+has no memory any more: wasm2c translates the rest as it is. Constants that are addresses of the module's own data are
+made relative to where these are. To know them, MODULE and OTHER are the same code linked with its data at two
+addresses: the C of both has to be the same.
+"""
+import re
+import subprocess
+import sys
+import tempfile
+from dataclasses import dataclass, field
+
+RED_ZONE = 128  # bytes that a function without calls may use below the stack pointer
+# What calls itself, and how often at most: with half of a length, or with a tenth of a number.
+RECURSIVE = {"$argon2_blocks::blake2b::wipe": 64, "$argon2_text::encoding::placing::put_number": 20}
+ACCESS = re.compile(r"(\s*)((i32|i64)\.(load|store)\w*)(?: offset=(\d+))?(?: align=\d+)?(\)*)")
+BULK = re.compile(r"(\s*)memory\.(copy|fill)(\)*)")
+CONSTANT = re.compile(r"(\s*)i64\.const (\d+)(\)*)")
+DATA = re.compile(r'\s*\(data \S+ \(i64\.const (\d+)\) "(.*)"\)(\)*)')
+FRAME = re.compile(r"global\.get \$__stack_pointer\s+i64\.const (\d+)\s+i64\.sub")
+OF_MEMORY = re.compile(r'\s*\((memory |export "(memory|__heap_base)" |global \(;)')
+STACK_POINTER = "  (global $__stack_pointer (mut i64) (i64.const 0))\n  (global $data (mut i64) (i64.const 0))"
+# What is taken of wasm2c's files: the instance's structure, and the functions of the module.
+STRUCTURE = re.compile(r"^typedef struct Z_proved_instance_t \{.*?^\} Z_proved_instance_t;\n", re.M | re.S)
+DECLARED = re.compile(r"^}\n\n(static \w+ w2c_.*?)^static void init_globals", re.M | re.S)
+DEFINED = re.compile(r"^(static \w+ w2c_\w+\([^;]*?\) \{.*?)^/\* export: ", re.M | re.S)
+BULK_TAKES = {"copy": "i64 i64 i64", "fill": "i64 i32 i64"}
+HEAD = """/* Made by bindings/portable/translate.py: the proved code, by wasm2c of the WebAssembly module. Its functions
+ * have the names that they have in Rattle. */
+"""
+
+
+def output_of(*command):
+    return subprocess.run(command, check=True, stdout=subprocess.PIPE, text=True).stdout
+
+
+@dataclass
+class Module:
+    """A module as text, and what its data are and where."""
+    lines: list
+    base: int = 0
+    data: bytearray = field(default_factory=bytearray)
+
+    def has(self, address):
+        return self.base <= address <= self.base + len(self.data)
+
+
+def unescaped(text):
+    def byte(it):
+        return bytes.fromhex(it[1].decode()) if len(it[1]) == 2 else it[1]
+
+    return re.sub(rb"\\([0-9a-f]{2}|.)", byte, text.encode())
+
+
+def read_module(file):
+    module = Module(output_of("wasm2wat", "--enable-memory64", file).splitlines())
+    for at, content, _ in (it.groups() for it in map(DATA.fullmatch, module.lines) if it):
+        module.base = module.base or int(at)
+        module.data.extend(bytes(int(at) - module.base - len(module.data)) + unescaped(content))
+    if "call_indirect" in "".join(module.lines) or not module.data:
+        raise SystemExit(f"{file}: it calls functions by number, or has no data")
+    return module
+
+
+# ---- each instruction
+
+def constant(module, indent, number, close=""):
+    """A number, or the address of a datum as what it is from where the data are."""
+    if not module.has(number):
+        return [f"{indent}i64.const {number}{close}"]
+    return [f"{indent}{it}" for it in ("global.get $data", f"i64.const {number - module.base}", f"i64.add{close}")]
+
+
+def translated(module, line, used):
+    """The lines in place of one; what is used of memory is added to a table of names and types."""
+    if OF_MEMORY.match(line):
+        return []
+    if "(global $__stack_pointer " in line:
+        return [STACK_POINTER]
+    if it := DATA.fullmatch(line):
+        return [it[3]] if it[3] else []
+    if it := ACCESS.fullmatch(line):
+        indent, name, kind, what, offset, close = it.groups()
+        name = name.replace(".", "_")
+        used[name] = f"(param i64 i64) (result {kind})" if what == "load" else f"(param i64 {kind} i64)"
+        return constant(module, indent, int(offset or 0)) + [f"{indent}call ${name}{close}"]
+    if it := BULK.fullmatch(line):
+        used[it[2]] = f"(param {BULK_TAKES[it[2]]})"
+        return [f"{it[1]}call ${it[2]}{it[3]}"]
+    if it := CONSTANT.fullmatch(line):
+        return constant(module, it[1], int(it[2]), it[3])
+    return [line]
+
+
+def without_memory(module):
+    """The text of a module that calls functions for all that it does with memory."""
+    used = {}
+    lines = [new for line in module.lines for new in translated(module, line, used)]
+    first = next(at for at, line in enumerate(lines) if line.startswith("  (func "))
+    lines[first:first] = [f'  (import "memory" "{it}" (func ${it} {types}))' for it, types in sorted(used.items())]
+    return "\n".join(lines)
+
+
+def deepest_stack(module):
+    """The most bytes of its stack that a call takes, with all that it calls: no function calls itself."""
+    functions = dict(re.findall(r"^  \(func (\S+)(.*?)(?=^  \()", "\n".join(module.lines), re.M | re.S))
+    depths = {}
+
+    def depth_of(name, above):
+        if name in above:
+            raise SystemExit(f"{name} calls itself")
+        if name not in depths:
+            called = set(re.findall(r"\bcall (\$\S+?)\)*$", functions[name], re.M))
+            own = sum(map(int, FRAME.findall(functions[name])))
+            if name in called and (times := RECURSIVE.get(name.split("::<")[0])):
+                called, own = called - {name}, times * own
+            depths[name] = own + max((depth_of(it, above | {name}) for it in called), default=RED_ZONE)
+        return depths[name]
+
+    return max(depth_of(it, frozenset()) for it in functions)
+
+
+# ---- the C
+
+def made_c(module):
+    """What wasm2c makes of a module, without what is there for others."""
+    with tempfile.TemporaryDirectory() as folder:
+        with open(f"{folder}/m.wat", "w", encoding="utf-8") as file:
+            file.write(without_memory(module))
+        output_of("wat2wasm", "--debug-names", f"{folder}/m.wat", "-o", f"{folder}/m.wasm")
+        output_of("wasm2c", f"{folder}/m.wasm", "-n", "proved", "-o", f"{folder}/m.c")
+        with open(f"{folder}/m.h", encoding="utf-8") as header, open(f"{folder}/m.c", encoding="utf-8") as code:
+            structure = STRUCTURE.search(header.read())[0]
+            text = code.read()
+    return structure + "\n" + DECLARED.search(text)[1] + DEFINED.search(text)[1].rstrip()
+
+
+def data_of(module):
+    """The data, where each address among them is what it is from where they are; and where these addresses are."""
+    data, addresses = bytearray(module.data), []
+    for at in range(0, len(data) - 7, 8):
+        address = int.from_bytes(data[at:at + 8], "little")
+        if module.has(address):
+            data[at:at + 8] = (address - module.base).to_bytes(8, "little")
+            addresses.append(at)
+    return data, addresses
+
+
+def numbers(values):
+    words = [str(it) for it in values]
+    return "\n".join("    " + ", ".join(words[at:at + 20]) + "," for at in range(0, len(words), 20))
+
+
+def file_of(module):
+    data, addresses = data_of(module)
+    return f"""{HEAD}
+#define MODULE_STACK {deepest_stack(module)} /* bytes that the deepest call takes */
+
+static const u8 module_data[{len(data)}] = {{
+{numbers(data)}
+}};
+
+/* where an address is among them, from their beginning */
+static const u16 module_addresses[{len(addresses)}] = {{
+{numbers(addresses)}
+}};
+
+{made_c(module)}
+"""
+
+
+def main(first, second, to):
+    modules = [read_module(it) for it in (first, second)]
+    made = {file_of(it) for it in modules}
+    if len(made) != 1 or modules[0].base == modules[1].base:
+        raise SystemExit(f"{first} and {second} are not the same code with its data at two addresses")
+    with open(to, "w", encoding="utf-8") as file:
+        file.write(made.pop())
+
+
+if __name__ == "__main__":
+    main(*sys.argv[1:])
