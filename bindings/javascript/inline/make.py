@@ -2,8 +2,8 @@
 """Makes the package's single files: make.py SOURCES MODULES
 
 Into the folder SOURCES it writes `inline.js`, an ES module, and `inline.cjs`, which is CommonJS. Each has all of the
-package in it: its code, that of the worker, and both WebAssembly modules of the folder MODULES. Each file of the package
-becomes a function, which is called once and returns what the file exports, so that their names stay apart.
+package in it: its code, that of the worker, and both WebAssembly modules of the folder MODULES. Each file of the
+package becomes a function, which is called once and returns what the file exports, so that their names stay apart.
 """
 import base64
 import json
