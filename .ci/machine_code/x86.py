@@ -129,9 +129,14 @@ ONTO = {
     **XOR, 'paddq': each(add), 'pmuludq': each(lambda x, y: (x & LOW) * (y & LOW)), 'por': each(lambda x, y: x | y),
     'psrlq': each(right), 'psllq': each(left),
     'pshufb': by_lanes(lambda words, order: picked(words, places(order, 8, 16), 8)),
-    'palignr': by_lanes(lambda high, low, count: picked((*low, *high), tuple(range(count, count + 16)), 8))}
+    'palignr': by_lanes(lambda high, low, count: picked((*low, *high), tuple(range(count, count + 16)), 8)),
+    'punpcklqdq': by_lanes(lambda one, other: (one[0], other[0])),
+    'punpckhqdq': by_lanes(lambda one, other: (one[1], other[1]))}
 FROM = {
     **dict.fromkeys(MOVES, tuple), 'pshufd': by_lanes(lambda words, order: picked(words, four_of(order), 32)),
+    'movq': lambda word: ((word[0] if isinstance(word, tuple) else word), 0),
+    'vinserti128': lambda words, other, upper: (*words[:2], *other) if upper else (*other, *words[2:]),
+    'vextracti128': lambda words, upper: words[2:] if upper else words[:2],
     'vpermq': lambda words, order: picked(words, four_of(order), 64),
     'vpermd': lambda order, words: picked(words, places(order, 32, 8), 32)}
 VECTOR = FROM | ONTO | {f'v{name}': it for name, it in (FROM | ONTO).items() if name[0] != 'v'}
@@ -211,9 +216,10 @@ def decode(text):
     mnemonic, _, rest = text.partition(' ')
     if re.match('(data16 |cs )*(nop|endbr64)', text):
         return lambda machine: None
-    operands = [operand(it.strip(), mnemonic) for it in PARTS.findall(rest)]
+    words = [it.strip() for it in PARTS.findall(rest)]
+    operands = [operand(it, mnemonic) for it in words]
     sources, target = [read for read, _ in operands], operands[0][1] if operands else None
-    if mnemonic in VECTOR and 'mm' in rest:
+    if mnemonic in VECTOR and any(it[1:] in VECTORS for it in (words if mnemonic.strip('v') in MOVES else words[:1])):
         return computed(VECTOR[mnemonic], sources if mnemonic in ONTO else sources[1:], target)
     if mnemonic in PLAIN and len(sources) > 1:
         return computed(PLAIN[mnemonic], sources[1:], target)
