@@ -18,8 +18,8 @@ SECTION = re.compile(r' *\d+ \S+ +([0-9a-f]+)  ([0-9a-f]+)  [0-9a-f]+  ([0-9a-f]
 LABEL = re.compile(r'([0-9a-f]+) <(.*)>:')
 LINE = re.compile(r' *([0-9a-f]+):\t([0-9a-f ]+?) *\t(.*?)(?:\s*(?:# |//).*)?')
 TARGET = re.compile(r'([0-9a-f]+) <.*')  # (of a jump)
-# Where memset is in what is linked here of objects, which have no C library.
-OUTSIDE, CLEARS = 16, ('memset', 'memset@plt')
+# Where memset is in what is linked here of objects, which have no C library; its names elsewhere (build/link).
+OUTSIDE, CLEARS = 16, ('memset', 'memset@plt', 'proved_driver_memset')
 
 
 class Missing(Exception):
