@@ -1,0 +1,609 @@
+/* A call of the driver in every way in which it can go, each in a run of its own. The driver is as it is compiled. In
+ * place of the system (platform.h), of the heap, of the proved calls, of a caller's pool and of his progress callback
+ * stands what is here: it chooses what happens, and watches what the driver does. Each choice is made in all its ways,
+ * depth first.
+ *
+ *     every_way LANES THREADS PASSES EARLY    prints how many runs there were, or the first fault with its choices
+ *
+ * Threads are run one at a time: whenever all have met, those before the caller's and behind it are chosen, and EARLY is
+ * how often one is before it at most. */
+#define _GNU_SOURCE
+#define PROVED_ARGON2_NULL_H /* (the driver's calls are those here) */
+#define PROVED_ARGON2_PASSWORD_H
+#include "driver.h"
+#include <errno.h>
+#include <sanitizer/asan_interface.h>
+#include <sanitizer/common_interface_defs.h>
+#include <stdio.h>
+#include <stdlib.h>
+#include <string.h>
+#include <ucontext.h>
+
+enum { MOST_CHOICES = 512, MOST_THREADS = 3, MOST_TAKEN = 4, TAG = 4, ERROR_BEFORE = 77, KIB = 1024, KINDS = 32 };
+
+/* ---- what is asked */
+
+static struct {
+    uint32_t lanes, threads, passes, early, segment;
+    bool is_large, is_lent, is_verdict, is_told, has_pool;
+} asked;
+
+/* ---- choices */
+
+static struct {
+    unsigned way, ways;
+} choices[MOST_CHOICES];
+static size_t depth, known;
+
+/* Takes one of some ways: the first, and in later runs each other one. */
+static unsigned choose(unsigned ways)
+{
+    if (depth == known) {
+        choices[known].way = 0;
+        choices[known++].ways = ways;
+    }
+    return choices[depth++].way;
+}
+
+/* Goes to the next way of the last choice that has one, if any has. */
+static bool has_another_run(void)
+{
+    known = depth;
+    depth = 0;
+    while (known > 0 && ++choices[known - 1].way == choices[known - 1].ways) {
+        known--;
+    }
+    return known > 0;
+}
+
+static void must(bool holds, const char *what)
+{
+    if (!holds) {
+        printf("fault: %s;%s%s%s%s%s, at", what, asked.is_large ? " large" : "", asked.is_lent ? " lent" : "",
+               asked.is_verdict ? " verdict" : "", asked.is_told ? " told" : "", asked.has_pool ? " pool" : "");
+        for (size_t i = 0; i < depth; i++) {
+            printf(" %u", choices[i].way);
+        }
+        puts("");
+        exit(1);
+    }
+}
+
+/* ---- what a run has come to */
+
+static proved_argon2_job job;
+static _Alignas(64) block arena[4096 + 8]; /* for the blocks, of which the first of each segment is written */
+
+enum kind { LINES, PAGES, BYTES, WORKERS };
+
+static struct run {
+    uint32_t code;            /* how the call is to end: nothing fails behind the first failure */
+    uint32_t begun, filled;   /* lanes, a bit for each */
+    uint64_t stage, told;     /* slices that are filled, or are being filled, and those that were told */
+    bool is_finished, is_dirty, is_forked, is_kept, is_pool_wrong;
+    uint32_t early;           /* how often a thread went on before the caller's */
+    size_t there;             /* bytes that were populated */
+    struct {
+        void *at;
+        size_t len;
+        enum kind kind;
+        bool is_live;
+    } taken[MOST_TAKEN];
+    size_t count;
+} run;
+
+static uint32_t all_lanes(void)
+{
+    return (1u << asked.lanes) - 1;
+}
+
+static size_t slice_len(void)
+{
+    return (size_t)asked.lanes * asked.segment;
+}
+
+static size_t arena_len(void)
+{
+    return 4 * slice_len() * sizeof(block);
+}
+
+/* Whether something fails here: at most one thing does in a run. */
+static bool fails(uint32_t code)
+{
+    if (run.code != PROVED_ARGON2_OK || run.is_pool_wrong || choose(2) == 0) {
+        return false;
+    }
+    run.code = code;
+    return true;
+}
+
+/* ---- threads, of which one runs at a time */
+
+static struct thread {
+    ucontext_t context;
+    void *fake;
+    enum { READY, WAITING, DONE } state;
+    _Alignas(16) char stack[1 << 16];
+} threads[MOST_THREADS];
+
+struct team {
+    uint32_t members;
+};
+
+static team one_team;
+static bool is_team;
+static uint32_t current, order[MOST_THREADS], phase;
+static void (*member_runs)(void *arg, team *own, uint32_t number);
+static void *member_arg;
+
+/* (the first thread is the caller's, over the stack of this process) */
+static const void *bottom_of_caller;
+static size_t size_of_caller;
+
+static void switch_to(uint32_t next)
+{
+    struct thread *const before = &threads[current];
+    if (next == current) {
+        return;
+    }
+    current = next;
+    __sanitizer_start_switch_fiber(before->state == DONE ? NULL : &before->fake,
+        next == 0 ? bottom_of_caller : threads[next].stack, next == 0 ? size_of_caller : sizeof threads[next].stack);
+    swapcontext(&before->context, &threads[next].context);
+    __sanitizer_finish_switch_fiber(before->fake, NULL, NULL);
+}
+
+/* The first in order that can go on. */
+static uint32_t next_ready(void)
+{
+    for (uint32_t i = 0; i <= one_team.members; i++) {
+        if (threads[order[i]].state == READY) {
+            return order[i];
+        }
+    }
+    must(false, "some thread can go on");
+    return 0;
+}
+
+static bool is_early(void)
+{
+    const bool is = run.early < asked.early && choose(2) == 1;
+    run.early += is;
+    return is;
+}
+
+/* All can go on: some before the caller's, and the others behind it. Where all but the caller's have nothing to do than
+ * to meet again, they are on one side. */
+static void release(void)
+{
+    const bool have_work = phase++ % 2 == 1;
+    uint32_t at = 0, late = 0, behind[MOST_THREADS];
+    const bool are_early = !have_work && is_early();
+    for (uint32_t i = 1; i <= one_team.members; i++) {
+        *((have_work ? is_early() : are_early) ? &order[at++] : &behind[late++]) = i;
+        threads[i].state = READY;
+    }
+    threads[0].state = READY;
+    order[at++] = 0;
+    memcpy(order + at, behind, late * sizeof *behind);
+}
+
+static void run_member(void)
+{
+    __sanitizer_finish_switch_fiber(NULL, bottom_of_caller == NULL ? &bottom_of_caller : NULL,
+                                    size_of_caller == 0 ? &size_of_caller : NULL);
+    member_runs(member_arg, &one_team, current);
+    threads[current].state = DONE;
+    switch_to(next_ready());
+}
+
+static void begin_member(uint32_t number)
+{
+    struct thread *const it = &threads[number];
+    __asan_unpoison_memory_region(it->stack, sizeof it->stack);
+    getcontext(&it->context);
+    it->context.uc_stack = (stack_t){.ss_sp = it->stack, .ss_size = sizeof it->stack};
+    makecontext(&it->context, run_member, 0);
+}
+
+team *start_team(uint32_t count, void (*runs)(void *arg, team *own, uint32_t number), void *arg)
+{
+    must(!is_team && count < asked.threads && count < asked.lanes, "one team, of as many as there may be");
+    const uint32_t granted = choose(count + 2);
+    if (granted == count + 1) {
+        return NULL;
+    }
+    is_team = true;
+    one_team.members = granted;
+    member_runs = runs;
+    member_arg = arg;
+    phase = 0;
+    for (uint32_t i = 1; i <= granted; i++) {
+        begin_member(i);
+    }
+    release();
+    switch_to(next_ready());
+    return &one_team;
+}
+
+uint32_t members(const team *own)
+{
+    return own == NULL || run.is_forked ? 0 : own->members;
+}
+
+void meet(team *own)
+{
+    if (own == NULL || run.is_forked) {
+        return;
+    }
+    bool are_all_here = true;
+    threads[current].state = WAITING;
+    for (uint32_t i = 0; i <= own->members; i++) {
+        are_all_here = are_all_here && threads[i].state == WAITING;
+    }
+    if (are_all_here) {
+        release();
+    }
+    switch_to(next_ready());
+}
+
+void end_team(team *own)
+{
+    bool are_done = true;
+    must(own == NULL || is_team, "a team ends once");
+    must(current == 0, "the caller's thread ends it");
+    is_team = false;
+    if (own == NULL || run.is_forked) {
+        return;
+    }
+    threads[0].state = WAITING; /* for each of them */
+    for (uint32_t i = 1; i <= own->members; i++) {
+        while (threads[i].state != DONE) {
+            must(threads[i].state == READY, "a thread that is joined ends");
+            threads[0].state = READY;
+            switch_to(i);
+        }
+        are_done = are_done && threads[i].state == DONE;
+    }
+    must(are_done, "all threads are joined");
+}
+
+/* ---- the rest of the system */
+
+caller keep_caller(void)
+{
+    run.is_kept = true;
+    return (caller){.error = errno, .cancel = 5};
+}
+
+void restore_caller(caller kept)
+{
+    must(kept.cancel == 5, "what was kept of the caller is restored");
+    errno = kept.error;
+}
+
+static void *take(void *at, size_t len, enum kind kind)
+{
+    must(run.count < MOST_TAKEN, "few things are taken");
+    run.taken[run.count].at = at;
+    run.taken[run.count].len = len;
+    run.taken[run.count].kind = kind;
+    run.taken[run.count++].is_live = true;
+    return at;
+}
+
+static size_t give_back(void *at, enum kind kind)
+{
+    for (size_t i = 0; i < run.count; i++) {
+        if (run.taken[i].at == at && run.taken[i].kind == kind && run.taken[i].is_live) {
+            run.taken[i].is_live = false;
+            return run.taken[i].len;
+        }
+    }
+    must(false, "what is given back was taken, and so");
+    return 0;
+}
+
+void *take_lines(size_t bytes)
+{
+    must(!asked.is_large && !asked.is_lent && bytes == arena_len(), "a little memory is the heap's");
+    return fails(PROVED_ARGON2_OUT_OF_MEMORY) ? NULL : take(arena, bytes, LINES);
+}
+
+void free_lines(void *lines)
+{
+    give_back(lines, LINES);
+    must(!run.is_dirty, "blocks are cleared before they are freed");
+}
+
+void *map_pages(size_t bytes)
+{
+    must(asked.is_large && !asked.is_lent && bytes == arena_len(), "much memory is mapped");
+    return fails(PROVED_ARGON2_OUT_OF_MEMORY) ? NULL : take(arena, bytes, PAGES);
+}
+
+void unmap_pages(void *pages, size_t bytes)
+{
+    must(give_back(pages, PAGES) == bytes, "all pages are unmapped");
+    run.is_dirty = false;
+}
+
+bool populate_pages(void *pages, size_t bytes)
+{
+    const size_t from = (size_t)((char *)pages - (char *)arena);
+    must(!asked.is_lent && asked.is_large && bytes != 0 && from + bytes <= arena_len(), "pages of the call's own");
+    run.there += bytes;
+    return !fails(PROVED_ARGON2_OUT_OF_MEMORY);
+}
+
+void overwrite(void *bytes, size_t len)
+{
+    if (bytes == arena && len == arena_len()) {
+        run.is_dirty = false;
+    } else if (bytes != arena) {
+        memset(bytes, 0, len);
+        __asm__ volatile("" : : "r"(bytes) : "memory");
+    }
+}
+
+void *__real_malloc(size_t len);
+void *__wrap_malloc(size_t len);
+void *__real_calloc(size_t count, size_t len);
+void *__wrap_calloc(size_t count, size_t len);
+void __real_free(void *at);
+void __wrap_free(void *at);
+
+void *__wrap_malloc(size_t len)
+{
+    return fails(PROVED_ARGON2_OUT_OF_MEMORY) ? NULL : take(memset(__real_malloc(len), 0xA5, len), len, BYTES);
+}
+
+void *__wrap_calloc(size_t count, size_t len)
+{
+    return fails(PROVED_ARGON2_OUT_OF_MEMORY) ? NULL : take(__real_calloc(count, len), count * len, WORKERS);
+}
+
+/* (workers are freed before bytes are) */
+void __wrap_free(void *at)
+{
+    const bool are_workers = run.taken[run.count - 1].kind == WORKERS && run.taken[run.count - 1].is_live;
+    const size_t len = give_back(at, are_workers ? WORKERS : BYTES);
+    for (size_t i = 0; !are_workers && i < len; i++) {
+        must(((const unsigned char *)at)[i] == 0, "bytes are cleared before they are freed");
+    }
+    __real_free(at);
+}
+
+/* ---- the proved calls, which watch in which order they are made */
+
+#define SLICE(number) (arena + (number) * slice_len())
+
+static void look_at_job(const proved_argon2_job *it)
+{
+    must(memcmp(it, &job, sizeof job) == 0, "a step of this job");
+    must(run.code == PROVED_ARGON2_OK, "no step behind a failure");
+}
+
+/* A step for a lane, which none has taken yet. */
+static void look_at_lane(uint32_t *lanes, uint32_t lane, uint32_t slice, block *own, size_t own_len)
+{
+    must(lane < asked.lanes && (*lanes >> lane & 1) == 0, "a lane that there is, once in a step");
+    must(own == SLICE(slice) + lane * asked.segment && own_len == asked.segment, "a lane's own segment");
+    *lanes |= 1u << lane;
+    run.is_dirty = true;
+    own->words[0] = 1;
+}
+
+uint32_t proved_argon2_job_begin(const proved_argon2_job *it, uint32_t lane, block *own, size_t own_len)
+{
+    if (run.code != PROVED_ARGON2_OK) {
+        return PROVED_ARGON2_OK; /* (what other threads do behind a failure is nobody's) */
+    }
+    look_at_job(it);
+    must(run.stage == 0, "first blocks come first");
+    look_at_lane(&run.begun, lane, 0, own, own_len);
+    return fails(PROVED_ARGON2_NO_JOB) ? PROVED_ARGON2_NO_JOB : PROVED_ARGON2_OK;
+}
+
+uint32_t proved_argon2_job_fill(const proved_argon2_job *it, uint32_t pass, uint32_t slice, uint32_t lane,
+    const block *first, size_t first_len, const block *second, size_t second_len, const block *third, size_t third_len,
+    block *own, size_t own_len)
+{
+    const size_t len = slice_len();
+    if (run.code != PROVED_ARGON2_OK) {
+        return PROVED_ARGON2_OK;
+    }
+    look_at_job(it);
+    if (run.stage == 0 || run.filled == all_lanes()) {
+        must(run.begun == all_lanes(), "a slice begins once the step before it is done");
+        run.stage++;
+        run.filled = 0;
+    }
+    must(4 * (uint64_t)pass + slice + 1 == run.stage && slice < 4 && pass < asked.passes, "slices in their order");
+    must(first_len == len && second_len == len && third_len == len, "whole slices");
+    must(first == SLICE(slice == 0) && second == SLICE(slice <= 1 ? 2 : 1) && third == SLICE(slice <= 2 ? 3 : 2),
+         "the other three slices in rising order");
+    look_at_lane(&run.filled, lane, slice, own, own_len);
+    return fails(PROVED_ARGON2_NO_PLACE) ? PROVED_ARGON2_NO_PLACE : PROVED_ARGON2_OK;
+}
+
+static uint32_t finish(bool has_tag, uint8_t *tag, size_t len, uint32_t failure)
+{
+    must(len == TAG && has_tag && !run.is_finished && current == 0, "a tag of its length, once");
+    run.is_finished = true;
+    if (fails(failure)) {
+        return failure;
+    }
+    memset(tag, 3, len);
+    return PROVED_ARGON2_OK;
+}
+
+static bool is_filled(const block *last, size_t last_len)
+{
+    return run.stage == 4 * (uint64_t)asked.passes && run.filled == all_lanes() && last == SLICE(3)
+        && last_len == slice_len();
+}
+
+uint32_t proved_argon2_job_finish(
+    const proved_argon2_job *it, const block *last, size_t last_len, uint8_t *out, size_t out_len)
+{
+    look_at_job(it);
+    return finish(!asked.is_verdict && is_filled(last, last_len), out, out_len, PROVED_ARGON2_WRONG_LENGTH);
+}
+
+static const uint8_t hash[TAG] = {1, 2, 3, 4};
+
+uint32_t proved_argon2_job_verify(const proved_argon2_job *it, const block *last, size_t last_len,
+    const uint8_t *verified, size_t verified_len, uint8_t *tag, size_t tag_len)
+{
+    look_at_job(it);
+    must(verified == hash && verified_len == TAG, "the hash that is verified");
+    return finish(asked.is_verdict && is_filled(last, last_len), tag, tag_len, PROVED_ARGON2_MISMATCH);
+}
+
+static bool is_whole(const block *blocks, size_t blocks_len)
+{
+    run.is_dirty = true;
+    return run.begun == 0 && blocks == arena && blocks_len == 4 * slice_len();
+}
+
+uint32_t proved_argon2_job_hash_over(
+    const proved_argon2_job *it, block *blocks, size_t blocks_len, uint8_t *out, size_t out_len)
+{
+    look_at_job(it);
+    return finish(!asked.is_verdict && is_whole(blocks, blocks_len), out, out_len, PROVED_ARGON2_WRONG_LENGTH);
+}
+
+uint32_t proved_argon2_job_verify_over(const proved_argon2_job *it, block *blocks, size_t blocks_len,
+    const uint8_t *verified, size_t verified_len, uint8_t *tag, size_t tag_len)
+{
+    look_at_job(it);
+    must(verified == hash && verified_len == TAG, "the hash that is verified");
+    return finish(asked.is_verdict && is_whole(blocks, blocks_len), tag, tag_len, PROVED_ARGON2_MISMATCH);
+}
+
+/* ---- the caller's callbacks */
+
+/* Goes on, stops, or goes on in a child that was forked here, where there are no other threads. */
+static int tell(void *arg, uint64_t done, uint64_t all)
+{
+    must(arg == &asked && run.code == PROVED_ARGON2_OK && done == ++run.told && all == 4 * (uint64_t)asked.passes,
+         "each slice is told once");
+    must(run.filled == all_lanes() && run.stage == done && current == 0, "it is filled then");
+    errno = 5;
+    if (fails(PROVED_ARGON2_STOPPED)) {
+        return -1;
+    }
+    run.is_forked = run.is_forked || (is_team && choose(2) == 1);
+    return 0;
+}
+
+/* Runs the tasks in rising or in falling order. Or it is wrong: one of them is left out, run twice or not there, or it
+ * refuses behind them. */
+static int run_tasks(void *pool, uint32_t tasks, void (*task)(void *arg, uint32_t i), void *arg)
+{
+    enum { FALLING = 1, LEAVES_OUT, REPEATS, EXCEEDS, REFUSES, WAYS };
+    must(pool == &job && run.code == PROVED_ARGON2_OK, "the pool, and not behind a failure");
+    must(tasks == (asked.threads < asked.lanes ? asked.threads : asked.lanes), "as many tasks as there may be");
+    const unsigned way = choose(WAYS), which = way == LEAVES_OUT || way == REPEATS ? choose(tasks) : 0;
+    run.is_pool_wrong = way >= LEAVES_OUT;
+    for (uint32_t i = 0; i < tasks; i++) {
+        const uint32_t next = way == FALLING ? tasks - 1 - i : i;
+        if (way != LEAVES_OUT || next != which) {
+            task(arg, next);
+        }
+    }
+    if (way == REPEATS || way == EXCEEDS) {
+        task(arg, way == REPEATS ? which : tasks);
+    }
+    run.code = run.is_pool_wrong ? PROVED_ARGON2_WORKER_REFUSED : run.code;
+    return way == REFUSES ? 1 : 0;
+}
+
+/* ---- a run */
+
+static uint32_t make_call(uint8_t *tag)
+{
+    call it;
+    options with = PROVED_ARGON2_OPTIONS;
+    with.threads = asked.threads;
+    with.memory = asked.is_lent ? arena : NULL;
+    with.memory_len = asked.is_lent ? arena_len() : 0;
+    with.run = asked.has_pool ? run_tasks : NULL;
+    with.pool = &job;
+    with.tell = asked.is_told ? tell : NULL;
+    with.arg = &asked;
+    uint32_t code = begin_call(&it, &with, false);
+    it.job = job;
+    if (!asked.is_verdict) {
+        code = compute(&it, NULL, tag);
+    } else if ((code = take_bytes(&it, TAG)) == PROVED_ARGON2_OK) {
+        code = compute(&it, hash, it.bytes);
+    }
+    code = end_call(&it, code);
+    for (size_t i = 0; i < sizeof it; i++) {
+        must(((const unsigned char *)&it)[i] == 0, "the call is cleared");
+    }
+    return code;
+}
+
+static void look_at_end(uint32_t code, const uint8_t *tag)
+{
+    const bool is_written = code == PROVED_ARGON2_OK && !asked.is_verdict;
+    must(code == run.code, "the call returns what failed first");
+    must(run.is_finished || code != PROVED_ARGON2_OK, "a result is one of a proved call");
+    must(!asked.is_told || code != PROVED_ARGON2_OK || run.told == 4 * (uint64_t)asked.passes, "each slice is told");
+    must(tag[0] == (is_written ? 3 : 9) && tag[TAG - 1] == tag[0], "a tag is written, or nothing");
+    must(!run.is_dirty, "the blocks are cleared");
+    must(errno == ERROR_BEFORE && run.is_kept && !is_team && current == 0, "the caller's thread is as it was");
+    must(code != PROVED_ARGON2_OK || asked.is_lent || !asked.is_large || run.there == arena_len(), "all pages came");
+    for (size_t i = 0; i < run.count; i++) {
+        must(!run.taken[i].is_live, "what was taken is given back");
+    }
+}
+
+static uint64_t run_all(void)
+{
+    uint64_t runs = 0;
+    do {
+        uint8_t tag[TAG] = {9, 9, 9, 9};
+        run = (struct run){0};
+        is_team = false;
+        one_team.members = 0;
+        errno = ERROR_BEFORE;
+        const uint32_t code = make_call(tag);
+        look_at_end(code, tag);
+        runs++;
+    } while (has_another_run());
+    return runs;
+}
+
+/* A kind of call: large or not, over lent memory or its own, a verdict or a hash, told or not, by a pool or not. */
+static uint64_t run_kind(unsigned kind)
+{
+    asked.is_large = kind & 1;
+    asked.is_lent = kind >> 1 & 1;
+    asked.is_verdict = kind >> 2 & 1;
+    asked.is_told = kind >> 3 & 1;
+    asked.has_pool = kind >> 4 & 1;
+    asked.segment = asked.is_large ? (KIB + asked.lanes - 1) / asked.lanes : 2;
+    job = (proved_argon2_job){{1}, PROVED_ARGON2_ID, 0x13, asked.lanes, asked.segment, asked.passes, TAG};
+    return run_all();
+}
+
+int main(int count, char **words)
+{
+    uint64_t runs = 0;
+    if (count != 5) {
+        return 2;
+    }
+    asked.lanes = (uint32_t)atoi(words[1]);
+    asked.threads = (uint32_t)atoi(words[2]);
+    asked.passes = (uint32_t)atoi(words[3]);
+    asked.early = (uint32_t)atoi(words[4]);
+    for (unsigned kind = 0; kind < KINDS; kind++) {
+        runs += run_kind(kind);
+    }
+    printf("%llu runs\n", (unsigned long long)runs);
+    return 0;
+}
