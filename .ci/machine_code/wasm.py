@@ -92,7 +92,8 @@ class Wasm(Machine):
     def enter(self, number, *arguments, flag=None):
         """Begins a function, which is passed the flag last."""
         self.frames.append((self.local, self.operands, self.after))
-        self.local, self.operands = dict(enumerate((*arguments, *([] if flag is None else [flag])))), []
+        given = (*arguments, *([] if flag is None else [flag]))
+        self.local, self.operands = {str(index): it for index, it in enumerate(given)}, []
         return next(at for at, (text, _) in self.code.bodies[number].items() if not text.startswith('local['))
 
     def leave(self):
@@ -104,23 +105,14 @@ class Wasm(Machine):
             raise Fault('it has no operand')
         return self.operands.pop()
 
-    def known_global(self, number):
-        if number != STACK_POINTER:
-            raise Fault(f'it uses the global {number}')
-        return number
-
     def step(self, name, words):
-        """Most instructions; what they leave, if anything."""
+        """What an instruction leaves, if anything, but for those that jump."""
+        if name in BINARY:
+            other = self.pop()
+            return BINARY[name](self, self.pop(), other)
+        if name.partition('.')[0] in ('local', 'global'):
+            return self.move(name, words[0])
         match name:
-            case 'local.get':
-                return self.local.get(int(words[0]), 0)
-            case 'local.set' | 'local.tee':
-                self.local[int(words[0])] = word = self.pop()
-                return word if name == 'local.tee' else None
-            case 'global.get':
-                return self.registers[self.known_global(words[0])]
-            case 'global.set':
-                self.registers[self.known_global(words[0])] = self.pop()
             case 'i64.const' | 'i32.const':
                 return int(words[0]) & MASK
             case 'i64.load':
@@ -134,22 +126,31 @@ class Wasm(Machine):
             case 'i32.wrap_i64':
                 word = self.pop()
                 return word if self.find(word) else word & LOW
-            case 'i64.lt_s':
-                return self.has_no_room(self.pop(), self.pop())
             case 'select':
                 chooses, other, one = self.pop(), self.pop(), self.pop()
                 return one if self.chosen(chooses) else other
             case 'i64.eqz' | 'i32.eqz':
                 return self.compared(0, self.pop(), 'e')
-            case 'i64.lt_u' | 'i64.gt_u':
-                return self.compared(self.pop(), self.pop(), 'b' if name == 'i64.lt_u' else 'a')
             case 'unreachable':
                 raise Fault('it traps')
-            case _ if name in BINARY:
-                other = self.pop()
-                return BINARY[name](self, self.pop(), other)
-            case _ if name not in OPENS and name != 'end' or words and name in OPENS:
+            case _ if name not in (*OPENS, 'end') or words:
                 raise Fault(f'the instruction {" ".join([name, *words])} is not known')
+        return None
+
+    def move(self, name, number):
+        """What a variable has, or what is written to it."""
+        if name.startswith('global') and number != STACK_POINTER:
+            raise Fault(f'it uses the global {number}')
+        match name:
+            case 'local.get':
+                return self.local.get(number, 0)
+            case 'global.get':
+                return self.registers[number]
+            case 'global.set':
+                self.registers[number] = self.pop()
+            case _:
+                self.local[number] = word = self.pop()
+                return word if name == 'local.tee' else None
         return None
 
     def has_no_room(self, least, at):
@@ -179,7 +180,9 @@ BINARY = {f'i64.{name}': function for name, function in {
     'add': lambda _, x, y: add(x, y), 'sub': lambda _, x, y: x - y & MASK, 'mul': lambda _, x, y: x * y & MASK,
     'xor': lambda _, x, y: x ^ y, 'or': lambda _, x, y: x | y, 'and': Machine.masked,
     'shl': lambda _, x, count: left(x, count % BITS), 'shr_u': lambda _, x, count: right(x, count % BITS),
-    'rotl': lambda _, x, count: rotated(x, -count % BITS)}.items()}
+    'rotl': lambda _, x, count: rotated(x, -count % BITS), 'lt_s': lambda machine, x, y: machine.has_no_room(y, x),
+    'lt_u': lambda machine, x, y: machine.compared(y, x, 'b'),
+    'gt_u': lambda machine, x, y: machine.compared(y, x, 'a')}.items()}
 
 
 def call(number):

@@ -162,22 +162,6 @@ def call(to):
     return step
 
 
-def masked(one, other, target):
-    return lambda machine: target(machine, machine.masked(one(machine), other(machine)))
-
-
-def compared(one, other):
-    return lambda machine: machine.compare(one(machine), other(machine))
-
-
-def tested(one, other):
-    return lambda machine: machine.compare(one(machine) & other(machine), 0)
-
-
-def moved_if(condition, source, target):
-    return lambda machine: target(machine, source(machine)) if machine.holds(condition) else None
-
-
 def clear_upper(machine):
     machine.registers |= {it: (*machine.registers[it][:2], 0, 0) for it in VECTORS}
 
@@ -186,11 +170,11 @@ def control(mnemonic, sources, target):
     """What has operands of its own kind, or none."""
     match mnemonic, len(sources):
         case 'cmp', 2:
-            return compared(*sources)
+            return lambda machine: machine.compare(*(it(machine) for it in sources))
         case 'test', 2:
-            return tested(*sources)
+            return lambda machine: machine.compare(sources[0](machine) & sources[1](machine), 0)
         case 'and', 2:
-            return without_flags(masked(*sources, target))
+            return without_flags(lambda machine: target(machine, machine.masked(*(it(machine) for it in sources))))
         case 'push', 1:
             return lambda machine: machine.push(sources[0](machine))
         case 'pop', 1:
@@ -206,7 +190,7 @@ def control(mnemonic, sources, target):
     if mnemonic[:1] == 'j' and mnemonic[1:] in CONDITIONS:
         return jump_if(mnemonic[1:], sources[0])
     if mnemonic[:4] == 'cmov' and mnemonic[4:] in CONDITIONS:
-        return moved_if(mnemonic[4:], sources[1], target)
+        return lambda machine: target(machine, sources[1](machine)) if machine.holds(mnemonic[4:]) else None
     raise Fault(f'the instruction {mnemonic} of {len(sources)} operands is not known')
 
 
