@@ -307,5 +307,31 @@ class KeepMemory(unittest.TestCase):
         self.assertEqual(len(set(texts)), 64)
 
 
+def resident():
+    """The bytes that are there of this process, as the system counts them when it looks at each page."""
+    sums = Path("/proc/self/smaps_rollup").read_text(encoding="ascii")
+    return next(int(line.split()[1]) for line in sums.splitlines() if line.startswith("Rss:")) << 10
+
+
+class WhatAHashTakes(unittest.TestCase):
+    """The memory of its settings and little more, at sizes around multiples of a huge page and those of presets."""
+
+    sizes = (2048, 2064, 3072, 4080, 4096, 4112, 6128, 6160, 7168, 9216, 12288, 19456, 65552)
+    beside = 256 << 10
+
+    def test_a_hash_takes_the_memory_of_its_settings(self):
+        seen = []
+        for memory_cost in self.sizes:
+            for lanes in 1, 4:
+                call = hash_secret_raw, (b"password", b"somesalt", 1, memory_cost, lanes, 24, Type.ID)
+                for _ in range(2):  # (the first one also loads what a later one has)
+                    before = resident()
+                    call[0](*call[1], progress=lambda *_: seen.append(resident()))
+                with self.subTest(memory_cost=memory_cost, lanes=lanes):
+                    taken = max(seen[-4:]) - before
+                    self.assertGreaterEqual(taken, memory_cost << 10)
+                    self.assertLess(taken, (memory_cost << 10) + self.beside)
+
+
 if __name__ == "__main__":
     unittest.main()
