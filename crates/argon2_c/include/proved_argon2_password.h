@@ -12,7 +12,11 @@
 
 #include <errno.h>
 #include <string.h>
+#ifdef _WIN32
+#include <stdlib.h>
+#else
 #include <sys/random.h>
+#endif
 
 /* Room for an encoded hash that proved_argon2_password_hash writes, and for the zero behind it. */
 #define PROVED_ARGON2_TEXT_SIZE 128
@@ -40,9 +44,29 @@ static inline uint8_t *proved_argon2_room(char *text)
 #endif
 }
 
+#if defined(_WIN32)
+/* (as <stdlib.h> declares it where _CRT_RAND_S is defined) */
+#ifdef __cplusplus
+extern "C"
+#endif
+__declspec(dllimport) int __cdecl rand_s(unsigned *number);
+#endif
+
 /* Whether the system wrote the random bytes of a salt. */
 static inline int proved_argon2_has_salt(uint8_t *salt)
 {
+#if defined(_WIN32)
+    unsigned number;
+    for (size_t i = 0; i < PROVED_ARGON2_SALT_SIZE; i += sizeof number) {
+        if (rand_s(&number) != 0) {
+            return 0;
+        }
+        memcpy(salt + i, &number, sizeof number);
+    }
+    return 1;
+#elif defined(__APPLE__)
+    return getentropy(salt, PROVED_ARGON2_SALT_SIZE) == 0;
+#else
     const int error = errno;
     ssize_t given;
     do {
@@ -50,6 +74,7 @@ static inline int proved_argon2_has_salt(uint8_t *salt)
     } while (given < 0 && errno == EINTR);
     errno = error;
     return given == PROVED_ARGON2_SALT_SIZE;
+#endif
 }
 
 /*
