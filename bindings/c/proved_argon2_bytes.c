@@ -4,10 +4,10 @@
 #include <stddef.h>
 #include <stdint.h>
 
-#define UNALIGNED __attribute__((may_alias, aligned(1)))
+#define ANYWHERE __attribute__((may_alias, aligned(1)))
 
-typedef UNALIGNED uint32_t four;
-typedef UNALIGNED uint64_t eight;
+typedef ANYWHERE uint32_t four;
+typedef ANYWHERE uint64_t eight;
 typedef uint64_t __attribute__((vector_size(16), may_alias, aligned(1))) sixteen; /* in a register of every processor */
 
 /* Has a compiler take a loop as it is written, and not as a call of what it does or by wider registers. */

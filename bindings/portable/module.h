@@ -100,16 +100,20 @@ STORE(i32_store8, u32, u8)
 STORE(i64_store, u64, u64)
 STORE(i64_store32, u64, u32)
 
+/* (the system's may leave what they copied in registers that nothing clears) */
+void *proved_driver_memmove(void *to, const void *from, size_t len);
+void *proved_driver_memset(void *to, int byte, size_t len);
+
 static inline void Z_memoryZ_copy(const void *none, u64 to, u64 from, u64 bytes)
 {
     (void)none;
-    memmove(place(to, 0), place(from, 0), (size_t)bytes);
+    proved_driver_memmove(place(to, 0), place(from, 0), (size_t)bytes);
 }
 
 static inline void Z_memoryZ_fill(const void *none, u64 to, u32 byte, u64 bytes)
 {
     (void)none;
-    memset(place(to, 0), (int)byte, (size_t)bytes);
+    proved_driver_memset(place(to, 0), (int)byte, (size_t)bytes);
 }
 
 #endif

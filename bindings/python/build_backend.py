@@ -3,8 +3,13 @@ setuptools."""
 import base64
 import hashlib
 import os
+import platform as machines
 import re
+import subprocess
+import sys
+import sysconfig
 import tarfile
+import tempfile
 import time
 import zipfile
 from pathlib import Path
@@ -14,6 +19,8 @@ PACKAGE = "proved_argon2"
 WHEEL = "Wheel-Version: 1.0\nGenerator: proved_argon2\nRoot-Is-Purelib: {}\n"
 LICENCES = ("LICENSE", "NOTICE")
 OLDEST_LIBC = (2, 34)
+HAVE_LIBRARIES = ("x86_64", "aarch64")
+SHARED = "libproved_argon2.so.1"
 CLASSIFIERS = (
     "Intended Audience :: Developers",
     "License :: OSI Approved :: Apache Software License",
@@ -104,6 +111,29 @@ def _write_wheel(folder, files, platform="any"):
     return name
 
 
+def _sources_in_c():
+    """The library as C: in an archive of the sources, or in the repository, where it is of its sources."""
+    top = ROOT.parents[1]
+    if (top / "build/released").exists():
+        said = subprocess.run([top / "build/released", "portable"], capture_output=True, check=False)
+        return sorted((top / "release/portable").iterdir()) if said.returncode == 0 else []
+    return sorted((ROOT / "c").glob("*"))
+
+
+def _compiled():
+    """The shared object, by the C compiler of this machine, and the platform that it is for."""
+    sources = [str(it) for it in _sources_in_c() if it.suffix == ".c"]
+    if not sources:
+        raise SystemExit(f"{_project('name')}: there is no library for {machines.machine()}: nothing is installed")
+    print(f"there is no library for {machines.machine()}: the library as C is compiled", file=sys.stderr)
+    with tempfile.TemporaryDirectory() as folder:
+        made = f"{folder}/{SHARED}"
+        compiler = os.environ.get("CC", "cc").split()
+        flags = ["-O2", "-fPIC", "-shared", "-pthread", f"-Wl,-soname,{SHARED}", "-o", made]
+        subprocess.run([*compiler, *flags, *sources], check=True)
+        return Path(made).read_bytes(), re.sub(r"\W", "_", sysconfig.get_platform())
+
+
 def _require_libc():
     """Stops where the library that ./install puts beside this package cannot be loaded."""
     try:
@@ -122,9 +152,11 @@ def _require_libc():
 def build_wheel(wheel_directory, config_settings=None, metadata_directory=None):
     """Writes the wheel and returns its name."""
     libraries, platform = _libraries()
-    if not libraries:
-        _require_libc()
     files = {file.relative_to(ROOT / "src").as_posix(): file.read_bytes() for file in [*_sources(), *libraries]}
+    if not libraries and machines.machine() not in HAVE_LIBRARIES:
+        files[f"{PACKAGE}/libs/{SHARED}"], platform = _compiled()
+    elif not libraries:
+        _require_libc()
     return _write_wheel(wheel_directory, files, platform)
 
 
@@ -140,4 +172,6 @@ def build_sdist(sdist_directory, config_settings=None):
     with tarfile.open(Path(sdist_directory) / f"{_stem()}.tar.gz", "w:gz") as archive:
         for file in [*(ROOT / name for name in names), *_sources()]:
             archive.add(file, f"{_stem()}/{file.relative_to(ROOT)}")
+        for file in _sources_in_c():
+            archive.add(file, f"{_stem()}/c/{file.name}")
     return f"{_stem()}.tar.gz"
