@@ -19,7 +19,7 @@ static uint8_t numbers[256];
 
 static uint8_t salt[SALT], tag[TAG];
 static proved_argon2_settings settings;
-static uint8_t text[ROOM], by_tables[ROOM];
+static char text[ROOM], by_tables[ROOM];
 
 static char *letters_of(const uint8_t *bytes, size_t length, char *to)
 {
@@ -54,7 +54,7 @@ static void write_by_library(void)
 
 static void write_by_tables(void)
 {
-    char *const begin = (char *)by_tables;
+    char *const begin = by_tables;
     char *at = begin + sprintf(begin, "$argon2id$v=%u$m=%u,t=%u,p=%u$", settings.version, settings.mem_cost,
         settings.time_cost, settings.lanes);
     at = letters_of(salt, SALT, at);
@@ -65,7 +65,7 @@ static void write_by_tables(void)
 static void read_by_library(void)
 {
     proved_argon2_stored stored;
-    if (proved_argon2_read(text, strlen((char *)text), &stored) != PROVED_ARGON2_OK || stored.salt_length != SALT)
+    if (proved_argon2_read(text, strlen(text), &stored) != PROVED_ARGON2_OK || stored.salt_length != SALT)
         exit(1);
 }
 
@@ -74,7 +74,7 @@ static void read_job_by_library(void)
     static const uint8_t password[] = "password";
     proved_argon2_job job;
     uint8_t read_salt[SALT], hash[TAG];
-    if (proved_argon2_job_read(text, strlen((char *)text), password, sizeof password - 1, NULL, 0, NULL, 0, &job,
+    if (proved_argon2_job_read(text, strlen(text), password, sizeof password - 1, NULL, 0, NULL, 0, &job,
             read_salt, SALT, hash, TAG) != PROVED_ARGON2_OK || memcmp(hash, tag, TAG) != 0)
         exit(1);
 }
@@ -84,10 +84,10 @@ static void read_by_tables(void)
     proved_argon2_settings read;
     uint8_t read_salt[ROOM], read_tag[ROOM];
     int at = 0;
-    if (sscanf((char *)by_tables, "$argon2id$v=%u$m=%u,t=%u,p=%u$%n", &read.version, &read.mem_cost, &read.time_cost,
+    if (sscanf(by_tables, "$argon2id$v=%u$m=%u,t=%u,p=%u$%n", &read.version, &read.mem_cost, &read.time_cost,
             &read.lanes, &at) != 4)
         exit(1);
-    const char *const mark = bytes_of((char *)by_tables + at, read_salt);
+    const char *const mark = bytes_of(by_tables + at, read_salt);
     bytes_of(mark + 1, read_tag);
     if (memcmp(read_salt, salt, SALT) != 0 || memcmp(read_tag, tag, TAG) != 0)
         exit(1);
@@ -133,7 +133,7 @@ static void prepare(void)
         tag[i] = (uint8_t)(i * 59 + 7);
     write_by_library();
     write_by_tables();
-    if (strcmp((char *)text, (char *)by_tables) != 0)
+    if (strcmp(text, by_tables) != 0)
         exit(1);
 }
 

@@ -97,7 +97,7 @@ static const struct memory *memory;
 #define TEXT(field) (const char *)fields[field].at
 #define OUT(room) out.at, out.length = (room)
 #define INPUTS IN(PASSWORD), IN(SALT), IN(SECRET), IN(AD), &question.settings
-#define OF_TEXT IN(GIVEN), IN(PASSWORD), IN(SECRET), IN(AD)
+#define OF_TEXT TEXT(GIVEN), fields[GIVEN].length, IN(PASSWORD), IN(SECRET), IN(AD)
 /* A call of the library: with options, or plain. */
 #define CALL(name, ...)                                                                                               \
   (memory->options ? proved_argon2_##name##_with(memory->options, __VA_ARGS__) : proved_argon2_##name(__VA_ARGS__))
@@ -108,7 +108,7 @@ static uint32_t make_call(void) {
   const size_t blocks = proved_argon2_memory_len(&question.settings) / sizeof *lent;
   switch (question.call) {
   case HASH_RAW: return CALL(hash_raw, INPUTS, OUT(length));
-  case HASH_ENCODED: return CALL(hash_encoded, INPUTS, OUT(ROOM));
+  case HASH_ENCODED: return CALL(hash_encoded, INPUTS, (char *)out.at, out.length = ROOM);
   case VERIFY_RAW: return CALL(verify_raw, INPUTS, IN(GIVEN));
   case VERIFY_ENCODED:
     return memory->limits ? proved_argon2_verify_encoded_within(OF_TEXT, memory->limits)

@@ -8,15 +8,18 @@
 
 #include "platform.h"
 #include <stdatomic.h>
+#include <string.h>
 
 #define INPUTS const uint8_t *pwd, size_t pwd_len, const uint8_t *salt, size_t salt_len, const uint8_t *secret, \
     size_t secret_len, const uint8_t *ad, size_t ad_len, const proved_argon2_settings *settings
 #define OF_BYTES pwd, pwd_len, salt, salt_len, secret, secret_len, ad, ad_len
 #define OF_INPUTS OF_BYTES, settings
-#define STORED const uint8_t *text, size_t text_len, const uint8_t *pwd, size_t pwd_len, const uint8_t *secret, \
+#define STORED const char *text, size_t text_len, const uint8_t *pwd, size_t pwd_len, const uint8_t *secret, \
     size_t secret_len, const uint8_t *ad, size_t ad_len
 #define OF_STORED text, text_len, pwd, pwd_len, secret, secret_len, ad, ad_len
-#define IS_MISSING(name) proved_argon2_is_missing(name, name##_len)
+#define IS_MISSING(name) ((name) == NULL && name##_len != 0)
+#define ARE_INPUTS_MISSING \
+    (IS_MISSING(pwd) || IS_MISSING(salt) || IS_MISSING(secret) || IS_MISSING(ad) || settings == NULL)
 
 typedef proved_argon2_block block;
 typedef proved_argon2_options options;

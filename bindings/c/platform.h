@@ -30,6 +30,7 @@ typedef struct team team;
 #define map_pages proved_driver_map_pages
 #define unmap_pages proved_driver_unmap_pages
 #define populate_pages proved_driver_populate_pages
+#define take_random proved_driver_take_random
 #define overwrite proved_driver_overwrite
 #define start_team proved_driver_start_team
 #define members proved_driver_members
@@ -54,6 +55,9 @@ void unmap_pages(void *pages, size_t bytes);
 
 /* Has some of these pages be there at once, where the system can do so. Returns whether it has them. */
 bool populate_pages(void *pages, size_t bytes);
+
+/* Random bytes of the system. Returns whether it had them. */
+bool take_random(uint8_t *bytes, size_t len);
 
 /* Writes zeros that no compiler leaves out. */
 void overwrite(void *bytes, size_t len);

@@ -9,6 +9,7 @@
 #include <stdlib.h>
 #include <string.h>
 #include <sys/mman.h>
+#include <sys/random.h>
 #include <unistd.h>
 
 #define LINE 64
@@ -62,6 +63,15 @@ void unmap_pages(void *pages, size_t bytes)
 bool populate_pages(void *pages, size_t bytes)
 {
     return madvise(pages, bytes, POPULATE) == 0 || (errno != ENOMEM && errno != EFAULT);
+}
+
+bool take_random(uint8_t *bytes, size_t len)
+{
+    ssize_t given;
+    do {
+        given = getrandom(bytes, len, 0);
+    } while (given < 0 && errno == EINTR);
+    return given == (ssize_t)len;
 }
 
 void overwrite(void *bytes, size_t len)

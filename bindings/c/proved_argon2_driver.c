@@ -195,7 +195,7 @@ static uint32_t memory_error(const call *it, size_t bytes)
 {
     const bool is_lent = it->with.memory != NULL;
     if ((uintptr_t)it->blocks % sizeof(uint64_t) != 0) {
-        return PROVED_ARGON2_WRONG_BLOCKS;
+        return PROVED_ARGON2_MISALIGNED;
     }
     return it->blocks == NULL || (is_lent && it->with.memory_len < bytes) ? PROVED_ARGON2_OUT_OF_MEMORY
         : PROVED_ARGON2_OK;

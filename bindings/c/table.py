@@ -1,83 +1,147 @@
 #!/usr/bin/env python3
-"""The table of the proved calls, for an archive with several builds: C that makes each call that of the build that
-builds.h chooses. Where there is none, a call returns PROVED_ARGON2_OLD_PROCESSOR, or zeros if it returns no code.
+"""The proved calls as a program sees them: C that looks at the pointers of a call, and then makes it in a build of builds.h.
+
+A null pointer whose length is 0 passes none, and any other returns PROVED_ARGON2_NULL_POINTER. Then blocks at an address
+that no block has return PROVED_ARGON2_MISALIGNED. Where no build runs on the processor, a call returns
+PROVED_ARGON2_OLD_PROCESSOR. A call that returns no code returns zeros in each case.
 
     bindings/c/table.py            prints it
     bindings/c/table.py --write    writes it to bindings/c/proved_argon2_table.c, so that what links it needs no Python
 """
 import re
 import sys
+import textwrap
+from dataclasses import dataclass
 from pathlib import Path
 
 HERE = Path(__file__).resolve().parent
-HEADERS, SOURCES = HERE.parents[1] / "crates/argon2_c/include", HERE.parents[1] / "crates/argon2_c/src"
-BUILDS = ("x86-64-v2", "x86-64-v3")
+CRATES = HERE.parents[1] / "crates"
+HEADERS, SOURCES = CRATES / "argon2_c/include", CRATES / "argon2_c/src"
+MESSAGES = [CRATES / it for it in ("argon2_standard/specs/Views/Messages.antt", "argon2_c/specs/Refusal.antt")]
 PROVED = re.compile(r'^pub extern "C" fn (proved_argon2_\w+)', re.M)
+CALL = re.compile(r"^(uint32_t|uint64_t|proved_argon2_settings|proved_argon2_limits) (proved_argon2_\w+)\(([^)]*)\);", re.M)
+COMMENT = re.compile(r"/\*.*?\*/", re.S)
+ANSWERS_NO_CODE = {"proved_argon2_library_version"}
+# C has this one's texts as constants, for a test to compare.
+OF_CONSTANTS = {"proved_argon2_message"}
+OWN_MESSAGES = {
+    "PROVED_ARGON2_NULL_POINTER": "A pointer is null",
+    "PROVED_ARGON2_NO_RANDOM_BYTES": "There are no random bytes",
+    "PROVED_ARGON2_STOPPED": "The hash was stopped",
+    "PROVED_ARGON2_OLD_PROCESSOR": "The processor is too old",
+    "PROVED_ARGON2_MISALIGNED": "The memory is at an address that is not a multiple of 8",
+}
+UNKNOWN = "UnknownNumber"
 
-HEAD = '''/* Made by bindings/c/table.py --write: each proved call, in the build for this processor. */
+HEAD = '''/* Made by bindings/c/table.py --write: each proved call, behind the tests of its pointers, and each error's message. */
 #include "builds.h"
-#define PROVED_ARGON2_NULL_H /* (each call here is the library's own) */
-#define PROVED_ARGON2_PASSWORD_H
 #include "proved_argon2.h"
+
+#define IS_MISSING(name) (name == NULL && name##_len != 0)
+#define IS_MISALIGNED(name) (name##_len != 0 && (uintptr_t)name % _Alignof(proved_argon2_block) != 0)
+#define SOME(name) some(name, name##_len), name##_len
+
+/* An address of nothing in place of a null pointer, which no proved call takes. */
+static inline void *some(const void *at, size_t len)
+{
+    static const uint64_t none;
+    return (void *)(uintptr_t)(len == 0 ? &none : at);
+}
 
 #pragma GCC visibility push(hidden)
 '''
-CALL = re.compile(
-    r"^(uint32_t|uint64_t|proved_argon2_settings|proved_argon2_limits) (proved_argon2_\w+)\(([^)]*)\);", re.M)
-ANSWERS_NO_CODE = {"proved_argon2_library_version"}
-COMMENT = re.compile(r"/\*.*?\*/", re.S)
 
 
-def prefix_of(build):
-    """What stands before the names of a build's calls in place of proved_argon2_."""
-    return f"proved_{build.replace('-', '_')}_"
+@dataclass(frozen=True)
+class Given:
+    """What a call is given: a number, a pointer, or one with its length behind it."""
+    type: str
+    name: str
+    has_length: bool
+
+    def missing(self):
+        return f"IS_MISSING({self.name})" if self.has_length else f"{self.name} == NULL"
+
+    def passed(self):
+        return f"SOME({self.name})" if self.has_length else self.name
 
 
-def in_build(build, name):
-    return name.replace("proved_argon2_", prefix_of(build), 1)
+@dataclass(frozen=True)
+class Call:
+    """A call as a header declares it."""
+    name: str
+    answer: str
+    taken: str
+
+    def given(self):
+        """What it is given, but the lengths."""
+        words = [] if self.taken == "void" else [it.strip() for it in self.taken.split(",")]
+        pairs = [(it, re.search(r"\w+$", it)[0]) for it in words]
+        names = {name for _, name in pairs}
+        return [Given(it, name, f"{name}_len" in names) for it, name in pairs
+                if not (name.endswith("_len") and name.removesuffix("_len") in names)]
+
+    def refusal(self, code):
+        is_code = self.answer == "uint32_t" and self.name not in ANSWERS_NO_CODE
+        return f"PROVED_ARGON2_{code}" if is_code else f"({self.answer}){{0}}"
+
+    def tests(self):
+        """The lines that look at its pointers."""
+        pointers = [it for it in self.given() if "*" in it.type]
+        blocks = [f"IS_MISALIGNED({it.name})" for it in pointers if "proved_argon2_block" in it.type]
+        for tests, code in (([it.missing() for it in pointers], "NULL_POINTER"), (blocks, "MISALIGNED")):
+            if tests:
+                yield wrapped("if (" + " || ".join(tests) + ") {") + f"\n        return {self.refusal(code)};\n    }}\n"
+
+    def declared(self):
+        return f"DECLARED({self.answer}, {self.own_name()}, ({self.taken}))\n"
+
+    def made(self):
+        passed = ", ".join(it.passed() for it in self.given())
+        jump = wrapped(f"MADE({self.own_name()}, ({passed}), {self.refusal('OLD_PROCESSOR')})")
+        return f"{self.answer} {self.name}({self.taken})\n{{\n{''.join(self.tests())}{jump}\n}}\n"
+
+    def own_name(self):
+        return self.name.removeprefix("proved_argon2_")
 
 
-def declared_calls(headers, exported):
-    """What headers declare of the calls that a build exports: pairs of a name and what it returns and takes."""
-    found = {name: (answer, " ".join(taken.split())) for text in headers
-             for answer, name, taken in CALL.findall(COMMENT.sub("", text)) if name in exported}
-    if set(found) != set(exported):
-        raise SystemExit(f"no header declares {' '.join(sorted(set(exported) - set(found)))}")
-    return sorted(found.items())
+def wrapped(line):
+    return textwrap.fill(line, 110, initial_indent=" " * 4, subsequent_indent=" " * 8, break_long_words=False)
 
 
-def refusal_of(name, answer):
-    if answer == "uint32_t" and name not in ANSWERS_NO_CODE:
-        return "PROVED_ARGON2_OLD_PROCESSOR"
-    return f"({answer}){{0}}"
+def declared_calls(headers, proved):
+    """What headers declare of the proved calls."""
+    wanted = {*proved} - OF_CONSTANTS
+    found = {name: Call(name, answer, taken.strip()) for text in headers
+             for answer, name, taken in CALL.findall(COMMENT.sub("", text)) if name in wanted}
+    if {*found} != wanted:
+        raise SystemExit(f"no header declares {' '.join(sorted(wanted - {*found}))}")
+    return [found[name] for name in sorted(found)]
 
 
-def call_of(name, answer, taken, builds):
-    """A call's C: a test for each build, the newest first, which is a jump to it."""
-    given = ", ".join(re.findall(r"(\w+)(?:,|$)", taken)) if taken != "void" else ""
-    tests = "".join(f"    if (build == {build.upper().replace('-', '_')}) return {in_build(build, name)}({given});\n"
-                    for build in reversed(builds))
-    return (f"{answer} {name}({taken})\n{{\n    const int build = build_here();\n"
-            f"{tests}    return {refusal_of(name, answer)};\n}}\n")
+def messages():
+    """The C of the messages, as the definitions that the proved call keeps to have them."""
+    of_all = "".join(it.read_text(encoding="utf-8") for it in MESSAGES)
+    numbers = dict(re.findall(r"^(?:library_number|number_of) (\w+) = (\d+)$", of_all, re.M))
+    texts = dict(re.findall(r'^message_of (\w+) = codes "(.*)"$', of_all, re.M))
+    if {*numbers} != {*texts}:
+        raise SystemExit(f"these have no message or no number: {' '.join({*numbers} ^ {*texts})}")
+    known = [(numbers[name], texts[name]) for name in numbers if name != UNKNOWN] + [*OWN_MESSAGES.items()]
+    cases = "".join(f'    case {number}: return "{text}";\n' for number, text in known)
+    return (f"const char *proved_argon2_message(uint32_t number)\n{{\n    switch (number) {{\n{cases}"
+            f'    default: return "{texts[UNKNOWN]}";\n    }}\n}}\n')
 
 
-def table_of(headers, exported, builds):
-    calls = declared_calls(headers, exported)
-    declared = "".join(f"{answer} {in_build(build, name)}({taken});\n"
-                       for build in builds for name, (answer, taken) in calls)
-    made = "\n".join(call_of(name, *it, builds) for name, it in calls)
-    return f"{HEAD}{declared}#pragma GCC visibility pop\n\n{made}"
-
-
-def main():
+def table():
     headers = [(HEADERS / it).read_text(encoding="utf-8") for it in ("proved_argon2.h", "proved_argon2_jobs.h")]
     proved = [name for it in sorted(SOURCES.rglob("*.rt")) for name in PROVED.findall(it.read_text(encoding="utf-8"))]
-    table = table_of(headers, proved, BUILDS)
-    if sys.argv[1:] == ["--write"]:
-        (HERE / "proved_argon2_table.c").write_text(table, encoding="utf-8")
-    else:
-        print(table, end="")
+    calls = declared_calls(headers, proved)
+    declared, made = "".join(it.declared() for it in calls), "\n".join(it.made() for it in calls)
+    return f"{HEAD}{declared}#pragma GCC visibility pop\n\n{made}\n{messages()}"
 
 
 if __name__ == "__main__":
-    main()
+    if sys.argv[1:] == ["--write"]:
+        (HERE / "proved_argon2_table.c").write_text(table(), encoding="utf-8")
+    else:
+        print(table(), end="")

@@ -170,7 +170,7 @@ static int encode(const argon2_context *c, argon2_type type, char *encoded, size
     const proved_argon2_settings settings = settings_of(c, type);
     const size_t needed = proved_argon2_encoded_len(&settings, c->saltlen) + 1;
     const uint32_t code = proved_argon2_encode(
-        c->salt, c->saltlen, &settings, c->out, c->outlen, (uint8_t *)encoded, room < needed ? room : needed);
+        c->salt, c->saltlen, &settings, c->out, c->outlen, encoded, room < needed ? room : needed);
     if (code != PROVED_ARGON2_OK) explicit_bzero(encoded, room);
     return code == PROVED_ARGON2_OK ? ARGON2_OK : ARGON2_ENCODING_FAIL;
 }
@@ -213,9 +213,8 @@ int argon2_verify(const char *encoded, const void *pwd, const size_t pwdlen, arg
     if (pwdlen > ARGON2_MAX_PWD_LENGTH) return ARGON2_PWD_TOO_LONG;
     if (encoded == NULL) return ARGON2_DECODING_FAIL;
     if ((unsigned)type > Argon2_id) return ARGON2_INCORRECT_TYPE;
-    const uint8_t *const text = (const uint8_t *)encoded;
     const size_t len = strlen(encoded);
-    int code = code_of(proved_argon2_read(text, len, &stored));
+    int code = code_of(proved_argon2_read(encoded, len, &stored));
     if (code == -PROVED_ARGON2_OLD_PROCESSOR) return code;
     if (code != ARGON2_OK || !is_spelled(encoded, its, type)) return ARGON2_DECODING_FAIL;
     uint8_t any; /* the salt and the hash are checked by their lengths */
@@ -226,7 +225,7 @@ int argon2_verify(const char *encoded, const void *pwd, const size_t pwdlen, arg
     const proved_argon2_options with = {.size = sizeof with, .threads = its->lanes};
     code = judge(&c);
     return code != ARGON2_OK ? code
-        : code_of(proved_argon2_verify_encoded_with(&with, text, len, pwd, pwdlen, NULL, 0, NULL, 0));
+        : code_of(proved_argon2_verify_encoded_with(&with, encoded, len, pwd, pwdlen, NULL, 0, NULL, 0));
 }
 
 /* ---- the calls of one type */

@@ -5,6 +5,7 @@
 #include <errno.h>
 #include <stdlib.h>
 #include <string.h>
+#include <sys/random.h>
 
 #define LINE 64
 
@@ -47,6 +48,15 @@ bool populate_pages(void *pages, size_t bytes)
     (void)pages;
     (void)bytes;
     return true;
+}
+
+bool take_random(uint8_t *bytes, size_t len)
+{
+#ifdef __APPLE__
+    return getentropy(bytes, len) == 0;
+#else
+    return getrandom(bytes, len, 0) == (ssize_t)len;
+#endif
 }
 
 void overwrite(void *bytes, size_t len)

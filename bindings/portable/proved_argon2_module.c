@@ -1,11 +1,11 @@
-/* The proved calls of the headers, in each processor's C: each runs the module that is translated in module_code.h,
+/* The proved calls, in each processor's C, for proved_argon2_table.c: each runs the module that is translated in module_code.h,
  * with a stack of its own, over the caller's memory. It is tested and not proved. */
-#define PROVED_ARGON2_NULL_H /* (each call here is the library's own) */
-#define PROVED_ARGON2_PASSWORD_H
 #include "proved_argon2.h"
 
 #include "module.h"
 #include "module_code.h"
+
+#pragma GCC visibility push(hidden)
 
 #define STACK_BELOW 16384 /* bytes: the translated functions' own variables take less */
 #define WORD 4
@@ -144,7 +144,7 @@ static void take_stored(const room *it, u32 code, proved_argon2_stored *stored)
 #define BYTES(name) ADDRESS(name), name##_len
 #define OF_SECRETS BYTES(pwd), BYTES(salt), BYTES(secret), BYTES(ad)
 
-uint32_t proved_argon2_job_make(
+uint32_t proved_portable_job_make(
     const uint8_t *pwd, size_t pwd_len, const uint8_t *salt, size_t salt_len, const uint8_t *secret, size_t secret_len,
     const uint8_t *ad, size_t ad_len, const proved_argon2_settings *settings, proved_argon2_job *job)
 {
@@ -156,8 +156,8 @@ uint32_t proved_argon2_job_make(
     return close_room(&own, code);
 }
 
-uint32_t proved_argon2_job_read(
-    const uint8_t *text, size_t text_len, const uint8_t *pwd, size_t pwd_len, const uint8_t *secret, size_t secret_len,
+uint32_t proved_portable_job_read(
+    const char *text, size_t text_len, const uint8_t *pwd, size_t pwd_len, const uint8_t *secret, size_t secret_len,
     const uint8_t *ad, size_t ad_len, proved_argon2_job *job, uint8_t *salt, size_t salt_len,
     uint8_t *hash, size_t hash_len)
 {
@@ -169,7 +169,14 @@ uint32_t proved_argon2_job_read(
     return close_room(&own, code);
 }
 
-uint32_t proved_argon2_job_begin(
+uint32_t proved_portable_job_check(const proved_argon2_job *job)
+{
+    room own;
+    open_room(&own);
+    return close_room(&own, w2c_proved_argon2_job_check(&own.module, job_in(&own, job)));
+}
+
+uint32_t proved_portable_job_begin(
     const proved_argon2_job *job, uint32_t lane, proved_argon2_block *blocks, size_t blocks_len)
 {
     room own;
@@ -177,7 +184,7 @@ uint32_t proved_argon2_job_begin(
     return close_room(&own, w2c_proved_argon2_job_begin(&own.module, job_in(&own, job), lane, BYTES(blocks)));
 }
 
-uint32_t proved_argon2_job_fill(
+uint32_t proved_portable_job_fill(
     const proved_argon2_job *job, uint32_t pass, uint32_t slice, uint32_t lane,
     const proved_argon2_block *first, size_t first_len, const proved_argon2_block *second, size_t second_len,
     const proved_argon2_block *third, size_t third_len, proved_argon2_block *blocks, size_t blocks_len)
@@ -188,7 +195,7 @@ uint32_t proved_argon2_job_fill(
         &own.module, job_in(&own, job), pass, slice, lane, BYTES(first), BYTES(second), BYTES(third), BYTES(blocks)));
 }
 
-uint32_t proved_argon2_job_finish(
+uint32_t proved_portable_job_finish(
     const proved_argon2_job *job, const proved_argon2_block *last, size_t last_len, uint8_t *out, size_t out_len)
 {
     room own;
@@ -196,7 +203,7 @@ uint32_t proved_argon2_job_finish(
     return close_room(&own, w2c_proved_argon2_job_finish(&own.module, job_in(&own, job), BYTES(last), BYTES(out)));
 }
 
-uint32_t proved_argon2_job_verify(
+uint32_t proved_portable_job_verify(
     const proved_argon2_job *job, const proved_argon2_block *last, size_t last_len,
     const uint8_t *hash, size_t hash_len, uint8_t *tag, size_t tag_len)
 {
@@ -206,7 +213,7 @@ uint32_t proved_argon2_job_verify(
         &own.module, job_in(&own, job), BYTES(last), BYTES(hash), BYTES(tag)));
 }
 
-uint32_t proved_argon2_job_hash_over(
+uint32_t proved_portable_job_hash_over(
     const proved_argon2_job *job, proved_argon2_block *blocks, size_t blocks_len, uint8_t *out, size_t out_len)
 {
     room own;
@@ -214,7 +221,7 @@ uint32_t proved_argon2_job_hash_over(
     return close_room(&own, w2c_proved_argon2_job_hash_over(&own.module, job_in(&own, job), BYTES(blocks), BYTES(out)));
 }
 
-uint32_t proved_argon2_job_verify_over(
+uint32_t proved_portable_job_verify_over(
     const proved_argon2_job *job, proved_argon2_block *blocks, size_t blocks_len,
     const uint8_t *hash, size_t hash_len, uint8_t *tag, size_t tag_len)
 {
@@ -224,7 +231,7 @@ uint32_t proved_argon2_job_verify_over(
         &own.module, job_in(&own, job), BYTES(blocks), BYTES(hash), BYTES(tag)));
 }
 
-uint32_t proved_argon2_hash_over(
+uint32_t proved_portable_hash_over(
     const uint8_t *pwd, size_t pwd_len, const uint8_t *salt, size_t salt_len, const uint8_t *secret, size_t secret_len,
     const uint8_t *ad, size_t ad_len, const proved_argon2_settings *settings,
     proved_argon2_block *blocks, size_t blocks_len, uint8_t *out, size_t out_len)
@@ -235,7 +242,7 @@ uint32_t proved_argon2_hash_over(
         &own.module, OF_SECRETS, settings_in(&own, settings), BYTES(blocks), BYTES(out)));
 }
 
-uint32_t proved_argon2_verify_over(
+uint32_t proved_portable_verify_over(
     const uint8_t *pwd, size_t pwd_len, const uint8_t *salt, size_t salt_len, const uint8_t *secret, size_t secret_len,
     const uint8_t *ad, size_t ad_len, const proved_argon2_settings *settings,
     proved_argon2_block *blocks, size_t blocks_len, const uint8_t *hash, size_t hash_len, uint8_t *tag, size_t tag_len)
@@ -246,7 +253,7 @@ uint32_t proved_argon2_verify_over(
         &own.module, OF_SECRETS, settings_in(&own, settings), BYTES(blocks), BYTES(hash), BYTES(tag)));
 }
 
-uint32_t proved_argon2_read(const uint8_t *text, size_t text_len, proved_argon2_stored *stored)
+uint32_t proved_portable_read(const char *text, size_t text_len, proved_argon2_stored *stored)
 {
     room own;
     open_room(&own);
@@ -255,8 +262,8 @@ uint32_t proved_argon2_read(const uint8_t *text, size_t text_len, proved_argon2_
     return close_room(&own, code);
 }
 
-uint32_t proved_argon2_read_within(
-    const uint8_t *text, size_t text_len, const proved_argon2_limits *limits, proved_argon2_stored *stored)
+uint32_t proved_portable_read_within(
+    const char *text, size_t text_len, const proved_argon2_limits *limits, proved_argon2_stored *stored)
 {
     room own;
     open_room(&own);
@@ -266,22 +273,22 @@ uint32_t proved_argon2_read_within(
     return close_room(&own, code);
 }
 
-uint32_t proved_argon2_read_bytes(
-    const uint8_t *text, size_t text_len, uint8_t *salt, size_t salt_len, uint8_t *hash, size_t hash_len)
+uint32_t proved_portable_read_bytes(
+    const char *text, size_t text_len, uint8_t *salt, size_t salt_len, uint8_t *hash, size_t hash_len)
 {
     room own;
     open_room(&own);
     return close_room(&own, w2c_proved_argon2_read_bytes(&own.module, BYTES(text), BYTES(salt), BYTES(hash)));
 }
 
-uint32_t proved_argon2_needs_rehash(const uint8_t *text, size_t text_len, const proved_argon2_settings *settings)
+uint32_t proved_portable_needs_rehash(const char *text, size_t text_len, const proved_argon2_settings *settings)
 {
     room own;
     open_room(&own);
     return close_room(&own, w2c_proved_argon2_needs_rehash(&own.module, BYTES(text), settings_in(&own, settings)));
 }
 
-uint32_t proved_argon2_check(
+uint32_t proved_portable_check(
     const proved_argon2_settings *settings, uint64_t pwd_len, uint64_t salt_len, uint64_t secret_len, uint64_t ad_len)
 {
     room own;
@@ -290,8 +297,8 @@ uint32_t proved_argon2_check(
         &own.module, settings_in(&own, settings), pwd_len, salt_len, secret_len, ad_len));
 }
 
-uint32_t proved_argon2_check_encoded(
-    const uint8_t *text, size_t text_len, const proved_argon2_limits *limits,
+uint32_t proved_portable_check_encoded(
+    const char *text, size_t text_len, const proved_argon2_limits *limits,
     uint64_t pwd_len, uint64_t secret_len, uint64_t ad_len, proved_argon2_stored *stored)
 {
     room own;
@@ -302,9 +309,9 @@ uint32_t proved_argon2_check_encoded(
     return close_room(&own, code);
 }
 
-uint32_t proved_argon2_encode(
+uint32_t proved_portable_encode(
     const uint8_t *salt, size_t salt_len, const proved_argon2_settings *settings,
-    const uint8_t *tag, size_t tag_len, uint8_t *text, size_t text_len)
+    const uint8_t *tag, size_t tag_len, char *text, size_t text_len)
 {
     room own;
     open_room(&own);
@@ -312,35 +319,35 @@ uint32_t proved_argon2_encode(
         &own.module, BYTES(salt), settings_in(&own, settings), BYTES(tag), BYTES(text)));
 }
 
-uint64_t proved_argon2_encoded_len(const proved_argon2_settings *settings, uint32_t salt_len)
+uint64_t proved_portable_encoded_len(const proved_argon2_settings *settings, uint32_t salt_len)
 {
     room own;
     open_room(&own);
     return w2c_proved_argon2_encoded_len(&own.module, settings_in(&own, settings), salt_len);
 }
 
-uint64_t proved_argon2_memory_len(const proved_argon2_settings *settings)
+uint64_t proved_portable_memory_len(const proved_argon2_settings *settings)
 {
     room own;
     open_room(&own);
     return w2c_proved_argon2_memory_len(&own.module, settings_in(&own, settings));
 }
 
-uint32_t proved_argon2_message(uint32_t number, uint8_t *text, size_t text_len)
+uint32_t proved_portable_message(uint32_t number, uint8_t *text, size_t text_len)
 {
     room own;
     open_room(&own);
     return close_room(&own, w2c_proved_argon2_message(&own.module, number, BYTES(text)));
 }
 
-uint32_t proved_argon2_library_version(void)
+uint32_t proved_portable_library_version(void)
 {
     room own;
     open_room(&own);
     return w2c_proved_argon2_library_version(&own.module);
 }
 
-proved_argon2_limits proved_argon2_default_limits(void)
+proved_argon2_limits proved_portable_default_limits(void)
 {
     room own;
     open_room(&own);
@@ -350,7 +357,7 @@ proved_argon2_limits proved_argon2_default_limits(void)
 }
 
 #define PRESET(name) \
-    proved_argon2_settings proved_argon2_##name(void) \
+    proved_argon2_settings proved_portable_##name(void) \
     { \
         room own; \
         open_room(&own); \

@@ -31,9 +31,7 @@ static int end(enum status status, const char *line)
 
 static int refuse(uint32_t code)
 {
-    uint8_t line[PROVED_ARGON2_MESSAGE_SIZE] = {0};
-    return proved_argon2_message(code, line, sizeof line) != PROVED_ARGON2_OK ? REFUSED
-        : end(code == PROVED_ARGON2_TOO_COSTLY ? TOO_COSTLY : REFUSED, (const char *)line);
+    return end(code == PROVED_ARGON2_TOO_COSTLY ? TOO_COSTLY : REFUSED, proved_argon2_message(code));
 }
 
 /* ---- the words */
@@ -74,7 +72,7 @@ static enum command command_of(int count, char **word)
 {
     proved_argon2_stored stored;
     for (int i = 0; i < count; i++) { /* (the library tells bytes that are not UTF-8 from those that are no encoded hash) */
-        if (proved_argon2_read((const uint8_t *)word[i], strlen(word[i]), &stored) == PROVED_ARGON2_NOT_UTF8) return NONE;
+        if (proved_argon2_read(word[i], strlen(word[i]), &stored) == PROVED_ARGON2_NOT_UTF8) return NONE;
     }
     if (count == 9 && strcmp(word[0], OF_TOOL ? "new" : "hash") == 0) {
         return are_settings(word + 1) && is_mode(word[7]) && is_salt(word[8]) ? HASH : NONE;
@@ -119,15 +117,16 @@ static int hash(char *word, const proved_argon2_limits *most)
         || settings.lanes > most->lanes || (uint64_t)settings.mem_cost * settings.time_cost > most->work;
     if (OF_TOOL && is_above) return refuse(PROVED_ARGON2_TOO_COSTLY);
     for (size_t i = 0; OF_TOOL && i < salt_len; i++) sscanf(word + 2 * i, "%2hhx", salt + i); /* (each in the place of its digits) */
-    uint32_t code = proved_argon2_hash_raw(password, password_len, salt, salt_len, NULL, 0, NULL, 0, &settings, NULL, 0);
-    if (code != PROVED_ARGON2_WRONG_LENGTH) return refuse(code);
+    uint32_t code = proved_argon2_check(&settings, password_len, salt_len, 0, 0);
+    if (code != PROVED_ARGON2_OK) return refuse(code);
     const size_t text_len = proved_argon2_encoded_len(&settings, (uint32_t)salt_len) + 1;
-    uint8_t *const tag = malloc(tag_len), *const text = malloc(text_len);
+    uint8_t *const tag = malloc(tag_len);
+    char *const text = malloc(text_len);
     code = tag == NULL || text == NULL ? PROVED_ARGON2_OUT_OF_MEMORY : proved_argon2_hash_raw_with(
         &with, password, password_len, salt, salt_len, NULL, 0, NULL, 0, &settings, tag, tag_len);
     code = code ? code : proved_argon2_encode(salt, salt_len, &settings, tag, tag_len, text, text_len);
     for (size_t i = 0; i < tag_len && code == PROVED_ARGON2_OK; i++) printf("%02x", tag[i]);
-    return code ? refuse(code) : printf("\n%s\n", (const char *)text) < 0 || fflush(stdout) != 0 ? STREAM : TRUE;
+    return code ? refuse(code) : printf("\n%s\n", text) < 0 || fflush(stdout) != 0 ? STREAM : TRUE;
 }
 
 int main(int count, char **word)
@@ -136,13 +135,12 @@ int main(int count, char **word)
     const enum command does = command_of(count - 1, word + 1);
     if (does == NONE) return end(USAGE, "usage");
     char *const last = word[count - 1];
-    const uint8_t *const text = (const uint8_t *)last;
     int status = does == REHASH ? TRUE : read_password();
     with.limits = OF_TOOL ? &most : NULL;
     if (status == TRUE) {
         status = does == HASH ? hash(last, &most) : does == REHASH
-            ? answer(proved_argon2_needs_rehash(text, strlen(last), &settings), PROVED_ARGON2_NEEDS_REHASH, PROVED_ARGON2_OK)
-            : answer(proved_argon2_verify_encoded_with(&with, text, strlen(last), password, password_len, NULL, 0, NULL, 0),
+            ? answer(proved_argon2_needs_rehash(last, strlen(last), &settings), PROVED_ARGON2_NEEDS_REHASH, PROVED_ARGON2_OK)
+            : answer(proved_argon2_verify_encoded_with(&with, last, strlen(last), password, password_len, NULL, 0, NULL, 0),
                 PROVED_ARGON2_OK, PROVED_ARGON2_MISMATCH);
     }
     if (password != NULL) explicit_bzero(password, password_len);

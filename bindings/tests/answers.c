@@ -2,8 +2,7 @@
  * A library that computes nothing and answers the numbers that a test has set, for the tests of the packages for
  * Rust and Python: what they say of each number.
  */
-#include "plain.h"
-#include "proved_argon2_threads.h"
+#include "proved_argon2.h"
 
 #include <stdatomic.h>
 #include <stdbool.h>
@@ -42,18 +41,17 @@ uint32_t number_of(const char *name)
     return UINT32_MAX - 1;
 }
 
-/* What a call answers that is given no room, any other call, proved_argon2_read and proved_argon2_message. */
-static uint32_t without_room, answer, reading, telling;
+/* What proved_argon2_check answers, any call that computes, and proved_argon2_read. */
+static uint32_t checking, answer, reading;
 
 /* Whether the next call waits until it is let go, whether it does now, and whether nobody let it go for too long. */
 static atomic_bool is_held, is_waiting, is_left_alone;
 
-void set_answers(uint32_t first, uint32_t then, uint32_t read, uint32_t message)
+void set_answers(uint32_t check, uint32_t then, uint32_t read)
 {
-    without_room = first;
+    checking = check;
     answer = then;
     reading = read;
-    telling = message;
 }
 
 void hold(void)
@@ -118,7 +116,7 @@ static void take(const proved_argon2_options *with)
         : with->memory != NULL || with->memory_len != 0 ? INT64_MIN : -1;
 }
 
-/* What the last call was passed that computes, that is given no room, and that computes nothing. */
+/* What the last call was passed that computes, that checks, and that does neither. */
 enum { COMPUTING, JUDGING, TELLING };
 static char passed[3][400];
 
@@ -131,10 +129,19 @@ static uint32_t hash(const char *name, PIECE(pwd), PIECE(salt), PIECE(secret), P
                      const proved_argon2_settings *settings, uint8_t *out, size_t out_len)
 {
     wait_while_held();
-    snprintf(passed[out_len == 0 ? JUDGING : COMPUTING], sizeof *passed, "%s %.*s %.*s %.*s %.*s " SETTINGS, name,
+    snprintf(passed[COMPUTING], sizeof *passed, "%s %.*s %.*s %.*s %.*s " SETTINGS, name,
              SHOWN(pwd), SHOWN(salt), SHOWN(secret), SHOWN(ad), EACH(settings));
     memset(out, 'x', out_len);
-    return out_len == 0 ? without_room : answer;
+    return answer;
+}
+
+uint32_t proved_argon2_check(
+    const proved_argon2_settings *settings, uint64_t pwd_len, uint64_t salt_len, uint64_t secret_len, uint64_t ad_len)
+{
+    const unsigned lengths[] = {(unsigned)pwd_len, (unsigned)salt_len, (unsigned)secret_len, (unsigned)ad_len};
+    snprintf(passed[JUDGING], sizeof *passed, "check " SETTINGS " %u %u %u %u", EACH(settings), lengths[0], lengths[1],
+             lengths[2], lengths[3]);
+    return checking;
 }
 
 uint32_t proved_argon2_hash_raw(PIECE(pwd), PIECE(salt), PIECE(secret), PIECE(ad),
@@ -144,10 +151,10 @@ uint32_t proved_argon2_hash_raw(PIECE(pwd), PIECE(salt), PIECE(secret), PIECE(ad
 }
 
 uint32_t proved_argon2_hash_encoded(PIECE(pwd), PIECE(salt), PIECE(secret), PIECE(ad),
-                                    const proved_argon2_settings *settings, uint8_t *text, size_t text_len)
+                                    const proved_argon2_settings *settings, char *text, size_t text_len)
 {
     const uint32_t number =
-        hash("encoded", pwd, pwd_len, salt, salt_len, secret, secret_len, ad, ad_len, settings, text, text_len);
+        hash("encoded", pwd, pwd_len, salt, salt_len, secret, secret_len, ad, ad_len, settings, (uint8_t *)text, text_len);
     if (text_len > 0) {
         text[text_len - 1] = 0;
     }
@@ -162,7 +169,7 @@ uint32_t proved_argon2_hash_raw_with(const proved_argon2_options *with, PIECE(pw
 }
 
 uint32_t proved_argon2_hash_encoded_with(const proved_argon2_options *with, PIECE(pwd), PIECE(salt), PIECE(secret),
-                                         PIECE(ad), const proved_argon2_settings *settings, uint8_t *text,
+                                         PIECE(ad), const proved_argon2_settings *settings, char *text,
                                          size_t text_len)
 {
     take(with);
@@ -179,7 +186,7 @@ uint32_t proved_argon2_verify_raw_with(const proved_argon2_options *with, PIECE(
     return answer;
 }
 
-uint32_t proved_argon2_verify_encoded_with(const proved_argon2_options *with, PIECE(text), PIECE(pwd), PIECE(secret),
+uint32_t proved_argon2_verify_encoded_with(const proved_argon2_options *with, const char *text, size_t text_len, PIECE(pwd), PIECE(secret),
                                            PIECE(ad))
 {
     static const proved_argon2_limits none = {0, 0, 0, 0};
@@ -241,14 +248,14 @@ proved_argon2_limits proved_argon2_default_limits(void)
 }
 
 /* Seven different numbers, whatever is answered: what a refusal leaves must not be taken for a value. */
-uint32_t proved_argon2_read(PIECE(text), proved_argon2_stored *stored)
+uint32_t proved_argon2_read(const char *text, size_t text_len, proved_argon2_stored *stored)
 {
     snprintf(passed[TELLING], sizeof *passed, "read %.*s", SHOWN(text));
     *stored = (proved_argon2_stored){{2, 19, 64, 3, 4, 5}, 6};
     return reading;
 }
 
-uint32_t proved_argon2_needs_rehash(PIECE(text), const proved_argon2_settings *settings)
+uint32_t proved_argon2_needs_rehash(const char *text, size_t text_len, const proved_argon2_settings *settings)
 {
     snprintf(passed[TELLING], sizeof *passed, "rehash %.*s " SETTINGS, SHOWN(text), EACH(settings));
     return answer;
@@ -260,15 +267,12 @@ uint64_t proved_argon2_encoded_len(const proved_argon2_settings *settings, uint3
     return 12;
 }
 
-uint32_t proved_argon2_message(uint32_t number, uint8_t *text, size_t text_len)
+/* N and the number's three digits. */
+const char *proved_argon2_message(uint32_t number)
 {
-    static const char digits[] = "0123456789";
-    memset(text, 0, text_len);
-    text[0] = 'N';
-    text[1] = (uint8_t)digits[number / 100 % 10];
-    text[2] = (uint8_t)digits[number / 10 % 10];
-    text[3] = (uint8_t)digits[number % 10];
-    return telling;
+    static char texts[1000][5];
+    snprintf(texts[number % 1000], sizeof *texts, "N%03u", (unsigned)(number % 1000));
+    return texts[number % 1000];
 }
 
 uint32_t proved_argon2_library_version(void)

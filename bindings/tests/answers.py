@@ -40,7 +40,7 @@ def header(name):
 # All numbers of the header, those that stand beside them, and some that no call answers.
 NUMBERS = [*range(23), 63, *range(64, 76), *range(127, 132), 255, 256, 999, 0x7FFFFFFF, 0x80000000, 0xFFFFFFFF]
 OK, DECODING_FAIL, OUT_OF_MEMORY = header("OK"), header("DECODING_FAIL"), header("OUT_OF_MEMORY")
-MISMATCH, WRONG_LENGTH, NOT_UTF8 = header("MISMATCH"), header("WRONG_LENGTH"), header("NOT_UTF8")
+MISMATCH, NOT_UTF8 = header("MISMATCH"), header("NOT_UTF8")
 TOO_COSTLY, STOPPED = header("TOO_COSTLY"), header("STOPPED")
 TEXT = "$argon2id$x"
 SETTINGS = (3, 64, 4, 5, Type.ID)
@@ -53,8 +53,8 @@ def said_of(number):
     return f"N{number % 1000:03}"
 
 
-def set_answers(without_room=WRONG_LENGTH, then=OK, read=OK, message=OK):
-    STUB.set_answers(*map(_library.ctypes.c_uint32, (without_room, then, read, message)))
+def set_answers(check=OK, then=OK, read=OK):
+    STUB.set_answers(*map(_library.ctypes.c_uint32, (check, then, read)))
 
 
 def passed(kind):
@@ -99,8 +99,8 @@ class Answers(unittest.TestCase):
     def test_a_hash_comes_for_ok_alone(self):
         self.holds_a_hash("then", OK)
 
-    def test_no_hash_comes_for_a_first_answer_but_that_of_no_room(self):
-        self.holds_a_hash("without_room", WRONG_LENGTH)
+    def test_no_hash_comes_where_its_settings_are_not_accepted(self):
+        self.holds_a_hash("check", OK)
 
     def verifying(self):
         return (
@@ -131,7 +131,7 @@ class Answers(unittest.TestCase):
         for name, number in (("D", Type.D), ("I", Type.I), ("ID", Type.ID)):
             self.assertEqual(number.value, header(name))
         self.assertEqual(ARGON2_VERSION, header("VERSION_13"))
-        for name in ("OK", "DECODING_FAIL", "OUT_OF_MEMORY", "MISMATCH", "WRONG_LENGTH", "NOT_UTF8", "TOO_COSTLY"):
+        for name in ("OK", "DECODING_FAIL", "OUT_OF_MEMORY", "MISMATCH", "NOT_UTF8", "TOO_COSTLY"):
             self.assertEqual(getattr(_library, name), header(name), name)
 
     def test_each_call_passes_what_it_is_given_in_its_place(self):
@@ -141,8 +141,8 @@ class Answers(unittest.TestCase):
         hashing = (b"word", b"somesalt", *SETTINGS)
         verifying = (TEXT.encode(), b"word", Type.ID)
         for call, wanted, judged in (
-            (lambda **it: hash_secret_raw(*hashing, **it), f"raw {pieces}", f"raw {pieces}"),
-            (lambda **it: hash_secret(*hashing, **it), f"encoded {pieces}", f"encoded {pieces}"),
+            (lambda **it: hash_secret_raw(*hashing, **it), f"raw {pieces}", f"check {settings} 4 8 3 4"),
+            (lambda **it: hash_secret(*hashing, **it), f"encoded {pieces}", f"check {settings} 4 8 3 4"),
             (lambda **it: verify_secret(*verifying, **it), f"text {TEXT} word key data 0 0 0 0", None),
             (lambda **it: verify_secret(*verifying, limits=limits, **it), f"text {TEXT} word key data 10 11 12 13",
              None),
@@ -273,8 +273,8 @@ class Answers(unittest.TestCase):
         self.holds_what_is_read(lambda: PasswordHasher.from_parameters(read).check_needs_rehash(TEXT), False)
         self.holds_what_is_read(lambda: PasswordHasher().check_needs_rehash(TEXT), True)
 
-    def test_a_refusal_has_a_text_for_ok_alone(self):
-        self.holds_for_each("message", lambda: error_to_str(5), lambda n: "There is no error 5" if n else said_of(5))
+    def test_an_error_has_the_text_of_its_number(self):
+        self.assertEqual(error_to_str(5), said_of(5))
 
     def test_a_text_of_another_variant_does_not_verify(self):
         for variant in (Type.D, Type.I):

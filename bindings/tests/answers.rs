@@ -8,7 +8,7 @@ use std::os::raw::c_char;
 use std::panic::{catch_unwind, AssertUnwindSafe};
 
 extern "C" {
-    fn set_answers(without_room: u32, then: u32, read: u32, message: u32);
+    fn set_answers(check: u32, then: u32, read: u32);
     fn threads_of_the_last() -> u32;
     fn bytes_lent_to_the_last() -> i64;
     fn told_to_the_last() -> i64;
@@ -25,7 +25,7 @@ fn header(name: &str) -> u32 {
     unsafe { number_of(name.as_ptr()) }
 }
 
-/// What the last call was passed that computes (0), that was given no room (1), that computes nothing (2).
+/// What the last call was passed that computes (0), that checks (1), that does neither (2).
 fn passed(kind: u32) -> String {
     unsafe { CStr::from_ptr(passed_to(kind)) }.to_str().unwrap().to_owned()
 }
@@ -133,17 +133,17 @@ fn numbers_are_the_header_s() -> bool {
     told("errors, variants and versions have the header's numbers", errors && variants && versions)
 }
 
-/// The number stands in the place of the first answer, of the one that follows, or of what `read` answers.
+/// The number stands in the place of what `check` answers, of what a call does that computes, or of what `read` answers.
 fn first(number: u32) {
-    unsafe { set_answers(number, 0, 0, 0) }
+    unsafe { set_answers(number, 0, 0) }
 }
 
 fn then(number: u32) {
-    unsafe { set_answers(header("WRONG_LENGTH"), number, 0, 0) }
+    unsafe { set_answers(0, number, 0) }
 }
 
 fn reading(number: u32) {
-    unsafe { set_answers(header("WRONG_LENGTH"), 0, number, 0) }
+    unsafe { set_answers(0, 0, number) }
 }
 
 /// Settings of which no two are the same, and no piece is another one's.
@@ -158,7 +158,6 @@ const CONFIG: Config<'_> = Config {
     variant: Variant::Argon2id,
     version: Version::Version13,
 };
-const SPELLED: &str = "word somesalt key data 2 19 64 3 4 5";
 const LIMITS: Limits = Limits { lanes: 12, mem_cost: 10, time_cost: 11, work: 13 };
 
 /// A call that computes, over a memory or without one: what it passes, and the threads that it asks for.
@@ -218,9 +217,9 @@ fn arguments_are_in_their_places() -> bool {
         without && over
     });
     let judged = raw(None).is_ok()
-        && passed(1) == format!("raw {SPELLED}")
+        && passed(1) == "check 2 19 64 3 4 5 4 8 3 4"
         && text(None).is_ok()
-        && passed(1) == format!("encoded {SPELLED}")
+        && passed(1) == "check 2 19 64 3 4 5 4 8 3 4"
         && passed(2) == "length 2 19 64 3 4 5 8";
     let told_of = argon2::verify_encoded("text", b"word").is_ok()
         && passed(0) == "text text word   0 0 0 0"
@@ -352,7 +351,7 @@ fn each_number_is_answered(which: &str, over: fn() -> Option<Memory>) -> bool {
     let verdicts = [(header("OK"), true), (header("MISMATCH"), false)];
     let costly =
         [(header("OK"), Some(true)), (header("MISMATCH"), Some(false)), (header("TOO_COSTLY"), None)];
-    let (no_room, tag, words) = (header("WRONG_LENGTH"), vec![b'x'; 5], "x".repeat(12));
+    let (accepted, tag, words) = (header("OK"), vec![b'x'; 5], "x".repeat(12));
     let a_tag = || raw(over().as_mut());
     let a_text = || text(over().as_mut());
     let a_bounded_verdict = || match within(over().as_mut()) {
@@ -362,11 +361,11 @@ fn each_number_is_answered(which: &str, over: fn() -> Option<Memory>) -> bool {
     };
     let all = [
         holds(&named("a tag comes for OK alone"), &[(header("OK"), tag.clone())], then, a_tag),
-        holds(&named("no tag comes for a first answer but that of no room"), &[(no_room, tag)], first, a_tag),
+        holds(&named("no tag comes where the settings are not accepted"), &[(accepted, tag)], first, a_tag),
         holds(&named("a text comes for OK alone"), &[(header("OK"), words.clone())], then, a_text),
         holds(
-            &named("no text comes for a first answer but that of no room"),
-            &[(no_room, words)],
+            &named("no text comes where the settings are not accepted"),
+            &[(accepted, words)],
             first,
             a_text,
         ),

@@ -1,5 +1,6 @@
 /* The driver's system: Windows. It is tested by wine alone, and not proved. */
 #define WIN32_LEAN_AND_MEAN
+#define _CRT_RAND_S
 #define _WIN32_WINNT 0x0600 /* Windows Vista: condition variables */
 #include "platform.h"
 
@@ -49,6 +50,18 @@ bool populate_pages(void *pages, size_t bytes)
 {
     (void)pages;
     (void)bytes;
+    return true;
+}
+
+bool take_random(uint8_t *bytes, size_t len)
+{
+    unsigned number;
+    for (size_t i = 0; i < len; i++) {
+        if (rand_s(&number) != 0) {
+            return false;
+        }
+        bytes[i] = (uint8_t)number;
+    }
     return true;
 }
 

@@ -28,9 +28,6 @@ pub const OUT_OF_MEMORY: u32 = 20;
 /// A verifying call: the password does not match.
 pub const MISMATCH: u32 = 64;
 
-/// The buffer has the wrong length.
-pub const WRONG_LENGTH: u32 = 65;
-
 /// The encoded hash has other settings.
 pub const NEEDS_REHASH: u32 = 68;
 
@@ -42,10 +39,6 @@ pub const STOPPED: u32 = 130;
 
 /// There is no build for a processor as old as this one.
 pub const OLD_PROCESSOR: u32 = 131;
-
-/// A buffer of this many bytes has room for the message of each error.
-#[cfg(test)]
-const MESSAGE_SIZE: usize = 64;
 
 /// `proved_argon2_settings` of the header.
 #[repr(C)]
@@ -136,41 +129,12 @@ impl Settings {
     }
 }
 
-/// Checks the settings of a tag, without room to write to: `WRONG_LENGTH` says that all are
-/// accepted.
-#[rustfmt::skip]
-pub fn judge_raw(pwd: &[u8], salt: &[u8], config: &Config<'_>) -> u32 {
+/// Whether a hash with these settings is made of such inputs: of them the lengths alone are passed.
+pub fn check(pwd: &[u8], salt: &[u8], config: &Config<'_>) -> u32 {
     let settings = Settings::of(config);
-    let room: &mut [u8] = &mut [];
-    // SAFETY: each pointer and length are those of a slice, and nothing is written.
-    unsafe {
-        proved_argon2_hash_raw(
-            pwd.as_ptr(), pwd.len(),
-            salt.as_ptr(), salt.len(),
-            config.secret.as_ptr(), config.secret.len(),
-            config.ad.as_ptr(), config.ad.len(),
-            &settings,
-            room.as_mut_ptr(), room.len(),
-        )
-    }
-}
-
-/// Checks the settings of an encoded hash, as `judge_raw` does those of a tag.
-#[rustfmt::skip]
-pub fn judge_encoded(pwd: &[u8], salt: &[u8], config: &Config<'_>) -> u32 {
-    let settings = Settings::of(config);
-    let room: &mut [u8] = &mut [];
-    // SAFETY: each pointer and length are those of a slice, and nothing is written.
-    unsafe {
-        proved_argon2_hash_encoded(
-            pwd.as_ptr(), pwd.len(),
-            salt.as_ptr(), salt.len(),
-            config.secret.as_ptr(), config.secret.len(),
-            config.ad.as_ptr(), config.ad.len(),
-            &settings,
-            room.as_mut_ptr(), room.len(),
-        )
-    }
+    let [pwd, salt, secret, ad] = [pwd, salt, config.secret, config.ad].map(|it| it.len() as u64);
+    // SAFETY: the settings are read, and nothing is written.
+    unsafe { proved_argon2_check(&settings, pwd, salt, secret, ad) }
 }
 
 /// Writes the tag to `out`, which has `config.hash_length` bytes.
@@ -303,12 +267,10 @@ pub fn encoded_len(config: &Config<'_>, salt_len: u32) -> u64 {
 
 /// The message of an error's number.
 #[cfg(test)]
-pub fn message(number: u32) -> Option<String> {
-    let mut text = [0; MESSAGE_SIZE];
-    // SAFETY: the pointer and the length are those of an array that is borrowed for this call alone.
-    let answer = unsafe { proved_argon2_message(number, text.as_mut_ptr(), text.len()) };
-    let end = text.iter().position(|byte| *byte == 0)?;
-    (answer == OK).then(|| String::from_utf8_lossy(&text[..end]).into_owned())
+pub fn message(number: u32) -> String {
+    // SAFETY: the call gives a constant of the library, which a zero ends.
+    let text = unsafe { std::ffi::CStr::from_ptr(proved_argon2_message(number).cast()) };
+    text.to_string_lossy().into_owned()
 }
 
 /// The version of the library: 1,000,000 times the major one, 1,000 times the minor one and the patch.

@@ -1,4 +1,4 @@
-use crate::face::{self, OK, WRONG_LENGTH};
+use crate::face::{self, OK};
 use crate::{Config, Error, Memory, Result, Run, ThreadMode, Variant, Version};
 
 /// The length in bytes of an encoded hash.
@@ -128,7 +128,7 @@ pub(crate) fn text_by(
     config: &Config<'_>,
     call: impl FnOnce(&mut [u8]) -> u32,
 ) -> Result<String> {
-    require_settings(face::judge_encoded(pwd, salt, config))?;
+    require_done(face::check(pwd, salt, config))?;
     let salt_len = u32::try_from(salt.len()).map_err(|_| Error::SaltTooLong)?;
     let length = usize::try_from(face::encoded_len(config, salt_len)).map_err(|_| Error::OutOfMemory)?;
     let mut text = zeros(length + 1)?;
@@ -144,24 +144,16 @@ pub(crate) fn tag_by(
     config: &Config<'_>,
     call: impl FnOnce(&mut [u8]) -> u32,
 ) -> Result<Vec<u8>> {
-    require_settings(face::judge_raw(pwd, salt, config))?;
+    require_done(face::check(pwd, salt, config))?;
     let length = usize::try_from(config.hash_length).map_err(|_| Error::OutOfMemory)?;
     let mut tag = zeros(length)?;
     require_done(call(&mut tag))?;
     Ok(tag)
 }
 
-/// The error of a call that was passed no room to write to. The settings are checked before the room, and so
-/// no memory is allocated if they are rejected.
-pub(crate) fn require_settings(number: u32) -> Result<()> {
-    if number == WRONG_LENGTH {
-        Ok(())
-    } else {
-        Err(Error::of_number(number))
-    }
-}
-
-fn require_done(number: u32) -> Result<()> {
+/// Whether a call is done, or the settings are accepted: these are checked first, so that no memory is allocated if
+/// they are rejected.
+pub(crate) fn require_done(number: u32) -> Result<()> {
     if number == OK {
         Ok(())
     } else {

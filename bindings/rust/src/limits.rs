@@ -173,6 +173,6 @@ mod tests {
 
     #[test]
     fn the_text_is_the_library_s() {
-        assert_eq!(face::message(TOO_COSTLY), Some(Unverified::TooCostly.to_string()));
+        assert_eq!(face::message(TOO_COSTLY), Unverified::TooCostly.to_string());
     }
 }

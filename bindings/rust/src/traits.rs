@@ -45,7 +45,7 @@ impl Params {
         let length = output_len.map_or(Ok(default.hash_length), u32::try_from);
         let hash_length = length.map_err(|_| Error::OutputTooLong)?;
         let costs = Costs { mem_cost: m_cost, time_cost: t_cost, lanes: p_cost, hash_length };
-        hashing::require_settings(face::judge_raw(&[], &[0; 8], &costs.put_in(&default)))?;
+        hashing::require_done(face::check(&[], &[0; 8], &costs.put_in(&default)))?;
         Ok(Params(Some(costs)))
     }
 
@@ -154,7 +154,7 @@ impl<'key> Argon2<'key> {
         params: Params,
     ) -> crate::Result<Argon2<'key>> {
         let config = Config { secret, ..Argon2::new(algorithm, version, params).config };
-        hashing::require_settings(face::judge_raw(&[], &[0; 8], &config))?;
+        hashing::require_done(face::check(&[], &[0; 8], &config))?;
         Ok(config.into())
     }
 

@@ -38,11 +38,12 @@ int main(void)
     if (in_one_call_each() != 0) return 1;
     const uint8_t *pwd = (const uint8_t *)"correct horse battery staple";
     const size_t pwd_len = 28;
-    uint8_t salt[16], text[128];
+    uint8_t salt[16];
+    char text[128];
 
     const proved_argon2_settings settings = proved_argon2_owasp2();
     if (getrandom(salt, 16, 0) != 16) return 1;
     uint32_t made = proved_argon2_hash_encoded(pwd, pwd_len, salt, 16, NULL, 0, NULL, 0, &settings, text, 128);
-    uint32_t same = proved_argon2_verify_encoded(text, strlen((const char *)text), pwd, pwd_len, NULL, 0, NULL, 0);
+    uint32_t same = proved_argon2_verify_encoded(text, strlen(text), pwd, pwd_len, NULL, 0, NULL, 0);
     return made == PROVED_ARGON2_OK && same == PROVED_ARGON2_OK ? 0 : 1;
 }

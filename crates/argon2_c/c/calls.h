@@ -52,7 +52,7 @@ static inline uint32_t hash_raw(const proved_argon2_options *with, const call *i
                                        it->ad, it->ad_len, &it->settings, out, it->settings.hash_length);
 }
 
-static inline uint32_t hash_encoded(const proved_argon2_options *with, const call *it, uint8_t *text, size_t len)
+static inline uint32_t hash_encoded(const proved_argon2_options *with, const call *it, char *text, size_t len)
 {
     return proved_argon2_hash_encoded_with(with, it->pwd, it->pwd_len, it->salt, it->salt_len, it->secret,
                                            it->secret_len, it->ad, it->ad_len, &it->settings, text, len);
@@ -64,9 +64,9 @@ static inline uint32_t verify_raw(const proved_argon2_options *with, const call 
                                          it->ad, it->ad_len, &it->settings, hash, it->settings.hash_length);
 }
 
-static inline uint32_t verify_encoded(const proved_argon2_options *with, const call *it, const uint8_t *text)
+static inline uint32_t verify_encoded(const proved_argon2_options *with, const call *it, const char *text)
 {
-    return proved_argon2_verify_encoded_with(with, text, strlen((const char *)text), it->pwd, it->pwd_len, it->secret,
+    return proved_argon2_verify_encoded_with(with, text, strlen(text), it->pwd, it->pwd_len, it->secret,
                                              it->secret_len, it->ad, it->ad_len);
 }
 

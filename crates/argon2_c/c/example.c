@@ -51,7 +51,7 @@ static void expect(bool holds, const char *what)
 static uint32_t verify(const char *text, const char *guess)
 {
     const proved_argon2_limits limits = {.mem_cost = 65536, .time_cost = 10, .lanes = 16, .work = 196608};
-    return proved_argon2_verify_encoded_within(bytes(text), strlen(text), bytes(guess), strlen(guess), NULL, 0, NULL, 0,
+    return proved_argon2_verify_encoded_within(text, strlen(text), bytes(guess), strlen(guess), NULL, 0, NULL, 0,
                                                &limits);
 }
 
@@ -75,28 +75,26 @@ static void show_text(void)
     char *text = malloc(len + 1);
     expect(text != NULL, "memory for the encoded hash");
     uint32_t code = proved_argon2_hash_encoded(password, sizeof password, salt, sizeof salt, secret, sizeof secret, ad,
-                                               sizeof ad, &settings, (uint8_t *)text, len + 1);
+                                               sizeof ad, &settings, text, len + 1);
     expect(code == PROVED_ARGON2_OK && strcmp(text, expected_text) == 0, "the encoded hash has that tag and that salt");
-    code = proved_argon2_verify_encoded(bytes(text), strlen(text), password, sizeof password, secret, sizeof secret, ad,
+    code = proved_argon2_verify_encoded(text, strlen(text), password, sizeof password, secret, sizeof secret, ad,
                                         sizeof ad);
     expect(code == PROVED_ARGON2_OK, "the encoded hash verifies");
-    code = proved_argon2_needs_rehash(bytes(text), strlen(text), &settings);
+    code = proved_argon2_needs_rehash(text, strlen(text), &settings);
     expect(code == PROVED_ARGON2_OK, "the encoded hash has these settings");
     const proved_argon2_settings recommended = proved_argon2_owasp2();
-    code = proved_argon2_needs_rehash(bytes(text), strlen(text), &recommended);
+    code = proved_argon2_needs_rehash(text, strlen(text), &recommended);
     expect(code == PROVED_ARGON2_NEEDS_REHASH, "the encoded hash has other settings than OWASP's second");
     free(text);
 }
 
 static void show_refusals(void)
 {
-    uint8_t tag[sizeof expected_tag], message[PROVED_ARGON2_MESSAGE_SIZE];
+    uint8_t tag[sizeof expected_tag];
     uint32_t code = proved_argon2_hash_raw(password, sizeof password, salt, 7, NULL, 0, NULL, 0, &settings, tag,
                                            sizeof tag);
     expect(code == PROVED_ARGON2_SALT_TOO_SHORT, "a salt of 7 bytes is an error");
-    expect(proved_argon2_message(code, message, sizeof message) == PROVED_ARGON2_OK &&
-               strcmp((const char *)message, "Salt is too short") == 0,
-           "the message of the error says so");
+    expect(strcmp(proved_argon2_message(code), "Salt is too short") == 0, "the message of the error says so");
     code = proved_argon2_hash_raw(password, sizeof password, salt, sizeof salt, NULL, 0, NULL, 0, &settings, tag, 16);
     expect(code == PROVED_ARGON2_WRONG_LENGTH, "a buffer of 16 bytes is an error");
 }

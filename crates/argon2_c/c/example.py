@@ -9,7 +9,6 @@ import sys
 OK = 0
 MISMATCH = 64
 NEEDS_REHASH = 68
-MESSAGE_SIZE = 64
 VARIANTS = {"argon2d": 0, "argon2i": 1, "argon2id": 2}
 
 
@@ -52,7 +51,7 @@ class Argon2:
             ("needs_rehash", slice_of_bytes + settings, ctypes.c_uint32),
             ("owasp2", [], Settings),
             ("encoded_len", settings + [ctypes.c_uint32], ctypes.c_uint64),
-            ("message", [ctypes.c_uint32] + slice_of_bytes, ctypes.c_uint32),
+            ("message", [ctypes.c_uint32], ctypes.c_char_p),
         ):
             call = getattr(self.library, f"proved_argon2_{name}")
             call.argtypes, call.restype = arguments, result
@@ -60,10 +59,7 @@ class Argon2:
 
     def message(self, number):
         """The message of an error."""
-        text = ctypes.create_string_buffer(MESSAGE_SIZE)
-        if self._message(number, text, MESSAGE_SIZE) != OK:
-            return f"Error {number}"
-        return text.value.decode()
+        return self._message(number).decode()
 
     def _checked(self, code):
         if code != OK:

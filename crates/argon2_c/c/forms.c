@@ -56,7 +56,7 @@ static int hash(uint32_t t_cost, uint32_t m_cost, uint32_t parallelism, const vo
             : salt == NULL && saltlen != 0 ? ARGON2_SALT_PTR_MISMATCH : ARGON2_OUTPUT_PTR_NULL;
     }
     if (code == PROVED_ARGON2_OK && encoded != NULL) {
-        code = proved_argon2_encode(salt, saltlen, &settings, out, hashlen, proved_argon2_room(encoded), encodedlen);
+        code = proved_argon2_encode(salt, saltlen, &settings, out, hashlen, encoded, encodedlen);
     }
     return number_of(code);
 }
@@ -65,12 +65,11 @@ static int hash(uint32_t t_cost, uint32_t m_cost, uint32_t parallelism, const vo
 static int verify(const char *encoded, const void *pwd, size_t pwdlen, argon2_type type)
 {
     proved_argon2_stored stored;
-    const uint8_t *const text = bytes_of(encoded);
-    uint32_t code = proved_argon2_read(text, strlen(encoded), &stored);
+    uint32_t code = proved_argon2_read(encoded, strlen(encoded), &stored);
     if (code == PROVED_ARGON2_OK && stored.settings.variant != (uint32_t)type) {
         code = PROVED_ARGON2_DECODING_FAIL;
     }
-    return number_of(code ? code : proved_argon2_verify_encoded(text, strlen(encoded), pwd, pwdlen, NULL, 0, NULL, 0));
+    return number_of(code ? code : proved_argon2_verify_encoded(encoded, strlen(encoded), pwd, pwdlen, NULL, 0, NULL, 0));
 }
 
 /* ---- hashes */

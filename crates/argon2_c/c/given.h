@@ -4,6 +4,8 @@
 
 #include "checks.h"
 
+#include <dlfcn.h>
+
 enum { TAG = 32, TEXT = 128, LANES = 3, LENGTH = 2, SLICE = LANES * LENGTH, PASSES = 2 };
 
 static const proved_argon2_settings small = {
@@ -12,7 +14,7 @@ static const proved_argon2_settings small = {
 /* What the calls are given: the places of `given`, of which those from MEMORY on are written to. A memory is a pointer to
  * one, which has its length elsewhere. */
 enum place {
-    END, OPTIONS, TEXT_READ, TEXT_ENDED, PWD, PASSWORD, SALT, SECRET, AD, SETTINGS, LIMITS, JOB, FIRST, SECOND, THIRD,
+    END, OPTIONS, TEXT_READ, TEXT_ENDED, PWD, PASSWORD, SALT, SECRET, PEPPER, AD, SETTINGS, LIMITS, JOB, FIRST, SECOND, THIRD,
     LAST, HASH, TAG_READ, MEMORY, MEMORY_LEN, BLOCKS, OUT, TAG_OUT, TEXT_WRITTEN, ROOM, STORED, JOB_WRITTEN, OWN,
     SALT_WRITTEN, HASH_WRITTEN, TAG_WRITTEN, PLACES
 };
@@ -30,13 +32,15 @@ static proved_argon2_settings settings;
 static proved_argon2_limits limits;
 static proved_argon2_job job;
 static proved_argon2_block blocks[4 * SLICE + 1];
-static uint8_t inputs[16], text[TEXT];
+static uint8_t inputs[16];
+static char text[TEXT];
 
 /* What fits: the job of `small`, its blocks, its tag and its text. */
 static struct known {
     proved_argon2_job job;
     proved_argon2_block blocks[4 * SLICE + 1];
-    uint8_t tag[TAG], text[TEXT];
+    uint8_t tag[TAG];
+    char text[TEXT];
 } known;
 
 /* What the calls write to, and more of it than they are to write. */
@@ -53,7 +57,15 @@ static struct written {
 #define INPUTS BYTES(PWD), BYTES(SALT), BYTES(SECRET), BYTES(AD), given[SETTINGS].at
 #define STORED_TEXT BYTES(TEXT_READ), BYTES(PWD), BYTES(SECRET), BYTES(AD)
 #define SLICES BYTES(FIRST), BYTES(SECOND), BYTES(THIRD)
-#define CALL(name, ...) static inline uint32_t name(void) { return proved_argon2_##name(__VA_ARGS__); }
+/* A call by its name alone, as other languages find it. */
+#define CALL(name, ...) CALL_AS(name, name, __VA_ARGS__)
+#define CALL_AS(own_name, name, ...) \
+    static inline uint32_t own_name(void) \
+    { \
+        __typeof__(proved_argon2_##name) *call; \
+        *(void **)&call = dlsym(RTLD_DEFAULT, "proved_argon2_" #name); \
+        return call(__VA_ARGS__); \
+    }
 
 CALL(hash_raw, INPUTS, BYTES(OUT))
 CALL(hash_encoded, INPUTS, BYTES(TEXT_WRITTEN))
@@ -81,12 +93,13 @@ static inline void give_to_read(void)
     memcpy(text, known.text, sizeof text);
     memcpy(blocks, known.blocks, sizeof blocks);
     give(OPTIONS, "options", &options, 0);
-    give(TEXT_READ, "text", text, strlen((const char *)text));
+    give(TEXT_READ, "text", text, strlen(text));
     give(TEXT_ENDED, "text", text, 0);
     give(PWD, "pwd", inputs, 8);
     give(PASSWORD, "password", inputs, 8);
     give(SALT, "salt", inputs + 1, 8);
     give(SECRET, "secret", inputs + 2, 8);
+    give(PEPPER, "pepper", inputs + 2, 8);
     give(AD, "ad", inputs + 3, 8);
     give(SETTINGS, "settings", &settings, 0);
     give(LIMITS, "limits", &limits, 0);
@@ -133,7 +146,7 @@ static inline void spoil(void)
     settings.variant = 3;
     limits = (proved_argon2_limits){0, 0, 0, 0};
     job.lanes = 0;
-    text[0] = 0xff;
+    text[0] = (char)0xff;
     for (size_t i = 0; i < PLACES; i++) {
         given[i].len -= given[i].len != 0;
     }

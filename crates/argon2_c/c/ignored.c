@@ -1,12 +1,5 @@
-/*
- * One call of the header, CALL, with its result used or, with IGNORED, ignored: that must not compile. With PLAIN it is
- * the library's own function and not the inline one.
- */
-#ifdef PLAIN
-#include "plain.h"
-#else
+/* One call of the header, CALL, with its result used or, with IGNORED, ignored: that must not compile. */
 #include "proved_argon2.h"
-#endif
 
 static uint8_t room[PROVED_ARGON2_TEXT_SIZE];
 static char text[PROVED_ARGON2_TEXT_SIZE];

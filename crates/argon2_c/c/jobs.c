@@ -105,9 +105,14 @@ static void check_tags(void)
 {
     const proved_argon2_block *const last = blocks + 3 * 8;
     proved_argon2_job job;
-    uint8_t tag[32], again[32], text[128], other[128];
+    uint8_t tag[32], again[32];
+    char text[128], other[128];
     check_code(make(&rfc, &job), PROVED_ARGON2_OK, "a job of RFC 9106's settings");
     check(job.lanes == 4 && job.segment_length == 2 && job.passes == 3 && job.hash_length == 32, "its numbers");
+    proved_argon2_job none = job;
+    none.lanes = 0;
+    check_code(proved_argon2_job_check(&job), PROVED_ARGON2_OK, "it is a job");
+    check_code(proved_argon2_job_check(&none), PROVED_ARGON2_NO_JOB, "one without lanes is none");
     for (int falls = 0; falls < 2; falls++) {
         check(take_steps(&job, falls), "its steps");
         check_code(proved_argon2_job_finish(&job, last, 8, tag, 32), PROVED_ARGON2_OK, "its end");
@@ -123,11 +128,11 @@ static void check_tags(void)
         tag[i] ^= 1;
     }
     check_code(proved_argon2_encode(bytes_of("somesalt"), 8, &rfc, tag, 32, text, 128), PROVED_ARGON2_OK, "its text");
-    check(text[0] == '$' && strlen((char *)text) == proved_argon2_encoded_len(&rfc, 8), "of its length");
+    check(text[0] == '$' && strlen(text) == proved_argon2_encoded_len(&rfc, 8), "of its length");
     memcpy(other, text, 128);
     check_code(proved_argon2_encode(bytes_of("somesalt"), 8, &rfc, tag, 31, text, 128), PROVED_ARGON2_WRONG_LENGTH,
                "a tag of 31 bytes");
-    check_code(proved_argon2_encode(bytes_of("somesalt"), 8, &rfc, tag, 32, text, strlen((char *)text)),
+    check_code(proved_argon2_encode(bytes_of("somesalt"), 8, &rfc, tag, 32, text, strlen(text)),
                PROVED_ARGON2_WRONG_LENGTH, "no room");
     check_code(proved_argon2_encode(bytes_of("some"), 4, &rfc, tag, 32, text, 128), PROVED_ARGON2_SALT_TOO_SHORT,
                "a short salt");
@@ -139,7 +144,7 @@ static uint32_t read_job(
 {
     uint8_t salt[8];
     memset(salt, 9, sizeof salt);
-    const uint32_t code = proved_argon2_job_read(bytes_of(text), len, bytes_of(pwd), 8, NULL, 0, NULL, 0, job, salt,
+    const uint32_t code = proved_argon2_job_read(text, len, bytes_of(pwd), 8, NULL, 0, NULL, 0, job, salt,
                                                  sizeof salt, hash, hash_len);
     const char *const expected = code == PROVED_ARGON2_OK ? "somesalt" : "\t\t\t\t\t\t\t\t";
     return memcmp(salt, expected, sizeof salt) == 0 ? code : PROVED_ARGON2_UNKNOWN_NUMBER;

@@ -49,7 +49,8 @@ static void check_place(const proved_argon2_settings *settings, size_t bytes, si
 
 static proved_argon2_options with = PROVED_ARGON2_OPTIONS;
 static call it;
-static uint8_t expected[LONGEST], text[256];
+static uint8_t expected[LONGEST];
+static char text[256];
 
 static bool make(const proved_argon2_settings *settings)
 {
@@ -62,7 +63,8 @@ static bool make(const proved_argon2_settings *settings)
 static bool computes(uint32_t threads)
 {
     static const uint8_t zeros[4096];
-    uint8_t tag[LONGEST], other[256];
+    uint8_t tag[LONGEST];
+    char other[256];
     with.threads = threads;
     held = most_held = 0;
     bool good = hash_raw(&with, &it, tag) == PROVED_ARGON2_OK && memcmp(tag, expected, TAG) == 0;

@@ -13,8 +13,8 @@ static uint8_t hash[TAG], salt[16];
 static proved_argon2_block blocks[2048];
 
 #define IT calls[MAPPED]
-#define TEXT_READ sought->text, strlen((const char *)sought->text)
-#define TEXT_OF(it) sought->other, strlen((const char *)sought->other), BYTES(it, pwd), BYTES(it, secret), BYTES(it, ad)
+#define TEXT_READ sought->text, strlen(sought->text)
+#define TEXT_OF(it) sought->other, strlen(sought->other), BYTES(it, pwd), BYTES(it, secret), BYTES(it, ad)
 #define CALL(name, ...) static uint32_t does_##name(void) { return proved_argon2_##name(__VA_ARGS__); }
 
 CALL(job_make, INPUTS_OF(IT), &job)
@@ -25,14 +25,24 @@ CALL(check, &IT.settings, IT.pwd_len, IT.salt_len, IT.secret_len, IT.ad_len)
 CALL(check_encoded, TEXT_READ, &(proved_argon2_limits){2048, 2, 4, 4096}, IT.pwd_len, IT.secret_len, IT.ad_len, &stored)
 CALL(read_bytes, TEXT_READ, salt, 16, hash, TAG)
 CALL(needs_rehash, TEXT_READ, &IT.settings)
-CALL(encode, BYTES(IT, salt), &IT.settings, sought->tag, TAG, out, sizeof out)
-CALL(message, PROVED_ARGON2_OUT_OF_MEMORY, out, sizeof out)
+CALL(encode, BYTES(IT, salt), &IT.settings, sought->tag, TAG, (char *)out, sizeof out)
 CALL(hash_over, INPUTS_OF(IT), blocks, 2048, out, TAG)
 CALL(verify_over, INPUTS_OF(IT), blocks, 2048, zeros, TAG, out, TAG)
 
+static uint32_t does_job_check(void)
+{
+    const uint32_t code = does_job_make();
+    return code ? code : proved_argon2_job_check(&job);
+}
+
+static uint32_t does_message(void)
+{
+    return strcmp(proved_argon2_message(PROVED_ARGON2_OUT_OF_MEMORY), "Out of memory") == 0 ? 0 : 1;
+}
+
 static uint32_t does_encoded_len(void)
 {
-    return proved_argon2_encoded_len(&IT.settings, IT.salt_len) == strlen((const char *)sought->text) ? 0 : 1;
+    return proved_argon2_encoded_len(&IT.settings, IT.salt_len) == strlen(sought->text) ? 0 : 1;
 }
 
 static uint32_t does_memory_len(void)
@@ -107,7 +117,7 @@ static const struct row {
     ROW(hash_over, 0, OF_TAG, BUFFERS), ROW(verify_over, 64, OF_TAG, BUFFERS), OTHER(read, KINDS),
     OTHER(read_within, KINDS), OTHER(read_bytes, OF_TAG), OTHER(needs_rehash, KINDS), OTHER(encode, KINDS),
     OTHER(encoded_len, KINDS), OTHER(memory_len, KINDS), OTHER(message, KINDS), OTHER(check, KINDS),
-    OTHER(check_encoded, KINDS),
+    OTHER(check_encoded, KINDS), OTHER(job_check, OF_H0),
 };
 
 static uint32_t does_row(const void *arg)

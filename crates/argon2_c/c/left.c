@@ -54,29 +54,30 @@ static uint32_t run_job(const trial *it, bool is_hashing)
     return code;
 }
 
-#define STORED_OF(it) text, strlen((const char *)text), BYTES(it, pwd), BYTES(it, secret), BYTES(it, ad)
+#define STORED_OF(it) text, strlen(text), BYTES(it, pwd), BYTES(it, secret), BYTES(it, ad)
 
 static uint32_t answer(size_t name, const trial *it)
 {
     const call *const of = &calls[it->call];
-    const uint8_t *const hash = it->is_right ? sought->tag : zeros, *const text = it->is_right ? sought->text : sought->other;
+    const uint8_t *const hash = it->is_right ? sought->tag : zeros;
+    const char *const text = it->is_right ? sought->text : sought->other;
     const size_t tag_len = it->is_short ? TAG - 1 : TAG, text_len = it->is_short ? TAG - 1 : sizeof out;
     const proved_argon2_limits widest = {UINT32_MAX, UINT32_MAX, UINT32_MAX, UINT64_MAX};
     switch (name) {
     case 0: return proved_argon2_hash_raw_with(&it->with, INPUTS_OF(*of), out, tag_len);
-    case 1: return hash_encoded(&it->with, of, out, text_len);
+    case 1: return hash_encoded(&it->with, of, (char *)out, text_len);
     case 2: return run_job(it, true);
     case 3: return verify_raw(&it->with, of, hash);
     case 4: return verify_encoded(&it->with, of, text);
     case 5: return run_job(it, false);
     case 6: return proved_argon2_hash_raw(INPUTS_OF(*of), out, tag_len);
-    case 7: return proved_argon2_hash_encoded(INPUTS_OF(*of), out, text_len);
+    case 7: return proved_argon2_hash_encoded(INPUTS_OF(*of), (char *)out, text_len);
     case 8: return proved_argon2_verify_raw(INPUTS_OF(*of), hash, TAG);
     case 9: return proved_argon2_verify_encoded(STORED_OF(*of));
     case 10:
         return proved_argon2_verify_encoded_within(STORED_OF(*of), it->with.limits == NULL ? &widest : it->with.limits);
     case 11: return proved_argon2_password_hash((char *)out, (const char *)of->pwd, of->pwd_len);
-    default: return proved_argon2_password_verify((const char *)text, (const char *)of->pwd, of->pwd_len);
+    default: return proved_argon2_password_verify(text, (const char *)of->pwd, of->pwd_len);
     }
 }
 
@@ -253,7 +254,7 @@ static void check_arguments(size_t name)
         good = good && is_cleared(name, &it);
         it = trial_of(name, 2, 4);
         it.with.memory = lent + 1;
-        it.expected = it.or_else = PROVED_ARGON2_WRONG_BLOCKS;
+        it.expected = it.or_else = PROVED_ARGON2_MISALIGNED;
         good = good && is_cleared(name, &it);
     }
     check_cleared(name, good, "its arguments are refused");

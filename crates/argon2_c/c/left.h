@@ -38,7 +38,8 @@ static const call calls[CALLS] = {
 
 /* A call's tag, its text, a text of zeros, and what is looked for, each byte with MASK so that it is not found here. */
 typedef struct known {
-    uint8_t tag[TAG], text[TEXT], other[TEXT];
+    uint8_t tag[TAG];
+    char text[TEXT], other[TEXT];
     size_t count;
     struct {
         enum kind kind;
@@ -115,7 +116,7 @@ static inline void keep_last(const proved_argon2_job *job, const proved_argon2_b
     }
 }
 
-static inline bool spell(const call *it, const uint8_t *tag, uint8_t *text)
+static inline bool spell(const call *it, const uint8_t *tag, char *text)
 {
     return proved_argon2_encode(it->salt, it->salt_len, &it->settings, tag, it->settings.hash_length, text, TEXT)
         == PROVED_ARGON2_OK;

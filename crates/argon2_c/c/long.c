@@ -31,7 +31,7 @@ static void check_inputs(const uint8_t *far)
         len[i] = ABOVE;
 #define INPUTS_OF_I of[0], len[0], of[1], len[1], of[2], len[2], of[3], len[3], &settings
         const bool is_refused = proved_argon2_hash_raw(INPUTS_OF_I, out, 32) == refusals[i]
-            && proved_argon2_hash_encoded(INPUTS_OF_I, out, sizeof out) == refusals[i]
+            && proved_argon2_hash_encoded(INPUTS_OF_I, (char *)out, sizeof out) == refusals[i]
             && proved_argon2_verify_raw(INPUTS_OF_I, pwd, 32) == refusals[i]
             && proved_argon2_job_make(INPUTS_OF_I, &job) == refusals[i];
         snprintf(name, sizeof name, "%s of more than 2^32 bytes", names[i]);

@@ -12,21 +12,22 @@ static uint8_t buffer[256], before[256];
 
 /* The call, of so many KiB by 4 lanes, its tag, its text and its job. */
 static call it;
-static uint8_t tag[TAG], text[256];
+static uint8_t tag[TAG];
+static char text[256], written[256];
 static proved_argon2_job job;
 static proved_argon2_options with;
 
 #define INPUTS it.pwd, it.pwd_len, it.salt, it.salt_len, it.secret, it.secret_len, it.ad, it.ad_len, &it.settings
-#define STORED text, strlen((const char *)text), it.pwd, it.pwd_len, it.secret, it.secret_len, it.ad, it.ad_len
+#define STORED text, strlen(text), it.pwd, it.pwd_len, it.secret, it.secret_len, it.ad, it.ad_len
 #define CALL(name, ...) static uint32_t does_##name(void) { return proved_argon2_##name(__VA_ARGS__); }
 
 CALL(hash_raw, INPUTS, buffer, TAG)
-CALL(hash_encoded, INPUTS, buffer, sizeof buffer)
+CALL(hash_encoded, INPUTS, written, sizeof written)
 CALL(verify_raw, INPUTS, tag, TAG)
 CALL(verify_encoded, STORED)
 CALL(verify_encoded_within, STORED, &(proved_argon2_limits){LARGE, 2, 4, 2 * LARGE})
 CALL(hash_raw_with, &with, INPUTS, buffer, TAG)
-CALL(hash_encoded_with, &with, INPUTS, buffer, sizeof buffer)
+CALL(hash_encoded_with, &with, INPUTS, written, sizeof written)
 CALL(verify_raw_with, &with, INPUTS, tag, TAG)
 CALL(verify_encoded_with, &with, STORED)
 CALL(job_run, &with, &job, buffer, TAG)
@@ -241,7 +242,7 @@ static void check_memory_new(uint32_t mem_cost)
     check(held == 0 && errno == 77, "and is given back");
 }
 
-#define REFUSED_TEXT(it) bytes_of(it), strlen(it), NULL, 0, NULL, 0, NULL, 0
+#define REFUSED_TEXT(it) it, strlen(it), NULL, 0, NULL, 0, NULL, 0
 
 /* Calls that take no memory, and refusals that come before any is taken, even where it would be refused. */
 static void check_without_memory(void)
@@ -262,7 +263,7 @@ static void check_without_memory(void)
     const uint32_t little = proved_argon2_hash_raw(NULL, 0, it.salt, 8, NULL, 0, NULL, 0, &refused, buffer, TAG);
     const uint32_t shorter = proved_argon2_hash_raw(NULL, 0, it.salt, 8, NULL, 0, NULL, 0, &it.settings, buffer, TAG - 1);
     const size_t without_zero = (size_t)proved_argon2_encoded_len(&it.settings, 8);
-    const uint32_t full = proved_argon2_hash_encoded(NULL, 0, it.salt, 8, NULL, 0, NULL, 0, &it.settings, buffer, without_zero);
+    const uint32_t full = proved_argon2_hash_encoded(NULL, 0, it.salt, 8, NULL, 0, NULL, 0, &it.settings, written, without_zero);
     const uint32_t text_of_none = proved_argon2_verify_encoded(REFUSED_TEXT(no_passes));
     const uint32_t costly = proved_argon2_verify_encoded_within(REFUSED_TEXT(right), &below);
     const uint32_t costly_with = proved_argon2_verify_encoded_with(&with, REFUSED_TEXT(right));
@@ -273,13 +274,12 @@ static void check_without_memory(void)
               && full == PROVED_ARGON2_WRONG_LENGTH && text_of_none == PROVED_ARGON2_TIME_TOO_SMALL
               && costly == PROVED_ARGON2_TOO_COSTLY && costly_with == costly && no_memory == little && run == shorter,
           "what is refused asks for nothing");
-    const uint32_t fault = proved_argon2_read(bytes_of(no_hash), strlen(no_hash), &stored);
-    const uint32_t read = proved_argon2_read(bytes_of(right), strlen(right), &stored);
-    const uint32_t bytes = proved_argon2_read_bytes(bytes_of(right), strlen(right), salt, 8, hash, 32);
-    const uint32_t rehash = proved_argon2_needs_rehash(bytes_of(right), strlen(right), &it.settings);
-    const uint32_t message = proved_argon2_message(PROVED_ARGON2_OUT_OF_MEMORY, buffer, sizeof buffer);
+    const uint32_t fault = proved_argon2_read(no_hash, strlen(no_hash), &stored);
+    const uint32_t read = proved_argon2_read(right, strlen(right), &stored);
+    const uint32_t bytes = proved_argon2_read_bytes(right, strlen(right), salt, 8, hash, 32);
+    const uint32_t rehash = proved_argon2_needs_rehash(right, strlen(right), &it.settings);
     check(requests == 0 && fault == PROVED_ARGON2_DECODING_FAIL && read == PROVED_ARGON2_OK && bytes == PROVED_ARGON2_OK
-              && rehash == PROVED_ARGON2_NEEDS_REHASH && message == PROVED_ARGON2_OK
+              && rehash == PROVED_ARGON2_NEEDS_REHASH && proved_argon2_message(0) != NULL
               && proved_argon2_encoded_len(&it.settings, 8) > 0 && proved_argon2_memory_len(&it.settings) > 0,
           "nor do the calls that hash and verify nothing");
 }

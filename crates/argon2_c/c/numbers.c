@@ -54,27 +54,35 @@ static const refusal refusals[] = {
     {PROVED_ARGON2_NO_RANDOM_BYTES, "There are no random bytes"},
     {PROVED_ARGON2_STOPPED, "The hash was stopped"},
     {PROVED_ARGON2_OLD_PROCESSOR, "The processor is too old"},
+    {PROVED_ARGON2_MISALIGNED, "The memory is at an address that is not a multiple of 8"},
 };
+enum { OF_C = 5 }; /* the last ones, which nothing proved returns */
 
-/* A text and zeros behind it, for each number of the header and for no other one. */
+/* What is proved of messages: in one of the builds, whose calls have names of their own. */
+#ifdef __x86_64__
+#define proved_message proved_x86_64_v2_message
+#else
+#define proved_message proved_armv8_a_message
+#endif
+uint32_t proved_message(uint32_t number, uint8_t *text, size_t text_len);
+
+/* A message for each number of the header and for no other one; and that of what is proved, where it has the number. */
 static void check_refusals(void)
 {
-    static const char zeros[PROVED_ARGON2_MESSAGE_SIZE];
-    size_t known = 0;
+    const char *const unknown = proved_argon2_message(PROVED_ARGON2_UNKNOWN_NUMBER);
+    size_t known = 0, proved = 0;
     for (size_t i = 0; i < sizeof refusals / sizeof *refusals; i++) {
-        char text[PROVED_ARGON2_MESSAGE_SIZE];
-        const size_t len = strlen(refusals[i].message);
-        memset(text, 7, sizeof text);
-        uint32_t code = proved_argon2_message(refusals[i].number, (uint8_t *)text, sizeof text);
-        check(code == PROVED_ARGON2_OK && memcmp(text, refusals[i].message, len) == 0 &&
-                  memcmp(text + len, zeros, sizeof text - len) == 0,
-              refusals[i].message);
+        check(strcmp(proved_argon2_message(refusals[i].number), refusals[i].message) == 0, refusals[i].message);
     }
     for (uint32_t number = 0; number < 1000; number++) {
-        uint8_t text[PROVED_ARGON2_MESSAGE_SIZE];
-        known += proved_argon2_message(number, text, sizeof text) == PROVED_ARGON2_OK;
+        uint8_t text[64];
+        const char *const message = proved_argon2_message(number);
+        known += message != unknown;
+        proved += proved_message(number, text, sizeof text) == PROVED_ARGON2_OK
+            && strcmp((const char *)text, message) == 0;
     }
-    check(known == sizeof refusals / sizeof *refusals, "the library has no other refusal");
+    check(known + 1 == sizeof refusals / sizeof *refusals, "the library has no other refusal");
+    check(proved + OF_C == sizeof refusals / sizeof *refusals, "the messages are those that are proved");
 }
 
 /* ---- variants and versions */

@@ -1,8 +1,7 @@
-/*
- * A password in one call each, and the numbers that C alone answers. It is linked with --wrap=getrandom, so that the
- * salt is known.
- */
+/* A password in one call each. It is linked with --wrap=getrandom, so that the salt is known. */
 #include "checks.h"
+
+#include <errno.h>
 
 ssize_t __wrap_getrandom(void *buffer, size_t length, unsigned flags);
 
@@ -35,7 +34,7 @@ static void check_password(void)
     check(asked_for == 16 && strncmp(text, beginning, strlen(beginning)) == 0, "its settings and its salt");
     fill_bytes(salt, sizeof salt, 0x80);
     uint32_t code = proved_argon2_hash_encoded(bytes_of("pass\0word"), 9, salt, 16, NULL, 0, NULL, 0, &settings,
-                                               (uint8_t *)other, sizeof other);
+                                               other, sizeof other);
     check(code == PROVED_ARGON2_OK && memcmp(text, other, sizeof text) == 0, "it is as hash_encoded writes it");
     check_code(proved_argon2_password_verify(text, "pass\0word", 9), PROVED_ARGON2_OK, "it verifies");
     check_code(proved_argon2_password_verify(text, "pass\0wore", 9), PROVED_ARGON2_MISMATCH, "another one does not");
@@ -60,28 +59,8 @@ static void check_password(void)
     check(code == PROVED_ARGON2_OK && errno == 77, "a signal is no refusal");
 }
 
-/* ---- the numbers of C */
-
-static void check_message(uint32_t number, const char *expected)
-{
-    static const uint8_t zeros[PROVED_ARGON2_MESSAGE_SIZE];
-    uint8_t text[PROVED_ARGON2_MESSAGE_SIZE];
-    const size_t len = strlen(expected);
-    memset(text, 7, sizeof text);
-    uint32_t shorter = proved_argon2_message(number, text, len);
-    check(shorter == PROVED_ARGON2_WRONG_LENGTH && text[0] == 7, "a message without room for a zero");
-    uint32_t code = proved_argon2_message(number, text, sizeof text);
-    check(code == PROVED_ARGON2_OK && memcmp(text, expected, len) == 0 &&
-              memcmp(text + len, zeros, sizeof text - len) == 0,
-          expected);
-}
-
 int main(void)
 {
     check_password();
-    check_message(PROVED_ARGON2_NULL_POINTER, "A pointer is null");
-    check_message(PROVED_ARGON2_NO_RANDOM_BYTES, "There are no random bytes");
-    check_message(PROVED_ARGON2_STOPPED, "The hash was stopped");
-    check_message(PROVED_ARGON2_OLD_PROCESSOR, "The processor is too old");
     return checks_failed != 0;
 }

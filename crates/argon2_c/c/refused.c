@@ -8,6 +8,8 @@
 #include "../../../bindings/c/builds.h"
 #include "given.h"
 
+#include <errno.h>
+
 ssize_t __wrap_getrandom(void *buffer, size_t length, unsigned flags);
 
 /* There are no random bytes where all is spoilt. */
@@ -27,10 +29,13 @@ CALL(read, BYTES(TEXT_READ), given[STORED].at)
 CALL(read_within, BYTES(TEXT_READ), given[LIMITS].at, given[STORED].at)
 CALL(read_bytes, BYTES(TEXT_READ), BYTES(SALT_WRITTEN), BYTES(HASH_WRITTEN))
 CALL(needs_rehash, BYTES(TEXT_READ), given[SETTINGS].at)
+CALL_AS(check_settings, check, given[SETTINGS].at, 8, 8, 8, 8)
 CALL(check_encoded, BYTES(TEXT_READ), given[LIMITS].at, 8, 8, 8, given[STORED].at)
-CALL(message, PROVED_ARGON2_OUT_OF_MEMORY, BYTES(TEXT_WRITTEN))
 CALL(password_hash, given[ROOM].at, BYTES(PASSWORD))
 CALL(password_verify, given[TEXT_ENDED].at, BYTES(PASSWORD))
+CALL(password_hash_with, given[OPTIONS].at, given[SETTINGS].at, given[ROOM].at, BYTES(PASSWORD), BYTES(PEPPER))
+CALL(password_verify_with, given[OPTIONS].at, given[TEXT_ENDED].at, BYTES(PASSWORD), BYTES(PEPPER))
+CALL(job_check, given[JOB].at)
 CALL(job_read, STORED_TEXT, given[JOB_WRITTEN].at, BYTES(SALT_WRITTEN), BYTES(HASH_WRITTEN))
 CALL(encode, BYTES(SALT), given[SETTINGS].at, BYTES(TAG_READ), BYTES(TEXT_WRITTEN))
 CALL(hash_raw_with, given[OPTIONS].at, INPUTS, BYTES(OUT))
@@ -40,16 +45,11 @@ CALL(verify_encoded_with, given[OPTIONS].at, STORED_TEXT)
 CALL(job_run, given[OPTIONS].at, given[JOB].at, BYTES(TAG_OUT))
 CALL(job_run_verify, given[OPTIONS].at, given[JOB].at, BYTES(HASH))
 
-static uint32_t check_settings(void)
-{
-    return proved_argon2_check(given[SETTINGS].at, 8, 8, 8, 8);
-}
-
 /* Three that have no number for it: no settings have no length, and nothing is freed where there is no memory. */
 static uint32_t encoded_len(void)
 {
     const uint64_t len = proved_argon2_encoded_len(given[SETTINGS].at, 8);
-    return len == strlen((const char *)known.text) ? PROVED_ARGON2_OK : len != 0 ? PROVED_ARGON2_WRONG_LENGTH
+    return len == strlen(known.text) ? PROVED_ARGON2_OK : len != 0 ? PROVED_ARGON2_WRONG_LENGTH
         : given[SETTINGS].at == NULL ? PROVED_ARGON2_NULL_POINTER : PROVED_ARGON2_INCORRECT_TYPE;
 }
 
@@ -93,8 +93,10 @@ static const struct row {
     ROW(hash_raw, OF_INPUTS, OUT), ROW(hash_encoded, OF_INPUTS, TEXT_WRITTEN), ROW(verify_raw, OF_INPUTS, HASH),
     ROW(verify_encoded, OF_TEXT), ROW(verify_encoded_within, OF_TEXT, LIMITS),
     ROW(read, TEXT_READ, STORED), ROW(read_within, TEXT_READ, LIMITS, STORED),
-    ROW(read_bytes, TEXT_READ, SALT_WRITTEN, HASH_WRITTEN), ROW(needs_rehash, TEXT_READ, SETTINGS), ROW(message, TEXT_WRITTEN),
+    ROW(read_bytes, TEXT_READ, SALT_WRITTEN, HASH_WRITTEN), ROW(needs_rehash, TEXT_READ, SETTINGS),
     ROW(password_hash, ROOM, PASSWORD), ROW(password_verify, TEXT_ENDED, PASSWORD),
+    ROW(password_hash_with, OPTIONS, SETTINGS, ROOM, PASSWORD, PEPPER),
+    ROW(password_verify_with, OPTIONS, TEXT_ENDED, PASSWORD, PEPPER), ROW(job_check, JOB),
     ROW(job_make, OF_INPUTS, JOB_WRITTEN), ROW(job_read, OF_TEXT, JOB_WRITTEN, SALT_WRITTEN, HASH_WRITTEN),
     ROW(job_begin, JOB, OWN),
     ROW(job_fill, JOB, FIRST, SECOND, THIRD, OWN), ROW(job_finish, JOB, LAST, OUT),
@@ -120,8 +122,9 @@ static bool tells_what_fits(const struct row *row)
     spoil();
     const uint32_t spoilt = row->call();
     /* (a text of inputs with a secret is another password's, and these two have nothing that can be spoilt) */
-    const bool is_done = whole == (row->call == password_verify ? PROVED_ARGON2_MISMATCH : PROVED_ARGON2_OK);
-    const bool is_whole = row->call == memory_free || row->call == message;
+    const bool is_other = row->call == password_verify || row->call == password_verify_with;
+    const bool is_done = whole == (is_other ? PROVED_ARGON2_MISMATCH : PROVED_ARGON2_OK);
+    const bool is_whole = row->call == memory_free;
     return is_done && (is_whole ? spoilt == PROVED_ARGON2_OK : spoilt != whole && spoilt != PROVED_ARGON2_NULL_POINTER);
 }
 

@@ -18,7 +18,8 @@ enum { DRAWS = 30, MOST_LANES = 400, MOST_PASSES = 8, MOST_TAG = 1 << 20, MOST_F
 #define COUNTER 0x10000000
 
 static atomic_size_t *written;
-static uint8_t tag[MOST_TAG], expected[MOST_TAG], text[2 * MOST_TAG];
+static uint8_t tag[MOST_TAG], expected[MOST_TAG];
+static char text[2 * MOST_TAG];
 static uint32_t most_memory; /* KiB */
 
 /* A number of a drawn magnitude. */

@@ -14,7 +14,8 @@ static const char *const names[CALLS] = {
 /* What the calls are given, and what they are to give: libargon2's tag, and the text of it. */
 static call it;
 static proved_argon2_job job;
-static uint8_t expected[LONGEST], text[512];
+static uint8_t expected[LONGEST];
+static char text[512];
 
 /* Makes the call of some lanes, memory and passes, and its text in the caller's own thread. */
 static bool make(uint32_t lanes, uint32_t mem_cost, uint32_t passes)
@@ -34,12 +35,12 @@ static uint32_t answer(size_t which, const proved_argon2_options *with)
     uint8_t out[512], before[512];
     fill_bytes(before, sizeof before, 3);
     memcpy(out, before, sizeof out);
-    const uint32_t code = which == 0 ? hash_raw(with, &it, out) : which == 1 ? hash_encoded(with, &it, out, sizeof out)
+    const uint32_t code = which == 0 ? hash_raw(with, &it, out) : which == 1 ? hash_encoded(with, &it, (char *)out, sizeof out)
         : which == 2 ? verify_raw(with, &it, expected) : which == TEXT ? verify_encoded(with, &it, text)
         : which == 4 ? proved_argon2_job_run(with, &job, out, 32)
         : proved_argon2_job_run_verify(with, &job, expected, 32);
     if (code == PROVED_ARGON2_OK && (which < 2 || which == 4)) {
-        memcpy(before, which == 1 ? text : expected, which == 1 ? sizeof text : 32);
+        memcpy(before, which == 1 ? (const uint8_t *)text : expected, which == 1 ? sizeof text : 32);
     }
     return memcmp(out, before, sizeof out) == 0 ? code : PROVED_ARGON2_UNKNOWN_NUMBER;
 }

@@ -16,7 +16,8 @@ static const char *const names[CALLS] = {
 static const call it = {
     {PROVED_ARGON2_ID, PROVED_ARGON2_VERSION_13, 2048, PASSES, 4, TAG}, "password", "somesalt", "", "", 8, 8, 0, 0};
 static proved_argon2_job job;
-static uint8_t expected[LONGEST], text[256], out[256], before[256];
+static uint8_t expected[LONGEST], out[256], before[256];
+static char text[256];
 
 static bool make(void)
 {
@@ -32,7 +33,7 @@ static uint32_t answer(size_t which, const proved_argon2_options *with)
     memcpy(before, out, sizeof out);
     switch (which) {
     case 0: return hash_raw(with, &it, out);
-    case 1: return hash_encoded(with, &it, out, sizeof out);
+    case 1: return hash_encoded(with, &it, (char *)out, sizeof out);
     case 2: return proved_argon2_job_run(with, &job, out, TAG);
     case 3: return verify_raw(with, &it, expected);
     case 4: return verify_encoded(with, &it, text);

@@ -98,18 +98,18 @@ static void check_text(const known_text *known)
     static char text[8192];
     proved_argon2_stored stored;
     uint32_t code = proved_argon2_hash_encoded(pwd, PWD, salt, known->salt, NULL, 0, NULL, 0, known->settings,
-                                               (uint8_t *)text, known->len + 1);
+                                               text, known->len + 1);
     bool written = code == PROVED_ARGON2_OK && strlen(text) == known->len &&
                    strncmp(text, known->head, strlen(known->head)) == 0 &&
                    strcmp(strrchr(text, '$'), known->tail) == 0 &&
                    proved_argon2_encoded_len(known->settings, (uint32_t)known->salt) == known->len;
-    bool read = written && proved_argon2_read(bytes_of(text), known->len, &stored) == PROVED_ARGON2_OK &&
+    bool read = written && proved_argon2_read(text, known->len, &stored) == PROVED_ARGON2_OK &&
                 same_settings(&stored.settings, known->settings) && stored.salt_length == known->salt;
     bool same = read &&
-                proved_argon2_needs_rehash(bytes_of(text), known->len, known->settings) == PROVED_ARGON2_OK;
-    bool verified = same && proved_argon2_verify_encoded(bytes_of(text), known->len, pwd, PWD, NULL, 0, NULL,
+                proved_argon2_needs_rehash(text, known->len, known->settings) == PROVED_ARGON2_OK;
+    bool verified = same && proved_argon2_verify_encoded(text, known->len, pwd, PWD, NULL, 0, NULL,
                                                          0) == PROVED_ARGON2_OK;
-    bool other = verified && proved_argon2_verify_encoded(bytes_of(text), known->len, pwd, PWD - 1, NULL, 0, NULL,
+    bool other = verified && proved_argon2_verify_encoded(text, known->len, pwd, PWD - 1, NULL, 0, NULL,
                                                           0) == PROVED_ARGON2_MISMATCH;
     check(other, known->name);
 }

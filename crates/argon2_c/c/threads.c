@@ -13,7 +13,8 @@
 /* One call beside libargon2, by some threads, or by a pool, over a memory of its own or of the caller's. */
 static bool agrees(const call *it, uint32_t threads, uint32_t kind)
 {
-    uint8_t tag[LONGEST], expected[LONGEST], text[512];
+    uint8_t tag[LONGEST], expected[LONGEST];
+    char text[512];
     proved_argon2_options with = by(threads);
     const size_t len = it->settings.hash_length;
     uint8_t *const room = __real_malloc((size_t)it->settings.mem_cost * 1024);
@@ -228,7 +229,7 @@ static void check_options(void)
     memset(memory, 1, sizeof memory);
     with.memory = memory + 1;
     with.memory_len = 256 * 1024;
-    check_refused(&with, PROVED_ARGON2_WRONG_BLOCKS, "a memory at an odd address");
+    check_refused(&with, PROVED_ARGON2_MISALIGNED, "a memory at an odd address");
     check(memory[1] == 1 && memory[256 * 1024] == 1, "it is as it was");
     with.memory = memory;
     with.memory_len = 256 * 1024 - 1;
@@ -252,12 +253,12 @@ static void check_limits(void)
     const proved_argon2_limits at = {256, 2, 4, 512};
     proved_argon2_options with = by(4);
     with.limits = &at;
-    check_code(verify_encoded(&with, &sample, bytes_of(text)), PROVED_ARGON2_MISMATCH, "a text at its limits");
+    check_code(verify_encoded(&with, &sample, text), PROVED_ARGON2_MISMATCH, "a text at its limits");
     const proved_argon2_limits below[] = {{255, 2, 4, 512}, {256, 1, 4, 512}, {256, 2, 3, 512}, {256, 2, 4, 511}};
     for (size_t i = 0; i < sizeof below / sizeof *below; i++) {
         refuse_starts(1, SIZE_MAX);
         with.limits = &below[i];
-        check_code(verify_encoded(&with, &sample, bytes_of(text)), PROVED_ARGON2_TOO_COSTLY, "a text above a limit");
+        check_code(verify_encoded(&with, &sample, text), PROVED_ARGON2_TOO_COSTLY, "a text above a limit");
         check(starts == 0, "it starts nothing");
     }
     refuse_nothing();

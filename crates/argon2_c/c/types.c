@@ -3,7 +3,6 @@
  * It compiles or it does not; each line of the table is one check.
  */
 #include "checks.h"
-#include "plain.h"
 
 #define AT(type, field, place, bytes) \
     _Static_assert(offsetof(type, field) == (place) && sizeof(((type *)0)->field) == (bytes), #type "." #field)
@@ -48,7 +47,9 @@ _Static_assert(sizeof(proved_argon2_job) == 88, "proved_argon2_job");
 #define BYTES const uint8_t *, size_t
 #define ROOM uint8_t *, size_t
 #define INPUTS BYTES, BYTES, BYTES, BYTES, const proved_argon2_settings *
-#define STORED BYTES, BYTES, BYTES, BYTES
+#define TEXT const char *, size_t
+#define TEXT_ROOM char *, size_t
+#define STORED TEXT, BYTES, BYTES, BYTES
 #define JOB const proved_argon2_job *
 #define BLOCKS const proved_argon2_block *, size_t
 #define OWN proved_argon2_block *, size_t
@@ -58,20 +59,15 @@ _Static_assert(sizeof(proved_argon2_job) == 88, "proved_argon2_job");
 #define IS(name, result, ...) \
     check(_Generic(&proved_argon2_##name, result (*)(__VA_ARGS__): true, default: false), "the type of " #name)
 
-/* What is proved, and its inline form, which takes the same. */
-#define ARE(name, result, ...) \
-    IS(name, result, __VA_ARGS__); \
-    IS(nullable_##name, result, __VA_ARGS__)
-
 static void check_calls(void)
 {
     IS(hash_raw, uint32_t, INPUTS, ROOM);
-    IS(hash_encoded, uint32_t, INPUTS, ROOM);
+    IS(hash_encoded, uint32_t, INPUTS, TEXT_ROOM);
     IS(verify_raw, uint32_t, INPUTS, BYTES);
     IS(verify_encoded, uint32_t, STORED);
     IS(verify_encoded_within, uint32_t, STORED, LIMITS);
     IS(hash_raw_with, uint32_t, WITH, INPUTS, ROOM);
-    IS(hash_encoded_with, uint32_t, WITH, INPUTS, ROOM);
+    IS(hash_encoded_with, uint32_t, WITH, INPUTS, TEXT_ROOM);
     IS(verify_raw_with, uint32_t, WITH, INPUTS, BYTES);
     IS(verify_encoded_with, uint32_t, WITH, STORED);
     IS(job_run, uint32_t, WITH, JOB, ROOM);
@@ -80,30 +76,35 @@ static void check_calls(void)
     IS(memory_free, void, void *, size_t);
     IS(password_hash, uint32_t, char *, const char *, size_t);
     IS(password_verify, uint32_t, const char *, const char *, size_t);
+    IS(password_hash_with, uint32_t, WITH, const proved_argon2_settings *, char *, const char *, size_t, BYTES);
+    IS(password_verify_with, uint32_t, WITH, const char *, const char *, size_t, BYTES);
     IS(default_limits, proved_argon2_limits, void);
     IS(library_version, uint32_t, void);
 }
 
 static void check_proved(void)
 {
-    ARE(read, uint32_t, BYTES, proved_argon2_stored *);
-    ARE(read_within, uint32_t, BYTES, LIMITS, proved_argon2_stored *);
-    ARE(read_bytes, uint32_t, BYTES, ROOM, ROOM);
-    ARE(needs_rehash, uint32_t, BYTES, const proved_argon2_settings *);
-    ARE(encoded_len, uint64_t, const proved_argon2_settings *, uint32_t);
-    ARE(memory_len, uint64_t, const proved_argon2_settings *);
-    ARE(message, uint32_t, uint32_t, ROOM);
-    ARE(hash_over, uint32_t, INPUTS, OWN, ROOM);
-    ARE(verify_over, uint32_t, INPUTS, OWN, BYTES, ROOM);
-    ARE(job_make, uint32_t, INPUTS, proved_argon2_job *);
-    ARE(job_read, uint32_t, STORED, proved_argon2_job *, ROOM, ROOM);
-    ARE(job_begin, uint32_t, JOB, uint32_t, OWN);
-    ARE(job_fill, uint32_t, JOB, uint32_t, uint32_t, uint32_t, BLOCKS, BLOCKS, BLOCKS, OWN);
-    ARE(job_finish, uint32_t, JOB, BLOCKS, ROOM);
-    ARE(job_verify, uint32_t, JOB, BLOCKS, BYTES, ROOM);
-    ARE(job_hash_over, uint32_t, JOB, OWN, ROOM);
-    ARE(job_verify_over, uint32_t, JOB, OWN, BYTES, ROOM);
-    ARE(encode, uint32_t, BYTES, const proved_argon2_settings *, BYTES, ROOM);
+    IS(read, uint32_t, TEXT, proved_argon2_stored *);
+    IS(read_within, uint32_t, TEXT, LIMITS, proved_argon2_stored *);
+    IS(read_bytes, uint32_t, TEXT, ROOM, ROOM);
+    IS(needs_rehash, uint32_t, TEXT, const proved_argon2_settings *);
+    IS(encoded_len, uint64_t, const proved_argon2_settings *, uint32_t);
+    IS(memory_len, uint64_t, const proved_argon2_settings *);
+    IS(message, const char *, uint32_t);
+    IS(check, uint32_t, const proved_argon2_settings *, uint64_t, uint64_t, uint64_t, uint64_t);
+    IS(check_encoded, uint32_t, TEXT, LIMITS, uint64_t, uint64_t, uint64_t, proved_argon2_stored *);
+    IS(job_check, uint32_t, JOB);
+    IS(hash_over, uint32_t, INPUTS, OWN, ROOM);
+    IS(verify_over, uint32_t, INPUTS, OWN, BYTES, ROOM);
+    IS(job_make, uint32_t, INPUTS, proved_argon2_job *);
+    IS(job_read, uint32_t, STORED, proved_argon2_job *, ROOM, ROOM);
+    IS(job_begin, uint32_t, JOB, uint32_t, OWN);
+    IS(job_fill, uint32_t, JOB, uint32_t, uint32_t, uint32_t, BLOCKS, BLOCKS, BLOCKS, OWN);
+    IS(job_finish, uint32_t, JOB, BLOCKS, ROOM);
+    IS(job_verify, uint32_t, JOB, BLOCKS, BYTES, ROOM);
+    IS(job_hash_over, uint32_t, JOB, OWN, ROOM);
+    IS(job_verify_over, uint32_t, JOB, OWN, BYTES, ROOM);
+    IS(encode, uint32_t, BYTES, const proved_argon2_settings *, BYTES, TEXT_ROOM);
 }
 
 static void check_presets(void)

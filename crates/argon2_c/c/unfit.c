@@ -224,7 +224,7 @@ static void check_alignment(uint32_t (*step)(void), enum place place, const char
             } else if (n == 2) {
                 given[JOB].at = given[SETTINGS].at = NULL;
             }
-            const bool is_refused = step() == (n == 2 ? PROVED_ARGON2_NULL_POINTER : PROVED_ARGON2_WRONG_BLOCKS);
+            const bool is_refused = step() == (n == 2 ? PROVED_ARGON2_NULL_POINTER : PROVED_ARGON2_MISALIGNED);
             good &= is_refused && memcmp(&written, &written_before, sizeof written) == 0;
         }
     }

@@ -24,8 +24,8 @@
  * is overwritten first, or returned to the system, which clears it. Such a call also overwrites the stack below it and
  * the vector registers.
  *
- * Threads. Calls are thread-safe, as long as none writes to what another one is passed: the library has no state but
- * which build it runs. A thread is not cancelled within a call. Calls are not async-signal-safe: make none from a
+ * Threads. Calls are thread-safe, as long as nothing writes to what a call is passed: an encoded hash that changes while
+ * it is read may end the process. The library has no state but which build it runs. A thread is not cancelled within a call. Calls are not async-signal-safe: make none from a
  * signal handler. In the forked child of a process with threads, calls may be made wherever malloc may be called, as
  * with the GNU C library.
  *
@@ -43,10 +43,8 @@ extern "C" {
 
 #if defined(__GNUC__)
 #define PROVED_ARGON2_CHECKED __attribute__((warn_unused_result))
-#define PROVED_ARGON2_NONNULL __attribute__((nonnull))
 #else
 #define PROVED_ARGON2_CHECKED
-#define PROVED_ARGON2_NONNULL
 #endif
 
 /* The version of the library; as a number, three digits each are for the minor one and the patch. */
@@ -68,8 +66,6 @@ extern "C" {
 #define PROVED_ARGON2_MAX_AD_LENGTH UINT32_C(0xFFFFFFFF)
 #define PROVED_ARGON2_MIN_HASH_LENGTH UINT32_C(4)
 #define PROVED_ARGON2_MAX_HASH_LENGTH UINT32_C(0xFFFFFFFF)
-/* A buffer of this many bytes has room for each error message and its terminating zero. */
-#define PROVED_ARGON2_MESSAGE_SIZE 64
 
 /* The variants (RFC 9106, 1): where a block's reference is drawn from. */
 enum proved_argon2_variant {
@@ -111,17 +107,18 @@ enum proved_argon2_code {
     PROVED_ARGON2_MISMATCH = 64,       /* a verifying call: the password does not match */
     PROVED_ARGON2_WRONG_LENGTH = 65,   /* a buffer has the wrong length */
     PROVED_ARGON2_NOT_UTF8 = 66,       /* the string is not UTF-8 */
-    PROVED_ARGON2_UNKNOWN_NUMBER = 67, /* proved_argon2_message: no error has this number */
+    PROVED_ARGON2_UNKNOWN_NUMBER = 67, /* never returned; its message is that of a number that no error has */
     PROVED_ARGON2_NEEDS_REHASH = 68,   /* proved_argon2_needs_rehash: the settings differ */
     PROVED_ARGON2_TOO_COSTLY = 69,     /* the encoded hash is above the limits */
     PROVED_ARGON2_NO_JOB = 70,         /* proved_argon2_jobs.h: no accepted call has a job of these numbers */
     PROVED_ARGON2_NO_PLACE = 71,       /* the job has no such pass, slice or lane */
-    PROVED_ARGON2_WRONG_BLOCKS = 72,   /* there are more or fewer blocks, or they are at no multiple of 8 */
+    PROVED_ARGON2_WRONG_BLOCKS = 72,   /* there are more or fewer blocks */
     /* Returned by C code alone, and by nothing that is proved: */
     PROVED_ARGON2_NULL_POINTER = 128,    /* a pointer is null, and its length is not 0 */
     PROVED_ARGON2_NO_RANDOM_BYTES = 129, /* proved_argon2_password_hash: the system had no random bytes */
     PROVED_ARGON2_STOPPED = 130,         /* proved_argon2_threads.h: the progress callback stopped the call */
-    PROVED_ARGON2_OLD_PROCESSOR = 131    /* the library has no build for a processor as old as this one */
+    PROVED_ARGON2_OLD_PROCESSOR = 131,   /* the library has no build for a processor as old as this one */
+    PROVED_ARGON2_MISALIGNED = 132       /* blocks or a reusable buffer are at no multiple of 8 */
 };
 
 /* The settings of a hash. A field that is left out of an initializer is 0, and no hash has version 0. */
@@ -199,7 +196,7 @@ uint32_t proved_argon2_hash_encoded(
     const uint8_t *secret, size_t secret_len,
     const uint8_t *ad, size_t ad_len,
     const proved_argon2_settings *settings,
-    uint8_t *text, size_t text_len);
+    char *text, size_t text_len);
 
 /*
  * Verifies a password against a raw hash of hash_len bytes. It returns PROVED_ARGON2_OK only if hash is the tag, and
@@ -228,7 +225,7 @@ uint32_t proved_argon2_verify_raw(
  */
 PROVED_ARGON2_CHECKED
 uint32_t proved_argon2_verify_encoded(
-    const uint8_t *text, size_t text_len,
+    const char *text, size_t text_len,
     const uint8_t *pwd, size_t pwd_len,
     const uint8_t *secret, size_t secret_len,
     const uint8_t *ad, size_t ad_len);
@@ -246,7 +243,7 @@ proved_argon2_limits proved_argon2_default_limits(void);
  */
 PROVED_ARGON2_CHECKED
 uint32_t proved_argon2_verify_encoded_within(
-    const uint8_t *text, size_t text_len,
+    const char *text, size_t text_len,
     const uint8_t *pwd, size_t pwd_len,
     const uint8_t *secret, size_t secret_len,
     const uint8_t *ad, size_t ad_len,
@@ -256,21 +253,21 @@ uint32_t proved_argon2_verify_encoded_within(
  * Decodes an encoded hash to stored, and verifies nothing: settings that no hash is made with are decoded too. A string
  * that decodes to no hash returns its error as above. A length above 2^32 - 1 is reported as 2^32 - 1.
  */
-PROVED_ARGON2_CHECKED PROVED_ARGON2_NONNULL
-uint32_t proved_argon2_read(const uint8_t *text, size_t text_len, proved_argon2_stored *stored);
+PROVED_ARGON2_CHECKED
+uint32_t proved_argon2_read(const char *text, size_t text_len, proved_argon2_stored *stored);
 
 /* The same within limits: an encoded hash above them returns PROVED_ARGON2_TOO_COSTLY. */
-PROVED_ARGON2_CHECKED PROVED_ARGON2_NONNULL
+PROVED_ARGON2_CHECKED
 uint32_t proved_argon2_read_within(
-    const uint8_t *text, size_t text_len, const proved_argon2_limits *limits, proved_argon2_stored *stored);
+    const char *text, size_t text_len, const proved_argon2_limits *limits, proved_argon2_stored *stored);
 
 /*
  * Writes the salt and the hash of an encoded hash to buffers of the lengths that proved_argon2_read reports: any other
  * length returns PROVED_ARGON2_WRONG_LENGTH. A string that decodes to no hash returns its error as above.
  */
-PROVED_ARGON2_CHECKED PROVED_ARGON2_NONNULL
+PROVED_ARGON2_CHECKED
 uint32_t proved_argon2_read_bytes(
-    const uint8_t *text, size_t text_len, uint8_t *salt, size_t salt_len, uint8_t *hash, size_t hash_len);
+    const char *text, size_t text_len, uint8_t *salt, size_t salt_len, uint8_t *hash, size_t hash_len);
 
 /*
  * Whether an encoded hash was made with these settings: PROVED_ARGON2_OK only if its variant, version, memory cost,
@@ -278,16 +275,16 @@ uint32_t proved_argon2_read_bytes(
  * numbers of variant and version are checked first, then the string as above; no other setting is checked. Call it once
  * the password has matched.
  */
-PROVED_ARGON2_CHECKED PROVED_ARGON2_NONNULL
+PROVED_ARGON2_CHECKED
 uint32_t proved_argon2_needs_rehash(
-    const uint8_t *text, size_t text_len, const proved_argon2_settings *settings);
+    const char *text, size_t text_len, const proved_argon2_settings *settings);
 
 /*
  * Whether a hash with these settings is made of inputs of these lengths: PROVED_ARGON2_OK only if a call that hashes such
  * inputs returns no error but one of its buffers or of memory, and otherwise the error that it returns. Nothing is
  * computed, and no input is passed.
  */
-PROVED_ARGON2_CHECKED PROVED_ARGON2_NONNULL
+PROVED_ARGON2_CHECKED
 uint32_t proved_argon2_check(
     const proved_argon2_settings *settings, uint64_t pwd_len, uint64_t salt_len, uint64_t secret_len, uint64_t ad_len);
 
@@ -295,31 +292,25 @@ uint32_t proved_argon2_check(
  * The same of an encoded hash within limits, for a call that verifies it with inputs of these lengths. The errors of
  * proved_argon2_read_within come first, and what it writes is in stored.
  */
-PROVED_ARGON2_CHECKED PROVED_ARGON2_NONNULL
+PROVED_ARGON2_CHECKED
 uint32_t proved_argon2_check_encoded(
-    const uint8_t *text, size_t text_len, const proved_argon2_limits *limits,
+    const char *text, size_t text_len, const proved_argon2_limits *limits,
     uint64_t pwd_len, uint64_t secret_len, uint64_t ad_len, proved_argon2_stored *stored);
 
 /*
  * The length in bytes of the encoded hash that proved_argon2_hash_encoded writes for a salt of salt_len bytes, without
  * the zero behind it. It returns 0 if no variant or no version has the given number, and for null settings.
  */
-PROVED_ARGON2_CHECKED PROVED_ARGON2_NONNULL
+PROVED_ARGON2_CHECKED
 uint64_t proved_argon2_encoded_len(const proved_argon2_settings *settings, uint32_t salt_len);
 
-/*
- * Writes the message of the error with this number, and then zeros up to text_len. A buffer without room for the
- * message and one zero returns PROVED_ARGON2_WRONG_LENGTH, and a number that no error has, such as PROVED_ARGON2_OK,
- * returns PROVED_ARGON2_UNKNOWN_NUMBER.
- */
-PROVED_ARGON2_CHECKED PROVED_ARGON2_NONNULL
-uint32_t proved_argon2_message(uint32_t number, uint8_t *text, size_t text_len);
+/* The message of the error with this number, a constant: that of PROVED_ARGON2_UNKNOWN_NUMBER where no error has it. */
+const char *proved_argon2_message(uint32_t number);
 
 #ifdef __cplusplus
 }
 #endif
 #include "proved_argon2_jobs.h"
 #include "proved_argon2_threads.h"
-#include "proved_argon2_null.h"
 #include "proved_argon2_password.h"
 #endif

@@ -20,9 +20,8 @@
  * Each call checks all numbers and lengths that it is passed, in this order: numbers that no accepted call has return
  * PROVED_ARGON2_NO_JOB; a pass, slice or lane that the job does not have, PROVED_ARGON2_NO_PLACE; a memory, slice or
  * segment of more or fewer blocks, PROVED_ARGON2_WRONG_BLOCKS; a tag of another length, PROVED_ARGON2_WRONG_LENGTH. On
- * each of these errors the outputs are unchanged. Before them, the header's inline functions return
- * PROVED_ARGON2_WRONG_BLOCKS for blocks at an address that is not a multiple of 8. No call can check that the blocks
- * exist, and that no other thread writes to them meanwhile.
+ * each of these errors the outputs are unchanged. Before them comes PROVED_ARGON2_MISALIGNED, for blocks at an address
+ * that is not a multiple of 8. No call can check that the blocks exist, and that no other thread writes to them meanwhile.
  *
  * Each call that computes overwrites the stack below it before it returns. The caller clears the memory that it
  * provided: with H0, which the job contains, a password guess is tested by one BLAKE2b, and the blocks can be tested
@@ -55,7 +54,7 @@ typedef struct proved_argon2_job {
 } proved_argon2_job;
 
 /* Checks the settings as proved_argon2_hash_raw does, and writes their job. */
-PROVED_ARGON2_CHECKED PROVED_ARGON2_NONNULL
+PROVED_ARGON2_CHECKED
 uint32_t proved_argon2_job_make(
     const uint8_t *pwd, size_t pwd_len,
     const uint8_t *salt, size_t salt_len,
@@ -69,9 +68,9 @@ uint32_t proved_argon2_job_make(
  * its hash. proved_argon2_read reports their lengths: any other length returns PROVED_ARGON2_WRONG_LENGTH, after all
  * other errors of the encoded hash.
  */
-PROVED_ARGON2_CHECKED PROVED_ARGON2_NONNULL
+PROVED_ARGON2_CHECKED
 uint32_t proved_argon2_job_read(
-    const uint8_t *text, size_t text_len,
+    const char *text, size_t text_len,
     const uint8_t *pwd, size_t pwd_len,
     const uint8_t *secret, size_t secret_len,
     const uint8_t *ad, size_t ad_len,
@@ -79,8 +78,12 @@ uint32_t proved_argon2_job_read(
     uint8_t *salt, size_t salt_len,
     uint8_t *hash, size_t hash_len);
 
+/* Returns PROVED_ARGON2_OK only if an accepted call has a job of these numbers, and else PROVED_ARGON2_NO_JOB. */
+PROVED_ARGON2_CHECKED
+uint32_t proved_argon2_job_check(const proved_argon2_job *job);
+
 /* Writes a lane's first two blocks. own is its segment of slice 0, of own_len = job->segment_length blocks. */
-PROVED_ARGON2_CHECKED PROVED_ARGON2_NONNULL
+PROVED_ARGON2_CHECKED
 uint32_t proved_argon2_job_begin(
     const proved_argon2_job *job, uint32_t lane, proved_argon2_block *own, size_t own_len);
 
@@ -88,7 +91,7 @@ uint32_t proved_argon2_job_begin(
  * Fills a lane's segment of a slice in a pass. own is that segment, and first, second and third are the other three
  * slices in rising order, whole, each of lanes * segment_length blocks.
  */
-PROVED_ARGON2_CHECKED PROVED_ARGON2_NONNULL
+PROVED_ARGON2_CHECKED
 uint32_t proved_argon2_job_fill(
     const proved_argon2_job *job, uint32_t pass, uint32_t slice, uint32_t lane,
     const proved_argon2_block *first, size_t first_len,
@@ -97,7 +100,7 @@ uint32_t proved_argon2_job_fill(
     proved_argon2_block *own, size_t own_len);
 
 /* Writes the tag. last is slice 3, whole, and out_len is job->hash_length. */
-PROVED_ARGON2_CHECKED PROVED_ARGON2_NONNULL
+PROVED_ARGON2_CHECKED
 uint32_t proved_argon2_job_finish(
     const proved_argon2_job *job, const proved_argon2_block *last, size_t last_len, uint8_t *out, size_t out_len);
 
@@ -105,18 +108,18 @@ uint32_t proved_argon2_job_finish(
  * Whether hash is the tag, as proved_argon2_verify_raw returns it. The tag is then in tag, which the caller clears;
  * hash_len and tag_len must be job->hash_length.
  */
-PROVED_ARGON2_CHECKED PROVED_ARGON2_NONNULL
+PROVED_ARGON2_CHECKED
 uint32_t proved_argon2_job_verify(
     const proved_argon2_job *job, const proved_argon2_block *last, size_t last_len,
     const uint8_t *hash, size_t hash_len, uint8_t *tag, size_t tag_len);
 
 /* The tag of a job, over all its blocks. out_len is job->hash_length. */
-PROVED_ARGON2_CHECKED PROVED_ARGON2_NONNULL
+PROVED_ARGON2_CHECKED
 uint32_t proved_argon2_job_hash_over(
     const proved_argon2_job *job, proved_argon2_block *blocks, size_t blocks_len, uint8_t *out, size_t out_len);
 
 /* Whether hash is the tag of a job, over all its blocks, as proved_argon2_job_verify returns it. */
-PROVED_ARGON2_CHECKED PROVED_ARGON2_NONNULL
+PROVED_ARGON2_CHECKED
 uint32_t proved_argon2_job_verify_over(
     const proved_argon2_job *job, proved_argon2_block *blocks, size_t blocks_len,
     const uint8_t *hash, size_t hash_len, uint8_t *tag, size_t tag_len);
@@ -126,7 +129,7 @@ uint32_t proved_argon2_job_verify_over(
  * settings is accepted, whatever its inputs, and for null settings. It judges the settings alone: of the lengths of the
  * inputs proved_argon2_check tells.
  */
-PROVED_ARGON2_CHECKED PROVED_ARGON2_NONNULL
+PROVED_ARGON2_CHECKED
 uint64_t proved_argon2_memory_len(const proved_argon2_settings *settings);
 
 /*
@@ -134,7 +137,7 @@ uint64_t proved_argon2_memory_len(const proved_argon2_settings *settings);
  * memory. More or fewer blocks than the settings need return PROVED_ARGON2_WRONG_BLOCKS, before the length of the
  * buffer is checked.
  */
-PROVED_ARGON2_CHECKED PROVED_ARGON2_NONNULL
+PROVED_ARGON2_CHECKED
 uint32_t proved_argon2_hash_over(
     const uint8_t *pwd, size_t pwd_len,
     const uint8_t *salt, size_t salt_len,
@@ -145,7 +148,7 @@ uint32_t proved_argon2_hash_over(
     uint8_t *out, size_t out_len);
 
 /* Whether hash is the tag of its own length, likewise. The tag is then in tag, of hash_len bytes. */
-PROVED_ARGON2_CHECKED PROVED_ARGON2_NONNULL
+PROVED_ARGON2_CHECKED
 uint32_t proved_argon2_verify_over(
     const uint8_t *pwd, size_t pwd_len,
     const uint8_t *salt, size_t salt_len,
@@ -161,10 +164,10 @@ uint32_t proved_argon2_verify_over(
  * not the lengths of the other inputs. A tag of another length than settings->hash_length returns
  * PROVED_ARGON2_WRONG_LENGTH too.
  */
-PROVED_ARGON2_CHECKED PROVED_ARGON2_NONNULL
+PROVED_ARGON2_CHECKED
 uint32_t proved_argon2_encode(
     const uint8_t *salt, size_t salt_len, const proved_argon2_settings *settings,
-    const uint8_t *tag, size_t tag_len, uint8_t *text, size_t text_len);
+    const uint8_t *tag, size_t tag_len, char *text, size_t text_len);
 
 #ifdef __cplusplus
 }

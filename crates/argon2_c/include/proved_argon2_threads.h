@@ -70,7 +70,7 @@ uint32_t proved_argon2_hash_encoded_with(
     const uint8_t *secret, size_t secret_len,
     const uint8_t *ad, size_t ad_len,
     const proved_argon2_settings *settings,
-    uint8_t *text, size_t text_len);
+    char *text, size_t text_len);
 
 /* proved_argon2_verify_raw with options. */
 PROVED_ARGON2_CHECKED
@@ -87,7 +87,7 @@ uint32_t proved_argon2_verify_raw_with(
 PROVED_ARGON2_CHECKED
 uint32_t proved_argon2_verify_encoded_with(
     const proved_argon2_options *options,
-    const uint8_t *text, size_t text_len,
+    const char *text, size_t text_len,
     const uint8_t *pwd, size_t pwd_len,
     const uint8_t *secret, size_t secret_len,
     const uint8_t *ad, size_t ad_len);
@@ -104,6 +104,22 @@ uint32_t proved_argon2_job_run(
 PROVED_ARGON2_CHECKED
 uint32_t proved_argon2_job_run_verify(
     const proved_argon2_options *options, const proved_argon2_job *job, const uint8_t *hash, size_t hash_len);
+
+/*
+ * proved_argon2_password_hash and proved_argon2_password_verify with settings, with a pepper, which is the secret of all
+ * hashes and is in none of them (null and 0 for none), and with options: UINT32_MAX threads are one a lane. Only their
+ * limits reject an encoded hash as too costly. text has PROVED_ARGON2_TEXT_SIZE bytes, and settings whose encoded hash
+ * does not fit return PROVED_ARGON2_WRONG_LENGTH.
+ */
+PROVED_ARGON2_CHECKED
+uint32_t proved_argon2_password_hash_with(
+    const proved_argon2_options *options, const proved_argon2_settings *settings,
+    char *text, const char *password, size_t length, const uint8_t *pepper, size_t pepper_len);
+
+PROVED_ARGON2_CHECKED
+uint32_t proved_argon2_password_verify_with(
+    const proved_argon2_options *options,
+    const char *text, const char *password, size_t length, const uint8_t *pepper, size_t pepper_len);
 
 /*
  * Allocates a reusable buffer, for options.memory and options.memory_len, which fits the settings and all that need

@@ -2,6 +2,7 @@
 use Rattle.std.specs.Prelude.{◌≡◌, ℕ, Bool, true, false, List, length, Option, Some, None, option_map, Result, Ok, Err}
 use Rattle.argon2_standard.specs.declared.config.Config.{Config}
 use Rattle.argon2_standard.specs.declared.error.Error.{Error}
+use Rattle.argon2_standard.specs.Standard.Setting.{Setting}
 use Rattle.argon2_standard.specs.Standard.SettingsTable.{refusal_of}
 use Rattle.argon2_standard.specs.Standard.Stored.{IsStoredConfig}
 use Rattle.argon2.specs.Standard.Limits.{is_too_costly}
@@ -10,7 +11,7 @@ use Rattle.argon2_c.specs.Answers.{OfText, OrRefused}
 use Rattle.argon2_c.specs.Reading.{stored_of}
 use Rattle.argon2_c.specs.declared.reading.Stored.{Stored}
 use Rattle.argon2_c.specs.declared.refusal.Refusal.{Refusal}
-use Rattle.argon2_c.specs.declared.refusal.Refusal.TheVariants.{Library, TooCostly}
+use Rattle.argon2_c.specs.declared.refusal.Refusal.TheVariants.{Library, NoJob, TooCostly}
 
 -- the refusal of the numbers or of the settings table that a hash of such inputs has, and Ok where it has none
 abbrev pub Checks : Result Config Error → ℕ → ℕ → Result (Unit {0}) Refusal → Type 0
@@ -34,3 +35,8 @@ ChecksText limits pwd_len secret_len ad_len text old new answer =
     OfText text old new answer (λ d. (secret ad : List ℕ) (config : Config) → length secret ≡ secret_len → length ad ≡ ad_len
     → IsStoredConfig d secret ad config
     → ReadsUnless (refusal_within (is_too_costly limits d) (refusal_of config pwd_len (length d.salt) (length d.hash))) (stored_of d) old new answer)
+
+-- whether there is a setting of a job's numbers
+abbrev pub ChecksJob : Option Setting → Result (Unit {0}) Refusal → Type 0
+ChecksJob None answer = answer ≡ Err NoJob
+ChecksJob (Some s) answer = answer ≡ Ok tt

@@ -7,6 +7,7 @@ ghost use Rattle.argon2_standard.specs.Standard.Grammar.{IsItem};
 ghost use Rattle.argon2_memory.specs.Views.Jobs.{IsJob, setting_of_context};
 ghost use Rattle.argon2_standard.specs.Standard.Stored.{IsStoredConfig};
 ghost use Rattle.argon2_text.specs.Views.Texts.{spelled_with};
+ghost use Rattle.argon2_c.specs.Checks.{ChecksJob};
 ghost use Rattle.argon2_c.specs.Jobs.{MakesJob, MakesStoredJob, WritesStoredJob, is_out_of_bounds, job_of, setting_at, setting_of_job};
 ghost use Rattle.argon2_c.specs.Settings.{config_of, version_of};
 ghost use Rattle.argon2_c.specs.declared.refusal.Refusal.TheVariants.{NoJob};
@@ -113,6 +114,16 @@ impl LentJob {
         match Version::from_u32(self.version) {
             Ok(version) => self.job_with(variant, version),
             Err(_) => Err(Refusal::NoJob),
+        }
+    }
+
+    /// Whether an accepted call has a job of these numbers; if none has, `NoJob`.
+    pub fn check(&self) -> Result<(), Refusal>
+        ensures { ChecksJob (setting_of_job self.now) result }
+    {
+        match self.job() {
+            Ok(_) => Ok(()),
+            Err(refusal) => Err(refusal),
         }
     }
 

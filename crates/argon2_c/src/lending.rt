@@ -3,6 +3,7 @@
 
 ghost use Rattle.std.specs.Prelude.{◌≡◌, ℕ, List, []};
 ghost use Rattle.std.specs.Borrow.{Bor};
+ghost use Rattle.argon2_c.specs.Checks.{ChecksJob};
 ghost use Rattle.argon2_c.specs.Jobs.{Begins, Fills, Finishes, MakesJob, MakesStoredJob, Verifies, WritesTagText, setting_of_job};
 ghost use Rattle.argon2_c.specs.Over.{HashesJob, JudgesJob};
 ghost use Rattle.argon2_c.specs.Refusal.{IsCodeOf};
@@ -50,6 +51,14 @@ pub extern "C" fn proved_argon2_job_read(
         (record { job = job.new; items = record { salt = salt.new; hash = hash.new } })) result }
 {
     cleared(code_of(&jobs::make_stored(text, pwd, secret, ad, job, salt, hash)))
+}
+
+/// Returns 0 only where an accepted call has a job of these numbers.
+#[unsafe(no_mangle)]
+pub extern "C" fn proved_argon2_job_check(job: &LentJob) -> u32
+    ensures { IsCodeOf (ChecksJob (setting_of_job job.now)) result }
+{
+    code_of(&job.check())
 }
 
 /// Writes a lane's first two blocks into its segment of slice 0, whatever its contents.

@@ -34,9 +34,10 @@ use argon2::parts::block::Block;
 use ending::cleared;
 pub use jobs::LentJob;
 pub use lending::{
-    any_order_of_steps, proved_argon2_encode, proved_argon2_job_begin, proved_argon2_job_fill,
-    proved_argon2_job_finish, proved_argon2_job_hash_over, proved_argon2_job_make,
-    proved_argon2_job_read, proved_argon2_job_verify, proved_argon2_job_verify_over,
+    any_order_of_steps, proved_argon2_encode, proved_argon2_job_begin, proved_argon2_job_check,
+    proved_argon2_job_fill, proved_argon2_job_finish, proved_argon2_job_hash_over,
+    proved_argon2_job_make, proved_argon2_job_read, proved_argon2_job_verify,
+    proved_argon2_job_verify_over,
 };
 pub use limits::{Limits, proved_argon2_default_limits};
 pub use reading::Stored;

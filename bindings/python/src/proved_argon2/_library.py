@@ -21,12 +21,8 @@ OK = 0
 DECODING_FAIL = 19
 OUT_OF_MEMORY = 20
 MISMATCH = 64
-WRONG_LENGTH = 65
 NOT_UTF8 = 66
 TOO_COSTLY = 69
-
-# A buffer of this many bytes has room for the message of each error.
-MESSAGE_SIZE = 64
 
 # The most threads that the library uses for an encoded hash.
 MOST_FOR_A_TEXT = 16
@@ -109,8 +105,6 @@ _BYTES: "List[Any]" = [ctypes.c_char_p, ctypes.c_size_t]
 _SETTINGS: "List[Any]" = [ctypes.POINTER(Settings)]
 _OPTIONS: "List[Any]" = [ctypes.POINTER(Options)]
 _CALLS: "Tuple[Tuple[str, List[Any], Any], ...]" = (
-    ("hash_raw", 4 * _BYTES + _SETTINGS + _BYTES, ctypes.c_uint32),
-    ("hash_encoded", 4 * _BYTES + _SETTINGS + _BYTES, ctypes.c_uint32),
     ("hash_raw_with", _OPTIONS + 4 * _BYTES + _SETTINGS + _BYTES, ctypes.c_uint32),
     ("hash_encoded_with", _OPTIONS + 4 * _BYTES + _SETTINGS + _BYTES, ctypes.c_uint32),
     ("verify_encoded_with", _OPTIONS + 4 * _BYTES, ctypes.c_uint32),
@@ -120,7 +114,8 @@ _CALLS: "Tuple[Tuple[str, List[Any], Any], ...]" = (
     ("memory_len", _SETTINGS, ctypes.c_uint64),
     ("memory_new", [*_SETTINGS, ctypes.POINTER(ctypes.c_void_p), ctypes.POINTER(ctypes.c_size_t)], ctypes.c_uint32),
     ("memory_free", [ctypes.c_void_p, ctypes.c_size_t], None),
-    ("message", [ctypes.c_uint32, *_BYTES], ctypes.c_uint32),
+    ("message", [ctypes.c_uint32], ctypes.c_char_p),
+    ("check", [*_SETTINGS, *4 * [ctypes.c_uint64]], ctypes.c_uint32),
     ("library_version", [], ctypes.c_uint32),
 )
 
@@ -170,8 +165,8 @@ def _slices(*pieces: bytes) -> "List[Union[bytes, int]]":
     return arguments
 
 
-def _require(number: int, wanted: int = OK) -> None:
-    if number != wanted:
+def _require(number: int) -> None:
+    if number != OK:
         raise Refused(number)
 
 
@@ -238,11 +233,9 @@ def hash_raw(
     memory: "Optional[Memory]" = None,
     progress: "Optional[Progress]" = None,
 ) -> bytes:
-    """The tag, computed by a thread a lane. The settings are checked first, without room to write to, before any memory
-    is allocated.
-    """
+    """The tag, computed by a thread a lane. The settings are checked first, before any memory is allocated."""
     given = [*_slices(pwd, salt, secret, ad), settings]
-    _require(_library.proved_argon2_hash_raw(*given, b"", 0), WRONG_LENGTH)
+    _require(_library.proved_argon2_check(settings, len(pwd), len(salt), len(secret), len(ad)))
     tag = _room(settings.hash_length)
     _compute(
         lambda options: _library.proved_argon2_hash_raw_with(options, *given, tag, len(tag)),
@@ -263,11 +256,11 @@ def hash_encoded(
     memory: "Optional[Memory]" = None,
     progress: "Optional[Progress]" = None,
 ) -> bytes:
-    """The encoded hash, computed by a thread a lane. The settings are checked first, without room to write to, before
-    any memory is allocated.
+    """The encoded hash, computed by a thread a lane. The settings are checked first, before any memory is
+    allocated.
     """
     given = [*_slices(pwd, salt, secret, ad), settings]
-    _require(_library.proved_argon2_hash_encoded(*given, b"", 0), WRONG_LENGTH)
+    _require(_library.proved_argon2_check(settings, len(pwd), len(salt), len(secret), len(ad)))
     text = _room(_library.proved_argon2_encoded_len(settings, len(salt)) + 1)
     _compute(
         lambda options: _library.proved_argon2_hash_encoded_with(options, *given, text, len(text)),
@@ -336,10 +329,8 @@ def read(text: bytes) -> Stored:
 
 def message(number: int) -> str:
     """The message of an error's number, which has 32 bits."""
-    text = ctypes.create_string_buffer(MESSAGE_SIZE)
-    if _library.proved_argon2_message(number, text, len(text)) != OK:
-        return f"There is no error {number}"
-    return text.value.decode("ascii")
+    text: bytes = _library.proved_argon2_message(number)
+    return text.decode("ascii")
 
 
 def version() -> "Tuple[int, int, int]":
