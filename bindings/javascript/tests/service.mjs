@@ -1,0 +1,33 @@
+// Logins at once through the lines of docs/SERVICE.md, which are log_in.mjs: more of them than places. Each verdict has to be
+// right, some have to be told to try again, and no more memory be taken than the places have.
+import assert from 'node:assert/strict';
+import { hash } from 'proved-argon2';
+import { logIn } from './log_in.mjs';
+
+const SECONDS = 3;
+const AT_ONCE = 8;
+const MOST_KIB = 2 * 65536 + 65536;
+const secret = Buffer.from('pepper');
+
+const older = await hash('password', { memoryCost: 4096, timeCost: 1, parallelism: 1, secret });
+const seen = { true: 0, false: 0, null: 0 };
+
+async function logsInOften(first, end) {
+    for (let turn = first; Date.now() < end; turn += 1) {
+        const isRight = turn % 2 === 0;
+        const [verdict, renewed] = await logIn('somebody', isRight ? 'password' : 'Password', older, secret);
+        assert.ok(verdict === null || verdict === isRight);
+        assert.equal(renewed !== older, verdict === true);
+        seen[verdict] += 1;
+        if (verdict === null) await new Promise((done) => setTimeout(done, 1));
+    }
+}
+
+await logsInOften(0, Date.now() + 100);
+const end = Date.now() + SECONDS * 1000;
+const before = process.resourceUsage().maxRSS;
+await Promise.all(Array.from({ length: AT_ONCE }, (_, first) => logsInOften(first, end)));
+assert.deepEqual(await logIn('somebody', 'password', '$argon2id$', secret), [null, '$argon2id$']);
+assert.ok(seen.true > 0 && seen.false > 0 && seen.null > 1, JSON.stringify(seen));
+const grown = process.resourceUsage().maxRSS - before;
+assert.ok(grown <= MOST_KIB, `${grown} of ${MOST_KIB} KiB`);

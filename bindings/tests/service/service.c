@@ -1,0 +1,82 @@
+/*
+ * Logins at once through the lines of docs/SERVICE.md, which are log_in.h: more of them than places. Ends with status 0
+ * where each verdict was right, some were told to try again, and no more memory was taken than the places have.
+ */
+#include "proved_argon2_threads.h"
+
+#include <pthread.h>
+#include <semaphore.h>
+#include <stdatomic.h>
+#include <stdio.h>
+#include <string.h>
+#include <sys/random.h>
+#include <sys/resource.h>
+#include <time.h>
+
+static const uint8_t pepper[] = {'p', 'e', 'p', 'p', 'e', 'r'};
+
+#include "log_in.h"
+
+#define SECONDS 3
+#define THREADS 8
+#define PLACES 2
+#define SLACK_KIB (16 * 1024)
+
+static sem_t places;
+static char older[PROVED_ARGON2_TEXT_SIZE], unreadable[] = "$argon2id$v=19$m=4096,t=1,p=1$";
+static atomic_int seen[ERROR + 1], wrong;
+
+static void log_in_once(unsigned turn)
+{
+    char stored[PROVED_ARGON2_TEXT_SIZE] = {0};
+    const int is_right = turn % 3 == 0, is_unreadable = turn % 7 == 0;
+    strcpy(stored, is_unreadable ? unreadable : older);
+    const enum verdict verdict = log_in(&places, "somebody", is_right ? "password" : "Password", stored);
+    const enum verdict wanted = is_unreadable ? ERROR : is_right ? MATCHES : DIFFERS;
+    const int is_renewed = strstr(stored, "m=19456,t=2,p=1") != NULL;
+    seen[verdict]++;
+    wrong += (verdict != wanted && verdict != BUSY) || is_renewed != (verdict == MATCHES);
+}
+
+static void *log_in_often(void *arg)
+{
+    const time_t end = time(NULL) + SECONDS;
+    for (unsigned turn = *(const unsigned *)arg; time(NULL) < end; turn++) {
+        log_in_once(turn);
+    }
+    return NULL;
+}
+
+static long peak_kib(void)
+{
+    struct rusage usage;
+    return getrusage(RUSAGE_SELF, &usage) == 0 ? usage.ru_maxrss : 0;
+}
+
+int main(void)
+{
+    const proved_argon2_settings small = {PROVED_ARGON2_ID, PROVED_ARGON2_VERSION_13, 4096, 1, 1, 32};
+    const uint8_t password[] = "password", salt[] = "somesaltsomesalt";
+    unsigned firsts[THREADS];
+    pthread_t threads[THREADS];
+    if (proved_argon2_hash_encoded(
+            password, sizeof password - 1, salt, sizeof salt - 1, pepper, sizeof pepper, NULL, 0, &small,
+            (uint8_t *)older, sizeof older) != PROVED_ARGON2_OK
+        || sem_init(&places, 0, PLACES) != 0) {
+        return 2;
+    }
+    const long before = peak_kib();
+    for (unsigned at = 0; at < THREADS; at++) {
+        firsts[at] = at;
+        if (pthread_create(&threads[at], NULL, log_in_often, &firsts[at]) != 0) {
+            return 2;
+        }
+    }
+    for (unsigned at = 0; at < THREADS; at++) {
+        pthread_join(threads[at], NULL);
+    }
+    const long grown = peak_kib() - before, most = PLACES * (long)proved_argon2_owasp2().mem_cost + SLACK_KIB;
+    printf("%d match, %d differ, %d busy, %d errors; %d wrong; %ld KiB of %ld\n", seen[MATCHES], seen[DIFFERS], seen[BUSY],
+        seen[ERROR], wrong, grown, most);
+    return !(seen[MATCHES] && seen[DIFFERS] && seen[BUSY] && seen[ERROR] && !wrong && grown <= most);
+}

@@ -1,0 +1,39 @@
+"""Logins at once through the lines of docs/SERVICE.md: more of them than places. Prints how many were told to try again."""
+import logging
+import random
+import resource
+import sys
+import threading
+import time
+
+from proved_argon2 import PasswordHasher
+from proved_argon2.exceptions import HashingError, InvalidHashError, VerificationError, VerifyMismatchError
+
+PEPPER, SECONDS, THREADS, KIB = b"pepper", 3, 8, 65536
+before = resource.getrusage(resource.RUSAGE_SELF).ru_maxrss
+exec(sys.stdin.read())
+older = PasswordHasher(time_cost=1, memory_cost=4096, parallelism=1, secret=PEPPER).hash("password")
+seen, wrong = {True: 0, False: 0, None: 0}, []
+
+
+def logs_in(seed, end):
+    draw = random.Random(seed)
+    while time.monotonic() < end:
+        password, stored = draw.choice(("password", "Password")), draw.choice((older, older.replace("argon2id", "argon3")))
+        verdict, renewed = log_in("somebody", password, stored)
+        seen[verdict] += 1
+        wanted = (None,) if stored != older else (password == "password", None)
+        if verdict not in wanted or (renewed != stored) != bool(verdict) or (verdict and "t=3" not in renewed):
+            wrong.append((password, stored, verdict, renewed))
+
+
+logging.disable()
+threads = [threading.Thread(target=logs_in, args=(seed, time.monotonic() + SECONDS)) for seed in range(THREADS)]
+for thread in threads:
+    thread.start()
+for thread in threads:
+    thread.join()
+grown = resource.getrusage(resource.RUSAGE_SELF).ru_maxrss - before
+assert not wrong, wrong[0]
+assert all(seen.values()), seen
+assert 0 < grown < 2 * KIB + 32768, grown

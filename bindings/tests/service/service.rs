@@ -1,0 +1,52 @@
+//! Logins at once through the lines of docs/SERVICE.md, which stand in log_in.rs: more of them than places. Each verdict
+//! has to be right, some have to be told to try again, and no more memory be taken than the places have.
+
+use std::sync::atomic::{AtomicUsize, Ordering::SeqCst};
+use std::time::{Duration, Instant};
+
+const PEPPER: &[u8] = b"pepper";
+const SECONDS: Duration = Duration::from_secs(3);
+const PLACES: usize = 2;
+const SLACK_KIB: usize = 16 * 1024;
+
+include!("log_in.rs");
+
+/// The most memory that this process has had, in KiB.
+fn peak_kib() -> usize {
+    let status = std::fs::read_to_string("/proc/self/status").unwrap();
+    let line = status.lines().find(|it| it.starts_with("VmHWM:")).unwrap();
+    line.split_whitespace().nth(1).unwrap().parse().unwrap()
+}
+
+fn logs_in_often(free: &AtomicUsize, older: &str, first: usize, seen: &[AtomicUsize; 3]) {
+    let end = Instant::now() + SECONDS;
+    for turn in (first..).take_while(|_| Instant::now() < end) {
+        let is_right = turn % 2 == 0;
+        let password: &[u8] = if is_right { b"password" } else { b"Password" };
+        match log_in(free, "somebody", password, older) {
+            None => seen[2].fetch_add(1, SeqCst),
+            Some((verdict, renewed)) => {
+                assert_eq!(verdict, is_right);
+                assert_eq!(renewed.contains("m=19456,t=2,p=1"), is_right, "{renewed}");
+                seen[usize::from(verdict)].fetch_add(1, SeqCst)
+            }
+        };
+    }
+}
+
+fn main() {
+    let small = argon2::Config { mem_cost: 4096, time_cost: 1, secret: PEPPER, ..argon2::Config::default() };
+    let older = argon2::hash_password_with(b"password", &small).unwrap();
+    let (free, seen) = (AtomicUsize::new(PLACES), [0; 3].map(AtomicUsize::new));
+    let before = peak_kib();
+    std::thread::scope(|scope| {
+        for first in 0..8 {
+            let (free, older, seen) = (&free, &older, &seen);
+            scope.spawn(move || logs_in_often(free, older, first, seen));
+        }
+    });
+    assert!(log_in(&free, "somebody", b"password", "$argon2id$").is_none());
+    assert!(seen.iter().all(|it| it.load(SeqCst) > 0), "{seen:?}");
+    let most = PLACES * argon2::Config::default().mem_cost as usize + SLACK_KIB;
+    assert!(peak_kib() - before <= most, "{} of {most} KiB", peak_kib() - before);
+}
