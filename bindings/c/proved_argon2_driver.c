@@ -6,6 +6,7 @@
 
 #define HUGE_PAGE ((size_t)2 << 20)
 #define WORK_FOR_THREADS (2 * HUGE_PAGE) /* bytes of blocks that are written */
+#define MOST_OPTIONS 4096 /* bytes: no version has more */
 #define STACK_BELOW 16384 /* bytes: a call needs two thirds */
 
 /* Whether memory is mapped: to map less than a huge page takes longer than a hash over it. */
@@ -31,6 +32,21 @@ void proved_argon2_memory_free(void *memory, size_t memory_len)
     restore_caller(kept);
 }
 
+/* Whether options are known, or longer ones of a later version with nothing in what they have more. */
+static bool are_known(const options *with)
+{
+    const uint8_t *const bytes = (const uint8_t *)with;
+    if (with->size < sizeof with->size || with->size > MOST_OPTIONS) {
+        return false;
+    }
+    for (size_t i = sizeof *with; i < with->size; i++) {
+        if (bytes[i] != 0) {
+            return false;
+        }
+    }
+    return true;
+}
+
 uint32_t begin_call(call *it, const options *with, int is_missing)
 {
     *it = (call){.kept = keep_caller()};
@@ -39,7 +55,7 @@ uint32_t begin_call(call *it, const options *with, int is_missing)
         return PROVED_ARGON2_NULL_POINTER;
     }
     memcpy(&it->with, with, with->size < sizeof *with ? with->size : sizeof *with);
-    return with->size < sizeof with->size || with->size > sizeof *with ? PROVED_ARGON2_WRONG_LENGTH : PROVED_ARGON2_OK;
+    return are_known(with) ? PROVED_ARGON2_OK : PROVED_ARGON2_WRONG_LENGTH;
 }
 
 uint32_t take_bytes(call *it, size_t len)

@@ -214,16 +214,24 @@ static bool is_clear(const uint8_t *bytes, size_t len)
 
 static void check_options(void)
 {
+    uint8_t tag[LONGEST];
     static _Alignas(8) uint8_t memory[256 * 1024 + 1];
     proved_argon2_options with = by(4);
     check_refused(NULL, PROVED_ARGON2_NULL_POINTER, "no options");
     with.size = 0;
     check_refused(&with, PROVED_ARGON2_WRONG_LENGTH, "options of no size");
-    with.size = sizeof with + 8;
-    check_refused(&with, PROVED_ARGON2_WRONG_LENGTH, "options of a later version");
+    with.size = SIZE_MAX;
+    check_refused(&with, PROVED_ARGON2_WRONG_LENGTH, "options of any size");
+    struct {
+        proved_argon2_options known;
+        uint64_t later;
+    } longer = {by(4), 1};
+    longer.known.size = sizeof longer;
+    check_refused(&longer.known, PROVED_ARGON2_WRONG_LENGTH, "options of a later version");
+    longer.later = 0;
+    check_code(hash_raw(&longer.known, &sample, tag), PROVED_ARGON2_OK, "options of a later version with nothing more");
     with.size = sizeof with.size + sizeof with.threads;
     with.run = fails_at; /* behind the size, and so not looked at */
-    uint8_t tag[LONGEST];
     check_code(hash_raw(&with, &sample, tag), PROVED_ARGON2_OK, "options of an earlier version");
     with = by(4);
     memset(memory, 1, sizeof memory);

@@ -36,7 +36,8 @@ typedef int proved_argon2_tell(void *arg, uint64_t done, uint64_t all);
 
 /* How a call computes. A field that is left out of an initializer is 0, and then the call chooses. */
 typedef struct proved_argon2_options {
-    size_t size;            /* sizeof(proved_argon2_options), so that later fields may be added */
+    size_t size;            /* sizeof(proved_argon2_options), so that later fields may be added: more than the library
+                             * knows is taken if it is zero, and else PROVED_ARGON2_WRONG_LENGTH */
     uint32_t threads;       /* the most at once, at most one a lane, and 16 for an encoded hash; 0 is 1. A hash for which
                              * others do not pay has the caller's alone */
     void *memory;           /* caller-provided, at a multiple of 8, and best of 64; or null. It is cleared at the end */
