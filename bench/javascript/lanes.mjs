@@ -1,7 +1,6 @@
 // The least times of hashes by the package, here and in the pages of browsers: lanes.mjs PAGE ROUNDS
-import { execFileSync } from 'node:child_process';
 import * as argon2 from 'proved-argon2';
-import { Chromium, Firefox, WebKit } from './browsers.mjs';
+import { Chromium, Firefox, isThere, WebKit } from './browsers.mjs';
 import { serve } from './server.mjs';
 
 const [page, rounds] = process.argv.slice(2);
@@ -30,9 +29,7 @@ function say(engine, { default: alone, ...least }) {
 }
 
 async function inPage(Browser) {
-    try {
-        execFileSync(Browser.command, ['--version'], { stdio: 'ignore' });
-    } catch {
+    if (!isThere(Browser.command)) {
         console.log(`${Browser.name}: skipped, it is not there`);
         return;
     }

@@ -1,7 +1,9 @@
-// The times in Node: node node.mjs FOLDER
+// The times in Node, of the processor: node node.mjs FOLDER
 import { readFile } from 'node:fs/promises';
 import { times } from './times.mjs';
 
 const folder = process.argv[2];
 const load = (name) => readFile(`${folder}/${name}`).catch(() => null);
-await times(load, (line) => console.log(`| Node ${process.versions.node} | ${line} |`));
+const say = (line) => console.log(`| Node ${process.versions.node} | ${line} |`);
+const clock = () => Object.values(process.cpuUsage()).reduce((sum, it) => sum + it) / 1000;
+await times(load, say, clock);

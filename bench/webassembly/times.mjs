@@ -1,5 +1,6 @@
-// Times a hash by this library's module and by upstream's C reference, both compiled to WebAssembly, in the engine that
-// this runs in. `times(load, say)`: load gives the bytes of a module by its name, say takes the cells of a table's row.
+// Times a hash by this library's module and by upstream's C reference in both of its forms, all compiled to
+// WebAssembly, in the engine that this runs in. `times(load, say, clock)`: load gives the bytes of a module by its
+// name, say takes the cells of a table's row, and clock gives milliseconds.
 
 // KiB of memory, passes, lanes.
 const CASES = [[256, 2, 1], [19456, 2, 1], [65536, 3, 1], [65536, 3, 4]];
@@ -48,32 +49,32 @@ function makeUpstream(module) {
     };
 }
 
-const MAKERS = { ours: makeOurs, upstream: makeUpstream };
+const MAKERS = { ours: makeOurs, upstream: makeUpstream, vectors: makeUpstream };
 
 // Each in turn, in every round, so that what else the machine does meets both; the least time counts.
-function timeCase(hashes, [memory, passes, lanes]) {
+function timeCase(hashes, [memory, passes, lanes], clock) {
     const least = {}, tags = new Set(), end = performance.now() + 1000 * SECONDS;
     for (let round = 0; round < LEAST_ROUNDS || performance.now() < end; round++) {
         for (const [name, hash] of Object.entries(hashes)) {
-            const begun = performance.now();
+            const begun = clock();
             tags.add(hash(memory, passes, lanes));
-            least[name] = Math.min(least[name] ?? Infinity, performance.now() - begun);
+            least[name] = Math.min(least[name] ?? Infinity, clock() - begun);
         }
     }
     if (tags.size !== 1) throw new Error(`(${memory}, ${passes}, ${lanes}): other tags: ${[...tags].join(' ')}`);
     return least;
 }
 
-export async function times(load, say) {
+export async function times(load, say, clock = () => performance.now()) {
     const hashes = {};
     for (const name of Object.keys(MAKERS)) {
         const bytes = await load(`${name}.wasm`);
-        if (bytes) hashes[name] = MAKERS[name](await WebAssembly.compile(bytes));
+        if (bytes && WebAssembly.validate(bytes)) hashes[name] = MAKERS[name](await WebAssembly.compile(bytes));
     }
     for (const which of CASES) {
-        const [memory, passes] = which, least = timeCase(hashes, which);
+        const [memory, passes] = which, least = timeCase(hashes, which, clock);
         const of = (name) => (least[name] ? Math.round(least[name] * 1e6 / memory / passes) : 'skipped');
         const part = least.upstream ? (least.ours / least.upstream).toFixed(2) : 'skipped';
-        say([which.join(', '), of('ours'), of('upstream'), part].join(' | '));
+        say([which.join(', '), of('ours'), of('upstream'), of('vectors'), part].join(' | '));
     }
 }

@@ -118,6 +118,8 @@ $('hashing').onsubmit = (event) => {
         $('copied').textContent = '';
         $('encoded').value = encoded;
         $('guess').value = $('password').value;
+        tell($('verifying'), '');
+        $('verifying').querySelector('progress').value = 0;
         tell(form, `Hashed in ${timeOf(took)}. The other form can verify it now.`, 'good');
         showSettings();
     });

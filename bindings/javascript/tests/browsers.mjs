@@ -1,11 +1,14 @@
 // Chromium, Firefox and WebKit without a window, each driven by what it has for that: pipes, a socket, or a server.
-import { spawn } from 'node:child_process';
+import { spawn, spawnSync } from 'node:child_process';
 import { once } from 'node:events';
 import { existsSync, mkdtempSync, readFileSync, rmSync, writeFileSync } from 'node:fs';
 import { connect, createServer } from 'node:net';
 import { tmpdir } from 'node:os';
 import { join } from 'node:path';
 import { setTimeout as sleep } from 'node:timers/promises';
+
+/** Whether a program is there, a browser or another one. */
+export const isThere = (program) => spawnSync('sh', ['-c', `command -v ${program}`]).status === 0;
 
 /** A browser has ended while something waited for it. */
 export class BrowserEnded extends Error {}

@@ -1,12 +1,12 @@
 // The package as bundlers, module systems and policies for content meet it. docs/JAVASCRIPT.md has these lines.
 import assert from 'node:assert/strict';
-import { execFile, spawnSync } from 'node:child_process';
+import { execFile } from 'node:child_process';
 import { cpSync, mkdtempSync, writeFileSync } from 'node:fs';
 import { dirname, join } from 'node:path';
 import { test } from 'node:test';
 import { fileURLToPath } from 'node:url';
 import { promisify } from 'node:util';
-import { Chromium } from './browsers.mjs';
+import { Chromium, isThere } from './browsers.mjs';
 import { serve } from './server.mjs';
 
 const RIGHT = 'true false';
@@ -67,7 +67,7 @@ async function runsInPage(folder, policy, isIsolated = false) {
 
 /** Why a test is skipped: it wants programs of which one is not there. */
 function lacks(...programs) {
-    const lacking = programs.find((program) => spawnSync('sh', ['-c', `command -v ${program}`]).status !== 0);
+    const lacking = programs.find((program) => !isThere(program));
     return lacking === undefined ? false : `there is no ${lacking}`;
 }
 

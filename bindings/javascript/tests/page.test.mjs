@@ -186,8 +186,7 @@ function tests(Browser, isIsolated) {
     });
 
     pageTest('the page is seen', async () => {
-        await browser.visit(server.url);
-        await browser.until(MEASURED);
+        await set(browser, 'memory', '14');
         await submit(browser, 'hashing');
         await submit(browser, 'verifying');
         for (const [name, size] of Object.entries(SIZES)) {
