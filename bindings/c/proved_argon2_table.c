@@ -1,4 +1,4 @@
-/* Made by bindings/c/table.py --write: each proved call, behind the tests of its pointers, and each error's message. */
+/* Made by bindings/c/table.py --write: the proved calls behind the tests of their pointers, and messages. */
 #include "builds.h"
 #include "proved_argon2.h"
 

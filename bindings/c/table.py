@@ -1,8 +1,8 @@
 #!/usr/bin/env python3
-"""The proved calls as a program sees them: C that looks at the pointers of a call, and then makes it in a build of builds.h.
+"""The proved calls as a program sees them: C that looks at a call's pointers, and then makes it in a build of builds.h.
 
-A null pointer whose length is 0 passes none, and any other returns PROVED_ARGON2_NULL_POINTER. Then blocks at an address
-that no block has return PROVED_ARGON2_MISALIGNED. Where no build runs on the processor, a call returns
+A null pointer whose length is 0 passes none, and any other returns PROVED_ARGON2_NULL_POINTER. Then blocks at an
+address that no block has return PROVED_ARGON2_MISALIGNED. Where no build runs on the processor, a call returns
 PROVED_ARGON2_OLD_PROCESSOR. A call that returns no code returns zeros in each case.
 
     bindings/c/table.py            prints it
@@ -19,7 +19,8 @@ CRATES = HERE.parents[1] / "crates"
 HEADERS, SOURCES = CRATES / "argon2_c/include", CRATES / "argon2_c/src"
 MESSAGES = [CRATES / it for it in ("argon2_standard/specs/Views/Messages.antt", "argon2_c/specs/Refusal.antt")]
 PROVED = re.compile(r'^pub extern "C" fn (proved_argon2_\w+)', re.M)
-CALL = re.compile(r"^(uint32_t|uint64_t|proved_argon2_settings|proved_argon2_limits) (proved_argon2_\w+)\(([^)]*)\);", re.M)
+CALL = re.compile(
+    r"^(uint32_t|uint64_t|proved_argon2_settings|proved_argon2_limits) (proved_argon2_\w+)\(([^)]*)\);", re.M)
 COMMENT = re.compile(r"/\*.*?\*/", re.S)
 ANSWERS_NO_CODE = {"proved_argon2_library_version"}
 # C has this one's texts as constants, for a test to compare.
@@ -33,7 +34,7 @@ OWN_MESSAGES = {
 }
 UNKNOWN = "UnknownNumber"
 
-HEAD = '''/* Made by bindings/c/table.py --write: each proved call, behind the tests of its pointers, and each error's message. */
+HEAD = '''/* Made by bindings/c/table.py --write: the proved calls behind the tests of their pointers, and messages. */
 #include "builds.h"
 #include "proved_argon2.h"
 

@@ -12,7 +12,9 @@ HERE = Path(__file__).resolve().parent
 HEADERS = HERE.parents[1] / "crates/argon2_c/include"
 FACE, MADE = HERE / "src/face", HERE / "src/face/calls.rs"
 COMMENT = re.compile(r"/\*.*?\*/", re.S)
-CALL = re.compile(r"^(void|uint32_t|uint64_t|const char \*|proved_argon2_\w+) ?(proved_argon2_\w+)\(([^()]*)\);", re.M)
+CALL = re.compile(
+    r"^(void|uint32_t|uint64_t|const char \*|proved_argon2_\w+) ?(proved_argon2_\w+)\(([^()]*)\);", re.M)
+ARGUMENT = r"(const )?(\w+) (\**)(\w+)(?:\[\w+\])?"
 TYPES = {
     "void": "c_void",
     "char": "u8",
@@ -55,7 +57,7 @@ def named_calls():
 
 def argument(declaration):
     """An argument of C in Rust: `const uint8_t *pwd` is `pwd: *const u8`."""
-    constant, kind, stars, name = re.fullmatch(r"(const )?(\w+) (\**)(\w+)(?:\[\w+\])?", " ".join(declaration.split())).groups()
+    constant, kind, stars, name = re.fullmatch(ARGUMENT, " ".join(declaration.split())).groups()
     pointers = ["*mut "] * len(stars)
     if constant and pointers:
         pointers[-1] = "*const "
