@@ -165,3 +165,14 @@ describe_all() {
     describe_package argon2-cffi python3-argon2 ', over libargon2'
 }
 
+# The instructions of a run, as an emulator counts them: `count_instructions EMULATOR PROGRAM KIB`.
+count_instructions() {
+    "$1" -singlestep -d nochain,exec -D /dev/stderr "$2" "$3" 2>&1 >/dev/null | grep -c '^Trace'
+}
+
+# Those of a block, by two sizes of memory: `instructions_of_block EMULATOR PROGRAM`.
+instructions_of_block() {
+    local fewer=64 more=128 first second
+    first=$(count_instructions "$@" "$fewer") && second=$(count_instructions "$@" "$more")
+    echo "$(((second - first) / (more - fewer)))"
+}
