@@ -305,22 +305,28 @@ fn is_given_back_once() -> bool {
     asked() == before + 4 && WRONG.load(SeqCst) == 0
 }
 
-/// How many mappings of this process core dumps leave out, as Linux tells.
-fn mappings_that_are_not_dumped() -> usize {
-    let told = std::fs::read_to_string("/proc/self/smaps").unwrap();
-    let flags = told.lines().filter_map(|line| line.strip_prefix("VmFlags: "));
-    flags.filter(|it| it.split(' ').any(|flag| flag == "dd")).count()
+/// How many KiB of this process core dumps leave out, as Linux tells.
+fn kib_not_dumped() -> u32 {
+    let (mut size, mut sum) = (0, 0);
+    for line in std::fs::read_to_string("/proc/self/smaps").unwrap().lines() {
+        if let Some(told) = line.strip_prefix("Size:") {
+            size = told.trim().trim_end_matches(" kB").parse().unwrap();
+        } else if line.starts_with("VmFlags: ") && line.split(' ').any(|flag| flag == "dd") {
+            sum += size;
+        }
+    }
+    sum
 }
 
 /// Core dumps leave out what is kept, from 2 MiB on, and have all that is given back.
 fn is_not_dumped_while_it_is_kept() -> bool {
-    let before = mappings_that_are_not_dumped();
+    let before = kib_not_dumped();
     [4096, 4096, 4096, 20000, 20000].into_iter().all(|mem_cost| {
         let mut memory = Memory::new();
         Asked::of(settings(mem_cost, 1, MODES[0])).call(0, &mut memory);
-        let is_left_out = mappings_that_are_not_dumped() == before + 1;
+        let is_left_out = kib_not_dumped() == before + mem_cost;
         drop(memory);
-        is_left_out && mappings_that_are_not_dumped() == before
+        is_left_out && kib_not_dumped() == before
     })
 }
 
