@@ -22,6 +22,8 @@ OK, DECODING_FAIL, MISMATCH = 0, 19, 64
 # Which vectors are asked: those that write so many blocks at most, and one with more blocks than that in its memory;
 # and how much a verdict may cost, where each byte of a hash is changed alone.
 FEW_BLOCKS, MAPPED_BLOCKS, CHEAP = 640, 1024, 2048
+# In how many blocks, and in how many in all passes, several lanes have threads in C (proved_argon2_driver.c).
+OF_THREADS, IN_ALL_PASSES = 2048, 4096
 OF_A_TEXT = 6  # reports: of two branches, at three readings (for its lengths, whether it is accepted, and its job)
 ASKED, ANSWERED = struct.Struct('<9I'), struct.Struct('<4I')
 PEER, SIZE = ctypes.CDLL('libargon2.so.1'), ctypes.c_size_t
@@ -124,13 +126,19 @@ def with_byte(data, at, byte):
 
 # ---- vectors
 
+def has_threads(vector):
+    """Whether the library starts threads for it, where it may."""
+    return vector.lanes > 1 and vector.memory >= OF_THREADS and vector.blocks() >= IN_ALL_PASSES
+
+
 def vectors(variant, version):
     """Those of a variant and a version that have a password or a secret, of lines `VARIANT VERSION T M P LEN PASSWORD
-    SALT SECRET DATA TAG`: those that write few blocks, and the first over a memory that the library maps."""
+    SALT SECRET DATA TAG`: those that write few blocks, and one over a memory that the library maps, if there is one by threads."""
     rows = [line.split() for line in (VECTORS / 'raw.txt').read_text(encoding='utf-8').splitlines()]
     found = [Vector(VARIANTS.index(variant), *map(int, row[1:6]), *(bytes.fromhex(it.strip('-')) for it in row[6:]))
              for row in rows if row[:2] == [variant, version] and len(row) == 11 and (row[6], row[8]) != ('-', '-')]
-    mapped = [it for it in found if it.blocks() > FEW_BLOCKS and it.memory > MAPPED_BLOCKS][:1]
+    mapped = [it for it in found if it.blocks() > FEW_BLOCKS and it.memory > MAPPED_BLOCKS]
+    mapped = [*filter(has_threads, mapped), *mapped][:1]
     return [it for it in found if it.blocks() <= FEW_BLOCKS or it in mapped]
 
 
