@@ -133,7 +133,8 @@ def has_threads(vector):
 
 def vectors(variant, version):
     """Those of a variant and a version that have a password or a secret, of lines `VARIANT VERSION T M P LEN PASSWORD
-    SALT SECRET DATA TAG`: those that write few blocks, and one over a memory that the library maps, if there is one by threads."""
+    SALT SECRET DATA TAG`: those that write few blocks, and one over a memory that the library maps, if there is one by
+    threads."""
     rows = [line.split() for line in (VECTORS / 'raw.txt').read_text(encoding='utf-8').splitlines()]
     found = [Vector(VARIANTS.index(variant), *map(int, row[1:6]), *(bytes.fromhex(it.strip('-')) for it in row[6:]))
              for row in rows if row[:2] == [variant, version] and len(row) == 11 and (row[6], row[8]) != ('-', '-')]

@@ -1,4 +1,5 @@
-"""Logins at once through the lines of docs/SERVICE.md: more of them than places. Prints how many were told to try again."""
+"""Logins at once through the lines of docs/SERVICE.md: more of them than places. Prints how many were told to try
+again."""
 import logging
 import random
 import resource
@@ -7,7 +8,12 @@ import threading
 import time
 
 from proved_argon2 import PasswordHasher
-from proved_argon2.exceptions import HashingError, InvalidHashError, VerificationError, VerifyMismatchError
+from proved_argon2.exceptions import (  # noqa: F401 (the page's lines use them)
+    HashingError,
+    InvalidHashError,
+    VerificationError,
+    VerifyMismatchError,
+)
 
 PEPPER, SECONDS, THREADS, KIB = b"pepper", 3, 8, 65536
 before = resource.getrusage(resource.RUSAGE_SELF).ru_maxrss
@@ -19,8 +25,9 @@ seen, wrong = {True: 0, False: 0, None: 0}, []
 def logs_in(seed, end):
     draw = random.Random(seed)
     while time.monotonic() < end:
-        password, stored = draw.choice(("password", "Password")), draw.choice((older, older.replace("argon2id", "argon3")))
-        verdict, renewed = log_in("somebody", password, stored)
+        password = draw.choice(("password", "Password"))
+        stored = draw.choice((older, older.replace("argon2id", "argon3")))
+        verdict, renewed = log_in("somebody", password, stored)  # noqa: F821 (it is the page's)
         seen[verdict] += 1
         wanted = (None,) if stored != older else (password == "password", None)
         if verdict not in wanted or (renewed != stored) != bool(verdict) or (verdict and "t=3" not in renewed):
