@@ -61,7 +61,7 @@ int main(void)
     pthread_t threads[THREADS];
     if (proved_argon2_hash_encoded(
             password, sizeof password - 1, salt, sizeof salt - 1, pepper, sizeof pepper, NULL, 0, &small,
-            (uint8_t *)older, sizeof older) != PROVED_ARGON2_OK
+            older, sizeof older) != PROVED_ARGON2_OK
         || sem_init(&places, 0, PLACES) != 0) {
         return 2;
     }
