@@ -1,6 +1,6 @@
-/* What a library for Argon2 does while it hashes over 64 KiB in 2 passes and 4 lanes: how many threads it starts, and
- * how many bytes of its blocks are not zero when it gives them back to malloc. (What is unmapped the system clears.)
- * With DENY set no thread can be started.
+/* What a library for Argon2 does while it hashes in 2 passes and 4 lanes: how many threads it starts, and how many bytes
+ * of its blocks are not zero when it gives them back to malloc. (What is unmapped the system clears.) KIB has the KiB of
+ * memory. With DENY set no thread can be started.
  *
  * usage: peers KIND LIBRARY     KIND: argon2 (libargon2's interface), sodium, openssl, bench (a library of bench/run)
  *
@@ -14,7 +14,8 @@
 #include <stdlib.h>
 #include <string.h>
 
-enum { KIB = 64, PASSES = 2, LANES = 4, LARGE = 32768 };
+enum { PASSES = 2, LANES = 4, LARGE = 32768 };
+static uint32_t kib;
 static const struct input input = { "password", 8, "somesaltsomesalt" };
 static unsigned long threads, freed, left;
 static void *library;
@@ -42,7 +43,7 @@ void free(void *at)
 static int by_argon2(uint8_t *tag)
 {
     __typeof__(argon2id_hash_raw) *const hash = dlsym(library, "argon2id_hash_raw");
-    return hash(PASSES, KIB, LANES, input.password, input.password_length, input.salt, SALT_LENGTH, tag, TAG_LENGTH);
+    return hash(PASSES, kib, LANES, input.password, input.password_length, input.salt, SALT_LENGTH, tag, TAG_LENGTH);
 }
 
 /* Its call has no parameter for lanes. */
@@ -50,12 +51,12 @@ static int by_sodium(uint8_t *tag)
 {
     int (*hash)(uint8_t *, unsigned long long, const char *, unsigned long long, const uint8_t *, unsigned long long,
         size_t, int) = dlsym(library, "crypto_pwhash_argon2id");
-    return hash(tag, TAG_LENGTH, input.password, input.password_length, input.salt, PASSES, (size_t)KIB * 1024, 2);
+    return hash(tag, TAG_LENGTH, input.password, input.password_length, input.salt, PASSES, (size_t)kib * 1024, 2);
 }
 
 static int by_openssl(const char *file, uint8_t *tag)
 {
-    const struct cost cost = { KIB, PASSES, LANES, LANES };
+    const struct cost cost = { kib, PASSES, LANES, LANES };
     if (load_openssl(file) != 0 || set_max_threads(NULL, LANES) != 1)
         return 2;
     return hash_by_openssl(fetch(NULL, "ARGON2ID", NULL), &cost, tag);
@@ -65,12 +66,14 @@ static int by_bench(uint8_t *tag)
 {
     hash_function *const rust_argon2 = dlsym(library, "bench_rust_argon2");
     hash_function *const hash = rust_argon2 == NULL ? dlsym(library, "bench_rustcrypto") : rust_argon2;
-    return hash(&(const struct cost) { KIB, PASSES, LANES, rust_argon2 == NULL ? 1 : LANES }, &input, tag);
+    return hash(&(const struct cost) { kib, PASSES, LANES, rust_argon2 == NULL ? 1 : LANES }, &input, tag);
 }
 
 int main(int argc, char **argv)
 {
     uint8_t tag[TAG_LENGTH];
+    const char *const memory = getenv("KIB");
+    kib = memory == NULL ? 0 : (uint32_t)atoi(memory);
     if (argc != 3 || (library = dlopen(argv[2], RTLD_NOW)) == NULL)
         return 2;
     const int result = strcmp(argv[1], "argon2") == 0 ? by_argon2(tag) : strcmp(argv[1], "sodium") == 0 ? by_sodium(tag)

@@ -1,0 +1,52 @@
+/* The builds that the archive has of what is proved, one for each of several processors: proved_argon2_builds.c chooses one
+ * of them, and the calls of proved_argon2_table.c lead to it. It is tested and not proved. */
+#ifndef BUILDS_H
+#define BUILDS_H
+
+#include <stdatomic.h>
+
+/* The name that build/link gives a proved call in a build. */
+#define IN_BUILD(build, name) NAMED_IN(build, name)
+#define NAMED_IN(build, name) proved_##build##_##name
+
+#ifdef ONLY_BUILD /* (where there is no other) */
+
+#define DECLARED(answer, name, taken) answer IN_BUILD(ONLY_BUILD, name) taken;
+#define MADE(name, given, refusal) return IN_BUILD(ONLY_BUILD, name) given;
+
+#else
+
+#define DECLARED(answer, name, taken) \
+    answer IN_BUILD(x86_64_v2, name) taken; \
+    answer IN_BUILD(x86_64_v3, name) taken;
+#define MADE(name, given, refusal) \
+    switch (build_here()) { \
+    case X86_64_V3: return IN_BUILD(x86_64_v3, name) given; \
+    case X86_64_V2: return IN_BUILD(x86_64_v2, name) given; \
+    default: return refusal; \
+    }
+
+/* The builds, the newest last. */
+enum build { NOT_CHOSEN, NO_BUILD, X86_64_V2, X86_64_V3 };
+
+/* (their names in an archive, beside a program's own) */
+#define build_in_use proved_driver_build
+#define choose_build proved_driver_choose_build
+#pragma GCC visibility push(hidden)
+
+/* The build that all calls take. Each thread that chooses one comes to the same. */
+extern _Atomic int build_in_use;
+
+/* Chooses the build, stores and returns it. */
+int choose_build(void);
+
+#pragma GCC visibility pop
+
+static inline int build_here(void)
+{
+    const int build = atomic_load_explicit(&build_in_use, memory_order_relaxed);
+    return build != NOT_CHOSEN ? build : choose_build();
+}
+
+#endif
+#endif

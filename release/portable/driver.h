@@ -1,0 +1,84 @@
+/* What the two parts of the driver share: proved_argon2_driver.c computes, and proved_argon2_calls.c has the calls of
+ * the headers. It is tested and not proved. */
+#ifndef DRIVER_H
+#define DRIVER_H
+
+#define _GNU_SOURCE
+#include "proved_argon2.h"
+
+#include "platform.h"
+#include <stdatomic.h>
+#include <string.h>
+
+#define INPUTS const uint8_t *pwd, size_t pwd_len, const uint8_t *salt, size_t salt_len, const uint8_t *secret, \
+    size_t secret_len, const uint8_t *ad, size_t ad_len, const proved_argon2_settings *settings
+#define OF_BYTES pwd, pwd_len, salt, salt_len, secret, secret_len, ad, ad_len
+#define OF_INPUTS OF_BYTES, settings
+#define STORED const char *text, size_t text_len, const uint8_t *pwd, size_t pwd_len, const uint8_t *secret, \
+    size_t secret_len, const uint8_t *ad, size_t ad_len
+#define OF_STORED text, text_len, pwd, pwd_len, secret, secret_len, ad, ad_len
+#define IS_MISSING(name) ((name) == NULL && name##_len != 0)
+#define ARE_INPUTS_MISSING \
+    (IS_MISSING(pwd) || IS_MISSING(salt) || IS_MISSING(secret) || IS_MISSING(ad) || settings == NULL)
+
+typedef proved_argon2_block block;
+typedef proved_argon2_options options;
+
+/* What has some lanes: worker i the lanes i, i + tasks, i + 2 tasks .. */
+typedef struct worker {
+    _Atomic uint64_t state; /* 2 n before it takes step n, 2 n + 1 meanwhile, 2 n + 2 behind it */
+    uint32_t code;
+} worker;
+
+/* A call, from its options to what is cleared. */
+typedef struct call {
+    options with;
+    proved_argon2_job job;
+    uint8_t *bytes;        /* malloc's, for a hash, a tag and a salt */
+    size_t len;
+    caller kept;
+    block *blocks;
+    size_t slice;          /* how many blocks one of their four slices has */
+    worker *workers;
+    uint32_t tasks;        /* how many workers there are */
+    team *team;            /* the call's own threads, for all workers from 1 on that were granted one */
+    uint64_t step;         /* step 0 writes the first blocks, and step n + 1 fills slice number n, over all passes */
+    bool is_over;          /* there is no step any more */
+    atomic_bool is_astray; /* a task was run that is not there, or once too often */
+} call;
+
+/* How many bytes the blocks of a job have: with addresses of 32 bits, where they are more than there are, so many that no
+ * memory has them. */
+static inline size_t bytes_of(const proved_argon2_job *job)
+{
+    const uint64_t bytes = (uint64_t)4 * sizeof(block) * job->lanes * job->segment_length;
+    const size_t most = SIZE_MAX / 16 * 15;
+    return bytes < most ? (size_t)bytes : most;
+}
+
+/* (their names in an archive, beside a program's own) */
+#define begin_call proved_driver_begin_call
+#define take_bytes proved_driver_take_bytes
+#define compute proved_driver_compute
+#define end_call proved_driver_end_call
+#define take_blocks proved_driver_take_blocks
+#pragma GCC visibility push(hidden)
+
+/* Begins a call with options, whose later fields are none. That a pointer is missing comes before all else. */
+uint32_t begin_call(call *it, const options *with, int is_missing);
+
+/* Memory of malloc for so many bytes, which the end of the call clears and frees. */
+uint32_t take_bytes(call *it, size_t len);
+
+/* Writes the tag of a job that the library has checked, or returns whether a hash is it; the tag is then there. */
+uint32_t compute(call *it, const uint8_t *hash, uint8_t *tag);
+
+/* Ends a call with its result: clears its bytes, its job, the stack and the registers. */
+CLEARS_REGISTERS uint32_t end_call(call *it, uint32_t code);
+
+/* Memory for blocks, or null: malloc's, or a mapping, in huge pages where the system has them and in no core dump. */
+void *take_blocks(size_t bytes);
+
+#pragma GCC visibility pop
+
+#endif

@@ -1,0 +1,93 @@
+#if !defined(__linux__)&&!defined(_WIN32)
+/* The driver's system, where it is neither Linux nor Windows: what C itself has, and so no threads of a call's own. It
+ * is tested and not proved. */
+#include "platform.h"
+
+#include <errno.h>
+#include <stdlib.h>
+#include <string.h>
+#include <sys/random.h>
+
+#define LINE 64
+
+/* Writes zeros that no compiler leaves out: it cannot know that this is memset. */
+static void *(*const volatile fill)(void *, int, size_t) = memset;
+
+caller keep_caller(void)
+{
+    return (caller){.error = errno};
+}
+
+void restore_caller(caller kept)
+{
+    errno = kept.error;
+}
+
+void *take_lines(size_t bytes)
+{
+    return aligned_alloc(LINE, (bytes + LINE - 1) / LINE * LINE);
+}
+
+void free_lines(void *lines)
+{
+    free(lines);
+}
+
+void *map_pages(size_t bytes)
+{
+    return take_lines(bytes);
+}
+
+void unmap_pages(void *pages, size_t bytes)
+{
+    overwrite(pages, bytes);
+    free_lines(pages);
+}
+
+bool populate_pages(void *pages, size_t bytes)
+{
+    (void)pages;
+    (void)bytes;
+    return true;
+}
+
+bool take_random(uint8_t *bytes, size_t len)
+{
+#ifdef __APPLE__
+    return getentropy(bytes, len) == 0;
+#else
+    return getrandom(bytes, len, 0) == (ssize_t)len;
+#endif
+}
+
+void overwrite(void *bytes, size_t len)
+{
+    fill(bytes, 0, len);
+}
+
+team *start_team(uint32_t threads, void (*run)(void *arg, team *own, uint32_t number), void *arg)
+{
+    (void)threads;
+    (void)run;
+    (void)arg;
+    return NULL;
+}
+
+uint32_t members(const team *own)
+{
+    (void)own;
+    return 0;
+}
+
+void meet(team *own)
+{
+    (void)own;
+}
+
+void end_team(team *own)
+{
+    (void)own;
+}
+#else
+typedef int is_another_system;
+#endif

@@ -1,0 +1,191 @@
+#if defined(__linux__)
+/* The driver's system: POSIX, and what Linux has more. It is tested and not proved. */
+#define _GNU_SOURCE
+#include "platform.h"
+
+#include <errno.h>
+#include <link.h>
+#include <pthread.h>
+#include <signal.h>
+#include <stdlib.h>
+#include <string.h>
+#include <sys/mman.h>
+#include <sys/random.h>
+#include <unistd.h>
+
+#define LINE 64
+#define HUGE_PAGE ((size_t)2 << 20)
+#define POPULATE 23        /* MADV_POPULATE_WRITE of Linux 5.14 */
+#define STACK (256 * 1024) /* bytes of a thread, beside the program's own variables of a thread */
+
+caller keep_caller(void)
+{
+    caller kept = {.error = errno};
+    pthread_setcancelstate(PTHREAD_CANCEL_DISABLE, &kept.cancel);
+    return kept;
+}
+
+void restore_caller(caller kept)
+{
+    errno = kept.error;
+    pthread_setcancelstate(kept.cancel, NULL);
+}
+
+void *take_lines(size_t bytes)
+{
+    return aligned_alloc(LINE, bytes);
+}
+
+void free_lines(void *lines)
+{
+    free(lines);
+}
+
+void *map_pages(size_t bytes)
+{
+    const size_t page = (size_t)sysconf(_SC_PAGESIZE), whole = (bytes + page - 1) / page * page;
+    char *const all = mmap(NULL, whole + HUGE_PAGE, PROT_READ | PROT_WRITE, MAP_PRIVATE | MAP_ANONYMOUS, -1, 0);
+    if (all == MAP_FAILED) {
+        return NULL;
+    }
+    const size_t before = (HUGE_PAGE - (uintptr_t)all % HUGE_PAGE) % HUGE_PAGE;
+    munmap(all, before);
+    munmap(all + before + whole, HUGE_PAGE - before);
+    madvise(all + before, whole / HUGE_PAGE * HUGE_PAGE, MADV_HUGEPAGE);
+    madvise(all + before, whole, MADV_DONTDUMP);
+    return all + before;
+}
+
+void unmap_pages(void *pages, size_t bytes)
+{
+    munmap(pages, bytes);
+}
+
+bool populate_pages(void *pages, size_t bytes)
+{
+    return madvise(pages, bytes, POPULATE) == 0 || (errno != ENOMEM && errno != EFAULT);
+}
+
+bool take_random(uint8_t *bytes, size_t len)
+{
+    ssize_t given;
+    do {
+        given = getrandom(bytes, len, 0);
+    } while (given < 0 && errno == EINTR);
+    return given == (ssize_t)len;
+}
+
+void overwrite(void *bytes, size_t len)
+{
+    explicit_bzero(bytes, len);
+}
+
+/* ---- threads */
+
+typedef struct member {
+    team *own;
+    pthread_t thread;
+} member;
+
+struct team {
+    pthread_mutex_t gate; /* locked until it is known how many threads there are to meet */
+    pthread_barrier_t place;
+    pid_t process;
+    uint32_t threads; /* beside the caller's */
+    void (*run)(void *arg, team *own, uint32_t number);
+    void *arg;
+    member members[];
+};
+
+static void *run_member(void *arg)
+{
+    member *const self = arg;
+    team *const own = self->own;
+    pthread_mutex_lock(&own->gate);
+    pthread_mutex_unlock(&own->gate);
+    own->run(own->arg, own, (uint32_t)(self - own->members) + 1);
+    return NULL;
+}
+
+/* Adds what an object of the program has of variables of a thread, which some systems take of its stack. */
+static int add_variables(struct dl_phdr_info *object, size_t size, void *sum)
+{
+    (void)size;
+    for (size_t i = 0; i < object->dlpi_phnum; i++) {
+        const ElfW(Phdr) *const part = &object->dlpi_phdr[i];
+        *(size_t *)sum += part->p_type == PT_TLS ? part->p_memsz + part->p_align : 0;
+    }
+    return 0;
+}
+
+/* Starts threads until one is denied; the program's signals go to its own threads. */
+static void start_members(team *own, uint32_t threads)
+{
+    size_t stack = STACK;
+    sigset_t all, before;
+    pthread_attr_t small;
+    dl_iterate_phdr(add_variables, &stack);
+    sigfillset(&all);
+    pthread_attr_init(&small);
+    pthread_attr_setstacksize(&small, stack);
+    pthread_sigmask(SIG_SETMASK, &all, &before);
+    for (member *next = own->members; own->threads < threads; own->threads++, next++) {
+        next->own = own;
+        if (pthread_create(&next->thread, &small, run_member, next) != 0) {
+            break;
+        }
+    }
+    pthread_sigmask(SIG_SETMASK, &before, NULL);
+    pthread_attr_destroy(&small);
+}
+
+team *start_team(uint32_t threads, void (*run)(void *arg, team *own, uint32_t number), void *arg)
+{
+    team *const own = calloc(1, sizeof *own + threads * sizeof *own->members);
+    if (own == NULL) {
+        return NULL;
+    }
+    own->process = getpid();
+    own->run = run;
+    own->arg = arg;
+    pthread_mutex_init(&own->gate, NULL);
+    pthread_mutex_lock(&own->gate);
+    start_members(own, threads);
+    pthread_barrier_init(&own->place, NULL, own->threads + 1);
+    pthread_mutex_unlock(&own->gate);
+    return own;
+}
+
+/* Whether the threads are in this process: none of them is in a child that was forked. */
+static bool is_here(const team *own)
+{
+    return own != NULL && own->process == getpid();
+}
+
+uint32_t members(const team *own)
+{
+    return is_here(own) ? own->threads : 0;
+}
+
+void meet(team *own)
+{
+    if (is_here(own)) {
+        pthread_barrier_wait(&own->place);
+    }
+}
+
+void end_team(team *own)
+{
+    const uint32_t threads = members(own);
+    for (uint32_t i = 0; i < threads; i++) {
+        pthread_join(own->members[i].thread, NULL);
+    }
+    if (is_here(own)) {
+        pthread_barrier_destroy(&own->place);
+        pthread_mutex_destroy(&own->gate);
+    }
+    free(own);
+}
+#else
+typedef int is_another_system;
+#endif

@@ -1,0 +1,232 @@
+/* The calls of the library for C that hash or verify, put together of what is proved; this is tested and not proved. */
+#include "driver.h"
+
+static const options plain = PROVED_ARGON2_OPTIONS; /* one thread, and memory of the call's own */
+
+/* Judges the inputs of a hash before it takes memory, and makes its job. */
+static uint32_t make_job(call *it, INPUTS, int has_room)
+{
+    const uint32_t code = proved_argon2_check(settings, pwd_len, salt_len, secret_len, ad_len);
+    return code != PROVED_ARGON2_OK ? code : !has_room ? PROVED_ARGON2_WRONG_LENGTH
+        : proved_argon2_job_make(OF_INPUTS, &it->job);
+}
+
+uint32_t proved_argon2_hash_raw_with(const options *with, INPUTS, uint8_t *out, size_t out_len)
+{
+    call it;
+    uint32_t code = begin_call(&it, with, ARE_INPUTS_MISSING || IS_MISSING(out));
+    if (code != PROVED_ARGON2_OK) {
+        goto end;
+    }
+    code = make_job(&it, OF_INPUTS, out_len == settings->hash_length);
+    if (code != PROVED_ARGON2_OK) {
+        goto end;
+    }
+    code = compute(&it, NULL, out);
+end:
+    return end_call(&it, code);
+}
+
+uint32_t proved_argon2_hash_raw(INPUTS, uint8_t *out, size_t out_len)
+{
+    return proved_argon2_hash_raw_with(&plain, OF_INPUTS, out, out_len);
+}
+
+uint32_t proved_argon2_hash_encoded_with(const options *with, INPUTS, char *text, size_t text_len)
+{
+    call it;
+    uint32_t code = begin_call(&it, with, ARE_INPUTS_MISSING || IS_MISSING(text));
+    if (code != PROVED_ARGON2_OK) {
+        goto end;
+    }
+    code = make_job(&it, OF_INPUTS, text_len > proved_argon2_encoded_len(settings, (uint32_t)salt_len));
+    if (code != PROVED_ARGON2_OK) {
+        goto end;
+    }
+    code = take_bytes(&it, it.job.hash_length);
+    if (code != PROVED_ARGON2_OK) {
+        goto end;
+    }
+    code = compute(&it, NULL, it.bytes);
+    if (code != PROVED_ARGON2_OK) {
+        goto end;
+    }
+    code = proved_argon2_encode(salt, salt_len, settings, it.bytes, it.len, text, text_len);
+end:
+    return end_call(&it, code);
+}
+
+uint32_t proved_argon2_hash_encoded(INPUTS, char *text, size_t text_len)
+{
+    return proved_argon2_hash_encoded_with(&plain, OF_INPUTS, text, text_len);
+}
+
+uint32_t proved_argon2_verify_raw_with(const options *with, INPUTS, const uint8_t *hash, size_t hash_len)
+{
+    call it;
+    uint32_t code = begin_call(&it, with, ARE_INPUTS_MISSING || IS_MISSING(hash));
+    if (code != PROVED_ARGON2_OK) {
+        goto end;
+    }
+    proved_argon2_settings own = *settings;
+    own.hash_length = hash_len > UINT32_MAX ? UINT32_MAX : (uint32_t)hash_len;
+    code = proved_argon2_job_make(OF_BYTES, &own, &it.job);
+    if (code == PROVED_ARGON2_OK && hash_len > UINT32_MAX) {
+        code = PROVED_ARGON2_OUTPUT_TOO_LONG;
+    }
+    if (code != PROVED_ARGON2_OK) {
+        goto end;
+    }
+    code = take_bytes(&it, hash_len);
+    if (code != PROVED_ARGON2_OK) {
+        goto end;
+    }
+    code = compute(&it, hash, it.bytes);
+end:
+    return end_call(&it, code);
+}
+
+uint32_t proved_argon2_verify_raw(INPUTS, const uint8_t *hash, size_t hash_len)
+{
+    return proved_argon2_verify_raw_with(&plain, OF_INPUTS, hash, hash_len);
+}
+
+/* Reads the job of an encoded hash, its tag with as much room behind it for the computed one, and its salt. A rejected
+ * hash costs no memory: it is judged first. */
+static uint32_t read_text(call *it, STORED)
+{
+    static const proved_argon2_limits none = {UINT32_MAX, UINT32_MAX, UINT32_MAX, UINT64_MAX};
+    const proved_argon2_limits *const limits = it->with.limits != NULL ? it->with.limits : &none;
+    proved_argon2_stored stored;
+    uint32_t code = proved_argon2_check_encoded(text, text_len, limits, pwd_len, secret_len, ad_len, &stored);
+    if (code != PROVED_ARGON2_OK) {
+        return code;
+    }
+    const size_t len = stored.settings.hash_length, salt_len = stored.salt_length;
+    code = take_bytes(it, 2 * len + salt_len);
+    if (code != PROVED_ARGON2_OK) {
+        return code;
+    }
+    return proved_argon2_job_read(OF_STORED, &it->job, it->bytes + 2 * len, salt_len, it->bytes, len);
+}
+
+uint32_t proved_argon2_verify_encoded_with(const options *with, STORED)
+{
+    call it;
+    uint32_t code = begin_call(&it, with, IS_MISSING(text) || IS_MISSING(pwd) || IS_MISSING(secret) || IS_MISSING(ad));
+    if (code != PROVED_ARGON2_OK) {
+        goto end;
+    }
+    it.with.threads = it.with.threads < 16 ? it.with.threads : 16; /* as Rattle's library for an encoded hash */
+    code = read_text(&it, OF_STORED);
+    if (code != PROVED_ARGON2_OK) {
+        goto end;
+    }
+    code = compute(&it, it.bytes, it.bytes + it.job.hash_length);
+end:
+    return end_call(&it, code);
+}
+
+uint32_t proved_argon2_verify_encoded(STORED)
+{
+    return proved_argon2_verify_encoded_with(&plain, OF_STORED);
+}
+
+uint32_t proved_argon2_verify_encoded_within(STORED, const proved_argon2_limits *limits)
+{
+    const options with = {.size = sizeof with, .limits = limits};
+    return proved_argon2_verify_encoded_with(limits == NULL ? NULL : &with, OF_STORED);
+}
+
+/* A run of a job. */
+static uint32_t run(const options *with, const proved_argon2_job *job, const uint8_t *hash, uint8_t *tag, size_t len)
+{
+    call it;
+    uint32_t code = begin_call(&it, with, job == NULL || (hash == NULL && tag == NULL && len != 0));
+    if (code != PROVED_ARGON2_OK) {
+        goto end;
+    }
+    it.job = *job;
+    code = proved_argon2_job_check(&it.job);
+    if (code == PROVED_ARGON2_OK && len != it.job.hash_length) {
+        code = PROVED_ARGON2_WRONG_LENGTH;
+    }
+    if (code == PROVED_ARGON2_OK && hash != NULL) {
+        code = take_bytes(&it, len);
+    }
+    if (code != PROVED_ARGON2_OK) {
+        goto end;
+    }
+    code = compute(&it, hash, hash == NULL ? tag : it.bytes);
+end:
+    return end_call(&it, code);
+}
+
+uint32_t proved_argon2_job_run(const options *with, const proved_argon2_job *job, uint8_t *tag, size_t tag_len)
+{
+    return run(with, job, NULL, tag, tag_len);
+}
+
+uint32_t proved_argon2_job_run_verify(
+    const options *with, const proved_argon2_job *job, const uint8_t *hash, size_t hash_len)
+{
+    return run(with, job, hash, NULL, hash_len);
+}
+
+uint32_t proved_argon2_memory_new(const proved_argon2_settings *settings, void **memory, size_t *memory_len)
+{
+    if (settings == NULL || memory == NULL || memory_len == NULL) {
+        return PROVED_ARGON2_NULL_POINTER;
+    }
+    const uint32_t code = proved_argon2_check(settings, 0, PROVED_ARGON2_MIN_SALT_LENGTH, 0, 0);
+    if (code != PROVED_ARGON2_OK) {
+        return code;
+    }
+    const caller kept = keep_caller();
+    const size_t len = (size_t)proved_argon2_memory_len(settings);
+    void *const blocks = take_blocks(len);
+    restore_caller(kept);
+    if (blocks == NULL) {
+        return PROVED_ARGON2_OUT_OF_MEMORY;
+    }
+    *memory = blocks;
+    *memory_len = len;
+    return PROVED_ARGON2_OK;
+}
+
+uint32_t proved_argon2_password_hash_with(const options *with, const proved_argon2_settings *settings, char *text,
+    const char *password, size_t length, const uint8_t *pepper, size_t pepper_len)
+{
+    uint8_t salt[PROVED_ARGON2_SALT_SIZE];
+    if (with == NULL || settings == NULL || text == NULL || (password == NULL && length != 0) || IS_MISSING(pepper)) {
+        return PROVED_ARGON2_NULL_POINTER;
+    }
+    const caller kept = keep_caller();
+    const bool has_salt = take_random(salt, sizeof salt);
+    restore_caller(kept);
+    if (!has_salt) {
+        return PROVED_ARGON2_NO_RANDOM_BYTES;
+    }
+    return proved_argon2_hash_encoded_with(with, (const uint8_t *)password, length, salt, sizeof salt, pepper, pepper_len,
+        NULL, 0, settings, text, PROVED_ARGON2_TEXT_SIZE);
+}
+
+uint32_t proved_argon2_password_hash(char text[PROVED_ARGON2_TEXT_SIZE], const char *password, size_t length)
+{
+    const proved_argon2_settings settings = proved_argon2_owasp2();
+    return proved_argon2_password_hash_with(&plain, &settings, text, password, length, NULL, 0);
+}
+
+uint32_t proved_argon2_password_verify_with(const options *with, const char *text, const char *password, size_t length,
+    const uint8_t *pepper, size_t pepper_len)
+{
+    return proved_argon2_verify_encoded_with(text == NULL ? NULL : with, text, text == NULL ? 0 : strlen(text),
+        (const uint8_t *)password, length, pepper, pepper_len, NULL, 0);
+}
+
+uint32_t proved_argon2_password_verify(const char *text, const char *password, size_t length)
+{
+    const proved_argon2_limits limits = proved_argon2_default_limits();
+    const options with = {.size = sizeof with, .limits = &limits};
+    return proved_argon2_password_verify_with(&with, text, password, length, NULL, 0);
+}
