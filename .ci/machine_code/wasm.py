@@ -45,6 +45,11 @@ class Module:
         """Where in the file an instruction is."""
         return address
 
+    @staticmethod
+    def constant(address):
+        """Neither function has constants in memory."""
+        raise Fault(f'it reads at {address:#x}')
+
     def traps(self, address):
         """Whether nothing but a trap is where a jump leads."""
         text, size, _ = self.instructions[address]
