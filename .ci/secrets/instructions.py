@@ -34,7 +34,7 @@ PRODUCT = re.compile('v?pmuludq|um(ull|lal)2?')
 # segment have the lane that a block draws, which the address of the next one tells anyhow.
 DIVIDING = {'accepted_context': 1, 'proved_argon2_memory_len': 1, 'fill_lent_segment': 3}
 # What the calls of a build begin with, in the archive that has both.
-OF_BUILD = re.compile(r'^proved_x86_64_v[23]_')
+OF_BUILD = re.compile(r'^proved_(?:x86_64_v[23]|armv8_a)_')
 
 
 def instructions(path, prefix=''):

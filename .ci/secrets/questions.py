@@ -24,7 +24,7 @@ OK, DECODING_FAIL, MISMATCH = 0, 19, 64
 FEW_BLOCKS, MAPPED_BLOCKS, CHEAP = 640, 1024, 2048
 # In how many blocks, and in how many in all passes, several lanes have threads in C (proved_argon2_driver.c).
 OF_THREADS, IN_ALL_PASSES = 2048, 4096
-OF_A_TEXT = 6  # reports: of two branches, at three readings (for its lengths, whether it is accepted, and its job)
+OF_A_TEXT = 4  # reports: of two branches, at two readings (whether it is accepted, and its job)
 ASKED, ANSWERED = struct.Struct('<9I'), struct.Struct('<4I')
 PEER, SIZE = ctypes.CDLL('libargon2.so.1'), ctypes.c_size_t
 

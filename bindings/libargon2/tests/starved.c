@@ -25,6 +25,7 @@
 #define MOST_GROWTH (4 << 20) /* bytes, of which each call would leave more if it left its memory */
 #define GREAT (1 << 18)       /* KiB, more than the process may have */
 #define SMALL 1024            /* KiB */
+#define PAYING 4096           /* KiB, for which all threads pay */
 #define MOST_FOR_A_TEXT 16    /* threads */
 
 static const char password[] = "password", salt[] = "somesaltsomesalt";
@@ -85,27 +86,27 @@ static argon2_context context_of(uint8_t *tag, char *own, uint32_t memory, uint3
 static int hash(uint8_t *tag)
 {
     granted = 0;
-    return argon2id_hash_raw(1, SMALL, LANES, password, sizeof password - 1, salt, sizeof salt - 1, tag, LENGTH);
+    return argon2id_hash_raw(1, PAYING, LANES, password, sizeof password - 1, salt, sizeof salt - 1, tag, LENGTH);
 }
 
 static int is_right_without_threads(void)
 {
     uint8_t tag[LENGTH] = {0}, same[LENGTH] = {0};
     char own[sizeof password];
-    argon2_context c = context_of(tag, own, SMALL, LANES);
+    argon2_context c = context_of(tag, own, PAYING, LANES);
     c.threads = 1;
     return argon2id_ctx(&c) == ARGON2_OK && hash(same) == ARGON2_OK && memcmp(tag, same, LENGTH) == 0;
 }
 
-/* Whether the right password is told from a wrong one, by at most 15 threads in each of 5 steps beside the caller's. */
+/* Whether the right password is told from a wrong one, by 15 threads beside the caller's. */
 static int is_right_for_a_text(void)
 {
     char encoded[128];
     const int code = argon2id_hash_encoded(
-        1, SMALL, LANES, password, 8, salt, 16, LENGTH, encoded, sizeof encoded);
+        1, PAYING, LANES, password, 8, salt, 16, LENGTH, encoded, sizeof encoded);
     granted = 0;
     return code == ARGON2_OK && argon2id_verify(encoded, password, 8) == ARGON2_OK
-        && granted <= 5 * (MOST_FOR_A_TEXT - 1)
+        && granted == MOST_FOR_A_TEXT - 1
         && argon2id_verify(encoded, password, 7) == ARGON2_VERIFY_MISMATCH;
 }
 

@@ -344,7 +344,7 @@ static int is_bound_late(const void *unused)
     for (size_t i = 0; i < PART; i++) {
         piece[i] = sought->parts[0].bytes[i] ^ MASK;
     }
-    __asm__ volatile("movdqu %0, %%xmm15" : : "m"(piece) : "xmm15");
+    FILL_ONE(piece);
     __real_explicit_bzero(piece, PART);
     calls_late();
     NOTE_ALL();

@@ -284,12 +284,15 @@ static void check_without_memory(void)
           "nor do the calls that hash and verify nothing");
 }
 
-int main(void)
+/* With the word `few` what is resident is not looked at: an emulator's own pages are. */
+int main(int argc, char **argv)
 {
     check_calls(SMALL);
     check_calls(LARGE);
     check_populatings();
-    check_resident();
+    if (argc < 2 || strcmp(argv[1], "few") != 0) {
+        check_resident();
+    }
     check_memory_new(SMALL);
     check_memory_new(LARGE);
     check_without_memory();

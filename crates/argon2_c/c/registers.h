@@ -16,7 +16,9 @@ static uint8_t registers[32][64];
 #define NOTE(number) NOTE_AS("str q", number)
 #define NOTE_ALL() EACH_OF_32(NOTE)
 #define REGISTERS "v0 to v31"
+#define FILL_ONE(bytes) __asm__ volatile("ldr q7, %0" : : "m"(bytes) : "v7") /* (which the loader saves) */
 #else
+#define FILL_ONE(bytes) __asm__ volatile("movdqu %0, %%xmm15" : : "m"(bytes) : "xmm15")
 #define NOTE(number) NOTE_AS("vmovdqu64 %%zmm", number)
 #define NOTE_LOWER(number) NOTE_AS("vmovdqu %%ymm", number)
 #define NOTE_LOWEST(number) NOTE_AS("movdqu %%xmm", number)

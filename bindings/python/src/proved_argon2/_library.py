@@ -16,12 +16,13 @@ SONAME = "libproved_argon2.so.1"
 VARIABLE = "PROVED_ARGON2_LIBRARY"
 
 # What a call returns: done or a match, a wrong password, a buffer of the wrong length, a string that is not UTF-8, a
-# hash above the limits.
+# hash above the limits, a number that no error has.
 OK = 0
 DECODING_FAIL = 19
 OUT_OF_MEMORY = 20
 MISMATCH = 64
 NOT_UTF8 = 66
+UNKNOWN_NUMBER = 67
 TOO_COSTLY = 69
 
 # The most threads that the library uses for an encoded hash.

@@ -17,6 +17,7 @@ from ._library import (
     NOT_UTF8,
     OUT_OF_MEMORY,
     TOO_COSTLY,
+    UNKNOWN_NUMBER,
     NumberLimits,
     Refused,
     Settings,
@@ -188,7 +189,8 @@ def error_to_str(error: int) -> str:
         require_number("error", error, ValueError)
     except ValueError:
         return f"There is no error {error}"
-    return message(error)
+    said = message(error)
+    return said if said != message(UNKNOWN_NUMBER) else f"There is no error {error}"
 
 
 def reading_error(refused: Refused) -> Exception:
