@@ -75,7 +75,7 @@ pub struct Limits {
 
 /// `proved_argon2_options` of the header. The threads are the call's own.
 #[repr(C)]
-struct Options {
+pub struct Options {
     size: usize,
     threads: u32,
     memory: *mut c_void,
