@@ -1,5 +1,5 @@
-"""No call leaves the tag that it computes in a vector register: `registers.py LOOKER`, the library of registers.c. It says
-which registers the processor has."""
+"""No call leaves the tag that it computes in a vector register: `registers.py LOOKER`, the library of registers.c. It
+says which registers the processor has."""
 
 import ctypes
 import sys
