@@ -33,8 +33,9 @@
 //!
 //! # What is proved
 //!
-//! The library behind this crate is proved to compute Argon2 and to encode and decode its hashes.
-//! This crate passes bytes to it and is not proved; its only `unsafe` code is the module `face`.
+//! The calls of the library that compute Argon2, and encode and decode its hashes, are proved to do
+//! so. A driver in C provides memory and threads for them, and this crate passes bytes to it: both are
+//! tested, not proved. The crate's only `unsafe` code is the module `face`.
 //!
 //! # Threads
 //!
