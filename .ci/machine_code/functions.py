@@ -46,7 +46,8 @@ class Function:
         try:
             machine.run(machine.enter(begin, *map(variable, regions), *words, flag=flag))
             return machine, machine.fault(self.wanted(flag, *regions.values(), *([words] if words else [])))
-        except Fault as fault:
+        except (Fault, TypeError, ValueError, LookupError, AttributeError) as fault:
+            # (a changed instruction can make anything of an operand; what cannot be run is wrong)
             return machine, f'{fault} ({machine.after:#x})'
 
 

@@ -60,7 +60,10 @@ class Machine:
         if not begin <= at <= end - WORD * count:
             raise Fault(f'it looks at {region} {at:+}')
         if region == 'stack':
-            self.below += at < self.find(self.registers[self.stack_pointer])[1]
+            _, pointer = self.find(self.registers[self.stack_pointer]) or (None, None)
+            if pointer is None:
+                raise Fault('its stack pointer is no address')
+            self.below += at < pointer
         return [(region, at + WORD * it) for it in range(count)]
 
     def word_at(self, region, at):
