@@ -129,6 +129,9 @@ is_built() {
 others_of() {
     case $1 in
     wasm32) others='build/link_wasm bindings/wasm/instance.s' ;;
+    windows-x86_64)
+        others='build/link_windows build/coff build/machines.txt bindings/c bindings/windows crates/argon2_c/include'
+        ;;
     x86-64-* | armv8-a) others='' ;;
     portable)
         others='build/portable bindings/wasm/instance.s bindings/portable/translate.py bindings/portable/module.h

@@ -10,12 +10,14 @@
 #include <stdatomic.h>
 #include <string.h>
 
-#define INPUTS const uint8_t *pwd, size_t pwd_len, const uint8_t *salt, size_t salt_len, const uint8_t *secret, \
-    size_t secret_len, const uint8_t *ad, size_t ad_len, const proved_argon2_settings *settings
+#define INPUTS \
+    const uint8_t *pwd, size_t pwd_len, const uint8_t *salt, size_t salt_len, const uint8_t *secret, \
+        size_t secret_len, const uint8_t *ad, size_t ad_len, const proved_argon2_settings *settings
 #define OF_BYTES pwd, pwd_len, salt, salt_len, secret, secret_len, ad, ad_len
 #define OF_INPUTS OF_BYTES, settings
-#define STORED const char *text, size_t text_len, const uint8_t *pwd, size_t pwd_len, const uint8_t *secret, \
-    size_t secret_len, const uint8_t *ad, size_t ad_len
+#define STORED \
+    const char *text, size_t text_len, const uint8_t *pwd, size_t pwd_len, const uint8_t *secret, size_t secret_len, \
+        const uint8_t *ad, size_t ad_len
 #define OF_STORED text, text_len, pwd, pwd_len, secret, secret_len, ad, ad_len
 #define IS_MISSING(name) ((name) == NULL && name##_len != 0)
 #define ARE_INPUTS_MISSING \
@@ -34,11 +36,11 @@ typedef struct worker {
 typedef struct call {
     options with;
     proved_argon2_job job;
-    uint8_t *bytes;        /* malloc's, for a hash, a tag and a salt */
+    uint8_t *bytes; /* malloc's, for a hash, a tag and a salt */
     size_t len;
     caller kept;
     block *blocks;
-    size_t slice;          /* how many blocks one of their four slices has */
+    size_t slice; /* how many blocks one of their four slices has */
     worker *workers;
     uint32_t tasks;        /* how many workers there are */
     team *team;            /* the call's own threads, for all workers from 1 on that were granted one */

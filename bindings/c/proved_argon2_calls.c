@@ -7,8 +7,9 @@ static const options plain = PROVED_ARGON2_OPTIONS; /* one thread, and memory of
 static uint32_t make_job(call *it, INPUTS, int has_room)
 {
     const uint32_t code = proved_argon2_check(settings, pwd_len, salt_len, secret_len, ad_len);
-    return code != PROVED_ARGON2_OK ? code : !has_room ? PROVED_ARGON2_WRONG_LENGTH
-        : proved_argon2_job_make(OF_INPUTS, &it->job);
+    return code != PROVED_ARGON2_OK ? code
+        : !has_room                 ? PROVED_ARGON2_WRONG_LENGTH
+                                    : proved_argon2_job_make(OF_INPUTS, &it->job);
 }
 
 uint32_t proved_argon2_hash_raw_with(const options *with, INPUTS, uint8_t *out, size_t out_len)
@@ -207,8 +208,8 @@ uint32_t proved_argon2_password_hash_with(const options *with, const proved_argo
     if (!has_salt) {
         return PROVED_ARGON2_NO_RANDOM_BYTES;
     }
-    return proved_argon2_hash_encoded_with(with, (const uint8_t *)password, length, salt, sizeof salt, pepper, pepper_len,
-        NULL, 0, settings, text, PROVED_ARGON2_TEXT_SIZE);
+    return proved_argon2_hash_encoded_with(with, (const uint8_t *)password, length, salt, sizeof salt, pepper,
+        pepper_len, NULL, 0, settings, text, PROVED_ARGON2_TEXT_SIZE);
 }
 
 uint32_t proved_argon2_password_hash(char text[PROVED_ARGON2_TEXT_SIZE], const char *password, size_t length)

@@ -17,7 +17,7 @@ from pathlib import Path
 HERE = Path(__file__).resolve().parent
 CRATES = HERE.parents[1] / "crates"
 HEADERS, SOURCES = CRATES / "argon2_c/include", CRATES / "argon2_c/src"
-MESSAGES = [CRATES / it for it in ("argon2_standard/specs/Views/Messages.antt", "argon2_c/specs/Refusal.antt")]
+MESSAGES = [CRATES / it for it in ("argon2_standard/specs/Views/Messages.antt", "argon2_c/specs/ErrorTable.antt")]
 PROVED = re.compile(r'^pub extern "C" fn (proved_argon2_\w+)', re.M)
 CALL = re.compile(
     r"^(uint32_t|uint64_t|proved_argon2_settings|proved_argon2_limits) (proved_argon2_\w+)\(([^)]*)\);", re.M)
@@ -26,11 +26,13 @@ ANSWERS_NO_CODE = {"proved_argon2_library_version"}
 # C has this one's texts as constants, for a test to compare.
 OF_CONSTANTS = {"proved_argon2_message"}
 OWN_MESSAGES = {
+    # errors of the driver, by .ci/pages/presets
     "PROVED_ARGON2_NULL_POINTER": "A pointer is null",
     "PROVED_ARGON2_NO_RANDOM_BYTES": "There are no random bytes",
     "PROVED_ARGON2_STOPPED": "The hash was stopped",
     "PROVED_ARGON2_OLD_PROCESSOR": "The processor is too old",
     "PROVED_ARGON2_MISALIGNED": "The memory is at an address that is not a multiple of 8",
+    # end
 }
 UNKNOWN = "UnknownNumber"
 
@@ -123,8 +125,8 @@ def declared_calls(headers, proved):
 def messages():
     """The C of the messages, as the definitions that the proved call keeps to have them."""
     of_all = "".join(it.read_text(encoding="utf-8") for it in MESSAGES)
-    numbers = dict(re.findall(r"^(?:library_number|number_of) (\w+) = (\d+)$", of_all, re.M))
-    texts = dict(re.findall(r'^message_of (\w+) = codes "(.*)"$', of_all, re.M))
+    numbers = dict(re.findall(r"^(?:library_number|number_of) (?:error|refusal)\.(\w+) = (\d+)$", of_all, re.M))
+    texts = dict(re.findall(r'^message_of (?:error|refusal)\.(\w+) = codes "(.*)"$', of_all, re.M))
     if {*numbers} != {*texts}:
         raise SystemExit(f"these have no message or no number: {' '.join({*numbers} ^ {*texts})}")
     known = [(numbers[name], texts[name]) for name in numbers if name != UNKNOWN] + [*OWN_MESSAGES.items()]

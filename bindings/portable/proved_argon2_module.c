@@ -144,22 +144,20 @@ static void take_stored(const room *it, u32 code, proved_argon2_stored *stored)
 #define BYTES(name) ADDRESS(name), name##_len
 #define OF_SECRETS BYTES(pwd), BYTES(salt), BYTES(secret), BYTES(ad)
 
-uint32_t proved_portable_job_make(
-    const uint8_t *pwd, size_t pwd_len, const uint8_t *salt, size_t salt_len, const uint8_t *secret, size_t secret_len,
-    const uint8_t *ad, size_t ad_len, const proved_argon2_settings *settings, proved_argon2_job *job)
+uint32_t proved_portable_job_make(const uint8_t *pwd, size_t pwd_len, const uint8_t *salt, size_t salt_len,
+    const uint8_t *secret, size_t secret_len, const uint8_t *ad, size_t ad_len, const proved_argon2_settings *settings,
+    proved_argon2_job *job)
 {
     room own;
     open_room(&own);
-    const u32 code = w2c_proved_argon2_job_make(
-        &own.module, OF_SECRETS, settings_in(&own, settings), ADDRESS(own.job));
+    const u32 code = w2c_proved_argon2_job_make(&own.module, OF_SECRETS, settings_in(&own, settings), ADDRESS(own.job));
     take_job(&own, code, job);
     return close_room(&own, code);
 }
 
-uint32_t proved_portable_job_read(
-    const char *text, size_t text_len, const uint8_t *pwd, size_t pwd_len, const uint8_t *secret, size_t secret_len,
-    const uint8_t *ad, size_t ad_len, proved_argon2_job *job, uint8_t *salt, size_t salt_len,
-    uint8_t *hash, size_t hash_len)
+uint32_t proved_portable_job_read(const char *text, size_t text_len, const uint8_t *pwd, size_t pwd_len,
+    const uint8_t *secret, size_t secret_len, const uint8_t *ad, size_t ad_len, proved_argon2_job *job, uint8_t *salt,
+    size_t salt_len, uint8_t *hash, size_t hash_len)
 {
     room own;
     open_room(&own);
@@ -184,15 +182,15 @@ uint32_t proved_portable_job_begin(
     return close_room(&own, w2c_proved_argon2_job_begin(&own.module, job_in(&own, job), lane, BYTES(blocks)));
 }
 
-uint32_t proved_portable_job_fill(
-    const proved_argon2_job *job, uint32_t pass, uint32_t slice, uint32_t lane,
+uint32_t proved_portable_job_fill(const proved_argon2_job *job, uint32_t pass, uint32_t slice, uint32_t lane,
     const proved_argon2_block *first, size_t first_len, const proved_argon2_block *second, size_t second_len,
     const proved_argon2_block *third, size_t third_len, proved_argon2_block *blocks, size_t blocks_len)
 {
     room own;
     open_room(&own);
-    return close_room(&own, w2c_proved_argon2_job_fill(
-        &own.module, job_in(&own, job), pass, slice, lane, BYTES(first), BYTES(second), BYTES(third), BYTES(blocks)));
+    return close_room(&own,
+        w2c_proved_argon2_job_fill(&own.module, job_in(&own, job), pass, slice, lane, BYTES(first), BYTES(second),
+            BYTES(third), BYTES(blocks)));
 }
 
 uint32_t proved_portable_job_finish(
@@ -203,14 +201,13 @@ uint32_t proved_portable_job_finish(
     return close_room(&own, w2c_proved_argon2_job_finish(&own.module, job_in(&own, job), BYTES(last), BYTES(out)));
 }
 
-uint32_t proved_portable_job_verify(
-    const proved_argon2_job *job, const proved_argon2_block *last, size_t last_len,
+uint32_t proved_portable_job_verify(const proved_argon2_job *job, const proved_argon2_block *last, size_t last_len,
     const uint8_t *hash, size_t hash_len, uint8_t *tag, size_t tag_len)
 {
     room own;
     open_room(&own);
-    return close_room(&own, w2c_proved_argon2_job_verify(
-        &own.module, job_in(&own, job), BYTES(last), BYTES(hash), BYTES(tag)));
+    return close_room(
+        &own, w2c_proved_argon2_job_verify(&own.module, job_in(&own, job), BYTES(last), BYTES(hash), BYTES(tag)));
 }
 
 uint32_t proved_portable_job_hash_over(
@@ -221,36 +218,34 @@ uint32_t proved_portable_job_hash_over(
     return close_room(&own, w2c_proved_argon2_job_hash_over(&own.module, job_in(&own, job), BYTES(blocks), BYTES(out)));
 }
 
-uint32_t proved_portable_job_verify_over(
-    const proved_argon2_job *job, proved_argon2_block *blocks, size_t blocks_len,
+uint32_t proved_portable_job_verify_over(const proved_argon2_job *job, proved_argon2_block *blocks, size_t blocks_len,
     const uint8_t *hash, size_t hash_len, uint8_t *tag, size_t tag_len)
 {
     room own;
     open_room(&own);
-    return close_room(&own, w2c_proved_argon2_job_verify_over(
-        &own.module, job_in(&own, job), BYTES(blocks), BYTES(hash), BYTES(tag)));
+    return close_room(&own,
+        w2c_proved_argon2_job_verify_over(&own.module, job_in(&own, job), BYTES(blocks), BYTES(hash), BYTES(tag)));
 }
 
-uint32_t proved_portable_hash_over(
-    const uint8_t *pwd, size_t pwd_len, const uint8_t *salt, size_t salt_len, const uint8_t *secret, size_t secret_len,
-    const uint8_t *ad, size_t ad_len, const proved_argon2_settings *settings,
+uint32_t proved_portable_hash_over(const uint8_t *pwd, size_t pwd_len, const uint8_t *salt, size_t salt_len,
+    const uint8_t *secret, size_t secret_len, const uint8_t *ad, size_t ad_len, const proved_argon2_settings *settings,
     proved_argon2_block *blocks, size_t blocks_len, uint8_t *out, size_t out_len)
 {
     room own;
     open_room(&own);
-    return close_room(&own, w2c_proved_argon2_hash_over(
-        &own.module, OF_SECRETS, settings_in(&own, settings), BYTES(blocks), BYTES(out)));
+    return close_room(&own,
+        w2c_proved_argon2_hash_over(&own.module, OF_SECRETS, settings_in(&own, settings), BYTES(blocks), BYTES(out)));
 }
 
-uint32_t proved_portable_verify_over(
-    const uint8_t *pwd, size_t pwd_len, const uint8_t *salt, size_t salt_len, const uint8_t *secret, size_t secret_len,
-    const uint8_t *ad, size_t ad_len, const proved_argon2_settings *settings,
+uint32_t proved_portable_verify_over(const uint8_t *pwd, size_t pwd_len, const uint8_t *salt, size_t salt_len,
+    const uint8_t *secret, size_t secret_len, const uint8_t *ad, size_t ad_len, const proved_argon2_settings *settings,
     proved_argon2_block *blocks, size_t blocks_len, const uint8_t *hash, size_t hash_len, uint8_t *tag, size_t tag_len)
 {
     room own;
     open_room(&own);
-    return close_room(&own, w2c_proved_argon2_verify_over(
-        &own.module, OF_SECRETS, settings_in(&own, settings), BYTES(blocks), BYTES(hash), BYTES(tag)));
+    return close_room(&own,
+        w2c_proved_argon2_verify_over(
+            &own.module, OF_SECRETS, settings_in(&own, settings), BYTES(blocks), BYTES(hash), BYTES(tag)));
 }
 
 uint32_t proved_portable_read(const char *text, size_t text_len, proved_argon2_stored *stored)
@@ -293,12 +288,11 @@ uint32_t proved_portable_check(
 {
     room own;
     open_room(&own);
-    return close_room(&own, w2c_proved_argon2_check(
-        &own.module, settings_in(&own, settings), pwd_len, salt_len, secret_len, ad_len));
+    return close_room(
+        &own, w2c_proved_argon2_check(&own.module, settings_in(&own, settings), pwd_len, salt_len, secret_len, ad_len));
 }
 
-uint32_t proved_portable_check_encoded(
-    const char *text, size_t text_len, const proved_argon2_limits *limits,
+uint32_t proved_portable_check_encoded(const char *text, size_t text_len, const proved_argon2_limits *limits,
     uint64_t pwd_len, uint64_t secret_len, uint64_t ad_len, proved_argon2_stored *stored)
 {
     room own;
@@ -309,14 +303,13 @@ uint32_t proved_portable_check_encoded(
     return close_room(&own, code);
 }
 
-uint32_t proved_portable_encode(
-    const uint8_t *salt, size_t salt_len, const proved_argon2_settings *settings,
+uint32_t proved_portable_encode(const uint8_t *salt, size_t salt_len, const proved_argon2_settings *settings,
     const uint8_t *tag, size_t tag_len, char *text, size_t text_len)
 {
     room own;
     open_room(&own);
-    return close_room(&own, w2c_proved_argon2_encode(
-        &own.module, BYTES(salt), settings_in(&own, settings), BYTES(tag), BYTES(text)));
+    return close_room(
+        &own, w2c_proved_argon2_encode(&own.module, BYTES(salt), settings_in(&own, settings), BYTES(tag), BYTES(text)));
 }
 
 uint64_t proved_portable_encoded_len(const proved_argon2_settings *settings, uint32_t salt_len)

@@ -1,16 +1,15 @@
-# The shell's part around the program, for the script `argon2` and the installed `proved-argon2`, which read
-# this file. They set these and then call `main "$@"`:
+# The shell's part around argon2_tool, for the script `argon2` and the installed `proved-argon2`, which read this file.
+# They set these and then call `main "$@"`:
 #
 #     name        what the user calls it
 #     version     the version
 #     help        the file help.txt, in which NAME is replaced by that name
-#     prepare     a function that makes a program ready, argon2_program or argon2_tool, and sets `program` to its file, and
-#                 `is_known` where it is known to be loaded here
+#     prepare     a function that makes the program ready and sets `program` to its file, and `is_known` where it is known
+#                 to be loaded here
 #
-# `--help` and `--version` are done here. argon2_tool does `new`, `check` and `tune`: it gets the salt and the settings
-# from here, or an encoded hash that is read from a descriptor. All other arguments go to argon2_program as they are, with
-# its standard streams and its exit status. On a terminal a password is asked for without an echo. If either program
-# prints `usage` or `Decoding failed`, a line on standard error may be added, which names what looks wrong.
+# `--help`, `--version` and `tune` are done here. All else is passed on, with the standard streams, and the program says
+# which argument is wrong. To `new` a random salt is added, and OWASP's settings if there are none. On a terminal a
+# password is asked for without an echo.
 # shellcheck shell=sh disable=SC2154
 
 newline='
@@ -52,16 +51,10 @@ main() {
     fi
     case $#:${1-} in
     1:--version | 1:-V) printf 'proved-argon2 %s\n' "$version" || exit 4 ;;
-    1:new)
-        # The settings are arguments, to be split.
-        # shellcheck disable=SC2086
-        new_text $owasp_settings
-        ;;
-    8:new) shift && new_text "$@" ;;
-    2:check) if [ "$2" = - ]; then check_described; else check "$2"; fi ;;
-    2:tune) tune "$2" "$tuned_memory" ;;
-    3:tune) tune "$2" "$3" ;;
-    *) if [ -t 0 ] && takes_password "$@"; then typed argon2_program "$@"; else run_program argon2_program "$@"; fi ;;
+    *:new) shift && new_text "$@" ;;
+    *:tune) shift && tune "$@" ;;
+    2:check) if [ "$2" = - ]; then check_described; else run "$@"; fi ;;
+    *) run "$@" ;;
     esac
 }
 
@@ -84,24 +77,33 @@ fail() {
     exit "$1"
 }
 
-# Runs a program in place of this shell, so that signals reach it: `run_program NAME ARGUMENT..`. If it may reject the
-# arguments themselves, the shell stays and says which of them looks wrong.
-run_program() {
-    make_ready "$1"
-    shift
-    if looks_right "$@"; then
-        GLIBC_TUNABLES=${GLIBC_TUNABLES-$tunables}
-        export GLIBC_TUNABLES
-        exec "$program" "$@"
+# Runs the program in place of this shell, so that signals reach it. On a terminal a password is typed.
+run() {
+    make_ready
+    if [ -t 0 ]; then
+        judge "$@"
+        ask 'Password: '
+        printf '%s' "$answer" | call "$@"
+        exit
     fi
-    call "$@"
-    end_with "$?" "$@"
+    GLIBC_TUNABLES=${GLIBC_TUNABLES-$tunables}
+    export GLIBC_TUNABLES
+    exec "$program" "$@"
 }
 
-# Makes a program ready: `make_ready NAME`. It ends where there is none, or where none can be loaded here.
+# Ends where the program does not come to read the password: it judges its arguments first, and no folder can be read.
+judge() {
+    { said=$(call "$@" </ 2>&1 >&3 3>&-); } 3>&1
+    status=$?
+    [ "$status:$said" != 4:input ] || return 0
+    [ -z "$said" ] || printf '%s\n' "$said" >&2
+    exit "$status"
+}
+
+# Makes the program ready. It ends where there is none, or where none can be loaded here.
 make_ready() {
     is_known=
-    prepare "$1" || exit 70
+    prepare || exit 70
     [ "$is_known" ] || require_loader
 }
 
@@ -157,165 +159,9 @@ refuse_processor() {
 /proc/cpuinfo"
 }
 
-# Ends with the status of the program, which had these arguments: `end_with STATUS ARGUMENT..`.
-end_with() {
-    status=$1
-    shift
-    case $status:${1-} in
-    2:verify | 2:check) hint_at_text "$2" ;;
-    2:rehash) hint_at_text "$8" ;;
-    5:new) add 'check rejects hashes with such settings: it takes at most 2 GiB, 10 passes, 16 lanes and the work of 4 GiB in one pass' ;;
-    3:*) name_wrong_word "$@" ;;
-    esac
-    exit "$status"
-}
-
-# ---- arguments that look wrong
-
-# Whether arguments look like a command of the program. Only the program decides whether they are one.
-looks_right() {
-    case $#:${1-} in
-    9:hash) looks_like_settings "$@" && looks_like_mode "$8" && is_plain "$9" ;;
-    2:verify | 2:check) looks_like_text "$2" ;;
-    8:rehash) looks_like_settings "$@" && looks_like_text "$8" ;;
-    *) return 1 ;;
-    esac
-}
-
-# Whether the arguments after the first look like `VARIANT VERSION T M P LEN`.
-looks_like_settings() {
-    is_variant "$2" && is_version "$3" && looks_like_number "$4" && looks_like_number "$5" \
-        && looks_like_number "$6" && looks_like_number "$7"
-}
-
-is_variant() {
-    case $1 in
-    [Aa]rgon2d | [Aa]rgon2i | [Aa]rgon2id) ;;
-    *) return 1 ;;
-    esac
-}
-
-is_version() {
-    case $1 in
-    16 | 19) ;;
-    *) return 1 ;;
-    esac
-}
-
-# Whether an argument is a number of at most nine digits. The program takes some longer ones too.
-looks_like_number() {
-    case $1 in
-    '' | *[!0-9]* | ??????????*) return 1 ;;
-    esac
-}
-
-looks_like_mode() {
-    case $1 in
-    seq | par) ;;
-    max*) looks_like_number "${1#max}" ;;
-    *) return 1 ;;
-    esac
-}
-
-# Whether an argument has the characters of base64 and of PHC strings alone. Others may not be UTF-8.
-is_plain() {
-    case $1 in
-    *[!A-Za-z0-9+/=,.:_\$-]*) return 1 ;;
-    esac
-}
-
-looks_like_text() {
-    case $1 in
-    [\$][Aa]rgon2*) is_plain "$1" ;;
-    *) return 1 ;;
-    esac
-}
-
 # Adds a line on standard error: `add LINE`.
 add() {
     printf '%s: %s\n' "$name" "$1" >&2
-}
-
-# Names the first argument of a command that looks wrong, where the program has printed `usage`.
-name_wrong_word() {
-    case ${1-} in
-    new) name_wrong_setting 7 8 'SETTINGS, or none' "$@" ;;
-    hash) name_wrong_setting 8 9 'SETTINGS SALT' "$@" ;;
-    rehash) name_wrong_setting 7 8 'VARIANT VERSION T M P LEN TEXT' "$@" ;;
-    verify | check)
-        if [ $# = 2 ]; then
-            add 'the encoded hash is not UTF-8'
-        else
-            add "$1 takes one argument, the encoded hash, and here are $(($# - 1))"
-        fi
-        ;;
-    tune) name_wrong_bound "$@" ;;
-    -h | --help | help | -V | --version) add "$1 takes no argument, and here are $(($# - 1))" ;;
-    '') add 'there is no command' ;;
-    *) add "there is no command '$1'" ;;
-    esac
-    add "see $name --help"
-}
-
-# `name_wrong_setting ARGUMENTS COUNT FORM ARGUMENT..`
-name_wrong_setting() {
-    words=$1 count=$2 form=$3
-    shift 3
-    if [ $# != "$count" ]; then
-        add "$1 takes the $words arguments $form, and here are $(($# - 1))"
-    elif ! is_variant "$2"; then
-        add "'$2' is not a variant: argon2id, argon2i or argon2d"
-    elif ! is_version "$3"; then
-        add "'$3' is not a version: 19 or 16"
-    else
-        name_wrong_number "$@"
-    fi
-}
-
-name_wrong_number() {
-    for place in 4 5 6 7; do
-        eval "number=\${$place}"
-        case ${number#+} in
-        '' | *[!0-9]*) add "'$number' is not a number of digits alone" && return ;;
-        esac
-        is_below_2_to_32 "${number#+}" || { add "'$number' is too large: the greatest number is 4294967295" && return; }
-    done
-    if [ "$1" = rehash ]; then
-        add 'the encoded hash is not UTF-8'
-    elif ! looks_like_mode "$8"; then
-        add "'$8' is not a mode: seq, par, or max and a number, as max4"
-    else
-        add 'the salt is not UTF-8'
-    fi
-}
-
-# Of digits alone, and with any zeros in front.
-is_below_2_to_32() {
-    digits=${1#"${1%%[!0]*}"}
-    [ "${#digits}" -lt 10 ] || { [ "${#digits}" = 10 ] && [ "$digits" -le 4294967295 ]; }
-}
-
-name_wrong_bound() {
-    if [ $# -gt 3 ] || [ $# -lt 2 ]; then
-        add "tune takes MILLISECONDS, or MILLISECONDS KIB, and here are $(($# - 1)) arguments"
-    elif ! is_number "$2"; then
-        add "'$2' is not a number of milliseconds, of digits alone"
-    else
-        add "'$3' is not a number of KiB, of digits alone"
-    fi
-}
-
-# Says what a string looks like that does not decode and is no hash of Argon2: `hint_at_text TEXT`.
-hint_at_text() {
-    case $1 in
-    [\$][Aa]rgon2*) ;;
-    [\$]2[abxy][\$]*) add 'this looks like a hash of bcrypt, not of Argon2' ;;
-    [\$][1567y][\$]*) add 'this looks like a hash of crypt(3), not of Argon2' ;;
-    [\$]scrypt[\$]* | [\$]pbkdf2*) add 'this looks like a hash of another function, not of Argon2' ;;
-    \{*\}[\$][Aa]rgon2*) add 'the encoded hash has a scheme in braces in front: remove it' ;;
-    argon2[\$]argon2*) add "this looks like a hash of Django: remove 'argon2' in front of the first \$" ;;
-    *) add "the encoded hash does not begin with \$argon2: put single quotes around it, since a shell expands each \$.." ;;
-    esac
 }
 
 # ---- passwords
@@ -368,62 +214,42 @@ tell_of_end() {
     esac
 }
 
-# Prints the encoded hash of a password: `new_text VARIANT VERSION T M P LEN MODE`. The password is typed twice, or it
-# is all of standard input where that is no terminal. An empty one comes from a command that failed, as in
-# `failing | proved-argon2 new`, and would let in anyone who types nothing.
+# Prints the encoded hash of a password: `new_text SETTING..`. The password is typed twice, or it is all of standard input
+# where that is no terminal. An empty one comes from a command that failed, as in `failing | proved-argon2 new`, and would
+# let in anyone who types nothing.
 new_text() {
-    make_ready argon2_tool
+    make_ready
     new_salt
+    # The settings are arguments, to be split.
+    # shellcheck disable=SC2086
+    [ $# != 0 ] || set -- $owasp_settings
     is_empty=
     if [ -t 0 ]; then
+        judge new "$@" "$salt"
         ask 'Password: '
         password=$answer
         ask 'Password again: '
         [ "$password" = "$answer" ] || fail 1 'the two passwords are not the same'
         [ -n "$password" ] || is_empty=yes
-        lines=$(printf '%s' "$password" | call new "$@" "$salt") || end_with "$?" new "$@"
+        lines=$(printf '%s' "$password" | call new "$@" "$salt") || exit
     else
         [ -e /dev/fd/0 ] || fail 4 'there is no input'
         trap 'exit 4' USR1
         trap 'is_empty=yes' USR2
-        lines=$(watch_input | call new "$@" "$salt") || end_with "$?" new "$@"
+        lines=$(watch_input | call new "$@" "$salt") || exit
         trap - USR1 USR2
     fi
     [ -z "$is_empty" ] || fail 2 'the password is empty'
     printf '%s\n' "${lines#*"$newline"}" || exit 4
 }
 
-# Whether a password matches an encoded hash, with the tool's lines and statuses: `check TEXT`.
-check() {
-    if [ -t 0 ]; then typed argon2_tool check "$1"; else run_program argon2_tool check "$1"; fi
-}
-
-# Runs a program on a password that is typed: `typed NAME ARGUMENT..`.
-typed() {
-    make_ready "$1"
-    shift
-    ask 'Password: '
-    printf '%s' "$answer" | call "$@"
-    end_with "$?" "$@"
-}
-
-# Whether arguments are those of argon2_program that take a password, as far as can be told. If the program rejects
-# them, no password is asked for.
-takes_password() {
-    case $#:${1-} in
-    9:hash) looks_like_settings "$@" && looks_like_mode "$8" ;;
-    2:verify) looks_like_text "$2" ;;
-    *) return 1 ;;
-    esac
-}
-
-# The same for the encoded hash that is the first line of descriptor 3: `check - 3<FILE`.
+# `check` of an encoded hash that is the first line of descriptor 3: `check - 3<FILE`.
 check_described() {
     described=
     { IFS= read -r described <&3; } 2>/dev/null || [ -n "$described" ] \
         || fail 4 'check -: there is no encoded hash on descriptor 3, as in 3<FILE'
     exec 3<&-
-    check "$described"
+    run check "$described"
 }
 
 # ---- tuning
@@ -492,14 +318,17 @@ a hash takes less time than was measured"
 }
 
 # Prints settings whose hash took no longer than this, with as many passes as were found to fit:
-# `tune MILLISECONDS KIB`.
+# `tune MILLISECONDS [KIB]`.
 tune() {
-    is_number "$1" || run_program argon2_program tune "$@"
-    is_number "$2" || run_program argon2_program tune "$@"
+    [ $# != 1 ] || set -- "$1" "$tuned_memory"
+    { [ $# = 2 ] && is_number "$1" && is_number "$2"; } || {
+        printf 'usage\ntune takes MILLISECONDS, or MILLISECONDS KIB, of digits alone; see --help\n' >&2
+        exit 3
+    }
     [ "$1" -le 60000 ] || fail 2 'tune: at most 60000 milliseconds'
     passes=$(least_passes "$2")
     [ -n "$passes" ] || fail 2 'tune: less than 7168 KiB are too little for passwords'
-    make_ready argon2_tool
+    make_ready
     measure "$passes" "$2" || { progress '' && fail 5 "tune: check takes no hash of $2 KiB"; }
     if [ "$took" -gt "$1" ]; then
         progress ''

@@ -20,6 +20,10 @@ SMALL = "argon2id 19 1 8 1 16 seq".split()
 STORED = "$argon2i$v=19$m=256,t=2,p=1$c29tZXNhbHQ$iekCn0Y3spW+sCcFanM2xBT63UP2sghkUoHLIUpWRS8"
 # A text above a limit of `check`, which names 11 passes.
 COSTLY = "$argon2id$v=19$m=8,t=11,p=1$c29tZXNhbHQ$c29tZWhhc2g"
+# What is said of it.
+ABOVE = b"""The encoded hash is above the limits
+check and new take at most 2 GiB, 10 passes, 16 lanes and the work of 4 GiB in one pass
+"""
 CHECKS = []
 
 

@@ -27,6 +27,9 @@ SPELLED = re.compile(
 # Byte number i is 7i + 3, modulo 251.
 MESSAGE = bytes((7 * i + 3) % 251 for i in range(300))
 INPUTS = "'password 'somesalt - -"
+# What the tool says of settings above its limits.
+ABOVE = r"The encoded hash is above the limits\ncheck and new take at most " \
+    r"2 GiB, 10 passes, 16 lanes and the work of 4 GiB in one pass\n"
 
 
 def lines_of(file):
@@ -115,7 +118,7 @@ def runs():
             digits = salt.upper() if count % 2 else salt
             words = f"new {variant} {version} {time} {memory} {lanes} {length} seq {digits}"
             if int(time) > 10 or int(memory) > 2097152 or int(lanes) > 16 or int(memory) * int(time) > 4194304:
-                yield f"tool {password} {words}", '5 "" "The encoded hash is above the limits\\n"'
+                yield f"tool {password} {words}", f'5 "" "{ABOVE}"'
                 continue
             yield f"tool {password} {words}", told(variant, version, memory, time, lanes, salt, answer)
 

@@ -16,9 +16,10 @@
 
 #else
 
+/* (in Linux's convention for calls, which a compiler for Windows has beside its own) */
 #define DECLARED(answer, name, taken) \
-    answer IN_BUILD(x86_64_v2, name) taken; \
-    answer IN_BUILD(x86_64_v3, name) taken;
+    __attribute__((sysv_abi)) answer IN_BUILD(x86_64_v2, name) taken; \
+    __attribute__((sysv_abi)) answer IN_BUILD(x86_64_v3, name) taken;
 #define MADE(name, given, refusal) \
     switch (build_here()) { \
     case X86_64_V3: return IN_BUILD(x86_64_v3, name) given; \

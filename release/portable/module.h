@@ -20,7 +20,7 @@ typedef int64_t s64;
 #define UNREACHABLE ((void)instance, abort()) /* what is proved to be reached by no call */
 #define DIV_U(x, y) ((y) == 0 ? (abort(), 0) : (x) / (y))
 #define REM_U(x, y) ((y) == 0 ? (abort(), 0) : (x) % (y))
-#define I64_ROTL(x, y) ((x) << ((y) & 63) | (x) >> ((64 - (y)) & 63))
+#define I64_ROTL(x, y) ((x) << ((y)&63) | (x) >> ((64 - (y)) & 63))
 
 static inline u32 I64_CTZ(u64 word)
 {

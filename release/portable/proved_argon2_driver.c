@@ -6,8 +6,8 @@
 
 #define HUGE_PAGE ((size_t)2 << 20)
 #define WORK_FOR_THREADS (2 * HUGE_PAGE) /* bytes of blocks that are written */
-#define MOST_OPTIONS 4096 /* bytes: no version has more */
-#define STACK_BELOW 16384 /* bytes: a call needs two thirds */
+#define MOST_OPTIONS 4096                /* bytes: no version has more */
+#define STACK_BELOW 16384                /* bytes: a call needs two thirds */
 
 /* Whether memory is mapped: to map less than a huge page takes longer than a hash over it. */
 static bool is_mapped(size_t bytes)
@@ -92,7 +92,8 @@ static uint32_t populate(const call *it, uint32_t number)
     const size_t all = bytes_of(&it->job), bytes = it->with.memory == NULL && is_mapped(all) ? all : 0;
     const size_t part = (bytes / it->tasks / HUGE_PAGE + 1) * HUGE_PAGE, from = part * number;
     const size_t left = from >= bytes ? 0 : bytes - from;
-    return left == 0 || populate_pages((char *)it->blocks + from, left < part ? left : part) ? PROVED_ARGON2_OK
+    return left == 0 || populate_pages((char *)it->blocks + from, left < part ? left : part)
+        ? PROVED_ARGON2_OK
         : PROVED_ARGON2_OUT_OF_MEMORY;
 }
 
@@ -114,8 +115,8 @@ CLEARS_REGISTERS static void take_step(void *arg, uint32_t number)
     for (uint64_t lane = number; lane < it->job.lanes && code == PROVED_ARGON2_OK; lane += it->tasks) {
         block *const own = it->blocks + slice * it->slice + lane * length;
         code = it->step == 0 ? proved_argon2_job_begin(&it->job, (uint32_t)lane, own, length)
-            : proved_argon2_job_fill(&it->job, (uint32_t)((it->step - 1) / 4), slice, (uint32_t)lane,
-                first, it->slice, second, it->slice, third, it->slice, own, length);
+                             : proved_argon2_job_fill(&it->job, (uint32_t)((it->step - 1) / 4), slice, (uint32_t)lane,
+                                 first, it->slice, second, it->slice, third, it->slice, own, length);
     }
     it->workers[number].code = code;
     it->workers[number].state = 2 * it->step + 2;
@@ -192,10 +193,10 @@ static uint32_t compute_over(call *it, const uint8_t *hash, uint8_t *tag)
     }
     if (is_alone) {
         return hash == NULL ? proved_argon2_job_hash_over(&it->job, it->blocks, all, tag, len)
-            : proved_argon2_job_verify_over(&it->job, it->blocks, all, hash, len, tag, len);
+                            : proved_argon2_job_verify_over(&it->job, it->blocks, all, hash, len, tag, len);
     }
     return hash == NULL ? proved_argon2_job_finish(&it->job, last, it->slice, tag, len)
-        : proved_argon2_job_verify(&it->job, last, it->slice, hash, len, tag, len);
+                        : proved_argon2_job_verify(&it->job, last, it->slice, hash, len, tag, len);
 }
 
 /* How many threads a call takes of as many as it may have: over less memory, or in less work, others than its own take
@@ -214,7 +215,7 @@ static uint32_t memory_error(const call *it, size_t bytes)
         return PROVED_ARGON2_MISALIGNED;
     }
     return it->blocks == NULL || (is_lent && it->with.memory_len < bytes) ? PROVED_ARGON2_OUT_OF_MEMORY
-        : PROVED_ARGON2_OK;
+                                                                          : PROVED_ARGON2_OK;
 }
 
 /* Over blocks of the call's own, or of the caller's; neither has any left afterwards. */

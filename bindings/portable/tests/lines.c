@@ -32,11 +32,13 @@ static int is_error(uint32_t code, const char *message)
 static uint32_t variant_of(const char *name)
 {
     return strcmp(name, "argon2d") == 0 ? PROVED_ARGON2_D
-        : strcmp(name, "argon2i") == 0 ? PROVED_ARGON2_I : PROVED_ARGON2_ID;
+        : strcmp(name, "argon2i") == 0  ? PROVED_ARGON2_I
+                                        : PROVED_ARGON2_ID;
 }
 
-#define GIVEN(it) (it)->bytes[0], (it)->len[0], (it)->bytes[1], (it)->len[1], (it)->bytes[2], (it)->len[2], \
-    (it)->bytes[3], (it)->len[3]
+#define GIVEN(it) \
+    (it)->bytes[0], (it)->len[0], (it)->bytes[1], (it)->len[1], (it)->bytes[2], (it)->len[2], (it)->bytes[3], \
+        (it)->len[3]
 
 /* Whether a call by some threads gives the tag, and finds that it is that one and no other. */
 static int gives(uint32_t threads, const inputs *it, const proved_argon2_settings *settings, const char *result)
@@ -82,11 +84,10 @@ static int is_right_text(char *line)
         return 0;
     }
     *verdict = 0;
-    const uint32_t code = proved_argon2_verify_encoded(
-        line, strlen(line), pwd, sizeof pwd - 1, NULL, 0, NULL, 0);
+    const uint32_t code = proved_argon2_verify_encoded(line, strlen(line), pwd, sizeof pwd - 1, NULL, 0, NULL, 0);
     return strcmp(verdict + 1, "true") == 0 ? code == PROVED_ARGON2_OK
         : strcmp(verdict + 1, "false") == 0 ? code == PROVED_ARGON2_MISMATCH
-        : is_error(code, verdict + 1 + strlen("ERR "));
+                                            : is_error(code, verdict + 1 + strlen("ERR "));
 }
 
 int main(int count, char **words)

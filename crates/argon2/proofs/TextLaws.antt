@@ -1,4 +1,4 @@
--- The laws of texts.
+-- The theorems of strings.
 pub mod TextSpellings
 pub mod TextWritten
 pub mod TextMarks

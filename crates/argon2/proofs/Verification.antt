@@ -1,4 +1,4 @@
--- Tags, verdicts and stored texts.
+-- Tags, verdicts and encoded hashes.
 pub mod Verdicts
 pub mod StoredTexts
 pub mod Memories

@@ -6,9 +6,8 @@ ghost use Rattle.argon2.specs.Views.Limits.{message_of};
 ghost use Rattle.argon2.specs.declared.limits.Unverified.TheVariants.{Refused};
 ghost use Rattle.argon2_standard.specs.Standard.Grammar.{Spells, SpellsNothing};
 ghost use Rattle.argon2_standard.specs.Standard.Outcome.{IsVerdict};
-ghost use Rattle.argon2_standard.specs.Standard.Stored.{IsStoredConfig};
+ghost use Rattle.argon2_standard.specs.Standard.Decoded.{decoded_config};
 ghost use Rattle.argon2_standard.specs.Standard.Text.{Spelled};
-ghost use Rattle.argon2_standard.specs.declared.config.Config.{Config};
 ghost use Rattle.argon2_text.specs.Views.Texts.{numbers_of};
 
 use crate::stored::numbers_of_text;
@@ -127,10 +126,10 @@ pub fn verify_encoded_within<R: Threads + Wait + Sync>(
     limits: &Limits,
 ) -> result::Result<bool, Unverified>
     ensures unspelled { SpellsNothing encoded.now → result ≡ Err (Refused Error.DecodingFail) }
-    ensures spelled { (d : Spelled) (config : Config) → Spells encoded.now d
-        → IsStoredConfig d secret.now ad.now config
+    ensures spelled { (d : Spelled) → Spells encoded.now d
         → AnswersWithin (is_too_costly limits.now d)
-        (IsVerdict pwd.now d.salt d.hash config (nat_lt 1 d.parallelism)) result }
+        (IsVerdict pwd.now d.salt d.hash (decoded_config d secret.entry ad.entry)
+        (nat_lt 1 d.parallelism)) result }
 {
     // The call without limits decodes the string again, so that it needs no other form and no other
     // proof.
@@ -152,10 +151,9 @@ pub fn verify_encoded_within_sequential(
     limits: &Limits,
 ) -> result::Result<bool, Unverified>
     ensures unspelled { SpellsNothing encoded.now → result ≡ Err (Refused Error.DecodingFail) }
-    ensures spelled { (d : Spelled) (config : Config) → Spells encoded.now d
-        → IsStoredConfig d secret.now ad.now config
+    ensures spelled { (d : Spelled) → Spells encoded.now d
         → AnswersWithin (is_too_costly limits.now d)
-        (IsVerdict pwd.now d.salt d.hash config false) result }
+        (IsVerdict pwd.now d.salt d.hash (decoded_config d secret.entry ad.entry) false) result }
 {
     let above = is_too_costly(encoded, limits)?;
     if above {

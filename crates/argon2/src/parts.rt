@@ -30,7 +30,7 @@ pub mod board {
     };
 }
 
-/// The first blocks of a memory, the fill of its slices, the tag and the laws.
+/// The first blocks of a memory, the fill of its slices, the tag and the theorems.
 pub mod fill {
     pub use crate::theorems::{any_order, known_answers, laws, recurrence_law};
     pub use argon2_fill::fill::{

@@ -2,7 +2,7 @@
 
 ghost use Rattle.std.specs.Prelude.{◌≡◌, ◌↔◌, IsTrue, MatchResult};
 ghost use Rattle.argon2_standard.specs.Standard.Grammar.{Spells, SpellsNothing};
-ghost use Rattle.argon2_standard.specs.Standard.Stored.{Agrees, Differs};
+ghost use Rattle.argon2_standard.specs.Standard.Decoded.{Agrees, Differs};
 ghost use Rattle.argon2_standard.specs.Standard.Text.{Spelled};
 ghost use Rattle.argon2_text.specs.Views.Texts.{numbers_of};
 

@@ -7,8 +7,7 @@ ghost use Rattle.argon2_standard.specs.declared.config.Config.{Config};
 ghost use Rattle.argon2_standard.specs.Standard.Grammar.{IsItem, Spells, SpellsNothing};
 ghost use Rattle.argon2_standard.specs.Standard.Text.{Spelled};
 ghost use Rattle.argon2_text.specs.Views.Texts.{IsSpelledBy, IsSpellingOf, numbers_of, spelled_by, spelled_with};
-ghost use Rattle.argon2.specs.Views.StoredTexts.{IsAccepted, IsAccepting, IsConfigOf};
-ghost use Rattle.argon2_standard.specs.Standard.Stored.{IsStoredConfig};
+ghost use Rattle.argon2.specs.Views.StoredTexts.{IsAccepted, IsAccepting, IsConfigOf, IsStoredConfig};
 
 use argon2_blocks::common::MAX_HASH_LENGTH;
 use argon2_standard::config::Config;

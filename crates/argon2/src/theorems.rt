@@ -1,4 +1,4 @@
-//! Laws of the definitions: each is a clause of a call without arguments, which does nothing when
+//! Theorems about the definitions: each is a clause of a call without arguments, which does nothing when
 //! it runs.
 
 ghost use Rattle.argon2_memory.specs.Laws.AnyOrder.{EveryOrderAgrees, NoEntryReadsOthers, PicksHoldTheirBlocks};
@@ -22,7 +22,7 @@ pub fn any_order()
     ensures picks { PicksHoldTheirBlocks }
 {}
 
-/// The laws of tags, verdicts and encoded hashes. The tag does not depend on the thread mode. A
+/// The theorems about tags, verdicts and encoded hashes. The tag does not depend on the thread mode. A
 /// verdict goes by the hash's own length. A string decodes to at most one value, and an encoded
 /// value decodes to itself. If the settings are accepted, a tag and an encoded hash verify with the
 /// same inputs, unless memory or a worker is denied. The layout of an encoded hash is stated once

@@ -86,11 +86,12 @@ static void check_refused(proved_argon2_settings settings, uint32_t number, cons
     char written[32];
     memset(out, 7, sizeof out);
     memset(written, 7, sizeof written);
-    uint32_t raw = proved_argon2_hash_raw(bytes_of("password"), 8, bytes_of("somesalt"), 8, NULL, 0, NULL, 0, &settings,
-                                          out, sizeof out);
-    uint32_t text = proved_argon2_hash_encoded(bytes_of("password"), 8, bytes_of("somesalt"), 8, NULL, 0, NULL, 0,
-                                               &settings, written, sizeof written);
-    check(raw == number && text == number && is_untouched(out, sizeof out) && is_untouched(written, sizeof written), name);
+    uint32_t raw = proved_argon2_hash_raw(
+        bytes_of("password"), 8, bytes_of("somesalt"), 8, NULL, 0, NULL, 0, &settings, out, sizeof out);
+    uint32_t text = proved_argon2_hash_encoded(
+        bytes_of("password"), 8, bytes_of("somesalt"), 8, NULL, 0, NULL, 0, &settings, written, sizeof written);
+    check(raw == number && text == number && is_untouched(out, sizeof out) && is_untouched(written, sizeof written),
+        name);
     check_code(proved_argon2_check(&settings, 8, 8, 0, 0), number, "the same, by a check");
 }
 
@@ -135,8 +136,8 @@ static void check_buffers(void)
     const proved_argon2_settings settings = settings_of_rfc(2);
     memset(out, 7, sizeof out);
     for (size_t len = 31; len <= 33; len += 2) {
-        uint32_t code = proved_argon2_hash_raw(bytes_of("password"), 8, bytes_of("somesalt"), 8, NULL, 0, NULL, 0,
-                                               &settings, out, len);
+        uint32_t code = proved_argon2_hash_raw(
+            bytes_of("password"), 8, bytes_of("somesalt"), 8, NULL, 0, NULL, 0, &settings, out, len);
         check(code == 65 && is_untouched(out, sizeof out), "a buffer of another length than the tag");
     }
     char text[SEVENS];
@@ -168,10 +169,10 @@ static void check_reading(void)
     check(is_untouched(&stored, sizeof stored), "nothing is written");
     uint32_t code = proved_argon2_read(text, strlen(text), &stored);
     check(code == 0 && memcmp(&stored.settings, &of_text, sizeof of_text) == 0 && stored.salt_length == 8,
-          "what a text spells");
+        "what a text spells");
     code = proved_argon2_read(loose, strlen(loose), &stored);
     check(code == 0 && memcmp(&stored.settings, &of_loose, sizeof of_loose) == 0 && stored.salt_length == 0,
-          "what a text without a version, a salt and a hash spells");
+        "what a text without a version, a salt and a hash spells");
 }
 
 static uint32_t check_encoded(const char *text, uint64_t pwd_len, uint32_t passes, proved_argon2_stored *stored)
@@ -190,13 +191,16 @@ static void check_checking(void)
     check_code(check_encoded("$argon2id$", most + 1, 1, &stored), 19, "the beginning of a text is not checked");
     check_code(check_encoded(of_16_lanes, most + 1, 1, &stored), 69, "a text above the limits, before its password");
     check_code(check_encoded(of_16_lanes, most + 1, 2, &stored), 4, "too long a password for a text");
-    check_code(check_encoded("$argon2id$v=19$m=8,t=0,p=1$c29tZXNhbHQ$AAAAAA", 0, 2, &stored), 11, "a text of no passes");
-    check_code(check_encoded("$argon2id$v=19$m=8,t=1,p=1$c29tZXNhbA$AAAAAA", 0, 2, &stored), 5, "a text of a short salt");
-    check_code(check_encoded("$argon2id$v=19$m=8,t=1,p=1$c29tZXNhbHQ$AAAA", 0, 2, &stored), 1, "a text of a short hash");
+    check_code(
+        check_encoded("$argon2id$v=19$m=8,t=0,p=1$c29tZXNhbHQ$AAAAAA", 0, 2, &stored), 11, "a text of no passes");
+    check_code(
+        check_encoded("$argon2id$v=19$m=8,t=1,p=1$c29tZXNhbA$AAAAAA", 0, 2, &stored), 5, "a text of a short salt");
+    check_code(
+        check_encoded("$argon2id$v=19$m=8,t=1,p=1$c29tZXNhbHQ$AAAA", 0, 2, &stored), 1, "a text of a short hash");
     check(is_untouched(&stored, sizeof stored), "nothing is written of them");
     const uint32_t code = check_encoded(of_16_lanes, most, 2, &stored);
     check(code == 0 && memcmp(&stored.settings, &settings, sizeof settings) == 0 && stored.salt_length == 8,
-          "a text that can be verified");
+        "a text that can be verified");
 }
 
 static uint32_t needs_rehash(const char *text, proved_argon2_settings settings)

@@ -27,7 +27,9 @@ static int clears_the_password(uint8_t *pwd, size_t pwd_len, const uint8_t *salt
     code = code ? code : proved_argon2_job_run(&options, &job, tag, sizeof tag);
     explicit_bzero(&job, sizeof job);
     proved_argon2_memory_free(options.memory, options.memory_len);
-    code = code ? code : proved_argon2_verify_raw((const uint8_t *)"password", 8, salt, 16, NULL, 0, NULL, 0, &settings, tag, 32);
+    code = code
+        ? code
+        : proved_argon2_verify_raw((const uint8_t *)"password", 8, salt, 16, NULL, 0, NULL, 0, &settings, tag, 32);
     return code != PROVED_ARGON2_OK || pwd[0] != 0;
 }
 

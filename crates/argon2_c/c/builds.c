@@ -25,9 +25,10 @@ static bool hashes(int build)
     uint8_t tag[32] = {0};
     const uint32_t code = proved_argon2_hash_raw(
         bytes_of("password"), 8, bytes_of("somesalt"), 8, NULL, 0, NULL, 0, &settings, tag, sizeof tag);
-    return build == NO_BUILD ? code == PROVED_ARGON2_OLD_PROCESSOR && proved_argon2_library_version() == 0
+    return build == NO_BUILD
+        ? code == PROVED_ARGON2_OLD_PROCESSOR && proved_argon2_library_version() == 0
         : code == PROVED_ARGON2_OK && proved_argon2_library_version() == PROVED_ARGON2_LIBRARY_VERSION_NUMBER
-        && is_hex(tag, sizeof tag, "7b69c92d7c3889aad1281dbc8baefc12cc37c80f1c75e33ef2c2d40c28ebc573");
+            && is_hex(tag, sizeof tag, "7b69c92d7c3889aad1281dbc8baefc12cc37c80f1c75e33ef2c2d40c28ebc573");
 }
 
 static int newest_build(void)
@@ -96,7 +97,8 @@ int main(int count, char **words)
     check_in_process(is_taken, NULL, newest, "without a name, the newest build for the processor");
     check_in_process(is_taken, "", newest, "an empty name is none");
     check_in_process(is_taken, "x86-64-v2", second, "the build for x86-64-v2, where it is named");
-    check_in_process(is_taken, "x86-64-v3", third, "the build for x86-64-v3, where it is named and the processor has it");
+    check_in_process(
+        is_taken, "x86-64-v3", third, "the build for x86-64-v3, where it is named and the processor has it");
     check_in_process(is_taken, "x86-64-v1", NO_BUILD, "no build, where one is named that there is not");
     check_in_process(is_taken, "x86-64-v2 ", NO_BUILD, "no build, where a name is not to the letter");
     check_in_process(is_taken_by_threads, NULL, newest, "threads that choose at the same time take one build");

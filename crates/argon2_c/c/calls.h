@@ -49,36 +49,47 @@ static inline call any_call(uint32_t most_lanes)
 static inline uint32_t hash_raw(const proved_argon2_options *with, const call *it, uint8_t *out)
 {
     return proved_argon2_hash_raw_with(with, it->pwd, it->pwd_len, it->salt, it->salt_len, it->secret, it->secret_len,
-                                       it->ad, it->ad_len, &it->settings, out, it->settings.hash_length);
+        it->ad, it->ad_len, &it->settings, out, it->settings.hash_length);
 }
 
 static inline uint32_t hash_encoded(const proved_argon2_options *with, const call *it, char *text, size_t len)
 {
     return proved_argon2_hash_encoded_with(with, it->pwd, it->pwd_len, it->salt, it->salt_len, it->secret,
-                                           it->secret_len, it->ad, it->ad_len, &it->settings, text, len);
+        it->secret_len, it->ad, it->ad_len, &it->settings, text, len);
 }
 
 static inline uint32_t verify_raw(const proved_argon2_options *with, const call *it, const uint8_t *hash)
 {
     return proved_argon2_verify_raw_with(with, it->pwd, it->pwd_len, it->salt, it->salt_len, it->secret, it->secret_len,
-                                         it->ad, it->ad_len, &it->settings, hash, it->settings.hash_length);
+        it->ad, it->ad_len, &it->settings, hash, it->settings.hash_length);
 }
 
 static inline uint32_t verify_encoded(const proved_argon2_options *with, const call *it, const char *text)
 {
-    return proved_argon2_verify_encoded_with(with, text, strlen(text), it->pwd, it->pwd_len, it->secret,
-                                             it->secret_len, it->ad, it->ad_len);
+    return proved_argon2_verify_encoded_with(
+        with, text, strlen(text), it->pwd, it->pwd_len, it->secret, it->secret_len, it->ad, it->ad_len);
 }
 
 /* The tag of libargon2. */
 static inline bool peer(const call *it, uint8_t *out)
 {
     call own = *it;
-    argon2_context context = {
-        .out = out, .outlen = own.settings.hash_length, .pwd = own.pwd, .pwdlen = own.pwd_len, .salt = own.salt,
-        .saltlen = own.salt_len, .secret = own.secret, .secretlen = own.secret_len, .ad = own.ad, .adlen = own.ad_len,
-        .t_cost = own.settings.time_cost, .m_cost = own.settings.mem_cost, .lanes = own.settings.lanes, .threads = 1,
-        .version = own.settings.version, .flags = ARGON2_DEFAULT_FLAGS};
+    argon2_context context = {.out = out,
+        .outlen = own.settings.hash_length,
+        .pwd = own.pwd,
+        .pwdlen = own.pwd_len,
+        .salt = own.salt,
+        .saltlen = own.salt_len,
+        .secret = own.secret,
+        .secretlen = own.secret_len,
+        .ad = own.ad,
+        .adlen = own.ad_len,
+        .t_cost = own.settings.time_cost,
+        .m_cost = own.settings.mem_cost,
+        .lanes = own.settings.lanes,
+        .threads = 1,
+        .version = own.settings.version,
+        .flags = ARGON2_DEFAULT_FLAGS};
     return argon2_ctx(&context, (argon2_type)own.settings.variant) == ARGON2_OK;
 }
 

@@ -28,9 +28,10 @@ static proved_argon2_options with_memory(void)
 static bool is_right(const proved_argon2_options *with)
 {
     uint8_t tag[32];
-    return proved_argon2_hash_raw_with(with, bytes_of("password"), 8, bytes_of("somesalt"), 8, NULL, 0, NULL, 0,
-                                       &settings, tag, sizeof tag) == PROVED_ARGON2_OK &&
-           is_hex(tag, sizeof tag, expected);
+    return proved_argon2_hash_raw_with(
+               with, bytes_of("password"), 8, bytes_of("somesalt"), 8, NULL, 0, NULL, 0, &settings, tag, sizeof tag)
+        == PROVED_ARGON2_OK
+        && is_hex(tag, sizeof tag, expected);
 }
 
 static void *hash_on(void *unused)

@@ -8,16 +8,17 @@
 
 enum { TAG = 32, TEXT = 128, LANES = 3, LENGTH = 2, SLICE = LANES * LENGTH, PASSES = 2 };
 
-static const proved_argon2_settings small = {
-    PROVED_ARGON2_ID, PROVED_ARGON2_VERSION_13, 4 * SLICE, PASSES, LANES, TAG};
+static const proved_argon2_settings small = {PROVED_ARGON2_ID, PROVED_ARGON2_VERSION_13, 4 * SLICE, PASSES, LANES, TAG};
 
 /* What the calls are given: the places of `given`, of which those from MEMORY on are written to. A memory is a pointer to
  * one, which has its length elsewhere. */
+/* clang-format off */
 enum place {
     END, OPTIONS, TEXT_READ, TEXT_ENDED, PWD, PASSWORD, SALT, SECRET, PEPPER, AD, SETTINGS, LIMITS, JOB, FIRST, SECOND, THIRD,
     LAST, HASH, TAG_READ, MEMORY, MEMORY_LEN, BLOCKS, OUT, TAG_OUT, TEXT_WRITTEN, ROOM, STORED, JOB_WRITTEN, OWN,
     SALT_WRITTEN, HASH_WRITTEN, TAG_WRITTEN, PLACES
 };
+/* clang-format on */
 
 /* A pointer by the name that the headers give it; its length, in bytes or blocks, is 0 where it has none. */
 static struct pointer {

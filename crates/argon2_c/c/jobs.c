@@ -28,7 +28,7 @@ static uint32_t take_step(const proved_argon2_job *job, uint32_t n, uint32_t lan
         others[i] = blocks + (i < slice ? i : i + 1) * whole;
     }
     return proved_argon2_job_fill(job, (n - 1) / 4, slice, lane, others[0], whole, others[1], whole, others[2], whole,
-                                  blocks + slice * whole + lane * length, length);
+        blocks + slice * whole + lane * length, length);
 }
 
 /* All steps over blocks that hold other things, the lanes in rising or in falling order. */
@@ -51,8 +51,8 @@ static uint32_t make(const proved_argon2_settings *settings, proved_argon2_job *
     memset(salt, 2, sizeof salt);
     memset(secret, 3, sizeof secret);
     memset(ad, 4, sizeof ad);
-    return proved_argon2_job_make(pwd, sizeof pwd, salt, sizeof salt, secret, sizeof secret, ad, sizeof ad, settings,
-                                  job);
+    return proved_argon2_job_make(
+        pwd, sizeof pwd, salt, sizeof salt, secret, sizeof secret, ad, sizeof ad, settings, job);
 }
 
 /* All steps in one call, over blocks that hold other things. */
@@ -70,14 +70,15 @@ static void check_over(const proved_argon2_job *job)
     check_code(proved_argon2_job_verify_over(job, blocks, 32, tag, 32, again, 32), PROVED_ARGON2_OK, "its verdict");
     check(memcmp(tag, again, 32) == 0, "and its tag is there");
     check_code(proved_argon2_verify_over(pwd, 32, salt, 16, secret, 8, ad, 12, &rfc, blocks, 32, tag, 32, again, 32),
-               PROVED_ARGON2_OK, "the verdict of its inputs");
+        PROVED_ARGON2_OK, "the verdict of its inputs");
     tag[31] ^= 1;
-    check_code(proved_argon2_job_verify_over(job, blocks, 32, tag, 32, again, 32), PROVED_ARGON2_MISMATCH, "another hash");
+    check_code(
+        proved_argon2_job_verify_over(job, blocks, 32, tag, 32, again, 32), PROVED_ARGON2_MISMATCH, "another hash");
     check_code(proved_argon2_verify_over(pwd, 32, salt, 16, secret, 8, ad, 12, &rfc, blocks, 32, tag, 32, again, 32),
-               PROVED_ARGON2_MISMATCH, "another hash of its inputs");
+        PROVED_ARGON2_MISMATCH, "another hash of its inputs");
     check(is_hex(again, 32, tag_of_rfc), "its tag is there");
-    check_code(proved_argon2_hash_over(pwd, 32, salt, 16, secret, 8, ad, 12, &rfc, blocks, 32, tag, 32), PROVED_ARGON2_OK,
-               "the tag of its inputs");
+    check_code(proved_argon2_hash_over(pwd, 32, salt, 16, secret, 8, ad, 12, &rfc, blocks, 32, tag, 32),
+        PROVED_ARGON2_OK, "the tag of its inputs");
     check(is_hex(tag, 32, tag_of_rfc), "is the same as well");
 }
 
@@ -131,11 +132,11 @@ static void check_tags(void)
     check(text[0] == '$' && strlen(text) == proved_argon2_encoded_len(&rfc, 8), "of its length");
     memcpy(other, text, 128);
     check_code(proved_argon2_encode(bytes_of("somesalt"), 8, &rfc, tag, 31, text, 128), PROVED_ARGON2_WRONG_LENGTH,
-               "a tag of 31 bytes");
+        "a tag of 31 bytes");
     check_code(proved_argon2_encode(bytes_of("somesalt"), 8, &rfc, tag, 32, text, strlen(text)),
-               PROVED_ARGON2_WRONG_LENGTH, "no room");
+        PROVED_ARGON2_WRONG_LENGTH, "no room");
     check_code(proved_argon2_encode(bytes_of("some"), 4, &rfc, tag, 32, text, 128), PROVED_ARGON2_SALT_TOO_SHORT,
-               "a short salt");
+        "a short salt");
     check(memcmp(text, other, 128) == 0, "the text is as it was");
 }
 
@@ -144,8 +145,8 @@ static uint32_t read_job(
 {
     uint8_t salt[8];
     memset(salt, 9, sizeof salt);
-    const uint32_t code = proved_argon2_job_read(text, len, bytes_of(pwd), 8, NULL, 0, NULL, 0, job, salt,
-                                                 sizeof salt, hash, hash_len);
+    const uint32_t code = proved_argon2_job_read(
+        text, len, bytes_of(pwd), 8, NULL, 0, NULL, 0, job, salt, sizeof salt, hash, hash_len);
     const char *const expected = code == PROVED_ARGON2_OK ? "somesalt" : "\t\t\t\t\t\t\t\t";
     return memcmp(salt, expected, sizeof salt) == 0 ? code : PROVED_ARGON2_UNKNOWN_NUMBER;
 }
@@ -163,10 +164,10 @@ static void check_text(void)
     check(memcmp(&job, &same, sizeof job) == 0 && hash[0] == 9 && hash[31] == 9, "job and hash are as they were");
     for (int wrong = 0; wrong < 2; wrong++) {
         check_code(read_job(stored, strlen(stored), wrong ? "Password" : "password", &job, hash, 32), PROVED_ARGON2_OK,
-                   "a job of a text");
+            "a job of a text");
         check(take_steps(&job, false), "its steps");
         check_code(proved_argon2_job_verify(&job, blocks + 192, 64, hash, 32, tag, 32),
-                   wrong ? PROVED_ARGON2_MISMATCH : PROVED_ARGON2_OK, "its verdict");
+            wrong ? PROVED_ARGON2_MISMATCH : PROVED_ARGON2_OK, "its verdict");
     }
 }
 

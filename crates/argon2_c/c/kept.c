@@ -39,7 +39,7 @@ static void check_place(const proved_argon2_settings *settings, size_t bytes, si
     check(code == PROVED_ARGON2_OK && len == bytes && len == proved_argon2_memory_len(settings), "its length");
     check(memory != NULL && (uintptr_t)memory % multiple == 0, "its address");
     check(has_flag(memory, " dd") == (multiple > 64) && has_flag((uint8_t *)memory + len - 1, " dd") == (multiple > 64),
-          "a core dump leaves out all of a mapping");
+        "a core dump leaves out all of a mapping");
     memset(memory, 5, len);
     proved_argon2_memory_free(memory, len);
     check(held == 0, "it is given back");
@@ -118,7 +118,8 @@ int main(void)
 {
     check_place(&of_malloc, 60 * 1024, 64, "a memory of malloc");
     check_place(&of_mapping, 3000 * 1024, 2048 * 1024, "a mapping");
-    check_code(proved_argon2_memory_new(&of_mapping, &with.memory, &with.memory_len), PROVED_ARGON2_OK, "a memory to keep");
+    check_code(
+        proved_argon2_memory_new(&of_mapping, &with.memory, &with.memory_len), PROVED_ARGON2_OK, "a memory to keep");
     check_calls(&of_mapping, "calls with its settings ask for no blocks");
     check_calls(&of_malloc, "nor do calls that want less");
     held = with.memory_len;

@@ -15,7 +15,9 @@ static proved_argon2_block blocks[2048];
 #define IT calls[MAPPED]
 #define TEXT_READ sought->text, strlen(sought->text)
 #define TEXT_OF(it) sought->other, strlen(sought->other), BYTES(it, pwd), BYTES(it, secret), BYTES(it, ad)
+/* clang-format off */
 #define CALL(name, ...) static uint32_t does_##name(void) { return proved_argon2_##name(__VA_ARGS__); }
+/* clang-format on */
 
 CALL(job_make, INPUTS_OF(IT), &job)
 CALL(job_read, TEXT_OF(IT), &job, salt, 16, hash, TAG)
@@ -99,8 +101,10 @@ static uint32_t does_job_verify_over(void)
 /* What is overwritten after its last use. First blocks stay in a memory that is begun, and are written over later. */
 enum { SEEDS = 1 << OF_SEED | 1 << OF_LAST, BUFFERS = SEEDS | 1 << OF_FIRST };
 
+/* clang-format off */
 #define ROW(name, expected, leaves, overwrites) {#name, does_##name, expected, leaves, overwrites, true}
 #define OTHER(name, leaves) {#name, does_##name, 0, leaves, 0, false}
+/* clang-format on */
 
 /* What each leaves, or KINDS for none: of what it computes, or reads of a text. */
 static const struct row {
@@ -110,15 +114,13 @@ static const struct row {
     enum kind leaves;
     int overwrites;
     bool computes; /* so that it overwrites its stack */
-} rows[] = {
-    ROW(job_make, 0, OF_H0, 0), ROW(job_read, 0, OF_H0, 0), ROW(job_begin, 0, OF_FIRST, SEEDS),
+} rows[] = {ROW(job_make, 0, OF_H0, 0), ROW(job_read, 0, OF_H0, 0), ROW(job_begin, 0, OF_FIRST, SEEDS),
     ROW(job_fill, 0, OF_BLOCKS, 0), ROW(job_finish, 0, OF_TAG, BUFFERS), ROW(job_verify, 64, OF_TAG, BUFFERS),
     ROW(job_hash_over, 0, OF_TAG, BUFFERS), ROW(job_verify_over, 64, OF_TAG, BUFFERS),
     ROW(hash_over, 0, OF_TAG, BUFFERS), ROW(verify_over, 64, OF_TAG, BUFFERS), OTHER(read, KINDS),
     OTHER(read_within, KINDS), OTHER(read_bytes, OF_TAG), OTHER(needs_rehash, KINDS), OTHER(encode, KINDS),
     OTHER(encoded_len, KINDS), OTHER(memory_len, KINDS), OTHER(message, KINDS), OTHER(check, KINDS),
-    OTHER(check_encoded, KINDS), OTHER(job_check, OF_H0),
-};
+    OTHER(check_encoded, KINDS), OTHER(job_check, OF_H0)};
 
 static uint32_t does_row(const void *arg)
 {

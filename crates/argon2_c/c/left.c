@@ -14,10 +14,9 @@
 enum { NAMES = 13, WITH = 6, PLAIN = 11, MEMORIES = 3 };
 
 /* The calls with options, those with none, and those of a password alone. */
-static const char *const names[NAMES] = {
-    "hash_raw_with", "hash_encoded_with", "job_run", "verify_raw_with", "verify_encoded_with", "job_run_verify",
-    "hash_raw", "hash_encoded", "verify_raw", "verify_encoded", "verify_encoded_within", "password_hash",
-    "password_verify"};
+static const char *const names[NAMES] = {"hash_raw_with", "hash_encoded_with", "job_run", "verify_raw_with",
+    "verify_encoded_with", "job_run_verify", "hash_raw", "hash_encoded", "verify_raw", "verify_encoded",
+    "verify_encoded_within", "password_hash", "password_verify"};
 
 static _Alignas(8) uint8_t lent[2048 * 1024 + 8];
 static uint8_t out[512];
@@ -34,7 +33,7 @@ ssize_t __wrap_getrandom(void *buffer, size_t length, unsigned flags)
 typedef struct trial {
     proved_argon2_options with;
     size_t call;
-    bool is_right, is_short; /* the hash that is verified, and the buffer that is written to */
+    bool is_right, is_short;    /* the hash that is verified, and the buffer that is written to */
     uint32_t expected, or_else; /* what it may answer */
 } trial;
 
@@ -48,8 +47,10 @@ static uint32_t run_job(const trial *it, bool is_hashing)
 {
     static proved_argon2_job job;
     uint32_t code = proved_argon2_job_make(INPUTS_OF(calls[it->call]), &job);
-    code = code ? code : is_hashing ? proved_argon2_job_run(&it->with, &job, out, it->is_short ? TAG - 1 : TAG)
-        : proved_argon2_job_run_verify(&it->with, &job, it->is_right ? sought->tag : zeros, it->is_short ? TAG - 1 : TAG);
+    code = code      ? code
+        : is_hashing ? proved_argon2_job_run(&it->with, &job, out, it->is_short ? TAG - 1 : TAG)
+                     : proved_argon2_job_run_verify(
+                         &it->with, &job, it->is_right ? sought->tag : zeros, it->is_short ? TAG - 1 : TAG);
     __real_explicit_bzero(&job, sizeof job);
     return code;
 }
@@ -234,7 +235,8 @@ static void check_stops(size_t name)
 static uint32_t refusal_of(size_t name)
 {
     return is_hashing(name) || name == 5 ? PROVED_ARGON2_WRONG_LENGTH
-        : name == 4 || name == 10 ? PROVED_ARGON2_TOO_COSTLY : PROVED_ARGON2_MISMATCH;
+        : name == 4 || name == 10        ? PROVED_ARGON2_TOO_COSTLY
+                                         : PROVED_ARGON2_MISMATCH;
 }
 
 /* A buffer that does not fit, a text above its limits, and memories that do not. */

@@ -15,9 +15,8 @@
 enum { PART = 16, PARTS = 64, MASK = 0x5A, TAG = 32, TEXT = 256 };
 enum kind { OF_H0, OF_SEED, OF_FIRST, OF_CHAIN, OF_BLOCKS, OF_LAST, OF_TAG, OF_INPUTS, KINDS };
 
-static const char *const of_kinds[KINDS] = {
-    "H0", "what a first block is hashed from", "first blocks of the first pass", "the last hashes of a first block's chain",
-    "blocks", "the combined last blocks", "the tag", "the inputs"};
+static const char *const of_kinds[KINDS] = {"H0", "what a first block is hashed from", "first blocks of the first pass",
+    "the last hashes of a first block's chain", "blocks", "the combined last blocks", "the tag", "the inputs"};
 
 /* The calls: over a mapping, over less than that takes, and what password_hash computes. Their inputs are where nobody
  * can write, and so are not found there. */
@@ -25,12 +24,12 @@ enum { MAPPED, SMALL, ALONE, CALLS };
 
 static const call calls[CALLS] = {
     {{PROVED_ARGON2_ID, 0x13, 2048, 2, 4, TAG}, "the password that is looked for", "a salt of 16 byt",
-     "the secret that is looked for", "data", 31, 16, 29, 4},
+        "the secret that is looked for", "data", 31, 16, 29, 4},
     {{PROVED_ARGON2_ID, 0x13, 64, 2, 4, TAG}, "the password that is looked for", "a salt of 16 byt",
-     "the secret that is looked for", "data", 31, 16, 29, 4},
+        "the secret that is looked for", "data", 31, 16, 29, 4},
     {{PROVED_ARGON2_ID, 0x13, 19456, 2, 1, TAG}, "the password that is looked for",
-     {0x80, 0x81, 0x82, 0x83, 0x84, 0x85, 0x86, 0x87, 0x88, 0x89, 0x8a, 0x8b, 0x8c, 0x8d, 0x8e, 0x8f}, "", "", 31, 16,
-     0, 0},
+        {0x80, 0x81, 0x82, 0x83, 0x84, 0x85, 0x86, 0x87, 0x88, 0x89, 0x8a, 0x8b, 0x8c, 0x8d, 0x8e, 0x8f}, "", "", 31,
+        16, 0, 0},
 };
 
 #define BYTES(it, what) (it).what, (it).what##_len
@@ -75,11 +74,12 @@ static inline bool take_step(const proved_argon2_job *job, proved_argon2_block *
     proved_argon2_block *const own = blocks + number * slice;
     bool good = true;
     for (uint32_t lane = 0; lane < job->lanes; lane++) {
-        good &= (step == 0 ? proved_argon2_job_begin(job, lane, own + lane * length, length)
-            : proved_argon2_job_fill(job, (step - 1) / 4, number, lane, blocks + (number == 0 ? slice : 0), slice,
-                                     blocks + (number <= 1 ? 2 * slice : slice), slice,
-                                     blocks + (number <= 2 ? 3 * slice : 2 * slice), slice, own + lane * length,
-                                     length)) == PROVED_ARGON2_OK;
+        good &= (step == 0
+                        ? proved_argon2_job_begin(job, lane, own + lane * length, length)
+                        : proved_argon2_job_fill(job, (step - 1) / 4, number, lane, blocks + (number == 0 ? slice : 0),
+                            slice, blocks + (number <= 1 ? 2 * slice : slice), slice,
+                            blocks + (number <= 2 ? 3 * slice : 2 * slice), slice, own + lane * length, length))
+            == PROVED_ARGON2_OK;
     }
     const enum kind kind = step == 0 ? OF_FIRST : OF_BLOCKS;
     keep(to, kind, own[step == 0 ? 0 : length - 1].words);

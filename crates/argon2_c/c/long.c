@@ -21,7 +21,7 @@ static proved_argon2_job job;
 static void check_inputs(const uint8_t *far)
 {
     static const uint32_t refusals[] = {PROVED_ARGON2_PWD_TOO_LONG, PROVED_ARGON2_SALT_TOO_LONG,
-                                        PROVED_ARGON2_SECRET_TOO_LONG, PROVED_ARGON2_AD_TOO_LONG};
+        PROVED_ARGON2_SECRET_TOO_LONG, PROVED_ARGON2_AD_TOO_LONG};
     static const char *const names[] = {"a password", "a salt", "a secret", "data"};
     for (size_t i = 0; i < 4; i++) {
         const uint8_t *of[] = {pwd, salt, pwd, pwd};
@@ -45,10 +45,10 @@ static void check_tags(uint8_t *far)
 {
     check_code(proved_argon2_hash_raw(GIVEN, &settings, far, ABOVE), PROVED_ARGON2_WRONG_LENGTH, "a tag to write");
     check_code(proved_argon2_hash_raw_with(&one, GIVEN, &settings, far, ABOVE), PROVED_ARGON2_WRONG_LENGTH,
-               "a tag to write, by threads");
+        "a tag to write, by threads");
     check_code(proved_argon2_verify_raw(GIVEN, &settings, far, ABOVE), PROVED_ARGON2_OUTPUT_TOO_LONG, "a tag to read");
     check_code(proved_argon2_verify_raw_with(&one, GIVEN, &settings, far, ABOVE), PROVED_ARGON2_OUTPUT_TOO_LONG,
-               "a tag to read, by threads");
+        "a tag to read, by threads");
     check_code(proved_argon2_job_make(GIVEN, &settings, &job), PROVED_ARGON2_OK, "a job");
     check_code(proved_argon2_job_run(&one, &job, far, ABOVE), PROVED_ARGON2_WRONG_LENGTH, "a job's tag to write");
     check_code(proved_argon2_job_run_verify(&one, &job, far, ABOVE), PROVED_ARGON2_WRONG_LENGTH, "a job's tag to read");
@@ -57,8 +57,8 @@ static void check_tags(uint8_t *far)
 /* A call beside libargon2, whose tag is freed before the verdicts, which take as much again. */
 static void check_longest(void)
 {
-    const call it = {{PROVED_ARGON2_ID, PROVED_ARGON2_VERSION_13, 8, 1, 1, (uint32_t)LONGEST_TAG}, "password", "somesalt",
-                     "", "", 8, 8, 0, 0};
+    const call it = {{PROVED_ARGON2_ID, PROVED_ARGON2_VERSION_13, 8, 1, 1, (uint32_t)LONGEST_TAG}, "password",
+        "somesalt", "", "", 8, 8, 0, 0};
     const size_t size = LONGEST_TAG + 1;
     uint8_t *const tag = mmap(NULL, size, PROT_READ | PROT_WRITE, MAP_PRIVATE | MAP_ANONYMOUS, -1, 0);
     uint8_t *const expected = mmap(NULL, size, PROT_READ | PROT_WRITE, MAP_PRIVATE | MAP_ANONYMOUS, -1, 0);

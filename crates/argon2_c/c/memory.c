@@ -19,7 +19,9 @@ static proved_argon2_options with;
 
 #define INPUTS it.pwd, it.pwd_len, it.salt, it.salt_len, it.secret, it.secret_len, it.ad, it.ad_len, &it.settings
 #define STORED text, strlen(text), it.pwd, it.pwd_len, it.secret, it.secret_len, it.ad, it.ad_len
+/* clang-format off */
 #define CALL(name, ...) static uint32_t does_##name(void) { return proved_argon2_##name(__VA_ARGS__); }
+/* clang-format on */
 
 CALL(hash_raw, INPUTS, buffer, TAG)
 CALL(hash_encoded, INPUTS, written, sizeof written)
@@ -33,7 +35,9 @@ CALL(verify_encoded_with, &with, STORED)
 CALL(job_run, &with, &job, buffer, TAG)
 CALL(job_run_verify, &with, &job, tag, TAG)
 
+/* clang-format off */
 #define ROW(name, bytes, is_by_threads) {#name, does_##name, bytes, is_by_threads}
+/* clang-format on */
 
 /* Each call, how many requests it makes for bytes beside its blocks, and whether it may have several threads. */
 static const struct row {
@@ -41,19 +45,17 @@ static const struct row {
     uint32_t (*does)(void);
     size_t bytes;
     bool is_by_threads;
-} rows[] = {
-    ROW(hash_raw, 0, false), ROW(hash_encoded, 1, false), ROW(verify_raw, 1, false), ROW(verify_encoded, 1, false),
-    ROW(verify_encoded_within, 1, false), ROW(hash_raw_with, 0, true), ROW(hash_encoded_with, 1, true),
-    ROW(verify_raw_with, 1, true), ROW(verify_encoded_with, 1, true), ROW(job_run, 0, true),
-    ROW(job_run_verify, 1, true),
-};
+} rows[] = {ROW(hash_raw, 0, false), ROW(hash_encoded, 1, false), ROW(verify_raw, 1, false),
+    ROW(verify_encoded, 1, false), ROW(verify_encoded_within, 1, false), ROW(hash_raw_with, 0, true),
+    ROW(hash_encoded_with, 1, true), ROW(verify_raw_with, 1, true), ROW(verify_encoded_with, 1, true),
+    ROW(job_run, 0, true), ROW(job_run_verify, 1, true)};
 
 static void make(uint32_t mem_cost)
 {
     refuse_nothing();
     const proved_argon2_options alone = by(1);
-    it = (call){{PROVED_ARGON2_ID, PROVED_ARGON2_VERSION_13, mem_cost, 2, 4, TAG},
-                "password", "somesalt", "secret", "data", 8, 8, 6, 4};
+    it = (call){{PROVED_ARGON2_ID, PROVED_ARGON2_VERSION_13, mem_cost, 2, 4, TAG}, "password", "somesalt", "secret",
+        "data", 8, 8, 6, 4};
     const bool good = peer(&it, tag) && hash_encoded(&alone, &it, text, sizeof text) == PROVED_ARGON2_OK
         && proved_argon2_job_make(INPUTS, &job) == PROVED_ARGON2_OK;
     check(good, "what is asked");
@@ -97,8 +99,8 @@ static void check_call(const struct row *row, uint32_t threads)
     } while (good && requests >= number++ && number < 100);
     /* (a mapping is cut out of one that has a huge page more) */
     const size_t most = blocks + 2048 + (blocks < HUGE_PAGE ? 0 : HUGE_PAGE);
-    snprintf(name, sizeof name, "%s of %u KiB by %u threads makes %zu requests, each of which may be refused", row->name,
-             (unsigned)it.settings.mem_cost, (unsigned)threads, wanted);
+    snprintf(name, sizeof name, "%s of %u KiB by %u threads makes %zu requests, each of which may be refused",
+        row->name, (unsigned)it.settings.mem_cost, (unsigned)threads, wanted);
     check(good && requests == wanted && most_held >= blocks && most_held <= most, name);
 }
 
@@ -125,26 +127,24 @@ static void check_populating(const struct row *row, uint32_t threads)
     const size_t blocks = (size_t)it.settings.mem_cost * 1024;
     char name[96];
     with = by(threads);
-    bool good = ends_well_unpopulated(row, 0, 0) && populated == blocks && in_huge_pages == blocks / HUGE_PAGE * HUGE_PAGE
-        && (populatings > 1) == (threads > 1);
+    bool good = ends_well_unpopulated(row, 0, 0) && populated == blocks
+        && in_huge_pages == blocks / HUGE_PAGE * HUGE_PAGE && (populatings > 1) == (threads > 1);
     for (size_t number = populatings; good && number > 0; number--) {
         good = ends_well_unpopulated(row, number, ENOMEM) && ends_well_unpopulated(row, number, EFAULT)
             && ends_well_unpopulated(row, number, EINVAL);
     }
-    snprintf(name, sizeof name, "%s by %u threads has its pages at once, or is short of them", row->name,
-             (unsigned)threads);
+    snprintf(
+        name, sizeof name, "%s by %u threads has its pages at once, or is short of them", row->name, (unsigned)threads);
     check(good, name);
 }
 
+/* (what the driver makes of an answer of the system, every_way.c shows of each call) */
 static void check_populatings(void)
 {
+    static const struct row row = ROW(hash_raw_with, 0, true);
     make(LARGE);
-    for (size_t i = 0; i < sizeof rows / sizeof *rows; i++) {
-        check_populating(&rows[i], 1);
-        if (rows[i].is_by_threads) {
-            check_populating(&rows[i], 4);
-        }
-    }
+    check_populating(&row, 1);
+    check_populating(&row, 4);
 }
 
 /* ---- what the system has to have of memory for it */
@@ -234,7 +234,7 @@ static void check_memory_new(uint32_t mem_cost)
     errno = 77;
     uint32_t code = proved_argon2_memory_new(&it.settings, &memory, &len);
     check(code == PROVED_ARGON2_OUT_OF_MEMORY && memory == &memory && len == 5 && errno == 77 && held == 0,
-          "a memory that is refused");
+        "a memory that is refused");
     refuse_nothing();
     code = proved_argon2_memory_new(&it.settings, &memory, &len);
     check(code == PROVED_ARGON2_OK && requests == 1 && held >= len, "a memory is one request");
@@ -247,7 +247,8 @@ static void check_memory_new(uint32_t mem_cost)
 /* Calls that take no memory, and refusals that come before any is taken, even where it would be refused. */
 static void check_without_memory(void)
 {
-    static const char no_passes[] = "$argon2d$m=256,t=0,p=1$c29tZXNhbHQ$AAAAAA", no_hash[] = "$argon2d$m=256,t=2,p=1$c2";
+    static const char no_passes[] = "$argon2d$m=256,t=0,p=1$c29tZXNhbHQ$AAAAAA",
+                      no_hash[] = "$argon2d$m=256,t=2,p=1$c2";
     static const char right[] = "$argon2d$m=256,t=2,p=1$c29tZXNhbHQ$vUBIaP8AxS51Q8gzLmp3KlckiS1+Mo1c8lO7yOcms3E";
     const proved_argon2_limits below = {256, 2, 1, 511};
     proved_argon2_settings refused = it.settings;
@@ -261,9 +262,11 @@ static void check_without_memory(void)
     with.limits = &below;
     refuse_request(1);
     const uint32_t little = proved_argon2_hash_raw(NULL, 0, it.salt, 8, NULL, 0, NULL, 0, &refused, buffer, TAG);
-    const uint32_t shorter = proved_argon2_hash_raw(NULL, 0, it.salt, 8, NULL, 0, NULL, 0, &it.settings, buffer, TAG - 1);
+    const uint32_t shorter = proved_argon2_hash_raw(
+        NULL, 0, it.salt, 8, NULL, 0, NULL, 0, &it.settings, buffer, TAG - 1);
     const size_t without_zero = (size_t)proved_argon2_encoded_len(&it.settings, 8);
-    const uint32_t full = proved_argon2_hash_encoded(NULL, 0, it.salt, 8, NULL, 0, NULL, 0, &it.settings, written, without_zero);
+    const uint32_t full = proved_argon2_hash_encoded(
+        NULL, 0, it.salt, 8, NULL, 0, NULL, 0, &it.settings, written, without_zero);
     const uint32_t text_of_none = proved_argon2_verify_encoded(REFUSED_TEXT(no_passes));
     const uint32_t costly = proved_argon2_verify_encoded_within(REFUSED_TEXT(right), &below);
     const uint32_t costly_with = proved_argon2_verify_encoded_with(&with, REFUSED_TEXT(right));
@@ -271,17 +274,17 @@ static void check_without_memory(void)
     const uint32_t made = proved_argon2_job_make(NULL, 0, it.salt, 8, NULL, 0, NULL, 0, &it.settings, &job);
     const uint32_t run = made ? made : proved_argon2_job_run(&with, &job, buffer, TAG - 1);
     check(requests == 0 && little == PROVED_ARGON2_LANES_TOO_FEW && shorter == PROVED_ARGON2_WRONG_LENGTH
-              && full == PROVED_ARGON2_WRONG_LENGTH && text_of_none == PROVED_ARGON2_TIME_TOO_SMALL
-              && costly == PROVED_ARGON2_TOO_COSTLY && costly_with == costly && no_memory == little && run == shorter,
-          "what is refused asks for nothing");
+            && full == PROVED_ARGON2_WRONG_LENGTH && text_of_none == PROVED_ARGON2_TIME_TOO_SMALL
+            && costly == PROVED_ARGON2_TOO_COSTLY && costly_with == costly && no_memory == little && run == shorter,
+        "what is refused asks for nothing");
     const uint32_t fault = proved_argon2_read(no_hash, strlen(no_hash), &stored);
     const uint32_t read = proved_argon2_read(right, strlen(right), &stored);
     const uint32_t bytes = proved_argon2_read_bytes(right, strlen(right), salt, 8, hash, 32);
     const uint32_t rehash = proved_argon2_needs_rehash(right, strlen(right), &it.settings);
     check(requests == 0 && fault == PROVED_ARGON2_DECODING_FAIL && read == PROVED_ARGON2_OK && bytes == PROVED_ARGON2_OK
-              && rehash == PROVED_ARGON2_NEEDS_REHASH && proved_argon2_message(0) != NULL
-              && proved_argon2_encoded_len(&it.settings, 8) > 0 && proved_argon2_memory_len(&it.settings) > 0,
-          "nor do the calls that hash and verify nothing");
+            && rehash == PROVED_ARGON2_NEEDS_REHASH && proved_argon2_message(0) != NULL
+            && proved_argon2_encoded_len(&it.settings, 8) > 0 && proved_argon2_memory_len(&it.settings) > 0,
+        "nor do the calls that hash and verify nothing");
 }
 
 /* With the word `few` what is resident is not looked at: an emulator's own pages are. */

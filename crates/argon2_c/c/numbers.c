@@ -17,6 +17,7 @@ typedef struct refusal {
     const char *message;
 } refusal;
 
+/* clang-format off */
 static const refusal refusals[] = {
     /* errors, by .ci/pages/presets */
     {PROVED_ARGON2_OUTPUT_TOO_SHORT, "Output is too short"},
@@ -49,13 +50,14 @@ static const refusal refusals[] = {
     {PROVED_ARGON2_NO_JOB, "The job is none"},
     {PROVED_ARGON2_NO_PLACE, "The job has no such pass, slice or lane"},
     {PROVED_ARGON2_WRONG_BLOCKS, "There are too many or too few blocks"},
-    /* end */
     {PROVED_ARGON2_NULL_POINTER, "A pointer is null"},
     {PROVED_ARGON2_NO_RANDOM_BYTES, "There are no random bytes"},
     {PROVED_ARGON2_STOPPED, "The hash was stopped"},
     {PROVED_ARGON2_OLD_PROCESSOR, "The processor is too old"},
     {PROVED_ARGON2_MISALIGNED, "The memory is at an address that is not a multiple of 8"},
+    /* end */
 };
+/* clang-format on */
 enum { OF_C = 5 }; /* the last ones, which nothing proved returns */
 
 /* What is proved of messages: in one of the builds, whose calls have names of their own. */
@@ -96,8 +98,8 @@ static void check_variant(uint32_t variant, const char *expected, const char *na
     memset(salt, 2, sizeof salt);
     memset(secret, 3, sizeof secret);
     memset(ad, 4, sizeof ad);
-    uint32_t code = proved_argon2_hash_raw(pwd, sizeof pwd, salt, sizeof salt, secret, sizeof secret, ad, sizeof ad,
-                                           &settings, tag, sizeof tag);
+    uint32_t code = proved_argon2_hash_raw(
+        pwd, sizeof pwd, salt, sizeof salt, secret, sizeof secret, ad, sizeof ad, &settings, tag, sizeof tag);
     check(code == PROVED_ARGON2_OK && is_hex(tag, sizeof tag, expected), name);
 }
 
@@ -106,8 +108,8 @@ static void check_version(uint32_t version, const char *expected, const char *na
 {
     uint8_t tag[32];
     const proved_argon2_settings settings = {PROVED_ARGON2_I, version, 256, 2, 1, sizeof tag};
-    uint32_t code = proved_argon2_hash_raw(bytes_of("password"), 8, bytes_of("somesalt"), 8, NULL, 0, NULL, 0, &settings,
-                                           tag, sizeof tag);
+    uint32_t code = proved_argon2_hash_raw(
+        bytes_of("password"), 8, bytes_of("somesalt"), 8, NULL, 0, NULL, 0, &settings, tag, sizeof tag);
     check(code == PROVED_ARGON2_OK && is_hex(tag, sizeof tag, expected), name);
 }
 
@@ -125,7 +127,7 @@ static uint32_t refusal_of(request request)
 {
     uint8_t out[4];
     return proved_argon2_hash_raw(readable, request.pwd, readable, request.salt, readable, request.secret, readable,
-                                  request.ad, &request.settings, out, sizeof out);
+        request.ad, &request.settings, out, sizeof out);
 }
 
 static void check_limits_of_settings(void)
@@ -177,8 +179,8 @@ static void check_limits_of_inputs(bool has_time)
     }
     it = (request){small, 0, PROVED_ARGON2_MIN_SALT_LENGTH, 0, 0};
     check_code(refusal_of(it), PROVED_ARGON2_WRONG_LENGTH, "the shortest inputs");
-    uint32_t code = proved_argon2_verify_raw(NULL, 0, readable, 8, NULL, 0, NULL, 0, &small, readable,
-                                             (size_t)PROVED_ARGON2_MAX_HASH_LENGTH + 1);
+    uint32_t code = proved_argon2_verify_raw(
+        NULL, 0, readable, 8, NULL, 0, NULL, 0, &small, readable, (size_t)PROVED_ARGON2_MAX_HASH_LENGTH + 1);
     check_code(code, PROVED_ARGON2_OUTPUT_TOO_LONG, "a hash one byte too long");
 }
 
@@ -186,10 +188,10 @@ static void check_limits_of_inputs(bool has_time)
 
 static void check_recommended(proved_argon2_settings settings, uint32_t mib, uint32_t passes, const char *name)
 {
-    check(settings.variant == PROVED_ARGON2_ID && settings.version == PROVED_ARGON2_VERSION_13 &&
-              settings.mem_cost == mib * 1024 && settings.time_cost == passes && settings.lanes == 1 &&
-              settings.hash_length == 32,
-          name);
+    check(settings.variant == PROVED_ARGON2_ID && settings.version == PROVED_ARGON2_VERSION_13
+            && settings.mem_cost == mib * 1024 && settings.time_cost == passes && settings.lanes == 1
+            && settings.hash_length == 32,
+        name);
 }
 
 int main(int count, char **words)
@@ -203,12 +205,13 @@ int main(int count, char **words)
     check_variant(PROVED_ARGON2_D, "512b391b6f1162975371d30919734294f868e3be3984f3c1a13a4db9fabe4acb", "Argon2d");
     check_variant(PROVED_ARGON2_I, "c814d9d1dc7f37aa13f0d77f2494bda1c8de6b016dd388d29952a4c4672b6ce8", "Argon2i");
     check_variant(PROVED_ARGON2_ID, "0d640df58d78766c08c037a34a8b53c9d01ef0452d75b65eb52520e96b01e659", "Argon2id");
-    check_version(PROVED_ARGON2_VERSION_10, "fd4dd83d762c49bdeaf57c47bdcd0c2f1babf863fdeb490df63ede9975fccf06",
-                  "version 0x10");
-    check_version(PROVED_ARGON2_VERSION_13, "89e9029f4637b295beb027056a7336c414fadd43f6b208645281cb214a56452f",
-                  "version 0x13");
+    check_version(
+        PROVED_ARGON2_VERSION_10, "fd4dd83d762c49bdeaf57c47bdcd0c2f1babf863fdeb490df63ede9975fccf06", "version 0x10");
+    check_version(
+        PROVED_ARGON2_VERSION_13, "89e9029f4637b295beb027056a7336c414fadd43f6b208645281cb214a56452f", "version 0x13");
     check_limits_of_settings();
     check_limits_of_inputs(has_time);
+    /* clang-format off */
     /* presets, by .ci/pages/presets */
     check_recommended(proved_argon2_owasp1(), 46, 1, "OWASP's first recommendation");
     check_recommended(proved_argon2_owasp2(), 19, 2, "OWASP's second recommendation");
@@ -218,6 +221,7 @@ int main(int count, char **words)
     check_recommended(proved_argon2_rfc9106(), 2048, 1, "RFC 9106's first recommendation (section 4)");
     check_recommended(proved_argon2_rfc9106_low_mem(), 64, 3, "RFC 9106's recommendation for little memory (section 4)");
     /* end */
+    /* clang-format on */
     check(proved_argon2_library_version() == PROVED_ARGON2_LIBRARY_VERSION_NUMBER, "the version of the library");
     printf("version %s %u\n", PROVED_ARGON2_LIBRARY_VERSION, (unsigned)PROVED_ARGON2_LIBRARY_VERSION_NUMBER);
     return checks_failed != 0;

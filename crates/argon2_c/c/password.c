@@ -33,8 +33,8 @@ static void check_password(void)
     check_code(proved_argon2_password_hash(text, "pass\0word", 9), PROVED_ARGON2_OK, "a password is hashed");
     check(asked_for == 16 && strncmp(text, beginning, strlen(beginning)) == 0, "its settings and its salt");
     fill_bytes(salt, sizeof salt, 0x80);
-    uint32_t code = proved_argon2_hash_encoded(bytes_of("pass\0word"), 9, salt, 16, NULL, 0, NULL, 0, &settings,
-                                               other, sizeof other);
+    uint32_t code = proved_argon2_hash_encoded(
+        bytes_of("pass\0word"), 9, salt, 16, NULL, 0, NULL, 0, &settings, other, sizeof other);
     check(code == PROVED_ARGON2_OK && memcmp(text, other, sizeof text) == 0, "it is as hash_encoded writes it");
     check_code(proved_argon2_password_verify(text, "pass\0word", 9), PROVED_ARGON2_OK, "it verifies");
     check_code(proved_argon2_password_verify(text, "pass\0wore", 9), PROVED_ARGON2_MISMATCH, "another one does not");
@@ -42,9 +42,9 @@ static void check_password(void)
     check_code(proved_argon2_password_verify(text, NULL, 0), PROVED_ARGON2_MISMATCH, "no password does not");
     check_code(proved_argon2_password_verify("x", "pass", 4), PROVED_ARGON2_DECODING_FAIL, "what is no text");
     check_code(proved_argon2_password_verify("$argon2id$v=19$m=2097152,t=2,p=16$AAAAAAA$AAAAAAA", "pass", 4),
-               PROVED_ARGON2_SALT_TOO_SHORT, "a text at the default limits");
+        PROVED_ARGON2_SALT_TOO_SHORT, "a text at the default limits");
     check_code(proved_argon2_password_verify("$argon2id$v=19$m=2097152,t=3,p=1$AAAAAAA$AAAAAAA", "pass", 4),
-               PROVED_ARGON2_TOO_COSTLY, "a text above them");
+        PROVED_ARGON2_TOO_COSTLY, "a text above them");
     code = proved_argon2_password_hash(text, NULL, 0);
     check(code == PROVED_ARGON2_OK && proved_argon2_password_verify(text, "", 0) == PROVED_ARGON2_OK, "the empty one");
     memcpy(other, text, sizeof text);

@@ -49,15 +49,19 @@ CALL(job_run_verify, given[OPTIONS].at, given[JOB].at, BYTES(HASH))
 static uint32_t encoded_len(void)
 {
     const uint64_t len = proved_argon2_encoded_len(given[SETTINGS].at, 8);
-    return len == strlen(known.text) ? PROVED_ARGON2_OK : len != 0 ? PROVED_ARGON2_WRONG_LENGTH
-        : given[SETTINGS].at == NULL ? PROVED_ARGON2_NULL_POINTER : PROVED_ARGON2_INCORRECT_TYPE;
+    return len == strlen(known.text) ? PROVED_ARGON2_OK
+        : len != 0                   ? PROVED_ARGON2_WRONG_LENGTH
+        : given[SETTINGS].at == NULL ? PROVED_ARGON2_NULL_POINTER
+                                     : PROVED_ARGON2_INCORRECT_TYPE;
 }
 
 static uint32_t memory_len(void)
 {
     const uint64_t len = proved_argon2_memory_len(given[SETTINGS].at);
-    return len == sizeof blocks - sizeof *blocks ? PROVED_ARGON2_OK : len != 0 ? PROVED_ARGON2_WRONG_LENGTH
-        : given[SETTINGS].at == NULL ? PROVED_ARGON2_NULL_POINTER : PROVED_ARGON2_INCORRECT_TYPE;
+    return len == sizeof blocks - sizeof *blocks ? PROVED_ARGON2_OK
+        : len != 0                               ? PROVED_ARGON2_WRONG_LENGTH
+        : given[SETTINGS].at == NULL             ? PROVED_ARGON2_NULL_POINTER
+                                                 : PROVED_ARGON2_INCORRECT_TYPE;
 }
 
 /* What is given back here is a memory that is made before. */
@@ -66,7 +70,7 @@ static uint32_t memory_free(void)
     void *memory = NULL;
     size_t len = 0;
     const uint32_t code = given[MEMORY].at == NULL ? PROVED_ARGON2_NULL_POINTER
-        : proved_argon2_memory_new(&small, &memory, &len);
+                                                   : proved_argon2_memory_new(&small, &memory, &len);
     proved_argon2_memory_free(memory, len);
     return code;
 }
@@ -83,33 +87,30 @@ static uint32_t memory_new(void)
 
 #define OF_INPUTS PWD, SALT, SECRET, AD, SETTINGS
 #define OF_TEXT TEXT_READ, PWD, SECRET, AD
+/* clang-format off */
 #define ROW(name, ...) {#name, name, {__VA_ARGS__}}
+/* clang-format on */
 
 static const struct row {
     const char *name;
     uint32_t (*call)(void);
     enum place pointers[10]; /* END is behind the last one */
-} rows[] = {
-    ROW(hash_raw, OF_INPUTS, OUT), ROW(hash_encoded, OF_INPUTS, TEXT_WRITTEN), ROW(verify_raw, OF_INPUTS, HASH),
-    ROW(verify_encoded, OF_TEXT), ROW(verify_encoded_within, OF_TEXT, LIMITS),
-    ROW(read, TEXT_READ, STORED), ROW(read_within, TEXT_READ, LIMITS, STORED),
-    ROW(read_bytes, TEXT_READ, SALT_WRITTEN, HASH_WRITTEN), ROW(needs_rehash, TEXT_READ, SETTINGS),
-    ROW(password_hash, ROOM, PASSWORD), ROW(password_verify, TEXT_ENDED, PASSWORD),
-    ROW(password_hash_with, OPTIONS, SETTINGS, ROOM, PASSWORD, PEPPER),
+} rows[] = {ROW(hash_raw, OF_INPUTS, OUT), ROW(hash_encoded, OF_INPUTS, TEXT_WRITTEN), ROW(verify_raw, OF_INPUTS, HASH),
+    ROW(verify_encoded, OF_TEXT), ROW(verify_encoded_within, OF_TEXT, LIMITS), ROW(read, TEXT_READ, STORED),
+    ROW(read_within, TEXT_READ, LIMITS, STORED), ROW(read_bytes, TEXT_READ, SALT_WRITTEN, HASH_WRITTEN),
+    ROW(needs_rehash, TEXT_READ, SETTINGS), ROW(password_hash, ROOM, PASSWORD),
+    ROW(password_verify, TEXT_ENDED, PASSWORD), ROW(password_hash_with, OPTIONS, SETTINGS, ROOM, PASSWORD, PEPPER),
     ROW(password_verify_with, OPTIONS, TEXT_ENDED, PASSWORD, PEPPER), ROW(job_check, JOB),
     ROW(job_make, OF_INPUTS, JOB_WRITTEN), ROW(job_read, OF_TEXT, JOB_WRITTEN, SALT_WRITTEN, HASH_WRITTEN),
-    ROW(job_begin, JOB, OWN),
-    ROW(job_fill, JOB, FIRST, SECOND, THIRD, OWN), ROW(job_finish, JOB, LAST, OUT),
+    ROW(job_begin, JOB, OWN), ROW(job_fill, JOB, FIRST, SECOND, THIRD, OWN), ROW(job_finish, JOB, LAST, OUT),
     ROW(job_verify, JOB, LAST, HASH, TAG_WRITTEN), ROW(encode, SALT, SETTINGS, TAG_READ, TEXT_WRITTEN),
     ROW(hash_raw_with, OPTIONS, OF_INPUTS, OUT), ROW(hash_encoded_with, OPTIONS, OF_INPUTS, TEXT_WRITTEN),
     ROW(verify_raw_with, OPTIONS, OF_INPUTS, HASH), ROW(verify_encoded_with, OPTIONS, OF_TEXT),
     ROW(hash_over, OF_INPUTS, BLOCKS, OUT), ROW(verify_over, OF_INPUTS, BLOCKS, HASH, TAG_WRITTEN),
     ROW(job_hash_over, JOB, BLOCKS, OUT), ROW(job_verify_over, JOB, BLOCKS, HASH, TAG_WRITTEN),
     ROW(job_run, OPTIONS, JOB, TAG_OUT), ROW(job_run_verify, OPTIONS, JOB, HASH),
-    ROW(memory_new, SETTINGS, MEMORY, MEMORY_LEN), ROW(memory_free, MEMORY),
-    ROW(encoded_len, SETTINGS), ROW(memory_len, SETTINGS), {"check", check_settings, {SETTINGS}},
-    ROW(check_encoded, TEXT_READ, LIMITS, STORED),
-};
+    ROW(memory_new, SETTINGS, MEMORY, MEMORY_LEN), ROW(memory_free, MEMORY), ROW(encoded_len, SETTINGS),
+    ROW(memory_len, SETTINGS), {"check", check_settings, {SETTINGS}}, ROW(check_encoded, TEXT_READ, LIMITS, STORED)};
 
 /* ---- null pointers */
 
@@ -189,8 +190,8 @@ static void check_without_a_build(void)
         check(refuses_the_processor(&rows[i]), name);
     }
     check(proved_argon2_library_version() == 0 && proved_argon2_default_limits().mem_cost == 0
-              && proved_argon2_owasp2().version == 0 && proved_argon2_rfc9106().version == 0,
-          "what gives numbers gives zeros on an older processor");
+            && proved_argon2_owasp2().version == 0 && proved_argon2_rfc9106().version == 0,
+        "what gives numbers gives zeros on an older processor");
 }
 #endif
 

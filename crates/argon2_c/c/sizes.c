@@ -11,8 +11,19 @@
 
 #include <time.h>
 
-enum { DRAWS = 30, MOST_LANES = 400, MOST_PASSES = 8, MOST_TAG = 1 << 20, MOST_FOR_A_TEXT = 16, BLOCK = 1024,
-       WORDS_AT_ONCE = 128, WAYS = 6, SLACK = 4 << 20, LEAST_FOR_THREADS = 2 << 20, LEAST_WORK_FOR_THREADS = 4 << 20 };
+enum {
+    DRAWS = 30,
+    MOST_LANES = 400,
+    MOST_PASSES = 8,
+    MOST_TAG = 1 << 20,
+    MOST_FOR_A_TEXT = 16,
+    BLOCK = 1024,
+    WORDS_AT_ONCE = 128,
+    WAYS = 6,
+    SLACK = 4 << 20,
+    LEAST_FOR_THREADS = 2 << 20,
+    LEAST_WORK_FOR_THREADS = 4 << 20
+};
 
 /* Where the library counts the blocks that it writes. */
 #define COUNTER 0x10000000
@@ -58,8 +69,10 @@ static size_t length_of(const proved_argon2_settings *of)
  * 128 numbers that are drawn from no block, for each segment (RFC 9106, 3.4.1.2) that has more than those two. */
 static size_t blocks_of(const proved_argon2_settings *of)
 {
-    const size_t all = 4 * of->lanes * length_of(of), drawing = 2 * ((length_of(of) + WORDS_AT_ONCE - 1) / WORDS_AT_ONCE);
-    const size_t slices = of->variant == PROVED_ARGON2_D ? 0
+    const size_t all = 4 * of->lanes * length_of(of),
+                 drawing = 2 * ((length_of(of) + WORDS_AT_ONCE - 1) / WORDS_AT_ONCE);
+    const size_t slices = of->variant == PROVED_ARGON2_D
+        ? 0
         : (of->variant == PROVED_ARGON2_ID ? 2 : 4 * of->time_cost) - (length_of(of) == 2 ? 1 : 0);
     return all * of->time_cost - 2 * of->lanes + drawing * slices * of->lanes;
 }
@@ -83,13 +96,15 @@ typedef struct counted {
 static counted counts_of(const call *it, enum way way, uint32_t threads)
 {
     const proved_argon2_settings *const of = &it->settings;
-    const uint32_t most = way == PLAIN ? 1 : way == VERIFY_ENCODED && threads > MOST_FOR_A_TEXT ? MOST_FOR_A_TEXT : threads;
+    const uint32_t most = way == PLAIN                       ? 1
+        : way == VERIFY_ENCODED && threads > MOST_FOR_A_TEXT ? MOST_FOR_A_TEXT
+                                                             : threads;
     const size_t tasks = threads_of(of, most), calls_made = way == KEPT ? 2 : 1;
     const size_t beside = way == ENCODED || way == VERIFY || way == VERIFY_ENCODED ? 1 : 0;
     return (counted){.starts = calls_made * (tasks - 1),
-                     .requests = 1 + beside + (tasks == 1 ? 0 : 2 * calls_made),
-                     .blocks = calls_made * blocks_of(of),
-                     .most_held = 4 * length_of(of) * of->lanes * BLOCK};
+        .requests = 1 + beside + (tasks == 1 ? 0 : 2 * calls_made),
+        .blocks = calls_made * blocks_of(of),
+        .most_held = 4 * length_of(of) * of->lanes * BLOCK};
 }
 
 /* ---- the calls */
@@ -117,7 +132,7 @@ static uint32_t answer(const call *it, enum way way, uint32_t threads)
     case VERIFY_ENCODED: return verify_encoded(&with, it, text);
     case PLAIN:
         return proved_argon2_hash_raw(it->pwd, it->pwd_len, it->salt, it->salt_len, it->secret, it->secret_len, it->ad,
-                                      it->ad_len, &it->settings, tag, it->settings.hash_length);
+            it->ad_len, &it->settings, tag, it->settings.hash_length);
     default: return hash_over_kept(&with, it);
     }
 }
@@ -136,8 +151,9 @@ static bool is_as_counted(const call *it, enum way way, uint32_t threads)
         && most_held <= to_be.most_held + SLACK + sizeof text;
     if (!good) {
         printf("%u by way %u, %u threads: %zu starts of %zu, %zu requests of %zu, %zu blocks of %zu, %zu bytes of %zu, "
-               "%zu held\n", (unsigned)code, (unsigned)way, (unsigned)threads, starts, to_be.starts, requests,
-               to_be.requests, *written, to_be.blocks, most_held, to_be.most_held, held);
+               "%zu held\n",
+            (unsigned)code, (unsigned)way, (unsigned)threads, starts, to_be.starts, requests, to_be.requests, *written,
+            to_be.blocks, most_held, to_be.most_held, held);
     }
     return good;
 }
@@ -148,12 +164,13 @@ static void check_draw(uint32_t draw)
     const call it = drawn_call(draw);
     const proved_argon2_settings *const of = &it.settings;
     const uint32_t threads = draw <= 1 ? of->lanes : drawn(1, MOST_LANES);
-    bool good = peer(&it, expected) && is_as_counted(&it, ENCODED, threads) && is_as_counted(&it, VERIFY_ENCODED, threads);
+    bool good = peer(&it, expected) && is_as_counted(&it, ENCODED, threads)
+        && is_as_counted(&it, VERIFY_ENCODED, threads);
     const enum way way = draw <= 2 ? KEPT : (enum way)below(WAYS);
     good = good && (way == ENCODED || way == VERIFY_ENCODED || is_as_counted(&it, way, threads));
     snprintf(name, sizeof name, "variant %u, %u KiB, %u passes, %u lanes, %u threads, a tag of %u bytes",
-             (unsigned)of->variant, (unsigned)of->mem_cost, (unsigned)of->time_cost, (unsigned)of->lanes,
-             (unsigned)threads, (unsigned)of->hash_length);
+        (unsigned)of->variant, (unsigned)of->mem_cost, (unsigned)of->time_cost, (unsigned)of->lanes, (unsigned)threads,
+        (unsigned)of->hash_length);
     check(good, name);
 }
 
@@ -179,7 +196,7 @@ int main(int argc, char **argv)
     state = seed * 2 + 1; /* (which may not be 0) */
     most_memory = memory_to_take();
     written = __real_mmap((void *)COUNTER, sizeof *written, PROT_READ | PROT_WRITE,
-                          MAP_PRIVATE | MAP_ANONYMOUS | MAP_FIXED_NOREPLACE, -1, 0);
+        MAP_PRIVATE | MAP_ANONYMOUS | MAP_FIXED_NOREPLACE, -1, 0);
     if (written == MAP_FAILED) {
         return 2;
     }

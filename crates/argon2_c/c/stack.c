@@ -24,22 +24,21 @@ static void *nothing(void *unused)
 
 static void *hash_raw(void *unused)
 {
-    answer = proved_argon2_hash_raw(salt, sizeof salt, salt, sizeof salt, salt, sizeof salt, salt, sizeof salt, &long_tag,
-                                    tag, sizeof tag);
+    answer = proved_argon2_hash_raw(
+        salt, sizeof salt, salt, sizeof salt, salt, sizeof salt, salt, sizeof salt, &long_tag, tag, sizeof tag);
     return unused;
 }
 
 static void *hash_encoded(void *unused)
 {
-    answer = proved_argon2_hash_encoded(salt, 32, salt, sizeof salt, NULL, 0, NULL, 0, &settings, text,
-                                        sizeof text);
+    answer = proved_argon2_hash_encoded(salt, 32, salt, sizeof salt, NULL, 0, NULL, 0, &settings, text, sizeof text);
     return unused;
 }
 
 static void *verify_raw(void *unused)
 {
-    answer = proved_argon2_verify_raw(salt, sizeof salt, salt, sizeof salt, salt, sizeof salt, salt, sizeof salt,
-                                      &long_tag, tag, sizeof tag);
+    answer = proved_argon2_verify_raw(
+        salt, sizeof salt, salt, sizeof salt, salt, sizeof salt, salt, sizeof salt, &long_tag, tag, sizeof tag);
     return unused;
 }
 
@@ -60,8 +59,8 @@ static void *hash_raw_with(void *unused)
 {
     proved_argon2_options with = PROVED_ARGON2_OPTIONS;
     with.tell = tells;
-    answer = proved_argon2_hash_raw_with(&with, salt, sizeof salt, salt, sizeof salt, salt, sizeof salt, salt, sizeof salt,
-                                         &long_tag, tag, sizeof tag);
+    answer = proved_argon2_hash_raw_with(
+        &with, salt, sizeof salt, salt, sizeof salt, salt, sizeof salt, salt, sizeof salt, &long_tag, tag, sizeof tag);
     return unused;
 }
 
@@ -106,8 +105,8 @@ static size_t depth_of(void *(*call)(void *))
     }
     memset(stack, PAINT, STACK);
     answer = PROVED_ARGON2_UNKNOWN_NUMBER;
-    if (pthread_attr_setstack(&attributes, stack, STACK) != 0 ||
-        pthread_create(&thread, &attributes, call, NULL) != 0 || pthread_join(thread, NULL) != 0) {
+    if (pthread_attr_setstack(&attributes, stack, STACK) != 0 || pthread_create(&thread, &attributes, call, NULL) != 0
+        || pthread_join(thread, NULL) != 0) {
         return SIZE_MAX;
     }
     while (untouched < STACK && stack[untouched] == PAINT) {

@@ -8,7 +8,12 @@ static const proved_argon2_settings small = {PROVED_ARGON2_ID, PROVED_ARGON2_VER
 /* A text of seven different numbers, of which no hash is made. */
 static const char text[] = "$argon2i$v=19$m=4294967295,t=0,p=6$c29tZXNhbHQ$AAAAAAAAAAAAAAAA";
 static const proved_argon2_settings settings_of_text = {
-    PROVED_ARGON2_I, PROVED_ARGON2_VERSION_13, 4294967295, 0, 6, 12,
+    PROVED_ARGON2_I,
+    PROVED_ARGON2_VERSION_13,
+    4294967295,
+    0,
+    6,
+    12,
 };
 
 static uint32_t needs_rehash(const proved_argon2_settings *settings)
@@ -27,9 +32,9 @@ static void check_reading(void)
     const char *older = "$Argon2d$m=+064,t=2,p=1$$";
     const proved_argon2_settings settings_of_older = {PROVED_ARGON2_D, PROVED_ARGON2_VERSION_10, 64, 2, 1, 0};
     code = proved_argon2_read(older, strlen(older), &stored);
-    check(code == PROVED_ARGON2_OK && memcmp(&stored.settings, &settings_of_older, sizeof settings_of_older) == 0 &&
-              stored.salt_length == 0,
-          "a text without a version, a salt and a hash");
+    check(code == PROVED_ARGON2_OK && memcmp(&stored.settings, &settings_of_older, sizeof settings_of_older) == 0
+            && stored.salt_length == 0,
+        "a text without a version, a salt and a hash");
 }
 
 /* What is no text is refused by a number, and what would have been written is as it was. */
@@ -40,11 +45,11 @@ static void check_unread(const char *it, uint32_t refusal, const char *name)
     memset(&stored, 7, sizeof stored);
     memset(&before, 7, sizeof before);
     uint32_t code = proved_argon2_read(it, strlen(it), &stored);
-    check(code == refusal && memcmp(&stored, &before, sizeof stored) == 0 &&
-              proved_argon2_needs_rehash(it, strlen(it), &small) == refusal &&
-              proved_argon2_verify_encoded(it, strlen(it), NULL, 0, NULL, 0, NULL, 0) == refusal &&
-              proved_argon2_verify_encoded_within(it, strlen(it), NULL, 0, NULL, 0, NULL, 0, &none) == refusal,
-          name);
+    check(code == refusal && memcmp(&stored, &before, sizeof stored) == 0
+            && proved_argon2_needs_rehash(it, strlen(it), &small) == refusal
+            && proved_argon2_verify_encoded(it, strlen(it), NULL, 0, NULL, 0, NULL, 0) == refusal
+            && proved_argon2_verify_encoded_within(it, strlen(it), NULL, 0, NULL, 0, NULL, 0, &none) == refusal,
+        name);
 }
 
 static void check_rehash(void)
@@ -52,8 +57,7 @@ static void check_rehash(void)
     check_code(needs_rehash(&settings_of_text), PROVED_ARGON2_OK, "the settings of the text");
     for (size_t i = 0; i < 6; i++) {
         static const char *const names[6] = {"another variant", "another version", "another memory",
-                                             "another number of passes", "another number of lanes",
-                                             "another length of the hash"};
+            "another number of passes", "another number of lanes", "another length of the hash"};
         uint32_t numbers[6] = {PROVED_ARGON2_I, PROVED_ARGON2_VERSION_13, 4294967295, 0, 6, 12};
         proved_argon2_settings other;
         const uint32_t others[6] = {PROVED_ARGON2_D, PROVED_ARGON2_VERSION_10, 8, 1, 12, 6};
@@ -72,26 +76,28 @@ static void check_rehash(void)
 
 static void check_bytes(void)
 {
-    static const char it[] = "$argon2id$v=19$m=32,t=3,p=4$AgICAgICAgICAgICAgICAg$DWQN9Y14dmwIwDejSotTydAe8EUtdbZetSUg6WsB5lk";
+    static const char it[] =
+        "$argon2id$v=19$m=32,t=3,p=4$AgICAgICAgICAgICAgICAg$DWQN9Y14dmwIwDejSotTydAe8EUtdbZetSUg6WsB5lk";
     static const char loose[] = "$argon2d$m=64,t=2,p=1$$AAAA";
     uint8_t salt[17], hash[33];
     memset(salt, 7, sizeof salt);
     memset(hash, 7, sizeof hash);
     for (size_t len = 15; len <= 17; len += 2) {
         check_code(proved_argon2_read_bytes(it, strlen(it), salt, len, hash, 32), PROVED_ARGON2_WRONG_LENGTH,
-                   "a salt of another length");
+            "a salt of another length");
         check_code(proved_argon2_read_bytes(it, strlen(it), salt, 16, hash, len + 16), PROVED_ARGON2_WRONG_LENGTH,
-                   "a hash of another length");
+            "a hash of another length");
     }
     check_code(proved_argon2_read_bytes(it, strlen(it) - 1, salt, 16, hash, 32), PROVED_ARGON2_DECODING_FAIL,
-               "a part of a text");
+        "a part of a text");
     check_code(proved_argon2_read_bytes("\xff", 1, salt, 16, hash, 32), PROVED_ARGON2_NOT_UTF8, "no UTF-8");
-    check(is_hex(salt, 17, "0707070707070707070707070707070707") && hash[0] == 7 && hash[32] == 7, "nothing is written");
+    check(
+        is_hex(salt, 17, "0707070707070707070707070707070707") && hash[0] == 7 && hash[32] == 7, "nothing is written");
     uint32_t code = proved_argon2_read_bytes(it, strlen(it), salt, 16, hash, 32);
     check(code == PROVED_ARGON2_OK && is_hex(salt, 16, "02020202020202020202020202020202") && salt[16] == 7,
-          "the salt of a text");
+        "the salt of a text");
     check(is_hex(hash, 32, "0d640df58d78766c08c037a34a8b53c9d01ef0452d75b65eb52520e96b01e659") && hash[32] == 7,
-          "the hash of a text");
+        "the hash of a text");
     code = proved_argon2_read_bytes(loose, strlen(loose), NULL, 0, hash, 3);
     check(code == PROVED_ARGON2_OK && is_hex(hash, 4, "000000f5"), "no salt, and a hash of which none is made");
 }
@@ -108,26 +114,28 @@ static void check_reading_within(void)
     static const char work[] = "$argon2i$v=19$m=4294967295,t=4294967295,p=0$$";
     const proved_argon2_limits six = {0, 6, 0, 0}, seven = {0, 7, 0, 0};
     const uint64_t product = UINT64_C(4294967295) * 4294967295;
-    const proved_argon2_limits below = {UINT32_MAX, UINT32_MAX, 0, product - 1}, at = {UINT32_MAX, UINT32_MAX, 0, product};
+    const proved_argon2_limits below = {UINT32_MAX, UINT32_MAX, 0, product - 1},
+                               at = {UINT32_MAX, UINT32_MAX, 0, product};
     proved_argon2_stored stored, before;
     memset(&stored, 7, sizeof stored);
     memset(&before, 7, sizeof before);
     check_code(read_within(4294967294, 0, 6, &stored), PROVED_ARGON2_TOO_COSTLY, "memory above its limit is not read");
-    check_code(read_within(4294967295, 0, 5, &stored), PROVED_ARGON2_TOO_COSTLY, "lanes above their limit are not read");
+    check_code(
+        read_within(4294967295, 0, 5, &stored), PROVED_ARGON2_TOO_COSTLY, "lanes above their limit are not read");
     check_code(proved_argon2_read_within(passes, strlen(passes), &six, &stored), PROVED_ARGON2_TOO_COSTLY,
-               "passes above their limit are not read");
+        "passes above their limit are not read");
     check_code(proved_argon2_read_within(work, strlen(work), &below, &stored), PROVED_ARGON2_TOO_COSTLY,
-               "the greatest work, above its limit, is not read");
+        "the greatest work, above its limit, is not read");
     check_code(proved_argon2_read_within("$", 1, &six, &stored), PROVED_ARGON2_DECODING_FAIL, "nor is no text");
     check(memcmp(&stored, &before, sizeof stored) == 0, "nothing is written for them");
     check_code(proved_argon2_read_within(passes, strlen(passes), &seven, &stored), PROVED_ARGON2_OK,
-               "passes at their limit are read");
+        "passes at their limit are read");
     check(stored.settings.time_cost == 7, "they are written");
     check_code(proved_argon2_read_within(work, strlen(work), &at, &stored), PROVED_ARGON2_OK,
-               "the greatest work, at its limit, is read");
+        "the greatest work, at its limit, is read");
     check_code(read_within(4294967295, 0, 6, &stored), PROVED_ARGON2_OK, "numbers at their limits are read");
     check(memcmp(&stored.settings, &settings_of_text, sizeof settings_of_text) == 0 && stored.salt_length == 8,
-          "they are written too");
+        "they are written too");
 }
 
 /* ---- limits */
@@ -141,20 +149,21 @@ static uint32_t within(uint32_t mem_cost, uint32_t time_cost, uint32_t lanes)
 
 static void check_limits(void)
 {
-    const char *tag_of_rfc9106 = "$argon2id$v=19$m=32,t=3,p=4$AgICAgICAgICAgICAgICAg$DWQN9Y14dmwIwDejSotTydAe8EUtdbZetSUg6WsB5lk";
+    const char *tag_of_rfc9106 =
+        "$argon2id$v=19$m=32,t=3,p=4$AgICAgICAgICAgICAgICAg$DWQN9Y14dmwIwDejSotTydAe8EUtdbZetSUg6WsB5lk";
     const proved_argon2_limits limits = proved_argon2_default_limits();
     uint8_t pwd[32], secret[8], ad[12];
     memset(pwd, 1, sizeof pwd);
     memset(secret, 3, sizeof secret);
     memset(ad, 4, sizeof ad);
-    uint32_t code = proved_argon2_verify_encoded_within(tag_of_rfc9106, strlen(tag_of_rfc9106), pwd, sizeof pwd,
-                                                        secret, sizeof secret, ad, sizeof ad, &limits);
+    uint32_t code = proved_argon2_verify_encoded_within(
+        tag_of_rfc9106, strlen(tag_of_rfc9106), pwd, sizeof pwd, secret, sizeof secret, ad, sizeof ad, &limits);
     check_code(code, PROVED_ARGON2_OK, "a text within limits matches");
-    code = proved_argon2_verify_encoded_within(tag_of_rfc9106, strlen(tag_of_rfc9106), pwd, 31, secret,
-                                               sizeof secret, ad, sizeof ad, &limits);
+    code = proved_argon2_verify_encoded_within(
+        tag_of_rfc9106, strlen(tag_of_rfc9106), pwd, 31, secret, sizeof secret, ad, sizeof ad, &limits);
     check_code(code, PROVED_ARGON2_MISMATCH, "another password does not");
     check(limits.mem_cost == 2097152 && limits.time_cost == 10 && limits.lanes == 16 && limits.work == 4194304,
-          "the default limits");
+        "the default limits");
     check_code(within(4294967295, 0, 6), PROVED_ARGON2_TIME_TOO_SMALL, "numbers at their limits");
     check_code(within(4294967294, 4294967295, 4294967295), PROVED_ARGON2_TOO_COSTLY, "memory above its limit");
     check_code(within(4294967295, 4294967295, 5), PROVED_ARGON2_TOO_COSTLY, "lanes above their limit");
@@ -183,10 +192,8 @@ static uint32_t answer_within(const char *it, const proved_argon2_limits *limits
     proved_argon2_options with = PROVED_ARGON2_OPTIONS;
     proved_argon2_stored stored;
     with.limits = limits;
-    const uint32_t code =
-        proved_argon2_verify_encoded_with(&with, it, strlen(it), NULL, 0, NULL, 0, NULL, 0);
-    const uint32_t within =
-        proved_argon2_verify_encoded_within(it, strlen(it), NULL, 0, NULL, 0, NULL, 0, limits);
+    const uint32_t code = proved_argon2_verify_encoded_with(&with, it, strlen(it), NULL, 0, NULL, 0, NULL, 0);
+    const uint32_t within = proved_argon2_verify_encoded_within(it, strlen(it), NULL, 0, NULL, 0, NULL, 0, limits);
     const uint32_t read = proved_argon2_read_within(it, strlen(it), limits, &stored);
     return code == within && (code == PROVED_ARGON2_MISMATCH ? read == PROVED_ARGON2_OK : read == code) ? code : 0;
 }
@@ -222,8 +229,8 @@ static void check_null_inputs(void)
     check(code == PROVED_ARGON2_OK && memcmp(tag, other, sizeof tag) == 0, "it is as with an address");
     code = proved_argon2_verify_raw(NULL, 0, bytes_of("somesalt"), 8, NULL, 0, NULL, 0, &small, tag, 32);
     check_code(code, PROVED_ARGON2_OK, "its tag verifies");
-    code = proved_argon2_hash_encoded(NULL, 0, bytes_of("somesalt"), 8, NULL, 0, NULL, 0, &small, encoded,
-                                      sizeof encoded);
+    code = proved_argon2_hash_encoded(
+        NULL, 0, bytes_of("somesalt"), 8, NULL, 0, NULL, 0, &small, encoded, sizeof encoded);
     check_code(code, PROVED_ARGON2_OK, "its text");
     code = proved_argon2_verify_encoded(encoded, strlen(encoded), NULL, 0, NULL, 0, NULL, 0);
     check_code(code, PROVED_ARGON2_OK, "its text verifies");
@@ -257,7 +264,8 @@ static void check_buffers(void)
     uint32_t shorter = proved_argon2_hash_raw(NULL, 0, bytes_of("somesalt"), 8, NULL, 0, NULL, 0, &small, buffer, 31);
     uint32_t longer = proved_argon2_hash_raw(NULL, 0, bytes_of("somesalt"), 8, NULL, 0, NULL, 0, &small, buffer, 33);
     uint32_t full = proved_argon2_hash_encoded(NULL, 0, bytes_of("somesalt"), 8, NULL, 0, NULL, 0, &small, text, len);
-    check(memcmp(buffer, before, sizeof buffer) == 0 && memcmp(text, before, sizeof text) == 0, "refused buffers are as they were");
+    check(memcmp(buffer, before, sizeof buffer) == 0 && memcmp(text, before, sizeof text) == 0,
+        "refused buffers are as they were");
     check_code(shorter, PROVED_ARGON2_WRONG_LENGTH, "a buffer of one byte less than the tag");
     check_code(longer, PROVED_ARGON2_WRONG_LENGTH, "a buffer of one byte more than the tag");
     check_code(full, PROVED_ARGON2_WRONG_LENGTH, "a buffer without room for a zero");

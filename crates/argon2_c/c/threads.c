@@ -151,8 +151,8 @@ static int run_staying(void *pool, uint32_t tasks, void (*task)(void *, uint32_t
 static bool begin_staying(staying *self)
 {
     bool good = true;
-    *self = (staying){.mutex = PTHREAD_MUTEX_INITIALIZER, .begun = PTHREAD_COND_INITIALIZER,
-                      .ended = PTHREAD_COND_INITIALIZER};
+    *self = (staying){
+        .mutex = PTHREAD_MUTEX_INITIALIZER, .begun = PTHREAD_COND_INITIALIZER, .ended = PTHREAD_COND_INITIALIZER};
     for (size_t i = 0; i < THREADS; i++) {
         good &= pthread_create(&self->threads[i], NULL, stay, self) == 0;
     }
@@ -204,14 +204,6 @@ static void check_refused(const proved_argon2_options *with, uint32_t expected, 
     check(memcmp(tag, before, sizeof tag) == 0, "the tag is as it was");
 }
 
-static bool is_clear(const uint8_t *bytes, size_t len)
-{
-    while (len > 0 && bytes[len - 1] == 0) {
-        len--;
-    }
-    return len == 0;
-}
-
 static void check_options(void)
 {
     uint8_t tag[LONGEST];
@@ -242,16 +234,6 @@ static void check_options(void)
     with.memory = memory;
     with.memory_len = 256 * 1024 - 1;
     check_refused(&with, PROVED_ARGON2_OUT_OF_MEMORY, "a memory that is a byte short");
-    for (int n = 0; n < 9 * 4; n++) {
-        static proved_argon2_run *const pools[] = {fails_at, forgets_at, repeats_at, exceeds_at};
-        int left = n / 4 + 1;
-        with.memory_len = 256 * 1024;
-        with.run = pools[n % 4];
-        with.pool = &left;
-        memset(memory, 1, sizeof memory);
-        check_refused(&with, PROVED_ARGON2_WORKER_REFUSED, "a pool that refuses a run, or does not run each task once");
-        check(is_clear(memory, 256 * 1024) && memory[256 * 1024] == 1, "its memory is cleared, and no more");
-    }
 }
 
 /* A text of zeros under limits: above one of them nothing is started. */

@@ -16,7 +16,7 @@ static bool answers(uint32_t (*step)(void), uint32_t expected, size_t from, size
     const bool good = code == expected && is_as_it_was();
     if (!good) {
         printf("%u in place of %u in pass %u, slice %u, lane %u, or more was written\n", (unsigned)code,
-               (unsigned)expected, (unsigned)pass, (unsigned)slice, (unsigned)lane);
+            (unsigned)expected, (unsigned)pass, (unsigned)slice, (unsigned)lane);
     }
     return good;
 }
@@ -40,8 +40,10 @@ static const size_t of_slice[] = {SLICE, 0, 1, SLICE - 1, SLICE + 1}, of_segment
 /* The order of the header. A job that is none comes before these. */
 static uint32_t expected_of(bool has_place, bool has_blocks, bool has_length)
 {
-    return !has_place ? PROVED_ARGON2_NO_PLACE : !has_blocks ? PROVED_ARGON2_WRONG_BLOCKS
-        : !has_length ? PROVED_ARGON2_WRONG_LENGTH : PROVED_ARGON2_OK;
+    return !has_place ? PROVED_ARGON2_NO_PLACE
+        : !has_blocks ? PROVED_ARGON2_WRONG_BLOCKS
+        : !has_length ? PROVED_ARGON2_WRONG_LENGTH
+                      : PROVED_ARGON2_OK;
 }
 
 static void check_begin(void)
@@ -72,8 +74,9 @@ static void check_fill(size_t step)
         given[THIRD].len = NEXT(of_slice, &number);
         given[OWN].len = NEXT(of_segment, &number);
         const bool has_blocks = given[FIRST].len == SLICE && given[SECOND].len == SLICE && given[THIRD].len == SLICE;
-        good &= answers(job_fill, expected_of(pass < PASSES && slice < 4 && lane < LANES,
-                                              has_blocks && given[OWN].len == LENGTH, true), ITS(own, LENGTH * 1024));
+        good &= answers(job_fill,
+            expected_of(pass < PASSES && slice < 4 && lane < LANES, has_blocks && given[OWN].len == LENGTH, true),
+            ITS(own, LENGTH * 1024));
     }
     check(good, "job_fill at passes, slices and lanes, and with lengths");
 }
@@ -133,25 +136,21 @@ typedef struct number {
 } number;
 
 /* One more than each limit, or one less: with 3 lanes, 4 slices of segments of 357913942 blocks are above 4 TiB. */
-static const number of_no_job[] = {
-    {"variant", &job.variant, 3}, {"variant", &job.variant, UINT32_MAX}, {"version", &job.version, 0},
-    {"version", &job.version, 0xf}, {"version", &job.version, 0x11}, {"version", &job.version, 0x12},
-    {"version", &job.version, 0x14}, {"version", &job.version, UINT32_MAX}, {"lanes", &job.lanes, 0},
-    {"lanes", &job.lanes, PROVED_ARGON2_MAX_LANES + 1}, {"lanes", &job.lanes, UINT32_MAX},
+static const number of_no_job[] = {{"variant", &job.variant, 3}, {"variant", &job.variant, UINT32_MAX},
+    {"version", &job.version, 0}, {"version", &job.version, 0xf}, {"version", &job.version, 0x11},
+    {"version", &job.version, 0x12}, {"version", &job.version, 0x14}, {"version", &job.version, UINT32_MAX},
+    {"lanes", &job.lanes, 0}, {"lanes", &job.lanes, PROVED_ARGON2_MAX_LANES + 1}, {"lanes", &job.lanes, UINT32_MAX},
     {"segment_length", &job.segment_length, 0}, {"segment_length", &job.segment_length, 1},
     {"segment_length", &job.segment_length, 357913942}, {"segment_length", &job.segment_length, UINT32_MAX},
-    {"passes", &job.passes, 0}, {"hash_length", &job.hash_length, 0}, {"hash_length", &job.hash_length, 3},
-};
+    {"passes", &job.passes, 0}, {"hash_length", &job.hash_length, 0}, {"hash_length", &job.hash_length, 3}};
 
 /* The first of these are another job's, whose blocks and tags have other lengths. */
-static const number of_a_job[] = {
-    {"lanes", &job.lanes, 1}, {"lanes", &job.lanes, PROVED_ARGON2_MAX_LANES},
+static const number of_a_job[] = {{"lanes", &job.lanes, 1}, {"lanes", &job.lanes, PROVED_ARGON2_MAX_LANES},
     {"segment_length", &job.segment_length, 3}, {"segment_length", &job.segment_length, 357913941},
     {"hash_length", &job.hash_length, 4}, {"hash_length", &job.hash_length, UINT32_MAX},
     {"variant", &job.variant, PROVED_ARGON2_D}, {"variant", &job.variant, PROVED_ARGON2_I},
     {"version", &job.version, PROVED_ARGON2_VERSION_10}, {"passes", &job.passes, 1},
-    {"passes", &job.passes, UINT32_MAX},
-};
+    {"passes", &job.passes, UINT32_MAX}};
 
 CALL(job_run, given[OPTIONS].at, given[JOB].at, BYTES(OUT))
 CALL(job_run_verify, given[OPTIONS].at, given[JOB].at, BYTES(HASH))
@@ -164,8 +163,8 @@ static void give_place(uint32_t place)
 /* A job with a number that no accepted call has: no step takes it, whatever else is wrong. */
 static void check_no_job(const number *it)
 {
-    uint32_t (*const steps[])(void) = {job_begin, job_fill, job_finish, job_verify, job_hash_over, job_verify_over,
-                                       job_run, job_run_verify};
+    uint32_t (*const steps[])(void) = {
+        job_begin, job_fill, job_finish, job_verify, job_hash_over, job_verify_over, job_run, job_run_verify};
     bool good = true;
     char name[96];
     for (size_t n = 0; n < 16; n++) {

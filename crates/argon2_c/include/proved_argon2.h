@@ -11,11 +11,12 @@
  * passes, and no call keeps a pointer to it. Memory that a call writes to must overlap no other argument.
  *
  * Errors. A call that can fail returns PROVED_ARGON2_OK (0) or the number of one error, and on an error its outputs are
- * unchanged, byte for byte. Only the first error is reported: the number of the variant, the number of the version, the
- * settings in the order of the limits below, the length of the buffer, and only then memory. No call prints, waits,
- * ends the process or changes errno. A call reads its arguments alone. Only the first one also asks the processor
- * which of the library's builds it can run, and the environment variable PROVED_ARGON2_CPU, for tests, which one to
- * take. If the processor can run none, each call that can fail returns PROVED_ARGON2_OLD_PROCESSOR, after null
+ * unchanged, byte for byte; a reusable buffer may have been cleared. Only the first error is reported: the number of
+ * the variant, the number of the version, the settings in the order of the limits below, the length of the buffer, and
+ * only then memory. No call prints, ends the process or changes errno. None waits, but for its own threads and, where
+ * it makes a salt, for the system's random bytes. A call reads its arguments alone. Only the first one also asks the
+ * processor which of the library's builds it can run, and the environment variable PROVED_ARGON2_CPU, for tests, which
+ * one to take. If the processor can run none, each call that can fail returns PROVED_ARGON2_OLD_PROCESSOR, after null
  * pointers, and each other call returns zeros.
  *
  * Memory. A call that hashes or verifies allocates at most the settings' mem_cost KiB for its blocks, and memory for the
@@ -24,10 +25,10 @@
  * is overwritten first, or returned to the system, which clears it. Such a call also overwrites the stack below it and
  * the vector registers.
  *
- * Threads. Calls are thread-safe, as long as nothing writes to what a call is passed: an encoded hash that changes while
- * it is read may end the process. The library has no state but which build it runs. A thread is not cancelled within a call. Calls are not async-signal-safe: make none from a
- * signal handler. In the forked child of a process with threads, calls may be made wherever malloc may be called, as
- * with the GNU C library.
+ * Threads. Calls are thread-safe, as long as nothing writes to what a call is passed: an encoded hash that changes
+ * while it is read may end the process. The library has no state but which build it runs. A thread is not cancelled
+ * within a call. Calls are not async-signal-safe: make none from a signal handler. In the forked child of a process
+ * with threads, calls may be made wherever malloc may be called, as with the GNU C library.
  *
  * Symbols. Each symbol of the library begins with proved_argon2_, so that a program may link libargon2 too.
  */
@@ -69,9 +70,9 @@ extern "C" {
 
 /* The variants (RFC 9106, 1): where a block's reference is drawn from. */
 enum proved_argon2_variant {
-    PROVED_ARGON2_D = 0,  /* from the blocks */
-    PROVED_ARGON2_I = 1,  /* from no block */
-    PROVED_ARGON2_ID = 2  /* from no block in the first half of the first pass; the one to choose */
+    PROVED_ARGON2_D = 0, /* from the blocks */
+    PROVED_ARGON2_I = 1, /* from no block */
+    PROVED_ARGON2_ID = 2 /* from no block in the first half of the first pass; the one to choose */
 };
 
 /* The versions of Argon2. */
@@ -83,42 +84,46 @@ enum proved_argon2_version {
 /* What a call returns. The numbers never change. */
 enum proved_argon2_code {
     PROVED_ARGON2_OK = 0,
-    PROVED_ARGON2_OUTPUT_TOO_SHORT = 1,
-    PROVED_ARGON2_OUTPUT_TOO_LONG = 2,
-    PROVED_ARGON2_PWD_TOO_SHORT = 3,    /* never returned */
-    PROVED_ARGON2_PWD_TOO_LONG = 4,
-    PROVED_ARGON2_SALT_TOO_SHORT = 5,
-    PROVED_ARGON2_SALT_TOO_LONG = 6,
-    PROVED_ARGON2_AD_TOO_SHORT = 7,     /* never returned */
-    PROVED_ARGON2_AD_TOO_LONG = 8,
-    PROVED_ARGON2_SECRET_TOO_SHORT = 9, /* never returned */
-    PROVED_ARGON2_SECRET_TOO_LONG = 10,
-    PROVED_ARGON2_TIME_TOO_SMALL = 11,
-    PROVED_ARGON2_TIME_TOO_LARGE = 12,  /* never returned */
-    PROVED_ARGON2_MEMORY_TOO_LITTLE = 13,
-    PROVED_ARGON2_MEMORY_TOO_MUCH = 14, /* never returned */
-    PROVED_ARGON2_LANES_TOO_FEW = 15,
-    PROVED_ARGON2_LANES_TOO_MANY = 16,
+    /* errors, by .ci/pages/presets */
+    PROVED_ARGON2_OUTPUT_TOO_SHORT = 1,   /* the hash is shorter than 4 bytes */
+    PROVED_ARGON2_OUTPUT_TOO_LONG = 2,    /* the hash is longer than 2^32 - 1 bytes */
+    PROVED_ARGON2_PWD_TOO_SHORT = 3,      /* never returned */
+    PROVED_ARGON2_PWD_TOO_LONG = 4,       /* the password is longer than 2^32 - 1 bytes */
+    PROVED_ARGON2_SALT_TOO_SHORT = 5,     /* the salt is shorter than 8 bytes */
+    PROVED_ARGON2_SALT_TOO_LONG = 6,      /* the salt is longer than 2^32 - 1 bytes */
+    PROVED_ARGON2_AD_TOO_SHORT = 7,       /* never returned */
+    PROVED_ARGON2_AD_TOO_LONG = 8,        /* the associated data is longer than 2^32 - 1 bytes */
+    PROVED_ARGON2_SECRET_TOO_SHORT = 9,   /* never returned */
+    PROVED_ARGON2_SECRET_TOO_LONG = 10,   /* the secret is longer than 2^32 - 1 bytes */
+    PROVED_ARGON2_TIME_TOO_SMALL = 11,    /* there is no pass */
+    PROVED_ARGON2_TIME_TOO_LARGE = 12,    /* never returned */
+    PROVED_ARGON2_MEMORY_TOO_LITTLE = 13, /* there are fewer than 8 KiB a lane */
+    PROVED_ARGON2_MEMORY_TOO_MUCH = 14,   /* never returned */
+    PROVED_ARGON2_LANES_TOO_FEW = 15,     /* there is no lane */
+    PROVED_ARGON2_LANES_TOO_MANY = 16,    /* there are more than 2^24 - 1 lanes */
     PROVED_ARGON2_INCORRECT_TYPE = 17,    /* no variant has this number */
     PROVED_ARGON2_INCORRECT_VERSION = 18, /* no version has this number */
     PROVED_ARGON2_DECODING_FAIL = 19,     /* the string decodes to no hash */
-    PROVED_ARGON2_OUT_OF_MEMORY = 20,
-    PROVED_ARGON2_WORKER_REFUSED = 21,    /* only of proved_argon2_threads.h: a pool did not run its tasks */
-    PROVED_ARGON2_MISMATCH = 64,       /* a verifying call: the password does not match */
-    PROVED_ARGON2_WRONG_LENGTH = 65,   /* a buffer has the wrong length */
-    PROVED_ARGON2_NOT_UTF8 = 66,       /* the string is not UTF-8 */
-    PROVED_ARGON2_UNKNOWN_NUMBER = 67, /* never returned; its message is that of a number that no error has */
-    PROVED_ARGON2_NEEDS_REHASH = 68,   /* proved_argon2_needs_rehash: the settings differ */
-    PROVED_ARGON2_TOO_COSTLY = 69,     /* the encoded hash is above the limits */
-    PROVED_ARGON2_NO_JOB = 70,         /* proved_argon2_jobs.h: no accepted call has a job of these numbers */
-    PROVED_ARGON2_NO_PLACE = 71,       /* the job has no such pass, slice or lane */
-    PROVED_ARGON2_WRONG_BLOCKS = 72,   /* there are more or fewer blocks */
+    PROVED_ARGON2_OUT_OF_MEMORY = 20,     /* memory could not be allocated, or the buffer of the options is too small */
+    PROVED_ARGON2_WORKER_REFUSED = 21,    /* the thread pool of the options did not run its tasks */
+    PROVED_ARGON2_MISMATCH = 64,          /* the password does not match */
+    PROVED_ARGON2_WRONG_LENGTH = 65,      /* a buffer has the wrong length, or the size of the options is 0 */
+    PROVED_ARGON2_NOT_UTF8 = 66,          /* the string is not UTF-8 */
+    PROVED_ARGON2_UNKNOWN_NUMBER = 67,    /* never returned; its message is that of a number that no error has */
+    PROVED_ARGON2_NEEDS_REHASH = 68,      /* the encoded hash was made with other settings */
+    PROVED_ARGON2_TOO_COSTLY = 69,        /* the encoded hash is above the limits */
+    PROVED_ARGON2_NO_JOB = 70,            /* no accepted call has a job of these numbers */
+    PROVED_ARGON2_NO_PLACE = 71,          /* the job has no such pass, slice or lane */
+    PROVED_ARGON2_WRONG_BLOCKS = 72,      /* there are more or fewer blocks */
+    /* end */
     /* Returned by C code alone, and by nothing that is proved: */
+    /* errors of the driver, by .ci/pages/presets */
     PROVED_ARGON2_NULL_POINTER = 128,    /* a pointer is null, and its length is not 0 */
-    PROVED_ARGON2_NO_RANDOM_BYTES = 129, /* proved_argon2_password_hash: the system had no random bytes */
-    PROVED_ARGON2_STOPPED = 130,         /* proved_argon2_threads.h: the progress callback stopped the call */
-    PROVED_ARGON2_OLD_PROCESSOR = 131,   /* the library has no build for a processor as old as this one */
-    PROVED_ARGON2_MISALIGNED = 132       /* blocks or a reusable buffer are at no multiple of 8 */
+    PROVED_ARGON2_NO_RANDOM_BYTES = 129, /* the system had no random bytes for a salt */
+    PROVED_ARGON2_STOPPED = 130,         /* the progress callback stopped the call */
+    PROVED_ARGON2_OLD_PROCESSOR = 131,   /* the library has no build for this processor */
+    PROVED_ARGON2_MISALIGNED = 132,      /* blocks or a reusable buffer are at no multiple of 8 */
+    /* end */
 };
 
 /* The settings of a hash. A field that is left out of an initializer is 0, and no hash has version 0. */
@@ -148,6 +153,7 @@ typedef struct proved_argon2_stored {
     uint32_t salt_length;            /* the length of its salt in bytes */
 } proved_argon2_stored;
 
+/* clang-format off */
 /*
  * The recommended settings: Argon2id, version 0x13, one lane and a tag of 32 bytes. OWASP's Password Storage Cheat
  * Sheet calls its five equal in strength; begin with proved_argon2_owasp2. RFC 9106, section 4, recommends its memory
@@ -307,6 +313,7 @@ uint64_t proved_argon2_encoded_len(const proved_argon2_settings *settings, uint3
 /* The message of the error with this number, a constant: that of PROVED_ARGON2_UNKNOWN_NUMBER where no error has it. */
 const char *proved_argon2_message(uint32_t number);
 
+/* clang-format on */
 #ifdef __cplusplus
 }
 #endif

@@ -44,15 +44,16 @@ typedef struct proved_argon2_block {
 
 /* All that the blocks and the tag depend on. */
 typedef struct proved_argon2_job {
-    uint8_t prehash[64];     /* H0, the hash of all inputs (RFC 9106, 3.2, step 1) */
-    uint32_t variant;        /* an enum proved_argon2_variant */
-    uint32_t version;        /* an enum proved_argon2_version */
+    uint8_t prehash[64]; /* H0, the hash of all inputs (RFC 9106, 3.2, step 1) */
+    uint32_t variant;    /* an enum proved_argon2_variant */
+    uint32_t version;    /* an enum proved_argon2_version */
     uint32_t lanes;
     uint32_t segment_length; /* the blocks that a lane has in a slice */
     uint32_t passes;
-    uint32_t hash_length;    /* the length of the tag in bytes */
+    uint32_t hash_length; /* the length of the tag in bytes */
 } proved_argon2_job;
 
+/* clang-format off */
 /* Checks the settings as proved_argon2_hash_raw does, and writes their job. */
 PROVED_ARGON2_CHECKED
 uint32_t proved_argon2_job_make(
@@ -169,6 +170,7 @@ uint32_t proved_argon2_encode(
     const uint8_t *salt, size_t salt_len, const proved_argon2_settings *settings,
     const uint8_t *tag, size_t tag_len, char *text, size_t text_len);
 
+/* clang-format on */
 #ifdef __cplusplus
 }
 #endif

@@ -36,19 +36,20 @@ typedef int proved_argon2_tell(void *arg, uint64_t done, uint64_t all);
 
 /* How a call computes. A field that is left out of an initializer is 0, and then the call chooses. */
 typedef struct proved_argon2_options {
-    size_t size;            /* sizeof(proved_argon2_options), so that later fields may be added: more than the library
-                             * knows is taken if it is zero, and else PROVED_ARGON2_WRONG_LENGTH */
-    uint32_t threads;       /* the most at once, at most one a lane, and 16 for an encoded hash; 0 is 1. A hash for which
+    size_t size;       /* sizeof(proved_argon2_options), so that later fields may be added: more than the library
+                        * knows is taken if it is zero, and else PROVED_ARGON2_WRONG_LENGTH, as for a size of 0 */
+    uint32_t threads;  /* the most at once, at most one a lane, and 16 for an encoded hash; 0 is 1. A hash for which
                              * others do not pay has the caller's alone */
-    void *memory;           /* caller-provided, at a multiple of 8, and best of 64; or null. It is cleared at the end */
-    size_t memory_len;      /* its bytes: fewer than the settings need return PROVED_ARGON2_OUT_OF_MEMORY */
-    proved_argon2_run *run; /* runs the tasks of a slice, threads of them or one a lane; or null */
-    void *pool;             /* what run is passed */
+    void *memory;      /* caller-provided, at a multiple of 8, and best of 64; or null. It is cleared at the end */
+    size_t memory_len; /* its bytes: fewer than the settings need return PROVED_ARGON2_OUT_OF_MEMORY */
+    proved_argon2_run *run;             /* runs the tasks of a slice, threads of them or one a lane; or null */
+    void *pool;                         /* what run is passed */
     const proved_argon2_limits *limits; /* of an encoded hash, PROVED_ARGON2_TOO_COSTLY above them; or null */
-    proved_argon2_tell *tell; /* the progress callback, which can stop the call; or null */
-    void *arg;                /* what tell is passed */
+    proved_argon2_tell *tell;           /* the progress callback, which can stop the call; or null */
+    void *arg;                          /* what tell is passed */
 } proved_argon2_options;
 
+/* clang-format off */
 #define PROVED_ARGON2_OPTIONS {sizeof(proved_argon2_options), 0, NULL, 0, NULL, NULL, NULL, NULL, NULL}
 
 /* proved_argon2_hash_raw with options. */
@@ -133,6 +134,7 @@ uint32_t proved_argon2_memory_new(const proved_argon2_settings *settings, void *
 /* Clears and frees a buffer of proved_argon2_memory_new. A null pointer does nothing. */
 void proved_argon2_memory_free(void *memory, size_t memory_len);
 
+/* clang-format on */
 #ifdef __cplusplus
 }
 #endif

@@ -1,4 +1,4 @@
--- From the head of a text to what is said of the text.
+-- From the head of a string to what is said of the string.
 use Rattle.std.proofs.Common.{List, ℕ, Result, Err, ap, inl, inr, refl, subst, sym}
 use Rattle.argon2_standard.specs.Standard.Grammar.{IsItem}
 use Rattle.argon2_standard.specs.Standard.Text.{Spelled}
@@ -9,7 +9,7 @@ use Rattle.argon2_c.specs.Answers.{OfText}
 use Rattle.argon2_c.specs.Heads.{HasHead, HasNone}
 use Rattle.argon2_c.specs.declared.refusal.Refusal.{Refusal}
 
--- a text without a head is refused
+-- a string without a head is rejected
 pub no_head : {A : Type 0} (text : List ℕ) (refusal : Refusal) (old : A) (Done : Spelled → Type 0) → HasNone text refusal
     → OfText text old old (Err refusal) Done
 no_head text refusal old Done (inl (is, other)) = record {
@@ -23,7 +23,7 @@ no_head text refusal old Done (inr (is, utf8, none)) = record {
   spelled = λ _ d s. absurd (none d s);
 }
 
--- what is done with any salt and hash behind a head is done with what the text spells
+-- what is done with any salt and hash behind a head is done with what the string decodes to
 pub by_head : {A : Type 0} (text : List ℕ) (h : Head) (old new : A) (answer : Result (Unit {0}) Refusal) (Done : Spelled → Type 0) → HasHead text h
     → ((salt hash : List ℕ) → IsItem h.salt.now salt → IsItem h.hash.now hash → Done (spelled_with h salt hash)) → OfText text old new answer Done
 by_head text h old new answer Done (utf8, s) done = record {

@@ -3,7 +3,7 @@ use Rattle.std.proofs.Common.{◌≡◌, ℕ, List, Option, None, Some, Ok, Err,
 use Rattle.argon2_standard.specs.declared.config.Config.{Config}
 use Rattle.argon2_standard.specs.declared.error.Error.{Error}
 use Rattle.argon2_standard.specs.Standard.SettingsTable.{refusal_of}
-use Rattle.argon2_standard.specs.Standard.Stored.{Agrees}
+use Rattle.argon2_standard.specs.Standard.Decoded.{Agrees}
 use Rattle.argon2_standard.specs.Standard.Text.{Spelled}
 use Rattle.argon2_standard.specs.declared.variant.Variant.{Variant}
 use Rattle.argon2_standard.specs.declared.version.Version.{Version}

@@ -15,7 +15,8 @@ use Rattle.argon2_fill.specs.Laws.Lanes.{IsRunOfLanes, numbered}
 use Rattle.argon2_fill.proofs.Filling.Lent.{fills_among}
 use Rattle.argon2_fill.proofs.Filling.Passes.{run_agrees}
 use Rattle.argon2_c.specs.Answers.{Tells}
-use Rattle.argon2_c.specs.Jobs.{BeginsAt, FillsAt, Finishes, FinishesAt, IsPlace, IsTagOf, Verifies, VerifiesAt, job_of, setting_of_job}
+use Rattle.argon2_c.specs.Jobs.{job_of, setting_of_job}
+use Rattle.argon2_c.specs.Steps.{BeginsAt, FillsAt, Finishes, FinishesAt, IsPlace, IsTagOf, Verifies, VerifiesAt}
 use Rattle.argon2_c.specs.Over.{HashesJob, JudgesJob, Lent}
 use Rattle.argon2_c.specs.Runs.{IsMade, IsRun, slice_at}
 use Rattle.argon2_c.specs.declared.refusal.Refusal.{Refusal}

@@ -1,4 +1,4 @@
--- What the calls answer. The definitions take the configuration of the settings, or the refusal of their numbers,
+-- What the calls return. The definitions take the configuration of the settings, or the error of their numbers,
 -- and are made of the words of the library's own contract.
 use Rattle.std.specs.Prelude.{◌≡◌, ℕ, Bool, true, false, List, length, Option, Some, None, Result, Ok, Err, IsUtf8}
 use Rattle.argon2_standard.specs.declared.config.Config.{Config}
@@ -7,18 +7,19 @@ use Rattle.argon2_standard.specs.declared.error.Error.TheVariants.{DecodingFail}
 use Rattle.argon2_standard.specs.Standard.Grammar.{Spells, SpellsNothing}
 use Rattle.argon2_standard.specs.Standard.Text.{Spelled, spelled_of, text_of}
 use Rattle.argon2_c.specs.Buffer.{WritesText}
-use Rattle.argon2_c.specs.Refusal.{IsNoNumber, message_of, number_of}
+use Rattle.argon2_c.specs.ErrorTable.{message_of, number_of}
+use Rattle.argon2_c.specs.Refusal.{IsNoNumber}
 use Rattle.argon2_c.specs.declared.refusal.Refusal.{Refusal}
 use Rattle.argon2_c.specs.declared.refusal.Refusal.TheVariants.{Library, Mismatch, NotUtf8, UnknownNumber, WrongLength}
 
--- ---- refusals
+-- ---- errors
 
--- the library's refusal with all as it was, where there is one; else what is done
+-- the library's error with all as it was, where there is one; else what is done
 abbrev pub OrRefused : {A : Type 0} → Option Error → A → A → Result (Unit {0}) Refusal → Type 0 → Type 0
 OrRefused (Some e) old new answer Done = (answer ≡ Err (Library e)) × (new ≡ old)
 OrRefused None old new answer Done = Done
 
--- a text that is not UTF-8 or spells nothing is refused with all as it was; else what is done with what it spells
+-- a string that is not UTF-8 or decodes to nothing is rejected with all as it was; else what is done with what it decodes to
 pub record OfText {A : Type 0} (text : List ℕ) (old new : A) (answer : Result (Unit {0}) Refusal) (Done : Spelled → Type 0) : Type 0 where
   pub not_utf8 : (IsUtf8 text → ⊥) → (answer ≡ Err NotUtf8) × (new ≡ old)
   pub unspelled : IsUtf8 text → SpellsNothing text → (answer ≡ Err (Library DecodingFail)) × (new ≡ old)
@@ -45,7 +46,7 @@ Tells Same (Err refusal) = ⊥
 
 -- ---- lengths
 
--- the length of the text that these settings give; 0 where they have no configuration
+-- the length of the encoded hash of these settings; 0 where they have no configuration
 abbrev pub IsTextLength : Result Config Error → ℕ → ℕ → Type 0
 IsTextLength (Err e) salt_len len = len ≡ 0
 IsTextLength (Ok config) salt_len len = (salt hash : List ℕ) → length salt ≡ salt_len → length hash ≡ config.hash_length
@@ -53,7 +54,7 @@ IsTextLength (Ok config) salt_len len = (salt hash : List ℕ) → length salt �
 
 -- ---- messages
 
--- the text of the refusal with this number; a number that no refusal has is refused
+-- the message of the error with this number; a number that no error has is rejected
 pub record WritesMessage (number : ℕ) (old new : List ℕ) (answer : Result (Unit {0}) Refusal) : Type 0 where
   pub known : (refusal : Refusal) → number_of refusal ≡ number → WritesText (message_of refusal) old new answer
   pub unknown : IsNoNumber number → (answer ≡ Err UnknownNumber) × (new ≡ old)

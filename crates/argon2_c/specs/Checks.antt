@@ -1,10 +1,11 @@
--- What the calls answer that judge settings and lengths, and compute nothing.
+-- What the calls return that check settings and lengths, and compute nothing.
 use Rattle.std.specs.Prelude.{◌≡◌, ℕ, Bool, true, false, List, length, Option, Some, None, option_map, Result, Ok, Err}
+use Rattle.std.specs.Borrow.{Bor}
 use Rattle.argon2_standard.specs.declared.config.Config.{Config}
 use Rattle.argon2_standard.specs.declared.error.Error.{Error}
 use Rattle.argon2_standard.specs.Standard.Setting.{Setting}
 use Rattle.argon2_standard.specs.Standard.SettingsTable.{refusal_of}
-use Rattle.argon2_standard.specs.Standard.Stored.{IsStoredConfig}
+use Rattle.argon2_standard.specs.Standard.Decoded.{decoded_config}
 use Rattle.argon2.specs.Standard.Limits.{is_too_costly}
 use Rattle.argon2.specs.declared.limits.Limits.{Limits as LibraryLimits}
 use Rattle.argon2_c.specs.Answers.{OfText, OrRefused}
@@ -13,28 +14,28 @@ use Rattle.argon2_c.specs.declared.reading.Stored.{Stored}
 use Rattle.argon2_c.specs.declared.refusal.Refusal.{Refusal}
 use Rattle.argon2_c.specs.declared.refusal.Refusal.TheVariants.{Library, NoJob, TooCostly}
 
--- the refusal of the numbers or of the settings table that a hash of such inputs has, and Ok where it has none
+-- the error of the numbers or of the settings table that a hash of such inputs has, and Ok where it has none
 abbrev pub Checks : Result Config Error → ℕ → ℕ → Result (Unit {0}) Refusal → Type 0
 Checks (Err e) pwd_len salt_len answer = answer ≡ Err (Library e)
 Checks (Ok config) pwd_len salt_len answer =
     OrRefused (refusal_of config pwd_len salt_len config.hash_length) (tt {0}) (tt {0}) answer (answer ≡ Ok tt)
 
--- why a text is refused: it is above the limits, or else by the settings table
+-- why a string is rejected: it is above the limits, or else by the settings table
 abbrev pub refusal_within : Bool → Option Error → Option Refusal
 refusal_within true refusal = Some TooCostly
 refusal_within false refusal = option_map Library refusal
 
--- the numbers of what a text spells, unless it is refused
+-- the numbers of what a string decodes to, unless it is rejected
 abbrev pub ReadsUnless : Option Refusal → Stored → Stored → Stored → Result (Unit {0}) Refusal → Type 0
 ReadsUnless (Some refusal) spelled old new answer = (answer ≡ Err refusal) × (new ≡ old)
 ReadsUnless None spelled old new answer = (answer ≡ Ok tt) × (new ≡ spelled)
 
--- whatever configuration has the settings that the text spells, and a secret and associated data of these lengths
+-- the same of what a string decodes to, with a secret and associated data of these lengths
 abbrev pub ChecksText : LibraryLimits → ℕ → ℕ → ℕ → List ℕ → Stored → Stored → Result (Unit {0}) Refusal → Type 0
 ChecksText limits pwd_len secret_len ad_len text old new answer =
-    OfText text old new answer (λ d. (secret ad : List ℕ) (config : Config) → length secret ≡ secret_len → length ad ≡ ad_len
-    → IsStoredConfig d secret ad config
-    → ReadsUnless (refusal_within (is_too_costly limits d) (refusal_of config pwd_len (length d.salt) (length d.hash))) (stored_of d) old new answer)
+    OfText text old new answer (λ d. (secret ad : Bor (List ℕ)) → length secret.now ≡ secret_len → length ad.now ≡ ad_len
+    → ReadsUnless (refusal_within (is_too_costly limits d) (refusal_of (decoded_config d secret ad) pwd_len (length d.salt) (length d.hash)))
+    (stored_of d) old new answer)
 
 -- whether there is a setting of a job's numbers
 abbrev pub ChecksJob : Option Setting → Result (Unit {0}) Refusal → Type 0

@@ -1,4 +1,4 @@
--- The head of a stored text: all that it spells before its salt and its hash, and these two as they are written there.
+-- The head of an encoded hash: all that it decodes to before its salt and its hash, and these two as they are written there.
 use Rattle.std.specs.Prelude.{◌≡◌, ◌⊎◌, ℕ, List, IsUtf8}
 use Rattle.argon2_standard.specs.declared.error.Error.TheVariants.{DecodingFail}
 use Rattle.argon2_standard.specs.Standard.Grammar.{SpellsNothing}
@@ -7,10 +7,10 @@ use Rattle.argon2_text.specs.declared.encoding.reading.Head.{Head}
 use Rattle.argon2_c.specs.declared.refusal.Refusal.{Refusal}
 use Rattle.argon2_c.specs.declared.refusal.Refusal.TheVariants.{Library, NotUtf8}
 
--- the text spells a value with this head
+-- the string decodes to a value with this head
 abbrev pub HasHead : List ℕ → Head → Type 0
 HasHead text h = IsUtf8 text × IsSpellingOf text h
 
--- why the text has no head
+-- why the string has no head
 abbrev pub HasNone : List ℕ → Refusal → Type 0
 HasNone text refusal = ((refusal ≡ NotUtf8) × (IsUtf8 text → ⊥)) ⊎ ((refusal ≡ Library DecodingFail) × IsUtf8 text × SpellsNothing text)

@@ -1,3 +1,4 @@
+pub mod ErrorTable
 pub mod Refusal
 pub mod Settings
 pub mod Recommended
@@ -7,6 +8,7 @@ pub mod Reading
 pub mod Checks
 pub mod Heads
 pub mod Jobs
+pub mod Steps
 pub mod Over
 pub mod Runs
 pub mod Limits

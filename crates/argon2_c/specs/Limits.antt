@@ -1,4 +1,4 @@
--- The limits of what a stored text may ask for.
+-- The limits for an encoded hash.
 use Rattle.argon2.specs.declared.limits.Limits.{Limits as LibraryLimits}
 use Rattle.argon2_c.specs.declared.limits.Limits.{Limits}
 

@@ -1,4 +1,4 @@
--- What a whole hash over lent blocks answers, in one call. On a refusal the blocks and the tag are as they were.
+-- What a whole hash over caller-provided blocks returns, in one call. On an error the blocks and the tag are as they were.
 use Rattle.std.specs.Prelude.{◌≡◌, ℕ, ◌*◌, ◌/◌, List, length, Option, Some, None, Result, Ok, Err}
 use Rattle.argon2_standard.specs.declared.config.Config.{Config}
 use Rattle.argon2_standard.specs.declared.error.Error.{Error}
@@ -26,7 +26,7 @@ memory_len_of (Ok config) = unless_refused (refusal_of config 0 min_salt_length 
 
 -- ---- hashing
 
--- the blocks that C lends, and the buffer of the tag
+-- the blocks that C provides, and the buffer of the tag
 pub record Lent : Type 0 where
   pub blocks : List (List ℕ)
   pub tag : List ℕ
@@ -37,7 +37,7 @@ pub record HashesInto (blocks len : ℕ) (tag : List ℕ) (old new : Lent) (answ
   pub wrong_length : length old.blocks ≡ blocks → (length old.tag ≡ len → ⊥) → (answer ≡ Err WrongLength) × (new ≡ old)
   pub hashed : length old.blocks ≡ blocks → length old.tag ≡ len → (answer ≡ Ok tt) × (new.tag ≡ tag)
 
--- the tag of a password; the refusals of the settings come first
+-- the tag of a password; the errors of the settings come first
 abbrev pub HashesOver : Result Config Error → List ℕ → List ℕ → Lent → Lent → Result (Unit {0}) Refusal → Type 0
 HashesOver (Err e) pwd salt old new answer = (answer ≡ Err (Library e)) × (new ≡ old)
 HashesOver (Ok config) pwd salt old new answer =

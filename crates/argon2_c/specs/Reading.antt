@@ -1,9 +1,9 @@
--- What the calls answer that look at a stored text and verify nothing.
+-- What the calls return that look at an encoded hash and verify nothing.
 use Rattle.std.specs.Prelude.{◌≡◌, ℕ, Bool, true, false, List, length, min, Result, Ok, Err}
 use Rattle.argon2_standard.specs.declared.config.Config.{Config}
 use Rattle.argon2_standard.specs.declared.error.Error.{Error}
 use Rattle.argon2.specs.Standard.Limits.{is_too_costly}
-use Rattle.argon2_standard.specs.Standard.Stored.{Agrees}
+use Rattle.argon2_standard.specs.Standard.Decoded.{Agrees}
 use Rattle.argon2_standard.specs.Standard.SettingsTable.{max_length}
 use Rattle.argon2_standard.specs.Standard.Text.{Spelled}
 use Rattle.argon2_standard.specs.Standard.Variant.{variant_number}
@@ -20,7 +20,7 @@ use Rattle.argon2_c.specs.declared.refusal.Refusal.TheVariants.{Library, NeedsRe
 abbrev pub held : ℕ → ℕ
 held len = min len max_length
 
--- the numbers of what a text spells, with the lengths of its salt and its hash
+-- the numbers of what a string decodes to, with the lengths of its salt and its hash
 abbrev pub stored_of : Spelled → Stored
 stored_of d = record {
   settings = record {
@@ -34,7 +34,7 @@ stored_of d = record {
   salt_length = held (length d.salt);
 }
 
--- the numbers of what the text spells
+-- the numbers of what the string decodes to
 abbrev pub ReadsText : List ℕ → Stored → Stored → Result (Unit {0}) Refusal → Type 0
 ReadsText text old new answer = OfText text old new answer (λ d. (answer ≡ Ok tt) × (new ≡ stored_of d))
 
@@ -71,7 +71,7 @@ Compares Same (Ok _) = Same
 Compares Same (Err NeedsRehash) = Same → ⊥
 Compares Same (Err refusal) = ⊥
 
--- the refusal of the settings' numbers comes first
+-- the error of the settings' numbers comes first
 abbrev pub ComparesSettings : Result Config Error → List ℕ → Result (Unit {0}) Refusal → Type 0
 ComparesSettings (Err e) text answer = answer ≡ Err (Library e)
 ComparesSettings (Ok config) text answer = OfText text (tt {0}) (tt {0}) answer (λ d. Compares (Agrees d config) answer)

@@ -6,7 +6,8 @@ use Rattle.argon2_standard.specs.declared.config.Config.{Config}
 use Rattle.argon2_standard.specs.Standard.Prehash.{setting_of}
 use Rattle.argon2_standard.specs.Standard.SettingsTable.{refusal_of}
 use Rattle.argon2_standard.specs.Standard.Tag.{tag_of}
-use Rattle.argon2_c.specs.Jobs.{Begins, Fills, Finishes, Verifies, job_of, setting_of_job}
+use Rattle.argon2_c.specs.Jobs.{job_of, setting_of_job}
+use Rattle.argon2_c.specs.Steps.{Begins, Fills, Finishes, Verifies}
 use Rattle.argon2_c.specs.Over.{HashesJob, JudgesJob, Lent}
 use Rattle.argon2_c.specs.declared.jobs.LentJob.{LentJob}
 use Rattle.argon2_c.specs.declared.refusal.Refusal.TheVariants.{Mismatch}

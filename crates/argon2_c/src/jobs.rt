@@ -5,7 +5,7 @@ ghost use Rattle.argon2_standard.specs.declared.config.Config.{Config};
 ghost use Rattle.argon2_text.specs.Views.Faults.{IsSomeItem};
 ghost use Rattle.argon2_standard.specs.Standard.Grammar.{IsItem};
 ghost use Rattle.argon2_memory.specs.Views.Jobs.{IsJob, setting_of_context};
-ghost use Rattle.argon2_standard.specs.Standard.Stored.{IsStoredConfig};
+ghost use Rattle.argon2_standard.specs.Standard.Decoded.{decoded_config};
 ghost use Rattle.argon2_text.specs.Views.Texts.{spelled_with};
 ghost use Rattle.argon2_c.specs.Checks.{ChecksJob};
 ghost use Rattle.argon2_c.specs.Jobs.{MakesJob, MakesStoredJob, WritesStoredJob, is_out_of_bounds, job_of, setting_at, setting_of_job};
@@ -177,7 +177,7 @@ pub fn make_stored(
     salt: &mut [u8],
     hash: &mut [u8],
 ) -> Result<(), Refusal>
-    ensures { MakesStoredJob text.now pwd.now secret.now ad.now
+    ensures { MakesStoredJob text.now pwd.now secret.entry ad.entry
         (record { job = job.old; items = record { salt = salt.old; hash = hash.old } })
         (record { job = job.new; items = record { salt = salt.new; hash = hash.new } }) result }
 {
@@ -199,10 +199,9 @@ fn make_of_head(
 ) -> Result<(), Refusal>
     requires salt_item { IsSomeItem head.now.salt.now }
     requires hash_item { IsSomeItem head.now.hash.now }
-    ensures { (s h : List ℕ) (config : Config) → IsItem head.now.salt.now s
+    ensures { (s h : List ℕ) → IsItem head.now.salt.now s
         → IsItem head.now.hash.now h → let d = spelled_with head.now s h in
-        IsStoredConfig d secret.now ad.now config
-        → WritesStoredJob pwd.now d config
+        WritesStoredJob pwd.now d (decoded_config d secret.entry ad.entry)
         (record { job = job.old; items = record { salt = salt.old; hash = hash.old } })
         (record { job = job.new; items = record { salt = salt.new; hash = hash.new } }) result }
 {

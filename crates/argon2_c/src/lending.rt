@@ -4,7 +4,8 @@
 ghost use Rattle.std.specs.Prelude.{◌≡◌, ℕ, List, []};
 ghost use Rattle.std.specs.Borrow.{Bor};
 ghost use Rattle.argon2_c.specs.Checks.{ChecksJob};
-ghost use Rattle.argon2_c.specs.Jobs.{Begins, Fills, Finishes, MakesJob, MakesStoredJob, Verifies, WritesTagText, setting_of_job};
+ghost use Rattle.argon2_c.specs.Jobs.{MakesJob, MakesStoredJob, WritesTagText, setting_of_job};
+ghost use Rattle.argon2_c.specs.Steps.{Begins, Fills, Finishes, Verifies};
 ghost use Rattle.argon2_c.specs.Over.{HashesJob, JudgesJob};
 ghost use Rattle.argon2_c.specs.Refusal.{IsCodeOf};
 ghost use Rattle.argon2_c.specs.Runs.{EveryRunGivesTheTag, EveryRunGivesTheVerdict, OneCallGivesTheTag, OneCallGivesTheVerdict};
@@ -46,7 +47,7 @@ pub extern "C" fn proved_argon2_job_read(
     salt: &mut [u8],
     hash: &mut [u8],
 ) -> u32
-    ensures { IsCodeOf (MakesStoredJob text.now pwd.now secret.now ad.now
+    ensures { IsCodeOf (MakesStoredJob text.now pwd.now secret.entry ad.entry
         (record { job = job.old; items = record { salt = salt.old; hash = hash.old } })
         (record { job = job.new; items = record { salt = salt.new; hash = hash.new } })) result }
 {

@@ -4,7 +4,7 @@ ghost use Rattle.std.specs.Prelude.{◌≡◌, ℕ, List, OnOk, length};
 ghost use Rattle.std.specs.Borrow.{Bor};
 ghost use Rattle.argon2_standard.specs.Standard.Grammar.{IsItem};
 ghost use Rattle.argon2_standard.specs.Standard.SettingsTable.{refusal_of};
-ghost use Rattle.argon2_standard.specs.Standard.Stored.{IsStoredConfig};
+ghost use Rattle.argon2_standard.specs.Standard.Decoded.{decoded_config};
 ghost use Rattle.argon2_standard.specs.Standard.Text.{Spelled};
 ghost use Rattle.argon2_standard.specs.declared.config.Config.{Config};
 ghost use Rattle.argon2_text.specs.Views.Texts.{numbers_of};
@@ -131,10 +131,10 @@ fn refusal_for(
     secret_len: u64,
     ad_len: u64,
 ) -> Option<Refusal>
-    ensures { (d : Spelled) (secret ad : List ℕ) (config : Config) → numbers.now ≡ numbers_of d
-        → length secret ≡ secret_len → length ad ≡ ad_len → IsStoredConfig d secret ad config
-        → result ≡ refusal_within (is_too_costly (limits_of limits.now) d)
-        (refusal_of config pwd_len (length d.salt) (length d.hash)) }
+    ensures { (d : Spelled) (secret ad : Bor (List ℕ)) → numbers.now ≡ numbers_of d
+        → length secret.now ≡ secret_len → length ad.now ≡ ad_len
+        → result ≡ refusal_within (is_too_costly (limits_of limits.now) d) (refusal_of
+        (decoded_config d secret ad) pwd_len (length d.salt) (length d.hash)) }
 {
     let most = limits.of_library();
     if is_above(numbers, &most) {

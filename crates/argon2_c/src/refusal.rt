@@ -3,7 +3,8 @@
 ghost use Rattle.std.specs.Prelude.{◌≡◌, IfSome};
 ghost use Rattle.argon2_standard.specs.declared.error.Error.{Error};
 ghost use Rattle.argon2_c.specs.Answers.{judgement_of};
-ghost use Rattle.argon2_c.specs.Refusal.{code_of, library_number, message_of, number_of};
+ghost use Rattle.argon2_c.specs.ErrorTable.{library_number, message_of, number_of};
+ghost use Rattle.argon2_c.specs.Refusal.{code_of};
 ghost use Rattle.argon2_c.specs.declared.refusal.Refusal.{Refusal};
 ghost use Rattle.argon2_c.specs.declared.refusal.Refusal.TheVariants.{Library};
 
@@ -57,6 +58,7 @@ fn library_number(error: &Error) -> u32
     ensures { result ≡ library_number error.now }
 {
     match *error {
+        // numbers, by .ci/pages/presets
         Error::OutputTooShort => 1,
         Error::OutputTooLong => 2,
         Error::PwdTooShort => 3,
@@ -78,6 +80,7 @@ fn library_number(error: &Error) -> u32
         Error::DecodingFail => 19,
         Error::OutOfMemory => 20,
         Error::WorkerRefused => 21,
+        // end
     }
 }
 
@@ -87,6 +90,7 @@ fn library_refusal(number: u32) -> Option<Error>
     ensures undoes { (e : Error) → library_number e ≡ number → result ≡ Some e }
 {
     match number {
+        // errors, by .ci/pages/presets
         1 => Some(Error::OutputTooShort),
         2 => Some(Error::OutputTooLong),
         3 => Some(Error::PwdTooShort),
@@ -108,6 +112,7 @@ fn library_refusal(number: u32) -> Option<Error>
         19 => Some(Error::DecodingFail),
         20 => Some(Error::OutOfMemory),
         21 => Some(Error::WorkerRefused),
+        // end
         _ => None,
     }
 }
@@ -119,6 +124,7 @@ impl Refusal {
     {
         match self {
             Refusal::Library(error) => library_number(error),
+            // numbers of C, by .ci/pages/presets
             Refusal::Mismatch => 64,
             Refusal::WrongLength => 65,
             Refusal::NotUtf8 => 66,
@@ -128,6 +134,7 @@ impl Refusal {
             Refusal::NoJob => 70,
             Refusal::NoPlace => 71,
             Refusal::WrongBlocks => 72,
+            // end
         }
     }
 
@@ -137,6 +144,7 @@ impl Refusal {
         ensures undoes { (refusal : Refusal) → number_of refusal ≡ number → result ≡ Some refusal }
     {
         match number {
+            // errors of C, by .ci/pages/presets
             64 => Some(Refusal::Mismatch),
             65 => Some(Refusal::WrongLength),
             66 => Some(Refusal::NotUtf8),
@@ -146,6 +154,7 @@ impl Refusal {
             70 => Some(Refusal::NoJob),
             71 => Some(Refusal::NoPlace),
             72 => Some(Refusal::WrongBlocks),
+            // end
             _ => library_refusal(number).map(Refusal::Library),
         }
     }
@@ -156,6 +165,7 @@ impl Refusal {
     {
         match self {
             Refusal::Library(error) => error.message(),
+            // messages of C, by .ci/pages/presets
             Refusal::Mismatch => "The password does not match",
             Refusal::WrongLength => "The buffer has the wrong length",
             Refusal::NotUtf8 => "The encoded hash is not UTF-8",
@@ -165,6 +175,7 @@ impl Refusal {
             Refusal::NoJob => "The job is none",
             Refusal::NoPlace => "The job has no such pass, slice or lane",
             Refusal::WrongBlocks => "There are too many or too few blocks",
+            // end
         }
     }
 }

@@ -3,7 +3,8 @@
 
 ghost use Rattle.std.specs.Prelude.{◌≡◌, ◌*◌, IsTrue, ◌↔◌, MatchResult, length};
 ghost use Rattle.argon2_c.specs.Answers.{judgement_of};
-ghost use Rattle.argon2_c.specs.Jobs.{Begins, Fills, Finishes, IsPlace, IsSlice, Verifies, setting_of_job};
+ghost use Rattle.argon2_c.specs.Jobs.{setting_of_job};
+ghost use Rattle.argon2_c.specs.Steps.{Begins, Fills, Finishes, IsPlace, IsSlice, Verifies};
 
 use crate::jobs::LentJob;
 use crate::refusal::Refusal;

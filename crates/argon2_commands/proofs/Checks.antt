@@ -1,11 +1,9 @@
 -- Texts that are too costly to check.
-use Rattle.std.proofs.Common.{◌≡◌, ℕ, Bool, true, false, [], List, Option, Result, Ok, Err, Bor, ap, arith, inl, inr, refl, subst, sym, ◌∙◌}
+use Rattle.std.proofs.Common.{◌≡◌, ℕ, slice_index_or, Bool, true, false, [], List, Option, Result, Ok, Err, Bor, ap, arith, inl, inr, refl, subst, sym, ◌∙◌}
 use Rattle.argon2_standard.specs.declared.config.Config.{Config}
 use Rattle.argon2_standard.specs.declared.error.Error.{Error}
 use Rattle.argon2.specs.Standard.Limits.{AnswersWithin, is_too_costly}
-use Rattle.argon2_standard.specs.Standard.Stored.{IsStoredConfig}
 use Rattle.argon2_standard.specs.Standard.Text.{Spelled}
-use Rattle.argon2_standard.specs.declared.thread_mode.ThreadMode.TheVariants.{Sequential}
 use Rattle.argon2.specs.Views.Limits.{default_limits}
 use Rattle.argon2.specs.declared.limits.Unverified.{Unverified}
 use Rattle.argon2.specs.declared.limits.Unverified.TheVariants as unverified
@@ -17,29 +15,16 @@ use Rattle.argon2_commands.specs.declared.answer.Answer.{Answer}
 use Rattle.argon2_commands.specs.declared.answer.Answer.TheVariants.{Hashed, Verdict}
 use Rattle.argon2_commands.specs.declared.command.Command.{Command}
 use Rattle.argon2_commands.specs.declared.command.Command.TheVariants.{Hash, Verify, Rehash, New, Check}
-use Rattle.argon2_commands.specs.declared.command.Program.{Program}
-use Rattle.argon2_commands.specs.declared.command.Program.TheVariants.{Argon2, Tool}
+use Rattle.argon2_commands.specs.declared.usage.Program.{Program}
+use Rattle.argon2_commands.specs.declared.usage.Program.TheVariants.{Argon2, Tool}
 use Rattle.argon2_commands.specs.declared.fault.Fault.{Fault}
 use Rattle.argon2_commands.specs.declared.fault.Fault.TheVariants.{Usage, Input, Refused, TooCostly, Output, OutputShort}
 
 -- ---- one text
 
--- a configuration of what a text spells
-abbrev stored_config : Bor (List ℕ) → Spelled → Config
-stored_config some d = record {
-  ad = record some { now = [] };
-  hash_length = 0;
-  lanes = d.parallelism;
-  mem_cost = d.mem_cost;
-  secret = record some { now = [] };
-  thread_mode = Sequential;
-  time_cost = d.time_cost;
-  variant = d.variant;
-  version = d.version;
-}
-
-is_stored : (some : Bor (List ℕ)) (d : Spelled) → IsStoredConfig d [] [] (stored_config some d)
-is_stored some d = record { variant = refl; version = refl; mem_cost = refl; time_cost = refl; lanes = refl; secret = refl; ad = refl }
+-- a reference to no bytes
+abbrev nothing : Bor (List ℕ) → Bor (List ℕ)
+nothing some = record some { now = [] }
 
 -- within limits nothing is too costly
 above : (costly : Bool) (Answers : Result Bool Error → Type 0) → AnswersWithin costly Answers (Err unverified.TooCostly) → costly ≡ true
@@ -57,7 +42,7 @@ is_too_costly_text : (encoded : Bor (List ℕ)) (password : List ℕ) → CheckA
     → IsTooCostly encoded.now
 is_too_costly_text encoded password h = (
   λ none. let e = h.unspelled none in absurd (cc),
-  λ d spells. above (is_too_costly default_limits d) _ (h.spelled d (stored_config encoded d) spells (is_stored encoded d)),
+  λ d spells. above (is_too_costly default_limits d) _ (h.spelled d (nothing encoded) refl spells),
 )
 
 -- and nothing else is answered for it
@@ -65,7 +50,7 @@ no_other_answer : {A : Type 0} (encoded : Bor (List ℕ)) (password : List ℕ) 
     → CheckAnswers encoded.now password result → (result ≡ Err unverified.TooCostly → ⊥) → A
 no_other_answer encoded password result costly h other =
     absurd (costly.0 (λ d spells. other (too_costly (is_too_costly default_limits d) _ result (costly.1 d spells)
-    (h.spelled d (stored_config encoded d) spells (is_stored encoded d)))))
+    (h.spelled d (nothing encoded) refl spells))))
 
 -- ---- commands
 
@@ -113,27 +98,31 @@ same_costs words one other is also =
     let lanes = same_number (word words 5) one.lanes other.lanes is.lanes also.lanes in
     rw (memory, time, lanes) refl
 
+-- names that differ at a letter are two
+other_name : {A : Type 0} {one other : List ℕ} (place : ℕ) → one ≡ other → (slice_index_or one place 0 ≡ slice_index_or other place 0 → ⊥) → A
+other_name place same differ = absurd (differ (ap (λ name. slice_index_or name place 0) same))
+
 -- words of the tool that ask for too much do so whichever command they are taken for
 other_new : (words : List (List ℕ)) (config : Config) (salt : List ℕ) (other : Command) → IsNew words config salt → is_above_limits config ≡ true
     → IsCommand Tool words other → AsksTooMuch other
-other_new words config salt (Hash config' salt') is costly also = absurd also
-other_new words config salt (Verify encoded) is costly also = absurd also
-other_new words config salt (Rehash config' encoded) is costly also = absurd also
+other_new words config salt (Hash config' salt') is costly also = other_name 0 (sym is.name ∙ also.name) (λ same. omega (arith, same))
+other_new words config salt (Verify encoded) is costly also = let one = is.count in let two = also.count in absurd (omega (arith, one, two))
+other_new words config salt (Rehash config' encoded) is costly also = let one = is.count in let two = also.count in absurd (omega (arith, one, two))
 other_new words config salt (New config' salt') is costly also = sym (same_costs words config config' is.settings also.settings) ∙ costly
 other_new words config salt (Check encoded) is costly also = let one = is.count in let two = also.count in absurd (omega (arith, one, two))
 
 other_check : (words : List (List ℕ)) (encoded : List ℕ) (other : Command) → IsCheck words encoded → IsTooCostly encoded
     → IsCommand Tool words other → AsksTooMuch other
-other_check words encoded (Hash config salt) is costly also = absurd also
-other_check words encoded (Verify encoded') is costly also = absurd also
-other_check words encoded (Rehash config encoded') is costly also = absurd also
+other_check words encoded (Hash config salt) is costly also = let one = is.count in let two = also.count in absurd (omega (arith, one, two))
+other_check words encoded (Verify encoded') is costly also = other_name 0 (sym is.name ∙ also.name) (λ same. omega (arith, same))
+other_check words encoded (Rehash config encoded') is costly also = let one = is.count in let two = also.count in absurd (omega (arith, one, two))
 other_check words encoded (New config salt) is costly also = let one = is.count in let two = also.count in absurd (omega (arith, one, two))
 other_check words encoded (Check encoded') is costly also = subst IsTooCostly (is.text ∙ sym also.text) costly
 
 of_tool : (words : List (List ℕ)) (one other : Command) → IsCommand Tool words one → AsksTooMuch one → IsCommand Tool words other → AsksTooMuch other
-of_tool words (Hash config salt) other is costly also = absurd is
-of_tool words (Verify encoded) other is costly also = absurd is
-of_tool words (Rehash config encoded) other is costly also = absurd is
+of_tool words (Hash config salt) other is costly also = absurd costly
+of_tool words (Verify encoded) other is costly also = absurd costly
+of_tool words (Rehash config encoded) other is costly also = absurd costly
 of_tool words (New config salt) other is costly also = other_new words config salt other is costly also
 of_tool words (Check encoded) other is costly also = other_check words encoded.now other is costly also
 

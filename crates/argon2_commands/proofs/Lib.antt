@@ -2,7 +2,7 @@ pub mod Attempts
 pub mod Checks
 pub mod Digits
 pub mod Passwords
-pub mod Places
 pub mod Reading
 pub mod Refusals
 pub mod Statuses
+pub mod UsageErrors

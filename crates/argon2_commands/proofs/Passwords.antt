@@ -1,5 +1,5 @@
 -- Passwords that are read up to a length.
-use Rattle.std.proofs.Common.{◌≡◌, ◌+◌, ◌*◌, ◌==◌, ◌||◌, ◌++◌, ◌-◌, ◌∷◌, ◌<◌, ◌≤◌, ◌⊎◌, ℕ, [], Bool, true, false, List, Option, None, Some, IfSome, IsNone, MatchOption, Result, Err, arith, inl, inr, length, min, nat_lt, refl, sym, ◌∙◌, ap, drop, subst, take}
+use Rattle.std.proofs.Common.{◌≡◌, ◌+◌, ◌*◌, ◌==◌, ◌++◌, ◌-◌, ◌∷◌, ◌<◌, ◌≤◌, ◌⊎◌, ℕ, Bool, true, false, List, Option, None, Some, IfSome, IsNone, MatchOption, Result, Err, arith, inl, inr, length, min, nat_lt, refl, sym, ◌∙◌, ap, drop, subst, take}
 use Rattle.std.proofs.Math.Nat.{min-le_left, min-le_right}
 use Rattle.std.proofs.lemmas.Bool.{cases_lt, lt-ltb}
 use Rattle.std.proofs.lemmas.List.{append-nil, append_assoc, length-append, length-take, length-take-le, take-append-le, take_all}
@@ -7,39 +7,11 @@ use Rattle.std.specs.Io.KnownBytes.{Consumes, IsAtEnd}
 use Rattle.argon2_standard.specs.declared.config.Config.{Config}
 use Rattle.argon2_standard.specs.declared.error.Error.{Error}
 use Rattle.argon2_standard.specs.declared.error.Error.TheVariants.{LanesTooFew, LanesTooMany, MemoryTooLittle, PwdTooLong, TimeTooSmall}
-use Rattle.argon2_standard.specs.Standard.Outcome.{IsShortage, IsVerdict}
+use Rattle.argon2_standard.specs.Standard.Decoded.{decoded_config}
+use Rattle.argon2_standard.specs.Standard.Outcome.{IsResourceError, IsVerdict}
 use Rattle.argon2_standard.specs.Standard.SettingsTable.{first_that_applies, max_lanes, max_length, min_memory, refusal_of, settings_table}
 use Rattle.argon2_standard.specs.Standard.ThreadModes.{may_lack_workers}
-use Rattle.argon2_commands.specs.Answer.{HashAnswers, IsPassword, IsRefusal, IsShortPassword, IsTooLong, ReadsUpTo, VerifyAnswers, longest_password, most_read}
-use Rattle.argon2_commands.specs.Run.{most_read_by}
-use Rattle.argon2_commands.specs.Words.{IsCommand}
-use Rattle.argon2_commands.specs.declared.command.Command.{Command}
-use Rattle.argon2_commands.specs.declared.command.Command.TheVariants.{Hash, Verify, Rehash, New, Check}
-use Rattle.argon2_commands.specs.declared.command.Program.{Program}
-use Rattle.argon2_commands.specs.declared.command.Program.TheVariants.{Argon2, Tool}
-
--- where nothing was done, nothing was read
-pub nothing_read : (most : ℕ) (known : Option (List ℕ)) → ReadsUpTo most known known
-nothing_read most None = ([], tt, omega arith)
-nothing_read most (Some bytes) = ([], refl, omega arith)
-
--- what reads few bytes reads no more than many
-pub fewer_read : (few many : ℕ) (before after : Option (List ℕ)) → few ≤ many → ReadsUpTo few before after → ReadsUpTo many before after
-fewer_read few many before after low (bytes, gone, within) = (bytes, gone, omega (arith, low, within))
-
--- no command of a program reads more than its runs do
-pub most_read_of : (program : Program) (words : List (List ℕ)) (command : Command) → IsCommand program words command
-    → most_read command ≤ most_read_by program
-most_read_of Argon2 words (Hash config salt) is = omega arith
-most_read_of Argon2 words (Verify encoded) is = omega arith
-most_read_of Argon2 words (Rehash config encoded) is = omega arith
-most_read_of Argon2 words (New config salt) is = absurd is
-most_read_of Argon2 words (Check encoded) is = absurd is
-most_read_of Tool words (Hash config salt) is = absurd is
-most_read_of Tool words (Verify encoded) is = absurd is
-most_read_of Tool words (Rehash config encoded) is = absurd is
-most_read_of Tool words (New config salt) is = omega arith
-most_read_of Tool words (Check encoded) is = omega arith
+use Rattle.argon2_commands.specs.Answer.{HashAnswers, IsPassword, IsRefusal, IsShortPassword, IsTooLong, VerifyAnswers, longest_password}
 
 -- ---- a password that was read up to its greatest length
 
@@ -88,7 +60,7 @@ refusal_of_all : (config : Config) (salt : List ℕ) (refusal : Error) (password
     → IsRefusal config salt password refusal → IsRefusal config salt bytes refusal
 refusal_of_all config salt refusal password bytes (inl same) h = subst (λ p. IsRefusal config salt p refusal) same h
 refusal_of_all config salt refusal password bytes (inr long) h =
-    subst (λ (r : Option Error). MatchOption r (IsShortage (may_lack_workers config) refusal) (λ first. refusal ≡ first))
+    subst (λ (r : Option Error). MatchOption r (IsResourceError (may_lack_workers config) refusal) (λ first. refusal ≡ first))
     (same_refusal config (length password) (length bytes) (length salt) config.hash_length long.0 long.1) h
 
 verdict_of_all : (config : Config) (salt hash : List ℕ) (workers : Bool) (result : Result Bool Error) (password bytes : List ℕ) → IsEnough password bytes
@@ -104,8 +76,8 @@ verify_of_all : (encoded : List ℕ) (result : Result Bool Error) (password byte
     → VerifyAnswers encoded password result → VerifyAnswers encoded bytes result
 verify_of_all encoded result password bytes enough h = record {
   unspelled = h.unspelled;
-  spelled = λ d config spells stored.
-      verdict_of_all config d.salt d.hash (nat_lt 1 d.parallelism) result password bytes enough (h.spelled d config spells stored);
+  spelled = λ d none empty spells.
+      verdict_of_all (decoded_config d none none) d.salt d.hash (nat_lt 1 d.parallelism) result password bytes enough (h.spelled d none empty spells);
 }
 
 -- there is a password that the input held, for which P holds

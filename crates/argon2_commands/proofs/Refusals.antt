@@ -3,7 +3,7 @@ use Rattle.std.proofs.Common.{inl, inr, refl, ◌⊎◌, ◌≡◌, ℕ, List, O
 use Rattle.std.specs.Result.{IsErr, IsErrAnd}
 use Rattle.argon2_standard.specs.declared.error.Error.{Error}
 use Rattle.argon2_standard.specs.declared.error.Error.TheVariants.{OutOfMemory}
-use Rattle.argon2_standard.specs.Standard.Outcome.{IsShortage}
+use Rattle.argon2_standard.specs.Standard.Outcome.{IsResourceError}
 use Rattle.argon2_commands.specs.declared.fault.Fault.{Fault}
 use Rattle.argon2_commands.specs.declared.fault.Fault.TheVariants.{Input, Refused, OutputShort}
 use Rattle.std.specs.Io.KnownBytes.{Keeps}
@@ -11,7 +11,7 @@ use Rattle.argon2_commands.specs.Answer.{MayFail, MayRefuse}
 use Rattle.argon2_commands.specs.Run.{IsRefused}
 use Rattle.argon2_commands.specs.Words.{IsCommand}
 use Rattle.argon2_commands.specs.declared.command.Command.{Command}
-use Rattle.argon2_commands.specs.declared.command.Program.{Program}
+use Rattle.argon2_commands.specs.declared.usage.Program.{Program}
 
 -- what holds of a fault that is passed on
 pub passed_on : {A E : Type 0} (result : Result A E) (fault : E) (P : E → Type 0) →
@@ -52,6 +52,6 @@ at_accepted None P value h = h
 at_accepted (Some e) P value h = absurd (cc)
 
 -- a want of memory is a shortage, whether workers may be wanting or not
-pub shortage : (workers : Bool) (e : Error) → e ≡ OutOfMemory → IsShortage workers e
+pub shortage : (workers : Bool) (e : Error) → e ≡ OutOfMemory → IsResourceError workers e
 shortage true e memory = inl memory
 shortage false e memory = memory

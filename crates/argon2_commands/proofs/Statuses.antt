@@ -7,8 +7,8 @@ use Rattle.argon2_commands.specs.Fault.{IsBeforeOutput, fault_status}
 use Rattle.argon2_commands.specs.Run.{Answered, AreTooCostly, HasAnswer, IsRefused, IsShortOrRefused, statuses_of}
 use Rattle.argon2_commands.specs.Words.{IsNoCommand}
 use Rattle.argon2_commands.proofs.Checks.{nothing_costly}
-use Rattle.argon2_commands.specs.declared.command.Program.{Program}
-use Rattle.argon2_commands.specs.declared.command.Program.TheVariants.{Argon2, Tool}
+use Rattle.argon2_commands.specs.declared.usage.Program.{Program}
+use Rattle.argon2_commands.specs.declared.usage.Program.TheVariants.{Argon2, Tool}
 use Rattle.argon2_commands.specs.declared.answer.Answer.{Answer}
 use Rattle.argon2_commands.specs.declared.answer.Answer.TheVariants.{Hashed, Verdict}
 use Rattle.argon2_commands.specs.declared.fault.Fault.{Fault}
@@ -17,7 +17,7 @@ use Rattle.argon2_commands.specs.declared.fault.Fault.TheVariants.{Usage, Input,
 -- ---- faults
 
 -- the statuses of both programs begin with 0 to 4
-below_five : (program : Program) (status : ℕ) → status < 5 → status < statuses_of program
+pub below_five : (program : Program) (status : ℕ) → status < 5 → status < statuses_of program
 below_five Argon2 status low = low
 below_five Tool status low = omega (arith, low)
 

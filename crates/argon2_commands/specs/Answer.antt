@@ -1,12 +1,13 @@
 -- What a command answers.
 use Rattle.std.specs.Prelude.{◌≡◌, ◌↔◌, ◌⊎◌, ◌<◌, ◌≤◌, ◌+◌, ℕ, true, false, List, [], ◌++◌, codes, length, nat_lt, string_bytes, Bool, IsTrue, Option, IfSome}
 use Rattle.std.specs.Prelude.{IsNone, MatchOption, MatchResult, Result, Ok, Err, ⊤}
+use Rattle.std.specs.Borrow.{Bor}
 use Rattle.std.specs.Io.KnownBytes.{Consumes}
 use Rattle.hex.specs.Hex.{encode_lower}
-use Rattle.argon2_standard.specs.Standard.Outcome.{IsShortage, IsVerdict}
+use Rattle.argon2_standard.specs.Standard.Outcome.{IsResourceError, IsVerdict}
 use Rattle.argon2_standard.specs.Standard.ThreadModes.{may_lack_workers}
 use Rattle.argon2_standard.specs.Standard.Grammar.{Spells, SpellsNothing}
-use Rattle.argon2_standard.specs.Standard.Stored.{Differs, IsStoredConfig}
+use Rattle.argon2_standard.specs.Standard.Decoded.{Differs, decoded_config}
 use Rattle.argon2_standard.specs.Standard.SettingsTable.{max_length, refusal_of}
 use Rattle.argon2_standard.specs.Standard.Tag.{tag_of}
 use Rattle.argon2_standard.specs.Standard.Text.{Spelled, spelled_of, text_of}
@@ -36,7 +37,7 @@ lines_of (Hashed lines) = string_bytes lines
 lines_of (Verdict true) = codes "true\n"
 lines_of (Verdict false) = codes "false\n"
 
--- a tag in lower-case hexadecimal and its encoded text, a line each
+-- a tag in lower-case hexadecimal and its encoded hash, a line each
 abbrev pub lines_of_tag : Config → List ℕ → List ℕ → List ℕ
 lines_of_tag config salt tag = encode_lower tag ++ codes "\n" ++ text_of (spelled_of config salt tag) ++ codes "\n"
 
@@ -47,14 +48,14 @@ hash_lines config salt password = lines_of_tag config salt (tag_of password salt
 -- what verifying a password against a text answers
 pub record VerifyAnswers (encoded password : List ℕ) (result : Result Bool Error) : Type 0 where
   pub unspelled : SpellsNothing encoded → result ≡ Err DecodingFail
-  pub spelled : (d : Spelled) (config : Config) → Spells encoded d → IsStoredConfig d [] [] config →
-      IsVerdict password d.salt d.hash config (nat_lt 1 d.parallelism) result
+  pub spelled : (d : Spelled) (none : Bor (List ℕ)) → none.now ≡ [] → Spells encoded d →
+      IsVerdict password d.salt d.hash (decoded_config d none none) (nat_lt 1 d.parallelism) result
 
 -- what checking a password against a text within the default limits answers
 pub record CheckAnswers (encoded password : List ℕ) (result : Result Bool Unverified) : Type 0 where
   pub unspelled : SpellsNothing encoded → result ≡ Err (Refused DecodingFail)
-  pub spelled : (d : Spelled) (config : Config) → Spells encoded d → IsStoredConfig d [] [] config →
-      AnswersWithin (is_too_costly default_limits d) (IsVerdict password d.salt d.hash config (nat_lt 1 d.parallelism)) result
+  pub spelled : (d : Spelled) (none : Bor (List ℕ)) → none.now ≡ [] → Spells encoded d →
+      AnswersWithin (is_too_costly default_limits d) (IsVerdict password d.salt d.hash (decoded_config d none none) (nat_lt 1 d.parallelism)) result
 
 -- what asking whether a text needs a new hash answers
 pub record RehashAnswers (encoded : List ℕ) (config : Config) (result : Result Bool Error) : Type 0 where
@@ -110,14 +111,14 @@ IsAnswer (Check encoded) input (Hashed lines) = ⊥
 IsAnswer (Check encoded) input (Verdict verdict) =
     (password : List ℕ) × IsShortPassword input password × CheckAnswers encoded.now password (Ok verdict)
 
--- the refusal of a hash: the first of the settings table, or a shortage where there is none
+-- the error of a hash: the first of the settings table, or a resource error where there is none
 abbrev pub IsRefusal : Config → List ℕ → List ℕ → Error → Type 0
 IsRefusal config salt password refusal =
     MatchOption (refusal_of config (length password) (length salt) config.hash_length)
-    (IsShortage (may_lack_workers config) refusal)
+    (IsResourceError (may_lack_workers config) refusal)
     (λ first. refusal ≡ first)
 
--- why `new` makes no hash of a password: its text would be above a limit; else the refusal of the hash, or that of
+-- why `new` makes no hash of a password: its encoded hash would be above a limit; else the error of the hash, or that of
 -- the memory for the salt
 abbrev pub NewFails : Config → List ℕ → List ℕ → Fault → Type 0
 NewFails config salt password TooCostlyFault = is_above_limits config ≡ true
@@ -128,12 +129,12 @@ NewFails config salt password Input = ⊥
 NewFails config salt password Output = ⊥
 NewFails config salt password OutputShort = ⊥
 
--- the refusal is that of the memory to read the password, or of its length
+-- the error is that of the memory to read the password, or of its length
 abbrev pub RefusesLong : Option (List ℕ) → Error → Type 0
 RefusesLong input refusal = (refusal ≡ OutOfMemory) ⊎ ((refusal ≡ PwdTooLong) × IsTooLong input)
 
--- the refusal may be that of the command: that of the password that was read, or that of the memory to
--- read it; `rehash` reads none, and `new` and `check` refuse a long one
+-- the error may be that of the command: that of the password that was read, or that of the memory to
+-- read it; `rehash` reads none, and `new` and `check` reject a long one
 abbrev pub MayRefuse : Command → Option (List ℕ) → Error → Type 0
 MayRefuse (Hash config salt) input refusal = (refusal ≡ OutOfMemory)
     ⊎ ((password : List ℕ) × IsPassword input password × IsRefusal config salt.now password refusal)
@@ -145,7 +146,7 @@ MayRefuse (New config salt) input refusal = RefusesLong input refusal
 MayRefuse (Check encoded) input refusal = RefusesLong input refusal
     ⊎ ((password : List ℕ) × IsShortPassword input password × CheckAnswers encoded.now password (Err (Refused refusal)))
 
--- the text spells something, and whatever it spells is above a default limit
+-- the string decodes to something, and whatever it decodes to is above a default limit
 abbrev pub IsTooCostly : List ℕ → Type 0
 IsTooCostly encoded = (SpellsNothing encoded → ⊥) × ((d : Spelled) → Spells encoded d → is_too_costly default_limits d ≡ true)
 

@@ -13,7 +13,7 @@ abbrev pub fault_of : Unverified → Fault
 fault_of UnverifiedTooCostly = TooCostly
 fault_of (UnverifiedRefused refusal) = Refused refusal
 
--- 2 for a refusal and for want of memory, 3 for words of no command, 4 where a stream failed for another
+-- 2 for an error and for want of memory, 3 for words of no command, 4 where a stream failed for another
 -- reason, 5 for a text above the limits
 abbrev pub fault_status : Fault → ℕ
 fault_status (Refused refusal) = 2

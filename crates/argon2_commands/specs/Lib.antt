@@ -2,4 +2,5 @@ pub mod Answer
 pub mod CommandLine
 pub mod Fault
 pub mod Run
+pub mod Usage
 pub mod Words

@@ -1,18 +1,17 @@
 -- What a run does.
-use Rattle.std.specs.Prelude.{◌≡◌, ◌⊎◌, ◌+◌, ℕ, List, Option}
+use Rattle.std.specs.Prelude.{◌≡◌, ◌⊎◌, ℕ, List, Option}
 use Rattle.std.specs.Io.KnownBytes.{Appends, Keeps}
-use Rattle.argon2_commands.specs.Answer.{AsksTooMuch, IsAnswer, MayRefuse, NeedsNoInput, answer_status, lines_of, longest_password}
+use Rattle.argon2_commands.specs.Answer.{AsksTooMuch, IsAnswer, MayRefuse, NeedsNoInput, ReadsUpTo, answer_status, lines_of, most_read}
 use Rattle.argon2_commands.specs.CommandLine.{AreWords}
-use Rattle.argon2_commands.specs.Words.{IsCommand}
-use Rattle.argon2_standard.specs.Standard.SettingsTable.{max_length}
+use Rattle.argon2_commands.specs.Words.{IsCommand, IsNoCommand}
 use Rattle.argon2_standard.specs.declared.error.Error.{Error}
 use Rattle.argon2_standard.specs.declared.error.Error.TheVariants.{OutOfMemory, PwdTooLong}
 use Rattle.argon2_commands.specs.declared.fault.Fault.{Fault}
 use Rattle.argon2_commands.specs.declared.fault.Fault.TheVariants.{Input, Refused, TooCostly}
 use Rattle.argon2_commands.specs.declared.answer.Answer.{Answer}
 use Rattle.argon2_commands.specs.declared.command.Command.{Command}
-use Rattle.argon2_commands.specs.declared.command.Program.{Program}
-use Rattle.argon2_commands.specs.declared.command.Program.TheVariants.{Argon2, Tool}
+use Rattle.argon2_commands.specs.declared.usage.Program.{Program}
+use Rattle.argon2_commands.specs.declared.usage.Program.TheVariants.{Argon2, Tool}
 
 -- the status is that of the answer to the words' command, whose lines were written: the input's bytes
 -- before the run, and the output's before and after it, where they are known
@@ -31,7 +30,7 @@ pub record HasAnswer (program : Program) (words : List (List ℕ)) (input : Opti
   pub is_command : IsCommand program words command
   pub is_answer : IsAnswer command input answer
 
--- the words' command may be refused so, for the input's bytes, where they are known
+-- the words' command may fail so, for the input's bytes, where they are known
 pub record IsRefused (program : Program) (words : List (List ℕ)) (input : Option (List ℕ)) (refusal : Error) : Type 0 where
   pub command : Command
   pub is_command : IsCommand program words command
@@ -51,17 +50,22 @@ MayPrecede fault = (fault ≡ TooCostly) ⊎ ((fault ≡ Input) ⊎ ((fault ≡ 
 abbrev pub NeedNoInput : Program → List (List ℕ) → Type 0
 NeedNoInput program words = (command : Command) → IsCommand program words command → NeedsNoInput command
 
--- the most bytes that a run reads: one more than the longest password that its commands can accept
-abbrev pub most_read_by : Program → ℕ
-most_read_by Argon2 = max_length + 1
-most_read_by Tool = longest_password + 1
+-- the words are those of a command, and at most as many bytes of an input were read as it can need
+pub record ReadsFor (program : Program) (words : List (List ℕ)) (before after : Option (List ℕ)) : Type 0 where
+  pub command : Command
+  pub is_command : IsCommand program words command
+  pub stops : ReadsUpTo (most_read command) before after
+
+-- so it is, or the words are those of no command, and nothing was read
+abbrev pub Reads : Program → List (List ℕ) → Option (List ℕ) → Option (List ℕ) → Type 0
+Reads program words before after = ReadsFor program words before after ⊎ (IsNoCommand program words × Keeps before after)
 
 -- the statuses of a run are below this
 abbrev pub statuses_of : Program → ℕ
 statuses_of Argon2 = 5
 statuses_of Tool = 6
 
--- the words' command may be refused, and nothing was written; or it has an answer, and the output had no
+-- the words' command may fail, and nothing was written; or it has an answer, and the output had no
 -- memory to take all of it. A status does not say which of the two it was: a fault does
 abbrev pub IsShortOrRefused : Program → List (List ℕ) → Option (List ℕ) → Option (List ℕ) → Option (List ℕ) → Type 0
 IsShortOrRefused program words input before after =

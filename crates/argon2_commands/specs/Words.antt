@@ -11,8 +11,8 @@ use Rattle.argon2_standard.specs.declared.thread_mode.ThreadMode.{ThreadMode}
 use Rattle.argon2_standard.specs.declared.thread_mode.ThreadMode.TheVariants.{Sequential, Parallel, AtMost}
 use Rattle.argon2_commands.specs.declared.command.Command.{Command}
 use Rattle.argon2_commands.specs.declared.command.Command.TheVariants.{Hash, Verify, Rehash, New, Check}
-use Rattle.argon2_commands.specs.declared.command.Program.{Program}
-use Rattle.argon2_commands.specs.declared.command.Program.TheVariants.{Argon2, Tool}
+use Rattle.argon2_commands.specs.declared.usage.Program.{Program}
+use Rattle.argon2_commands.specs.declared.usage.Program.TheVariants.{Argon2, Tool}
 
 -- the bytes of each word
 abbrev pub texts_of : List (String Global) → List (List ℕ)
@@ -46,7 +46,7 @@ pub record AreSettings (words : List (List ℕ)) (config : Config) : Type 0 wher
   pub secret : config.secret.now ≡ []
   pub ad : config.ad.now ≡ []
 
--- ---- the words of `argon2`
+-- ---- the words of both programs
 
 -- hash VARIANT VERSION T M P LEN MODE SALT
 pub record IsHash (words : List (List ℕ)) (config : Config) (salt : List ℕ) : Type 0 where
@@ -70,7 +70,7 @@ pub record IsRehash (words : List (List ℕ)) (config : Config) (encoded : List 
   pub mode : config.thread_mode ≡ Sequential
   pub text : encoded ≡ word words 7
 
--- ---- the words of the tool
+-- ---- the words of the tool alone
 
 -- new VARIANT VERSION T M P LEN MODE DIGITS: the salt in hexadecimal, two digits of either case for each byte
 pub record IsNew (words : List (List ℕ)) (config : Config) (salt : List ℕ) : Type 0 where
@@ -86,7 +86,7 @@ pub record IsCheck (words : List (List ℕ)) (encoded : List ℕ) : Type 0 where
   pub name : word words 0 ≡ codes "check"
   pub text : encoded ≡ word words 1
 
--- ---- both
+-- ---- a program
 
 -- the words are those of the command, for the program
 abbrev pub IsCommand : Program → List (List ℕ) → Command → Type 0
@@ -95,9 +95,9 @@ IsCommand Argon2 words (Verify encoded) = IsVerify words encoded.now
 IsCommand Argon2 words (Rehash config encoded) = IsRehash words config encoded.now
 IsCommand Argon2 words (New config salt) = ⊥
 IsCommand Argon2 words (Check encoded) = ⊥
-IsCommand Tool words (Hash config salt) = ⊥
-IsCommand Tool words (Verify encoded) = ⊥
-IsCommand Tool words (Rehash config encoded) = ⊥
+IsCommand Tool words (Hash config salt) = IsHash words config salt.now
+IsCommand Tool words (Verify encoded) = IsVerify words encoded.now
+IsCommand Tool words (Rehash config encoded) = IsRehash words config encoded.now
 IsCommand Tool words (New config salt) = IsNew words config salt
 IsCommand Tool words (Check encoded) = IsCheck words encoded.now
 

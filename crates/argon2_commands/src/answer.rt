@@ -4,7 +4,7 @@ ghost use Rattle.std.specs.Prelude.{◌≡◌, [], IfErr, IfOk, IsNone, OnOk, le
 ghost use Rattle.std.specs.Io.KnownBytes.{Keeps};
 ghost use Rattle.argon2.specs.Standard.Limits.{is_too_costly};
 ghost use Rattle.argon2_standard.specs.Standard.Text.{spelled_of};
-ghost use Rattle.argon2_standard.specs.Standard.Outcome.{IsShortage};
+ghost use Rattle.argon2_standard.specs.Standard.Outcome.{IsResourceError};
 ghost use Rattle.argon2_standard.specs.Standard.ThreadModes.{may_lack_workers};
 ghost use Rattle.argon2_standard.specs.Standard.SettingsTable.{refusal_of};
 ghost use Rattle.argon2_commands.specs.Answer.{CheckAnswers, IsAnswer, IsRefusal, MayFail, NeedsNoInput, NewAnswers, NewFails, ReadsUpTo, answer_status, hash_lines, lines_of, most_read};
@@ -123,7 +123,7 @@ fn tag_lines<R: Threads + Wait + Sync>(
 ) -> argon2::Result<String>
     ensures lines { let c = context.now in
         IfOk result (λ lines. string_bytes lines ≡ hash_lines c.config c.salt.now c.pwd.now) }
-    ensures refused { IfErr result (IsShortage (may_lack_workers context.now.config)) }
+    ensures refused { IfErr result (IsResourceError (may_lack_workers context.now.config)) }
 {
     let mut memory = Memory::empty(alloc);
     let tag = tag(rt, alloc, context, &mut memory);

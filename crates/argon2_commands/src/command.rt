@@ -1,22 +1,15 @@
 //! The commands, and how they are read from the arguments.
 
-ghost use Rattle.std.specs.Prelude.{◌≡◌, ◌≤◌, ℕ, length, IfSome, IfNone, MatchOption};
-ghost use Rattle.argon2_standard.specs.declared.config.Config.{Config};
+ghost use Rattle.std.specs.Prelude.{◌≡◌, ◌<◌, ◌≤◌, length, IfErr, IfOk};
+ghost use Rattle.hex.specs.Hex.{decode_of};
 ghost use Rattle.argon2_standard.specs.declared.thread_mode.ThreadMode.{ThreadMode};
-ghost use Rattle.argon2_commands.specs.Words.{AreSettings, IsCommand, IsMode, IsNoCommand, IsNumber, texts_of};
+ghost use Rattle.argon2_commands.specs.Usage.{AreRight, Fits, IsUsageError, SettingsFit};
+ghost use Rattle.argon2_commands.specs.Words.{AreSettings, IsCommand, IsMode, IsNoCommand, IsNumber, texts_of, word};
+ghost use Rattle.argon2_commands.specs.declared.usage.Kind.TheVariants.{Digits, Mode, Number};
 
 use crate::salt::Salt;
+use crate::usage::{Name, Program, UsageError, mode_of, number_of};
 use argon2::{Config, ThreadMode, Variant, Version};
-
-/// A program, each with commands of its own.
-#[derive(Clone, Copy, Debug, Eq, PartialEq)]
-pub enum Program {
-    /// `argon2`: `hash`, `verify` and `rehash`.
-    Argon2,
-
-    /// The tool that the shell's script runs: `new` and `check`.
-    Tool,
-}
 
 /// What a program does.
 #[derive(Debug, Drop)]
@@ -54,96 +47,90 @@ pub enum Command<'a> {
 }
 
 impl<'a> Command<'a> {
-    /// A program's command of these arguments, those after its name; None if they are no command.
-    pub fn from_words(program: Program, words: &'a [String]) -> Option<Command<'a>>
-        ensures { MatchOption result (IsNoCommand program (texts_of words.now)) (IsCommand program
-            (texts_of words.now)) }
+    /// A program's command of these arguments, those after its name, or what is wrong with them.
+    pub fn from_words(program: Program, words: &'a [String]) -> Result<Command<'a>, UsageError>
+        ensures command { IfOk result (IsCommand program (texts_of words.now)) }
+        ensures usage { IfErr result (IsUsageError program (texts_of words.now)) }
+        ensures none { IfErr result (λ _. IsNoCommand program (texts_of words.now)) }
     {
-        match program {
-            Program::Argon2 => Command::of_argon2(words),
-            Program::Tool => Command::of_tool(words),
+        match UsageError::check(program, words) {
+            Ok(name) => Ok(Command::of_right(program, name, words)),
+            Err(error) => Err(error),
         }
     }
 
-    fn of_argon2(words: &'a [String]) -> Option<Command<'a>>
-        ensures { MatchOption result (IsNoCommand Program.Argon2 (texts_of words.now))
-            (IsCommand Program.Argon2 (texts_of words.now)) }
+    /// The command of arguments that are what they have to be.
+    fn of_right(program: Program, name: Name, words: &'a [String]) -> Command<'a>
+        requires { AreRight program (texts_of words.now) name }
+        ensures { IsCommand program (texts_of words.now) result }
     {
-        match words {
-            [name, _, _, _, _, _, _, mode, salt] if name.as_str() == "hash" => Some(
-                Command::Hash {
-                    config: settings_of(words, mode_of(mode.as_str())?)?,
-                    salt: salt.as_str(),
-                },
-            ),
-            [name, encoded] if name.as_str() == "verify" => Some(Command::Verify {
-                encoded: encoded.as_str(),
-            }),
-            [name, _, _, _, _, _, _, encoded] if name.as_str() == "rehash" => Some(
-                Command::Rehash {
-                    // Any mode would do, since `needs_rehash` looks at none.
-                    config: settings_of(words, ThreadMode::Sequential)?,
-                    encoded: encoded.as_str(),
-                },
-            ),
-            _ => None,
-        }
-    }
-
-    fn of_tool(words: &'a [String]) -> Option<Command<'a>>
-        ensures { MatchOption result (IsNoCommand Program.Tool (texts_of words.now))
-            (IsCommand Program.Tool (texts_of words.now)) }
-    {
-        match words {
-            [name, _, _, _, _, _, _, mode, digits] if name.as_str() == "new" => Some(
-                Command::New {
-                    config: settings_of(words, mode_of(mode.as_str())?)?,
-                    salt: Salt::from_digits(digits.as_str())?,
-                },
-            ),
-            [name, encoded] if name.as_str() == "check" => Some(Command::Check {
-                encoded: encoded.as_str(),
-            }),
-            _ => None,
+        match name {
+            Name::New => Command::New {
+                config: settings_at(words, mode_at(words)),
+                salt: salt_at(words),
+            },
+            Name::Check => Command::Check {
+                encoded: words[1].as_str(),
+            },
+            Name::Hash => Command::Hash {
+                config: settings_at(words, mode_at(words)),
+                salt: words[8].as_str(),
+            },
+            Name::Verify => Command::Verify {
+                encoded: words[1].as_str(),
+            },
+            Name::Rehash => Command::Rehash {
+                // Any mode would do, since `needs_rehash` looks at none.
+                config: settings_at(words, ThreadMode::Sequential),
+                encoded: words[7].as_str(),
+            },
         }
     }
 }
 
 /// The settings of the arguments `VARIANT VERSION T M P LEN`, which follow the command's name.
-fn settings_of<'a>(words: &[String], thread_mode: ThreadMode) -> Option<Config<'a>>
-    requires { 7 ≤ length words.now }
-    ensures settings { IfSome result (AreSettings (texts_of words.now)) }
-    ensures mode { IfSome result (λ config. config.thread_mode ≡ thread_mode) }
-    ensures none { IfNone result ((config : Config) → AreSettings (texts_of words.now) config → ⊥) }
+fn settings_at<'a>(words: &[String], thread_mode: ThreadMode) -> Config<'a>
+    requires count { 7 ≤ length words.now }
+    requires fit { SettingsFit (texts_of words.now) }
+    ensures settings { AreSettings (texts_of words.now) result }
+    ensures mode { result.thread_mode ≡ thread_mode }
 {
-    Some(Config {
+    Config {
         ad: &[],
-        hash_length: number_of(words[6].as_str())?,
-        lanes: number_of(words[5].as_str())?,
-        mem_cost: number_of(words[4].as_str())?,
+        hash_length: number_at(words, 6),
+        lanes: number_at(words, 5),
+        mem_cost: number_at(words, 4),
         secret: &[],
         thread_mode,
-        time_cost: number_of(words[3].as_str())?,
-        variant: Variant::from_str(words[1].as_str()).ok()?,
-        version: Version::from_str(words[2].as_str()).ok()?,
-    })
-}
-
-/// The mode of `seq`, `par`, or `max` followed at once by a number.
-fn mode_of(word: &str) -> Option<ThreadMode>
-    ensures { MatchOption result ((mode : ThreadMode) → IsMode word.now mode
-        → ⊥) (IsMode word.now) }
-{
-    match word {
-        "seq" => Some(ThreadMode::Sequential),
-        "par" => Some(ThreadMode::Parallel),
-        _ => Some(ThreadMode::AtMost(number_of(word.strip_prefix("max")?)?)),
+        time_cost: number_at(words, 3),
+        variant: Variant::from_str(words[1].as_str()).unwrap(),
+        version: Version::from_str(words[2].as_str()).unwrap(),
     }
 }
 
-/// The number that decimal digits write, with or without a plus in front.
-fn number_of(word: &str) -> Option<u32>
-    ensures { MatchOption result ((number : ℕ) → IsNumber word.now number → ⊥) (IsNumber word.now) }
+/// The mode of the argument `MODE`, which is one.
+fn mode_at(words: &[String]) -> ThreadMode
+    requires count { 7 < length words.now }
+    requires fits { Fits Mode (word (texts_of words.now) 7) }
+    ensures { IsMode (word (texts_of words.now) 7) result }
 {
-    word.parse::<u32>().ok()
+    mode_of(words[7].as_str()).unwrap()
+}
+
+/// The salt of the argument `DIGITS`, which are pairs.
+fn salt_at(words: &[String]) -> Salt<'_>
+    requires count { 8 < length words.now }
+    requires fits { Fits Digits (word (texts_of words.now) 8) }
+    ensures { decode_of (word (texts_of words.now) 8) ≡ Ok result }
+{
+    Salt::from_digits(words[8].as_str()).unwrap()
+}
+
+/// The number that the argument at a place writes, which is one.
+fn number_at(words: &[String], place: usize) -> u32
+    requires count { place < length words.now }
+    requires fits { Fits Number (word (texts_of words.now) place) }
+    ensures { IsNumber (word (texts_of words.now) place) result }
+{
+    number_of(words[place].as_str()).unwrap()
 }

@@ -10,13 +10,14 @@ mod password;
 mod program;
 mod runs;
 mod salt;
-pub mod tool;
+mod usage;
 
 pub use answer::Answer;
-pub use command::{Command, Program};
+pub use command::Command;
 pub use command_line::{CommandLine, OfProcess, arguments};
 pub use fault::Fault;
 pub use password::LONGEST_PASSWORD;
 pub use program::{run, start};
-pub use runs::attempt;
+pub use runs::{attempt, conclude};
 pub use salt::Salt;
+pub use usage::{Kind, Name, Program, UsageError};

@@ -1,18 +1,16 @@
-//! The program `argon2` over any input and outputs.
+//! Both programs over any input and outputs.
 
-ghost use Rattle.std.specs.Prelude.{◌≡◌, ◌<◌, ◌+◌, ◌↔◌, ◌⊎◌};
+ghost use Rattle.std.specs.Prelude.{◌≡◌, ◌<◌, ◌↔◌, ◌⊎◌};
 ghost use Rattle.std.specs.Process.{exit_status};
 ghost use Rattle.std.specs.Io.KnownBytes.{Keeps};
-ghost use Rattle.argon2_standard.specs.Standard.SettingsTable.{max_length};
-ghost use Rattle.argon2_commands.specs.Answer.{ReadsUpTo};
 ghost use Rattle.argon2_commands.specs.CommandLine.{HasNoText};
-ghost use Rattle.argon2_commands.specs.Run.{Answered, HasAnswer, IsShortOrRefused, NeedNoInput, OfWords};
+ghost use Rattle.argon2_commands.specs.Run.{Answered, AreTooCostly, HasAnswer, IsShortOrRefused, NeedNoInput, OfWords, Reads, statuses_of};
 ghost use Rattle.argon2_commands.specs.Words.{IsNoCommand, texts_of};
-ghost use Rattle.argon2_commands.specs.declared.command.Program.TheVariants.{Argon2};
+ghost use Rattle.argon2_commands.specs.declared.usage.Program.TheVariants.{Argon2};
 
-use crate::command::Program;
 use crate::command_line::{CommandLine, arguments};
 use crate::runs::conclude;
+use crate::usage::{Program, tell};
 use argon2::parts::memory::wipe_stack;
 use std::alloc::Global;
 use std::io::{Read, Write};
@@ -21,24 +19,27 @@ use std::process::ExitCode;
 use std::sync::Wait;
 use std::thread::Threads;
 
-/// Runs the program on a command line, and ends with the run's status. Arguments that are not UTF-8
+/// Runs a program on a command line, and ends with the run's status. Arguments that are not UTF-8
 /// are those of no command.
 pub fn start<R: Threads + Wait + Sync, L: CommandLine, I: Read, O: Write, E: Write>(
     rt: &R,
     alloc: Global,
+    program: Program,
     line: &L,
     input: &mut I,
     output: &mut O,
     errors: &mut E,
 ) -> ExitCode
-    ensures bounded { exit_status result < 5 }
+    ensures bounded { exit_status result < statuses_of program }
     ensures answered { exit_status result < 2 → OfWords (L.arguments line.now) (λ words.
-        Answered Argon2 words (I.remaining input.old) (O.contents output.old) (O.contents output.new)
+        Answered program words (I.remaining input.old) (O.contents output.old) (O.contents output.new)
         (exit_status result)) }
     ensures usage { exit_status result ≡ 3 → HasNoText (L.arguments line.now)
-        ⊎ OfWords (L.arguments line.now) (IsNoCommand Argon2) }
+        ⊎ OfWords (L.arguments line.now) (IsNoCommand program) }
     ensures refused { exit_status result ≡ 2 → Keeps (O.contents output.old) (O.contents output.new)
-        ⊎ OfWords (L.arguments line.now) (λ words. HasAnswer Argon2 words (I.remaining input.old)) }
+        ⊎ OfWords (L.arguments line.now) (λ words. HasAnswer program words (I.remaining input.old)) }
+    ensures costly { exit_status result ≡ 5 → Keeps (O.contents output.old) (O.contents output.new)
+        × OfWords (L.arguments line.now) (AreTooCostly program) }
     ensures unwritten { exit_status result ≡ 3
         → Keeps (O.contents output.old) (O.contents output.new) }
     ensures silent { exit_status result < 2
@@ -46,9 +47,9 @@ pub fn start<R: Threads + Wait + Sync, L: CommandLine, I: Read, O: Write, E: Wri
 {
     let words = match arguments(line, alloc) {
         Ok(words) => words,
-        Err(fault) => return ExitCode::from(fault.report(errors)),
+        Err(fault) => return ExitCode::from(tell(program, None, &fault, errors)),
     };
-    let status = run(rt, alloc, words.as_slice(), input, output, errors);
+    let status = conclude(rt, alloc, program, words.as_slice(), input, output, errors);
     wipe_stack();
     ExitCode::from(status)
 }
@@ -69,8 +70,6 @@ pub fn start<R: Threads + Wait + Sync, L: CommandLine, I: Read, O: Write, E: Wri
 /// line is the message of `OutOfMemory`. Faults are reported in the order arguments, input, call,
 /// output, only the first one, and nothing is written to `output` before the result is whole.
 /// Behind the first byte that makes a password too long for every call, the input is not read on.
-// Its frames have H0. It is never inlined, so that `start` may overwrite them.
-#[inline(never)]
 pub fn run<R: Threads + Wait + Sync, I: Read, O: Write, E: Write>(
     rt: &R,
     alloc: Global,
@@ -86,7 +85,7 @@ pub fn run<R: Threads + Wait + Sync, I: Read, O: Write, E: Write>(
     ensures refused { result ≡ 2 → IsShortOrRefused Argon2 (texts_of words.now) (I.remaining input.old)
         (O.contents output.old) (O.contents output.new) }
     ensures unwritten { result ≡ 3 → Keeps (O.contents output.old) (O.contents output.new) }
-    ensures stops { ReadsUpTo (max_length + 1) (I.remaining input.old) (I.remaining input.new) }
+    ensures stops { Reads Argon2 (texts_of words.now) (I.remaining input.old) (I.remaining input.new) }
     ensures unread { NeedNoInput Argon2 (texts_of words.now)
         → Keeps (I.remaining input.old) (I.remaining input.new) }
     ensures silent { result < 2 → Keeps (E.contents errors.old) (E.contents errors.new) }

@@ -1,16 +1,16 @@
 //! A run of either program over any input and outputs.
 
-ghost use Rattle.std.specs.Prelude.{◌≡◌, ◌≢◌, ◌<◌, ◌↔◌, IfErr, IfOk, IsErrAnd, OnOk};
+ghost use Rattle.std.specs.Prelude.{◌≡◌, ◌≢◌, ◌<◌, ◌↔◌, IfErr, IfOk, IsErrAnd, MatchResult, OnOk};
 ghost use Rattle.std.specs.Io.KnownBytes.{Appends, Keeps};
 ghost use Rattle.argon2_standard.specs.declared.error.Error.{Error};
-ghost use Rattle.argon2_commands.specs.Answer.{ReadsUpTo};
 ghost use Rattle.argon2_commands.specs.Fault.{IsBeforeOutput};
-ghost use Rattle.argon2_commands.specs.Run.{Answered, AreTooCostly, HasAnswer, IsRefused, IsShortOrRefused, MayPrecede, NeedNoInput, most_read_by, statuses_of};
-ghost use Rattle.argon2_commands.specs.Words.{IsNoCommand, texts_of};
+ghost use Rattle.argon2_commands.specs.Run.{Answered, AreTooCostly, HasAnswer, IsRefused, IsShortOrRefused, MayPrecede, NeedNoInput, Reads, statuses_of};
+ghost use Rattle.argon2_commands.specs.Words.{IsCommand, IsNoCommand, texts_of};
 
 use crate::answer::Answer;
-use crate::command::{Command, Program};
+use crate::command::Command;
 use crate::fault::Fault;
+use crate::usage::{Program, tell};
 use std::alloc::Global;
 use std::io;
 use std::io::{Read, Write};
@@ -20,7 +20,22 @@ use std::thread::Threads;
 
 /// Does what the arguments of a program say, and returns the exit status. If the attempt fails, it
 /// writes the fault's line.
-pub(crate) fn conclude<R: Threads + Wait + Sync, I: Read, O: Write, E: Write>(
+///
+/// Those of the tool are `hash`, `verify` and `rehash`, as for `run`, and these two:
+///
+/// | Arguments | Output |
+/// |---|---|
+/// | `new VARIANT VERSION T M P LEN MODE DIGITS` | the tag in lower-case hexadecimal and the encoded hash, a line each |
+/// | `check TEXT` | `true` or `false`: whether the input is the password of the encoded hash |
+///
+/// Their salt is given in hexadecimal digits, two of either case a byte. The password is all of
+/// `input`, and at most 65536 bytes; a longer one is rejected as too long before the call. A hash
+/// above the default limits is not checked, and none is made with settings above them: status 5,
+/// and a line on `errors`. All else is as for `run`, but a second line may say more of an error:
+/// of a usage error, which argument is wrong.
+// Its frames have H0. It is never inlined, so that `start` may overwrite them.
+#[inline(never)]
+pub fn conclude<R: Threads + Wait + Sync, I: Read, O: Write, E: Write>(
     rt: &R,
     alloc: Global,
     program: Program,
@@ -39,7 +54,7 @@ pub(crate) fn conclude<R: Threads + Wait + Sync, I: Read, O: Write, E: Write>(
         × AreTooCostly program (texts_of words.now) }
     ensures judged { AreTooCostly program (texts_of words.now) → 1 < result }
     ensures unwritten { result ≡ 3 → Keeps (O.contents output.old) (O.contents output.new) }
-    ensures stops { ReadsUpTo (most_read_by program) (I.remaining input.old)
+    ensures stops { Reads program (texts_of words.now) (I.remaining input.old)
         (I.remaining input.new) }
     ensures unread { NeedNoInput program (texts_of words.now)
         → Keeps (I.remaining input.old) (I.remaining input.new) }
@@ -47,7 +62,7 @@ pub(crate) fn conclude<R: Threads + Wait + Sync, I: Read, O: Write, E: Write>(
 {
     match attempt(rt, alloc, program, words, input, output) {
         Ok(status) => status,
-        Err(fault) => fault.report(errors),
+        Err(fault) => tell(program, Some(words), &fault, errors),
     }
 }
 
@@ -75,16 +90,26 @@ pub fn attempt<R: Threads + Wait + Sync, I: Read, O: Write>(
         → HasAnswer program (texts_of words.now) (I.remaining input.old)) }
     ensures unwritten { IfErr result (λ fault. IsBeforeOutput fault
         → Keeps (O.contents output.old) (O.contents output.new)) }
-    ensures stops { ReadsUpTo (most_read_by program) (I.remaining input.old)
+    ensures stops { Reads program (texts_of words.now) (I.remaining input.old)
         (I.remaining input.new) }
     ensures unread { NeedNoInput program (texts_of words.now)
         → Keeps (I.remaining input.old) (I.remaining input.new) }
 {
-    let command = Command::from_words(program, words).ok_or(Fault::Usage)?;
+    let command = command_of(program, words)?;
     let answer = Answer::to(rt, alloc, &command, input)?;
     match write_lines(output, answer.lines()) {
         Ok(()) => Ok(answer.status()),
         Err(error) => Err(Fault::of_stream(&error, Fault::OutputShort, Fault::Output)),
+    }
+}
+
+fn command_of(program: Program, words: &[String]) -> Result<Command<'_>, Fault>
+    ensures { MatchResult result (IsCommand program (texts_of words.now)) (λ fault.
+        IsNoCommand program (texts_of words.now) × (fault ≡ Fault.Usage)) }
+{
+    match Command::from_words(program, words) {
+        Ok(command) => Ok(command),
+        Err(_) => Err(Fault::Usage),
     }
 }
 

@@ -1,9 +1,8 @@
 //! Passwords that are hashed with a key of the service.
 
 ghost use Rattle.std.specs.Prelude.{◌≡◌, nat_lt};
-ghost use Rattle.argon2_standard.specs.declared.config.Config.{Config};
 ghost use Rattle.argon2_standard.specs.Standard.Grammar.{Spells, SpellsNothing};
-ghost use Rattle.argon2_standard.specs.Standard.Stored.{IsStoredConfig};
+ghost use Rattle.argon2_standard.specs.Standard.Decoded.{decoded_config};
 ghost use Rattle.argon2_standard.specs.Standard.Outcome.{IsVerdict};
 ghost use Rattle.argon2_standard.specs.Standard.Text.{Spelled};
 
@@ -23,9 +22,8 @@ pub fn log_in_with_pepper<R: Threads + Wait + Sync>(
     user: &[u8],
 ) -> Result<bool>
     ensures unspelled { SpellsNothing kept.now → result ≡ Err Error.DecodingFail }
-    ensures spelled { (d : Spelled) (config : Config) → Spells kept.now d
-        → IsStoredConfig d pepper.now user.now config
-        → IsVerdict password.now d.salt d.hash config (nat_lt 1 d.parallelism) result }
+    ensures spelled { (d : Spelled) → Spells kept.now d → IsVerdict password.now d.salt d.hash
+        (decoded_config d pepper.entry user.entry) (nat_lt 1 d.parallelism) result }
 {
     verify_encoded_ext(rt, alloc, kept, password, pepper, user)
 }

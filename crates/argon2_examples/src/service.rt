@@ -1,10 +1,10 @@
 //! What a login service does with its users' passwords.
 
-ghost use Rattle.std.specs.Prelude.{◌≡◌, [], IfOk, MatchOption, nat_lt};
+ghost use Rattle.std.specs.Prelude.{◌≡◌, ℕ, List, [], IfOk, MatchOption, nat_lt};
+ghost use Rattle.std.specs.Borrow.{Bor};
 ghost use Rattle.std.specs.String.{string_bytes};
-ghost use Rattle.argon2_standard.specs.declared.config.Config.{Config};
 ghost use Rattle.argon2_standard.specs.Standard.Grammar.{Spells, SpellsNothing};
-ghost use Rattle.argon2_standard.specs.Standard.Stored.{Differs, IsStoredConfig};
+ghost use Rattle.argon2_standard.specs.Standard.Decoded.{Differs, decoded_config};
 ghost use Rattle.argon2_standard.specs.Standard.Text.{Spelled};
 ghost use Rattle.argon2_standard.specs.Standard.Outcome.{IsVerdict};
 ghost use Rattle.argon2.specs.Standard.Limits.{AnswersWithin, is_too_costly};
@@ -44,10 +44,11 @@ pub fn log_in<R: Threads + Wait + Sync>(
     password: &[u8],
 ) -> Result<bool, Unverified>
     ensures unspelled { SpellsNothing kept.now → result ≡ Err (Refused Error.DecodingFail) }
-    ensures spelled { (d : Spelled) (config : Config) → Spells kept.now d
-        → IsStoredConfig d [] [] config
+    ensures spelled { (d : Spelled) (none : Bor (List ℕ)) → none.now ≡ []
+        → Spells kept.now d
         → AnswersWithin (is_too_costly default_limits d)
-        (IsVerdict password.now d.salt d.hash config (nat_lt 1 d.parallelism)) result }
+        (IsVerdict password.now d.salt d.hash (decoded_config d none none)
+        (nat_lt 1 d.parallelism)) result }
 {
     let limits = Limits::default();
     verify_encoded_within(rt, alloc, kept, password, &[], &[], &limits)

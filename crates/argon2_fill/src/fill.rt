@@ -1,7 +1,7 @@
 //! The stages of a hash: a memory, the first blocks of each lane, the fill of all slices, the tag.
 
 ghost use Rattle.std.specs.Prelude.{◌≡◌, ℕ, ◌+◌, ◌-◌, ◌*◌, ◌%◌, ◌^◌, ◌<◌, ◌≤◌, ◌++◌, [], IfErr, IfOk, IsOk, OnErr, OnOk, false, length, true, vec_len};
-ghost use Rattle.argon2_standard.specs.Standard.Outcome.{IsShortage};
+ghost use Rattle.argon2_standard.specs.Standard.Outcome.{IsResourceError};
 ghost use Rattle.argon2_standard.specs.Standard.ThreadModes.{may_lack_workers, uses_sequential};
 ghost use Rattle.argon2_memory.specs.Views.Jobs.{setting_of_context};
 ghost use Rattle.argon2_memory.specs.Standard.Kept.{HasShape, HoldsFill, HoldsLastPass, IsLeft, block_of, no_memory};
@@ -227,7 +227,7 @@ pub fn fill_memory_blocks<R: Threads + Wait + Sync>(
         (block_of memory.new)) }
     ensures left { OnErr result (memory.new ≡ no_memory) }
     ensures alone { uses_sequential context.now.config ≡ true → IsOk result }
-    ensures refused { IfErr result (IsShortage (may_lack_workers context.now.config)) }
+    ensures refused { IfErr result (IsResourceError (may_lack_workers context.now.config)) }
 {
     if context.config.uses_sequential() {
         fill_sequential(context, memory);
@@ -305,7 +305,7 @@ pub fn tag<R: Threads + Wait + Sync>(
     ensures filled { OnOk result (HoldsFill (setting_of_context context.now) memory.new) }
     ensures left { OnErr result (IsLeft (may_lack_workers context.now.config)
         (setting_of_context context.now) memory.old memory.new) }
-    ensures refused { IfErr result (IsShortage (may_lack_workers context.now.config)) }
+    ensures refused { IfErr result (IsResourceError (may_lack_workers context.now.config)) }
 {
     prepare_memory(alloc, context, memory)?;
     initialize(context, memory);
@@ -322,7 +322,7 @@ pub fn tag_sequential(alloc: Global, context: &Context<'_>, memory: &mut Memory)
     ensures filled { OnOk result (HoldsFill (setting_of_context context.now) memory.new) }
     ensures left { OnErr result (IsLeft false (setting_of_context context.now)
         memory.old memory.new) }
-    ensures refused { IfErr result (IsShortage false) }
+    ensures refused { IfErr result (IsResourceError false) }
 {
     prepare_memory(alloc, context, memory)?;
     initialize(context, memory);

@@ -1,4 +1,4 @@
-//! Laws of the definitions that contracts cite.
+//! Theorems about the definitions that contracts cite.
 
 ghost use Rattle.argon2_fill.specs.Laws.Lanes.{EveryRunOfLanesAgrees};
 

@@ -3,7 +3,7 @@
 
 ghost use Rattle.std.specs.Prelude.{◌≡◌, ◌+◌, ◌*◌, ◌^◌, ◌<◌, [], IfErr, IfOk, OnErr, OnOk, replicate, slice_set, true};
 ghost use Rattle.std.specs.List.{remove};
-ghost use Rattle.argon2_standard.specs.Standard.Outcome.{IsShortage};
+ghost use Rattle.argon2_standard.specs.Standard.Outcome.{IsResourceError};
 ghost use Rattle.argon2_standard.specs.Views.Presets.{workers_of};
 ghost use Rattle.argon2_memory.specs.Views.Jobs.{setting_of_context};
 ghost use Rattle.argon2_fill.specs.Views.Boards.{NoneOut};
@@ -79,7 +79,7 @@ fn fill_slice_by_workers<R: Threads + Wait + Sync, G: Gate, P: Permit>(
     ensures filled { OnOk result (AreFilledBelow job.now.setting job.now.pass (job.now.slice + 1)
         (places_in (segments_of slices.new))) }
     ensures permitted { OnOk result (PermitsAll (P.permits permit.now) first workers) }
-    ensures refused { IfErr result (IsShortage true) }
+    ensures refused { IfErr result (IsResourceError true) }
 {
     let slice = job.slice();
     // All memory is allocated here, so that no allocation fails while workers run.
@@ -110,7 +110,7 @@ pub fn fill_parallel<R: Threads + Wait + Sync, G: Gate>(
     ensures filled { OnOk result (HoldsLastPass (setting_of_context context.now)
         (block_of memory.new)) }
     ensures left { OnErr result (memory.new ≡ no_memory) }
-    ensures refused { IfErr result (IsShortage true) }
+    ensures refused { IfErr result (IsResourceError true) }
 {
     fill_parallel_with(rt, alloc, context, memory, gate, &AllPermitted)
 }
@@ -134,7 +134,7 @@ pub fn fill_parallel_with<R: Threads + Wait + Sync, G: Gate, P: Permit>(
     ensures permitted { OnOk result (PermitsAll (P.permits permit.now) 0
         (4 * context.now.config.time_cost * workers_of context.now.config)) }
     ensures left { OnErr result (memory.new ≡ no_memory) }
-    ensures refused { IfErr result (IsShortage true) }
+    ensures refused { IfErr result (IsResourceError true) }
 {
     recall_context(context);
     recall_workers(context);

@@ -1,4 +1,4 @@
--- The definitions of RFC 9106 above its hashes and its compression, and then those of the text, in the
+-- The definitions of RFC 9106 above its hashes and its compression, and then those of encoded hashes, in the
 -- order in which to read them. With those of `argon2_blocks` they are all that tags, verdicts and strings rest on.
 pub mod Variant
 pub mod Version
@@ -12,4 +12,4 @@ pub mod ThreadModes
 pub mod Outcome
 pub mod Text
 pub mod Grammar
-pub mod Stored
+pub mod Decoded

@@ -84,6 +84,7 @@ impl Error {
         ensures { result.now ≡ message_of self.now }
     {
         match *self {
+            // messages, by .ci/pages/presets
             Error::OutputTooShort => "Output is too short",
             Error::OutputTooLong => "Output is too long",
             Error::PwdTooShort => "Password is too short",
@@ -105,6 +106,7 @@ impl Error {
             Error::DecodingFail => "Decoding failed",
             Error::OutOfMemory => "Out of memory",
             Error::WorkerRefused => "A worker was refused",
+            // end
         }
     }
 }

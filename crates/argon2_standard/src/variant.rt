@@ -1,7 +1,7 @@
 //! The variants of Argon2, their names and their numbers.
 
 ghost use Rattle.std.specs.Prelude.{◌≡◌, MatchResult, Some};
-ghost use Rattle.argon2_standard.specs.Standard.Variant.{IsName, lowercase_name, uppercase_name, variant_number};
+ghost use Rattle.argon2_standard.specs.Standard.Variant.{IsName, lowercase_name, capitalised_name, variant_number};
 ghost use Rattle.argon2_standard.specs.Views.Names.{IsNoName, IsNoVariantNumber};
 ghost use Rattle.argon2_standard.specs.declared.variant.Variant.{Variant};
 
@@ -38,7 +38,7 @@ impl Variant {
 
     /// The name with a capital.
     pub fn as_uppercase_str(&self) -> &'static str
-        ensures { result.now ≡ uppercase_name self.now }
+        ensures { result.now ≡ capitalised_name self.now }
     {
         match *self {
             Variant::Argon2d => "Argon2d",

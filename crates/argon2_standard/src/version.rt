@@ -30,7 +30,7 @@ impl Version {
     }
 
     /// The version of the string `16` or `19`. Any other string is `DecodingFail`.
-    #[tactic(auto, using(crate::proofs::Versions::decimal_of_version))]
+    #[tactic(auto, using(crate::proofs::Versions::version_in_digits))]
     pub fn from_str(number: &str) -> Result<Version>
         ensures read { MatchResult result (λ version. number.now ≡ version_text version)
             (λ e. (e ≡ Error.DecodingFail) × IsNoVersionText number.now) }

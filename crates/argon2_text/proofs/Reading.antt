@@ -1,4 +1,4 @@
--- Reading a text, from cutting it to its value.
+-- Reading a string, from cutting it to its value.
 pub mod TextCuts
 pub mod TextHeads
 pub mod TextItems

@@ -1,4 +1,4 @@
--- How a text is written, and how long it is.
+-- How a string is written, and how long it is.
 pub mod Placing
 pub mod TextBytes
 pub mod TextLengths

@@ -1,8 +1,8 @@
-//! The tool that the shell's script runs: makes and checks hashes of passwords within limits.
+//! The tool that the shell's script runs: the commands of `argon2`, and those for passwords, within
+//! limits.
 #![tactic(auto)]
 
-pub use argon2_commands::tool::{run, start};
-pub use argon2_commands::{Answer, Command, CommandLine, Fault, OfProcess};
+pub use argon2_commands::{Answer, Command, CommandLine, Fault, OfProcess, Program, start};
 use std::process::ExitCode;
 
 /// Runs the tool on the process's arguments and its three standard streams.
@@ -10,6 +10,7 @@ fn main(rt: HostRuntime) -> ExitCode {
     start(
         &rt,
         rt.alloc(),
+        Program::Tool,
         &OfProcess(&rt),
         &mut rt.stdin(),
         &mut rt.stdout(),

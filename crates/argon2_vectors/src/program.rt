@@ -18,7 +18,7 @@
 use crate::streams::{Broken, FailsOnce, Full, Started, WithoutMemory};
 use crate::words::{Words, bytes_of, repeated};
 use anyhow::Result;
-use argon2_commands::{Fault, OfProcess, Program, arguments, run, start, tool};
+use argon2_commands::{Fault, OfProcess, Program, arguments, conclude, run, start};
 use std::alloc::Global;
 use std::io::{ErrorKind, Read, Write};
 use std::marker::Sync;
@@ -63,7 +63,7 @@ fn run_of<R: Threads + Wait + Sync, I: Read, O: Write, E: Write>(
 ) -> u8 {
     match program {
         Program::Argon2 => run(rt, alloc, words, input, output, errors),
-        Program::Tool => tool::run(rt, alloc, words, input, output, errors),
+        Program::Tool => conclude(rt, alloc, program, words, input, output, errors),
     }
 }
 
@@ -219,10 +219,15 @@ fn started<R: Threads + Wait + Sync>(
     let mut written = Vec::new(alloc);
     let mut errors = Vec::new(alloc);
     let line = OfProcess(&started);
-    match program {
-        Program::Argon2 => start(rt, alloc, &line, &mut input, &mut written, &mut errors),
-        Program::Tool => tool::start(rt, alloc, &line, &mut input, &mut written, &mut errors),
-    };
+    start(
+        rt,
+        alloc,
+        program,
+        &line,
+        &mut input,
+        &mut written,
+        &mut errors,
+    );
     let written = String::from_utf8(written)?;
     let errors = String::from_utf8(errors)?;
     Ok(format!(in alloc; "{written:?} {errors:?}")?)

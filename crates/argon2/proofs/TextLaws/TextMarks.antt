@@ -1,4 +1,4 @@
--- A text with a spelled head holds four or five `$`, the first at its front.
+-- A string with a decoded head holds four or five `$`, the first at its front.
 use Rattle.std.proofs.Common.{◌≡◌, ℕ, ◌+◌, ◌==◌, cond, ◌⊎◌, List, [], ◌∷◌, ◌++◌, Option, Some, None, refl, ap, ◌∙◌, arith, inl, inr, zero-add}
 use Rattle.std.specs.Prelude.{codes, count_by, IfSome}
 use Rattle.std.proofs.lemmas.Bool.{ne_eqb}
@@ -9,11 +9,11 @@ use Rattle.argon2_text.proofs.Reading.TextNumbers.{number_lacks}
 use Rattle.argon2_text.proofs.Reading.TextHeads.{head_clean, split_of}
 use Rattle.argon2_text.proofs.Reading.TextPieces.{IsClean}
 
--- how many `$` stand in a text
+-- how many `$` stand in a string
 abbrev marks : List ℕ → ℕ
 marks text = count_by (λ b. b == 36) text
 
--- a text that lacks `$` has none of them
+-- a string that lacks `$` has none of them
 marks_none : (text : List ℕ) → Lacks 36 text → marks text ≡ 0
 marks_none [] lacks = refl
 marks_none (b ∷ text) lacks = rw (sum_by-cons (λ x. cond (x == 36) 1 0) b text, ne_eqb b 36 lacks.0, zero-add) (marks_none text lacks.1)
@@ -38,19 +38,19 @@ behind p =
     p.name ++ version_part p.version ++ codes "$m=" ++ p.memory ++ codes ",t=" ++ p.time ++ codes ",p=" ++ p.lanes
     ++ codes "$" ++ p.salt ++ codes "$" ++ p.hash
 
--- the text of some pieces is a `$` and what stands behind it
+-- the string of some pieces is a `$` and what stands behind it
 joined-behind : (p : Pieces) → text_of_pieces p ≡ 36 ∷ behind p
 unfolding text_of_pieces
 joined-behind p = refl
 
--- the text of clean pieces holds four `$` and those of its version part
+-- the string of clean pieces holds four `$` and those of its version part
 marks-joined : (p : Pieces) → IsClean p → Lacks 36 p.memory → Lacks 36 p.time → Lacks 36 p.hash → marks (text_of_pieces p) ≡ 4 + marks (version_part p.version)
 unfolding text_of_pieces
 marks-joined p clean memory time hash =
     marks_between p.name (version_part p.version) p.memory p.time p.lanes p.salt p.hash (marks_none p.name clean.name) (marks_none p.memory memory)
     (marks_none p.time time) (marks_none p.lanes clean.lanes) (marks_none p.salt clean.salt) (marks_none p.hash hash)
 
--- a text with a spelled head begins with a `$` and holds four or five of them
+-- a string with a decoded head begins with a `$` and holds four or five of them
 pub head_has_items : HeadHasItems
 head_has_items text (p, d, cut, head) =
     let clean = head_clean text p d (split_of text p cut) head in

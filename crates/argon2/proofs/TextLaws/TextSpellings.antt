@@ -1,10 +1,11 @@
--- A text spells at most one value.
+-- A string decodes to at most one value.
 use Rattle.std.proofs.Common.{◌≡◌, ℕ, ◌+◌, List, get_or, Option, Some, None, refl, sym, ap, subst, ◌∙◌, arith, inl, inr}
+use Rattle.std.specs.Fmt.{digits}
 use Rattle.argon2_standard.specs.declared.variant.Variant.{Variant}
 use Rattle.argon2_standard.specs.declared.variant.Variant.TheVariants.{Argon2d, Argon2i, Argon2id}
 use Rattle.argon2_standard.specs.declared.version.Version.{Version}
 use Rattle.argon2_standard.specs.declared.version.Version.TheVariants.{Version10, Version13}
-use Rattle.argon2_standard.specs.Standard.Variant.{IsName, lowercase_name, uppercase_name}
+use Rattle.argon2_standard.specs.Standard.Variant.{IsName, lowercase_name, capitalised_name}
 use Rattle.argon2_standard.specs.Standard.Version.{version_text}
 use Rattle.argon2_standard.specs.Standard.Text.{Spelled}
 use Rattle.argon2_standard.specs.Standard.Grammar.{IsHead, IsItem, IsVersion, Pieces}
@@ -30,15 +31,15 @@ lowercase-ending Argon2i = refl
 lowercase-ending Argon2id = refl
 
 -- the uppercase name of a variant has the variant's ending
-uppercase-ending : (v : Variant) → ending (uppercase_name v) ≡ ending_of v
-uppercase-ending Argon2d = refl
-uppercase-ending Argon2i = refl
-uppercase-ending Argon2id = refl
+capitalised-ending : (v : Variant) → ending (capitalised_name v) ≡ ending_of v
+capitalised-ending Argon2d = refl
+capitalised-ending Argon2i = refl
+capitalised-ending Argon2id = refl
 
 -- any name of a variant has the variant's ending
 name-ending : (name : List ℕ) (v : Variant) → IsName name v → ending name ≡ ending_of v
 name-ending name v (inl e) = ap ending e ∙ lowercase-ending v
-name-ending name v (inr e) = ap ending e ∙ uppercase-ending v
+name-ending name v (inr e) = ap ending e ∙ capitalised-ending v
 
 -- variants with the same ending are the same
 ending_of_unique : (v w : Variant) → ending_of v ≡ ending_of w → v ≡ w
@@ -52,7 +53,7 @@ ending_of_unique Argon2id Argon2d e = absurd (omega arith)
 ending_of_unique Argon2id Argon2i e = absurd (omega arith)
 ending_of_unique Argon2id Argon2id e = refl
 
--- a text is the name of at most one variant
+-- a string is the name of at most one variant
 name_unique : (name : List ℕ) (v w : Variant) → IsName name v → IsName name w → v ≡ w
 name_unique name v w a b = ending_of_unique v w (sym (name-ending name v a) ∙ name-ending name w b)
 
@@ -62,6 +63,7 @@ last_digit number = get_or number 1 0
 
 -- versions that are written as the same number are the same
 version_text_unique : (v w : Version) → version_text v ≡ version_text w → v ≡ w
+unfolding digits
 version_text_unique Version10 Version10 e = refl
 version_text_unique Version10 Version13 e = let digits : last_digit (version_text Version10) ≡ last_digit
     (version_text Version13) = ap last_digit e in absurd (omega arith)
@@ -74,12 +76,12 @@ version_unique : (piece : Option (List ℕ)) (v w : Version) → IsVersion piece
 version_unique None v w a b = a ∙ sym b
 version_unique (Some number) v w a b = version_text_unique v w (sym a ∙ b)
 
--- the spelled value with these fields
+-- the decoded value with these fields
 abbrev record_of : Variant → Version → ℕ → ℕ → ℕ → List ℕ → List ℕ → Spelled
 record_of variant version mem_cost time_cost parallelism salt hash =
     record { variant = variant; version = version; mem_cost = mem_cost; time_cost = time_cost; parallelism = parallelism; salt = salt; hash = hash }
 
--- spelled values that agree in every field are the same
+-- decoded values that agree in every field are the same
 same_value : (d e : Spelled) → d.variant ≡ e.variant → d.version ≡ e.version → d.mem_cost ≡ e.mem_cost → d.time_cost ≡ e.time_cost
     → d.parallelism ≡ e.parallelism → d.salt ≡ e.salt → d.hash ≡ e.hash → d ≡ e
 same_value d e variant version mem_cost time_cost parallelism salt hash =
@@ -88,7 +90,7 @@ same_value d e variant version mem_cost time_cost parallelism salt hash =
     (variant, version, mem_cost, time_cost, parallelism, salt, hash) refl in
     made
 
--- a text spells at most one value
+-- a string decodes to at most one value
 pub spells_one : SpellsOne
 spells_one text d e s t =
     let same : s.pieces ≡ t.pieces = pieces_unique text s.pieces t.pieces d e (split_of text s.pieces s.cut) s.head (split_of text t.pieces t.cut) t.head in

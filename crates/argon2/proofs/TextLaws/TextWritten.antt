@@ -1,4 +1,4 @@
--- What a written text spells, and the same text in other words.
+-- What an encoded hash decodes to, and the same string in other words.
 use Rattle.std.proofs.Common.{◌≡◌, ℕ, zero, suc, ◌<◌, ◌^◌, true, List, [], ◌∷◌, ◌++◌, Some, None, refl, append_assoc, arith, rules, inl, inr}
 use Rattle.std.specs.Prelude.{codes, nat_lt}
 use Rattle.std.specs.Fmt.{decimal}
@@ -10,19 +10,21 @@ use Rattle.base64.specs.Rfc4648.{encode_symbols}
 use Rattle.base64.specs.GeneralPurpose.{IsBytes}
 use Rattle.argon2_standard.specs.Standard.Variant.{lowercase_name}
 use Rattle.argon2_standard.specs.Standard.Version.{version_text}
+use Rattle.argon2_standard.proofs.Versions.{version_in_digits}
+use Rattle.argon2_standard.specs.declared.version.Version.TheVariants.{Version10}
 use Rattle.argon2_standard.specs.Standard.Text.{Spelled, base64, text_of}
 use Rattle.argon2_standard.specs.Standard.Grammar.{IsNumber, Pieces, text_of_pieces}
 use Rattle.argon2.specs.Laws.Texts.{IsJoinedItems, SpellsExample, SpellsOwnValue, WritesExample, example_value}
 use Rattle.argon2_text.proofs.Reading.TextItems.{base64_lacks}
 use Rattle.argon2_text.proofs.Reading.TextCuts.{any_lacks}
 
--- the decimal of a number below 2 ^ 32 spells that number
+-- the decimal of a number below 2 ^ 32 decodes to that number
 decimal_spells : (n : ℕ) → n < 2 ^ 32 → IsNumber (decimal n) n
 decimal_spells n fits =
     let numeral = decimal_is_IsNumeral n (omega arith) in
     record { sign = []; digits = decimal n; whole = refl; plus = inl refl; decimal = numeral.0; value = numeral.1; fits = fits }
 
--- the pieces of a written text
+-- the pieces of an encoded hash
 abbrev pub written_pieces : Spelled → Pieces
 written_pieces d = record {
   name = lowercase_name d.variant;
@@ -34,7 +36,7 @@ written_pieces d = record {
   hash = base64 d.hash;
 }
 
--- the six parts with the written marks between them are the text of these pieces
+-- the six parts with the written marks between them are the string of these pieces
 layout-joined : (name version memory time lanes salt hash : List ℕ)
     → codes "$" ++ name ++ codes "$v=" ++ version ++ codes "$m=" ++ memory ++ codes ",t=" ++ time ++ codes ",p=" ++ lanes ++ codes "$" ++ salt ++
     codes "$" ++ hash
@@ -42,13 +44,13 @@ layout-joined : (name version memory time lanes salt hash : List ℕ)
 unfolding text_of_pieces
 layout-joined name version memory time lanes salt hash = simp append_assoc
 
--- the written text of a value is the text of its written pieces
+-- the encoded hash of a value is the string of its written pieces
 text_of-joined : (d : Spelled) → text_of d ≡ text_of_pieces (written_pieces d)
 unfolding text_of
 text_of-joined d = layout-joined (lowercase_name d.variant) (version_text d.version) (decimal d.mem_cost) (decimal d.time_cost)
     (decimal d.parallelism) (base64 d.salt) (base64 d.hash)
 
--- the written text of a value that is in range spells that value
+-- the encoded hash of a value that is in range decodes to that value
 pub spells_own_value : SpellsOwnValue
 spells_own_value d fits = record {
   pieces = written_pieces d;
@@ -79,7 +81,7 @@ items-joined : (name version memory time lanes salt hash : List ℕ)
 items-joined name version memory time lanes salt hash =
     rw (costs-joined (codes "m=" ++ memory) (codes "t=" ++ time) (codes "p=" ++ lanes) (36 ∷ (salt ++ 36 ∷ hash))) (simp append_assoc)
 
--- the written text of a value is its items joined by `$`
+-- the encoded hash of a value is its items joined by `$`
 pub is_joined_items : IsJoinedItems
 unfolding text_of
 is_joined_items d = items-joined (lowercase_name d.variant) (version_text d.version) (decimal d.mem_cost) (decimal d.time_cost)
@@ -95,19 +97,20 @@ decimal-4096 =
       decimal_digit 4 (omega arith),
     ) refl
 
--- with the decimals of its costs and lanes, the layout of the example is the stated text
-example_written : (memory time lanes : List ℕ) → memory ≡ codes "4096" → time ≡ codes "3" → lanes ≡ codes "1"
-    → codes "$" ++ codes "argon2i" ++ codes "$v=" ++ codes "16" ++ codes "$m=" ++ memory ++ codes ",t=" ++ time ++ codes ",p=" ++ lanes
+-- with the decimals of its version, costs and lanes, the layout of the example is the stated string
+example_written : (version memory time lanes : List ℕ) → version ≡ codes "16" → memory ≡ codes "4096" → time ≡ codes "3" → lanes ≡ codes "1"
+    → codes "$" ++ codes "argon2i" ++ codes "$v=" ++ version ++ codes "$m=" ++ memory ++ codes ",t=" ++ time ++ codes ",p=" ++ lanes
     ++ codes "$" ++ base64 (codes "salt1234") ++ codes "$" ++ base64 (codes "12345678901234567890123456789012")
     ≡ codes "$argon2i$v=16$m=4096,t=3,p=1$c2FsdDEyMzQ$MTIzNDU2Nzg5MDEyMzQ1Njc4OTAxMjM0NTY3ODkwMTI"
 unfolding encode_symbols
-example_written memory time lanes m t p = rw (m, t, p) refl
+example_written version memory time lanes v m t p = rw (v, m, t, p) refl
 
--- the written text of the example value is the stated one
+-- the encoded hash of the example value is the stated one
 pub writes_example : WritesExample
 unfolding text_of
 writes_example =
-    example_written (decimal 4096) (decimal 3) (decimal 1) decimal-4096 (decimal_digit 3 (omega arith)) (decimal_digit 1 (omega arith))
+    example_written (version_text Version10) (decimal 4096) (decimal 3) (decimal 1) (version_in_digits Version10) decimal-4096
+    (decimal_digit 3 (omega arith)) (decimal_digit 1 (omega arith))
 
 -- a list of which each element passes the test of being below 256 is bytes
 is_bytes : (bytes : List ℕ) → list_all (λ b. nat_lt b 256) bytes ≡ true → IsBytes bytes
@@ -115,7 +118,7 @@ is_bytes [] below i = omega arith
 is_bytes (b ∷ bytes) below zero = ltb-true b 256 (and_parts (nat_lt b 256) (list_all (λ x. nat_lt x 256) bytes) below).0
 is_bytes (b ∷ bytes) below (suc i) = is_bytes bytes (and_parts (nat_lt b 256) (list_all (λ x. nat_lt x 256) bytes) below).1 i
 
--- a text that uses every freedom of the format spells the example value
+-- a string that uses every freedom of the format decodes to the example value
 pub spells_example : SpellsExample
 unfolding text_of_pieces encode_symbols
 spells_example = record {

@@ -8,8 +8,7 @@ use Rattle.argon2_standard.specs.Standard.SettingsTable.{refusal_of}
 use Rattle.argon2_memory.specs.Standard.Kept.{HoldsFill, IsLeft, MemoryValue}
 use Rattle.argon2_standard.specs.Standard.Text.{Spelled}
 use Rattle.argon2.specs.Standard.Leaves.{LeavesMemory}
-use Rattle.argon2_standard.specs.Standard.Stored.{IsStoredConfig}
-use Rattle.argon2.specs.Views.StoredTexts.{IsAccepted, IsConfigOf}
+use Rattle.argon2.specs.Views.StoredTexts.{IsAccepted, IsConfigOf, IsStoredConfig}
 use Rattle.argon2.proofs.Verification.StoredTexts.{own_length}
 
 -- what equals None is not some
@@ -44,15 +43,15 @@ leaves_of_length pwd salt hash config workers before after answer none filled le
     leaves_accepted pwd salt config (length hash) workers before after answer none (subst (λ s. OnOk answer (HoldsFill s after)) same filled)
     (subst (λ s. OnErr answer (IsLeft workers s before after)) same left)
 
--- the setting is that of the fields that a text spells, of the secret and of the data
-setting_of-same : (x y : Config) (pwd salt : List ℕ) (len : ℕ) → x.variant ≡ y.variant → x.version ≡ y.version → x.lanes ≡ y.lanes
+-- the setting is that of the fields that a string decodes to, of the secret and of the data
+pub setting_of-same : (x y : Config) (pwd salt : List ℕ) (len : ℕ) → x.variant ≡ y.variant → x.version ≡ y.version → x.lanes ≡ y.lanes
     → x.mem_cost ≡ y.mem_cost → x.time_cost ≡ y.time_cost → x.secret.now ≡ y.secret.now → x.ad.now ≡ y.ad.now
     → setting_of pwd salt x len ≡ setting_of pwd salt y len
 unfolding setting_of prehash_of
 setting_of-same x y pwd salt len variant version lanes mem_cost time_cost secret ad =
     rw (variant, version, lanes, mem_cost, time_cost, secret, ad) refl
 
--- what the configuration leaves that a text's value is verified with is what the text's would
+-- what the configuration leaves that a string's value is verified with is what the string's would
 stored_leaves_at : (v : Spelled) (pwd secret ad : List ℕ) (used config : Config) (workers : Bool) (before after : MemoryValue) (answer : Result Bool Error)
     → IsConfigOf v secret ad used → IsStoredConfig v secret ad config → IsAccepted v (length pwd) secret ad
     → OnOk answer (HoldsFill (setting_of pwd v.salt used used.hash_length) after)
@@ -67,7 +66,7 @@ stored_leaves_at v pwd secret ad used config workers before after answer used_is
     leaves_accepted pwd v.salt config (length v.hash) workers before after answer (accepted config is)
     (subst (λ s. OnOk answer (HoldsFill s after)) same filled) (subst (λ s. OnErr answer (IsLeft workers s before after)) same left)
 
--- and so for the value that was spelled, with the workers that it asks for
+-- and so for the value that was decoded, with the workers that it asks for
 pub stored_leaves : (v d : Spelled) (pwd secret ad : List ℕ) (used config : Config) (workers : Spelled → Bool) (before after : MemoryValue)
     (answer : Result Bool Error) → v ≡ d
     → IsConfigOf v secret ad used → IsStoredConfig d secret ad config → IsAccepted v (length pwd) secret ad

@@ -1,5 +1,5 @@
--- What is verified of a stored text rests on what it spells, the secret and the associated data alone.
-use Rattle.std.proofs.Common.{◌≡◌, ℕ, Bool, true, false, List, length, Option, None, Some, Result, Ok, Err, nat_lt, ◌==◌, not, if◌then◌else◌, refl}
+-- What is verified of an encoded hash rests on what it decodes to, the secret and the associated data alone.
+use Rattle.std.proofs.Common.{◌≡◌, ℕ, Bool, true, false, List, [], length, Bor, Option, None, Some, Result, Ok, Err, nat_lt, ◌==◌, not, if◌then◌else◌, refl}
 use Rattle.std.proofs.Common.{sym, ap, subst, ◌∙◌, arith, inl, inr}
 use Rattle.std.specs.Prelude.{◌↔◌, IsNone, IsTrue, IfOk, IfErr}
 use Rattle.std.proofs.Math.Nat.{min-eq_left}
@@ -16,10 +16,12 @@ use Rattle.argon2_standard.specs.Standard.ThreadModes.{fills_alone, may_lack_wor
 use Rattle.argon2_standard.specs.Standard.Grammar.{IsItem, Spells, SpellsNothing}
 use Rattle.argon2_text.specs.Views.Faults.{Refuses}
 use Rattle.argon2_standard.specs.Standard.Prehash.{prehash_of, setting_of}
-use Rattle.argon2_standard.specs.Standard.Stored.{Agrees, Differs}
+use Rattle.argon2_standard.specs.Standard.Decoded.{Agrees, Differs, decoded_config}
+use Rattle.argon2.specs.Standard.Limits.{AnswersWithin}
+use Rattle.argon2.specs.declared.limits.Unverified.{Unverified}
+use Rattle.argon2.specs.declared.limits.Unverified.TheVariants.{Refused, TooCostly}
 use Rattle.argon2_standard.specs.Standard.SettingsTable.{refusal_of}
-use Rattle.argon2.specs.Views.StoredTexts.{IsAccepted, IsAccepting, IsConfigOf, max_workers}
-use Rattle.argon2_standard.specs.Standard.Stored.{IsStoredConfig}
+use Rattle.argon2.specs.Views.StoredTexts.{IsAccepted, IsAccepting, IsConfigOf, IsStoredConfig, max_workers}
 use Rattle.argon2_standard.specs.Standard.Tag.{tag_of}
 use Rattle.argon2_standard.specs.Standard.Text.{Spelled}
 use Rattle.argon2_text.specs.Views.Texts.{IsSpelledBy, IsSpellingOf, spelled_by, spelled_with}
@@ -46,7 +48,12 @@ tag_of-same : (x y : Config) (pwd salt : List ℕ) (len : ℕ) → x.variant ≡
 unfolding tag_of setting_of prehash_of
 tag_of-same x y pwd salt len variant version lanes mem_cost time_cost secret ad = rw (variant, version, lanes, mem_cost, time_cost, secret, ad) refl
 
--- a verdict is the same for all configurations with what a text spells, the secret and the data
+-- the configuration of a decoded hash has what a verdict looks at
+pub is_stored : (d : Spelled) (x y : Bor (List ℕ)) (secret ad : List ℕ) → x.now ≡ secret → y.now ≡ ad → IsStoredConfig d secret ad (decoded_config d x y)
+is_stored d x y secret ad a b =
+    record { variant = refl; version = refl; mem_cost = refl; time_cost = refl; lanes = refl; secret = a; ad = b }
+
+-- a verdict is the same for all configurations with what a string decodes to, the secret and the data
 pub verdict-same : (d : Spelled) (pwd secret ad : List ℕ) (x y : Config) (workers : Bool) (answer : Result Bool Error) → IsStoredConfig d secret ad x
     → IsStoredConfig d secret ad y
     → IsVerdict pwd d.salt d.hash x workers answer → IsVerdict pwd d.salt d.hash y workers answer
@@ -57,9 +64,26 @@ verdict-same d pwd secret ad x y workers answer a b verdict =
     (a.mem_cost ∙ sym b.mem_cost) (a.time_cost ∙ sym b.time_cost) (a.secret ∙ sym b.secret) (a.ad ∙ sym b.ad) in
     rw (refusal, tag) at verdict
 
+-- and so without a secret and associated data, whatever references say that there are none
+pub verdict_without : (d : Spelled) (pwd : List ℕ) (x y none : Bor (List ℕ)) (workers : Bool) (answer : Result Bool Error) → x.now ≡ [] → y.now ≡ []
+    → none.now ≡ [] → IsVerdict pwd d.salt d.hash (decoded_config d x y) workers answer
+    → IsVerdict pwd d.salt d.hash (decoded_config d none none) workers answer
+verdict_without d pwd x y none workers answer a b c verdict =
+    verdict-same d pwd [] [] (decoded_config d x y) (decoded_config d none none) workers answer (is_stored d x y [] [] a b)
+    (is_stored d none none [] [] c c) verdict
+
+-- within limits too
+pub within_without : (costly : Bool) (d : Spelled) (pwd : List ℕ) (x y none : Bor (List ℕ)) (workers : Bool) (answer : Result Bool Unverified)
+    → x.now ≡ [] → y.now ≡ [] → none.now ≡ [] → AnswersWithin costly (IsVerdict pwd d.salt d.hash (decoded_config d x y) workers) answer
+    → AnswersWithin costly (IsVerdict pwd d.salt d.hash (decoded_config d none none) workers) answer
+within_without true d pwd x y none workers answer a b c h = h
+within_without false d pwd x y none workers (Ok same) a b c h = verdict_without d pwd x y none workers (Ok same) a b c h
+within_without false d pwd x y none workers (Err (Refused e)) a b c h = verdict_without d pwd x y none workers (Err e) a b c h
+within_without false d pwd x y none workers (Err TooCostly) a b c h = absurd h
+
 -- ---- the configuration that is verified with
 
--- a thread mode chosen for stored texts fills with workers just where there are several lanes
+-- a thread mode chosen for encoded hashes fills with workers just where there are several lanes
 workers_flag : (mode : ThreadMode) (lanes : ℕ) → mode ≡ (if nat_lt 1 lanes then AtMost max_workers else Sequential)
     → not (fills_alone mode lanes) ≡ nat_lt 1 lanes
 workers_flag mode lanes is = elim (cases_Bool (nat_lt 1 lanes)) [
@@ -69,13 +93,13 @@ workers_flag mode lanes is = elim (cases_Bool (nat_lt 1 lanes)) [
   | inr one ↦ rw (is, one) refl
 ]
 
--- and so does the configuration that a text's value is verified with
+-- and so does the configuration that a string's value is verified with
 pub stored_workers : (stored : Decoded) (secret ad : List ℕ) (used : Config) → IsConfigOf (spelled_by stored) secret ad used
     → may_lack_workers used ≡ nat_lt 1 stored.parallelism
 stored_workers stored secret ad used used_is =
     ap (λ n. not (fills_alone used.thread_mode n)) used_is.stored.lanes ∙ workers_flag used.thread_mode stored.parallelism used_is.thread_mode
 
--- the verdict of the configuration that a text's value is verified with is that of the text
+-- the verdict of the configuration that a string's value is verified with is that of the string
 pub stored_verdict : (stored : Decoded) (d : Spelled) (pwd secret ad : List ℕ) (used config : Config) (answer : Result Bool Error) → spelled_by stored ≡ d
     → IsConfigOf (spelled_by stored) secret ad used → IsStoredConfig d secret ad config
     → IsVerdict pwd stored.salt.items stored.hash.items used (may_lack_workers used) answer → IsVerdict pwd d.salt d.hash config (nat_lt 1 d.parallelism) answer
@@ -85,7 +109,7 @@ stored_verdict stored d pwd secret ad used config answer same used_is config_is 
     let told = verdict-same (spelled_by stored) pwd secret ad used config (nat_lt 1 stored.parallelism) answer used_is.stored here (rw flag at verdict) in
     subst (λ (v : Spelled). IsVerdict pwd v.salt v.hash config (nat_lt 1 v.parallelism) answer) same told
 
--- without workers too, the verdict of the configuration that is verified with is that of the text
+-- without workers too, the verdict of the configuration that is verified with is that of the string
 pub stored_verdict_alone : (stored : Decoded) (d : Spelled) (pwd secret ad : List ℕ) (used config : Config) (answer : Result Bool Error) → spelled_by stored ≡ d
     → IsConfigOf (spelled_by stored) secret ad used → IsStoredConfig d secret ad config
     → IsVerdict pwd stored.salt.items stored.hash.items used false answer → IsVerdict pwd d.salt d.hash config false answer
@@ -96,16 +120,16 @@ stored_verdict_alone stored d pwd secret ad used config answer same used_is conf
 
 -- ---- answers before the tag is asked for
 
--- any value of the text is the one with the salt and the hash behind its head
+-- any value of the string is the one with the salt and the hash behind its head
 pub spelled_at : (text : List ℕ) (h : Head) (d : Spelled) → (s : IsSpellingOf text h) → Spells text d → d ≡ spelled_with h s.0 s.1
 spelled_at text h d (salt, hash, is) s = spells_one text d (spelled_with h salt hash) s is.spells
 
--- what a head's refusal says
+-- what a head's error says
 abbrev pub RefusesHead : Head → ℕ → List ℕ → List ℕ → Option Error → Type 0
 RefusesHead h pwd_len secret ad refusal = (config : Config) (salt hash : List ℕ) → IsItem h.salt.now salt → IsItem h.hash.now hash
     → IsStoredConfig (spelled_with h salt hash) secret ad config → refusal ≡ refusal_of config pwd_len (length salt) (length hash)
 
--- a refusal for the same lanes, costs, secret, data and lengths is the configuration's own
+-- an error for the same lanes, costs, secret, data and lengths is the configuration's own
 pub refusal_found : (refusal : Option Error) (x config : Config) (pwd n m : ℕ) (salt hash : List ℕ) → refusal ≡ refusal_of x pwd n m → n ≡ length salt
     → m ≡ length hash
     → x.lanes ≡ config.lanes → x.mem_cost ≡ config.mem_cost → x.time_cost ≡ config.time_cost → x.secret.now ≡ config.secret.now → x.ad.now ≡ config.ad.now
@@ -113,7 +137,7 @@ pub refusal_found : (refusal : Option Error) (x config : Config) (pwd n m : ℕ)
 refusal_found refusal x config pwd n m salt hash found salt_len hash_len lanes mem_cost time_cost secret ad =
     rw (salt_len, hash_len) at found ∙ refusal_of-same x config pwd (length salt) (length hash) lanes mem_cost time_cost secret ad
 
--- it is that of any value of the text
+-- it is that of any value of the string
 refusal_told : (text : List ℕ) (h : Head) (pwd_len : ℕ) (secret ad : List ℕ) (refusal : Option Error) (d : Spelled) (config : Config)
     → RefusesHead h pwd_len secret ad refusal
     → IsSpellingOf text h → Spells text d → IsStoredConfig d secret ad config → refusal ≡ refusal_of config pwd_len (length d.salt) (length d.hash)
@@ -122,12 +146,12 @@ refusal_told text h pwd_len secret ad refusal d config told s spells stored =
     let here = told config s.0 s.1 s.2.salt_item s.2.hash_item (subst (λ (v : Spelled). IsStoredConfig v secret ad config) same stored) in
     subst (λ (v : Spelled). refusal ≡ refusal_of config pwd_len (length v.salt) (length v.hash)) (sym same) here
 
--- the head of a spelling is that of any value of the text
+-- the head of a decoding is that of any value of the string
 spelled_again : (text : List ℕ) (h : Head) (d : Spelled) → IsSpellingOf text h → Spells text d → IsSpelledBy text h d.salt d.hash
 spelled_again text h d s spells =
     subst (λ (v : Spelled). IsSpelledBy text h v.salt v.hash) (sym (spelled_at text h d s spells)) s.2
 
--- where a text's head is refused, that refusal is the answer for each value it spells
+-- where a string's head is rejected, that error is the answer for each value it decodes to
 pub head_refused : (text : List ℕ) (h : Head) (pwd_len : ℕ) (secret ad : List ℕ) (refusal : Option Error) (d : Spelled) (config : Config) (e : Error)
     → RefusesHead h pwd_len secret ad refusal → IsSpellingOf text h → refusal ≡ Some e → Spells text d → IsStoredConfig d secret ad config
     → IsAccepting (refusal_of config pwd_len (length d.salt) (length d.hash)) (λ (head : Head). IsSpelledBy text head d.salt d.hash) (Err e)
@@ -141,13 +165,13 @@ pub head_accepted : (text : List ℕ) (h : Head) (pwd_len : ℕ) (secret ad : Li
 head_accepted text h pwd_len secret ad refusal d config told s none spells stored =
     rw (sym (refusal_told text h pwd_len secret ad refusal d config told s spells stored), none) (spelled_again text h d s spells)
 
--- what is refused without memory is refused with memory
+-- what is rejected without memory is rejected with memory
 pub refused_too : {A B : Type 0} (refusal : Option Error) (P : A → Type 0) (Q : B → Type 0) (e : Error) → IsAccepting refusal P (Err e)
     → IsOutcome refusal false Q (Err e)
 refused_too None P Q e h = absurd h
 refused_too (Some r) P Q e h = cc h
 
--- what is decoded of a head and its items is the value that they spell, or memory was refused
+-- what is decoded of a head and its items is the value that they decode to, or an allocation failed
 decoded_value : (h : Head) (salt hash : List ℕ) (d : Spelled) (r : Result Decoded Error) → IsItem h.salt.now salt → IsItem h.hash.now hash
     → d ≡ spelled_with h salt hash
     → IfOk r (λ x. spelled_by x ≡ spelled_with h x.salt.items x.hash.items) → IfOk r (λ x. IsItem h.salt.now x.salt.items × IsItem h.hash.now x.hash.items)
@@ -158,7 +182,7 @@ decoded_value h salt hash d (Ok x) a b is settings items memory =
     settings ∙ ap (λ s. spelled_with h s x.hash.items) same_salt ∙ ap (λ s. spelled_with h salt s) same_hash ∙ sym is
 decoded_value h salt hash d (Err e) a b is settings items memory = memory
 
--- where a text's head is accepted, its value is decoded or memory was refused
+-- where a string's head is accepted, its value is decoded or an allocation failed
 pub text_decoded : (text : List ℕ) (h : Head) (refusal : Option Error) (d : Spelled) (r : Result Decoded Error)
     → IsAccepting refusal (λ (head : Head). IsSpelledBy text head d.salt d.hash) (Ok h) → Spells text d
     → IfOk r (λ x. spelled_by x ≡ spelled_with h x.salt.items x.hash.items) → IfOk r (λ x. IsItem h.salt.now x.salt.items × IsItem h.hash.now x.hash.items)
@@ -174,14 +198,14 @@ own_length d pwd_len secret ad used accepted is =
     let within = settings.accepted used pwd_len (length d.salt) (length d.hash) (none_holds (accepted used is.stored)) in
     is.hash_length ∙ min-eq_left within.hash_fits
 
--- the configuration that an accepted value is verified with is refused nothing
+-- the configuration that an accepted value is verified with is not rejected
 pub stored_accepted : (d : Spelled) (pwd_len : ℕ) (secret ad : List ℕ) (used : Config) → IsAccepted d pwd_len secret ad → IsConfigOf d secret ad used
     → IsNone (refusal_of used pwd_len (length d.salt) used.hash_length)
 unfolding refusal_of
 stored_accepted d pwd_len secret ad used accepted is =
     rw (own_length d pwd_len secret ad used accepted is) (none_holds (accepted used is.stored))
 
--- a head that spells a value leaves no text that spells nothing
+-- a head that decodes to a value leaves no string that decodes to nothing
 pub spells_some : (text : List ℕ) (h : Head) → IsSpellingOf text h → SpellsNothing text → ⊥
 spells_some text h (salt, hash, is) none = none (spelled_with h salt hash) is.spells
 
@@ -192,12 +216,12 @@ accepted_value (Some r) P x h = absurd (cc)
 
 -- ---- rehashing
 
--- a text that spells nothing is refused with a failed decoding
+-- a string that decodes to nothing is rejected with a failed decoding
 pub refuses_nothing : (text : List ℕ) (e : Error) → SpellsNothing text → Refuses text e → e ≡ DecodingFail
 refuses_nothing text e none (inl (fail, _)) = fail
 refuses_nothing text e none (inr (_, (d, s))) = absurd (none d s)
 
--- a text that spells a value is refused only for lack of memory
+-- a string that decodes to a value is rejected only for lack of memory
 pub refuses_some : (text : List ℕ) (d : Spelled) (e : Error) → Spells text d → Refuses text e → e ≡ OutOfMemory
 refuses_some text d e s (inl (_, none)) = absurd (none d s)
 refuses_some text d e s (inr (memory, _)) = memory
@@ -207,7 +231,7 @@ differs_by : (d : Spelled) (config : Config) (agrees : Bool) → IsTrue agrees �
 differs_by d config true h = ((λ t. cc), λ differs. absurd (differs (h.0 refl)))
 differs_by d config false h = ((λ t agrees. let no = h.1 agrees in cc), λ differs. refl)
 
--- the negated answer on a decoded value tells whether the text's value differs
+-- the negated answer on a decoded value tells whether the string's value differs
 pub not_agreeing : (stored d : Spelled) (config : Config) (agrees : Bool) → stored ≡ d → IsTrue agrees ↔ Agrees stored config
     → IsTrue (not agrees) ↔ Differs d config
 not_agreeing stored d config agrees same h = differs_by d config agrees (subst (λ (v : Spelled). IsTrue agrees ↔ Agrees v config) same h)

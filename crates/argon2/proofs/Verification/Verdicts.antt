@@ -7,7 +7,7 @@ use Rattle.std.proofs.lemmas.Nat.{le_or_l, le_or_r}
 use Rattle.argon2_standard.specs.declared.config.Config.{Config}
 use Rattle.argon2_standard.specs.declared.error.Error.{Error}
 use Rattle.argon2_standard.specs.declared.context.Context.{Context}
-use Rattle.argon2_standard.specs.Standard.Outcome.{IsOutcome, IsShortage}
+use Rattle.argon2_standard.specs.Standard.Outcome.{IsOutcome, IsResourceError}
 use Rattle.argon2_standard.specs.Standard.SettingsTable.{refusal_of}
 use Rattle.argon2_standard.specs.Standard.Prehash.{prehash_of, setting_of}
 use Rattle.argon2_standard.specs.Standard.Tag.{tag_from, tag_of}
@@ -72,14 +72,14 @@ pub verdict_of_length : (pwd salt hash : List ℕ) (config : Config) (workers : 
 unfolding refusal_of
 verdict_of_length pwd salt hash config workers answer verdict = rw (tag_of-hash_length pwd salt config (length hash) (length hash)) at verdict
 
--- ---- laws
+-- ---- theorems
 
 -- the tag does not depend on the thread mode
 pub tag_forgets_mode : TagForgetsMode
 unfolding tag_of setting_of prehash_of
 tag_forgets_mode pwd salt config mode len = refl
 
--- neither refusal nor tag depends on the configuration's own field for the hash length
+-- neither error nor tag depends on the configuration's own field for the hash length
 pub length_is_the_hash : LengthIsTheHash
 unfolding refusal_of
 length_is_the_hash pwd salt config field len = (refl, tag_of-hash_length pwd salt config field len)
@@ -89,14 +89,14 @@ pub length-tag_of : (pwd salt : List ℕ) (config : Config) (len : ℕ) → leng
 unfolding tag_of tag_from
 length-tag_of pwd salt config len = length-hprime len _
 
--- where nothing is refused and the tag is the expected one, the answer is true or a shortage
+-- where nothing is rejected and the tag is the expected one, the answer is true or a resource error
 accepted_verdict : (tag expected : List ℕ) (refusal : Option Error) (workers : Bool) (answer : Result Bool Error) → refusal ≡ None → tag ≡ expected →
-    IsOutcome refusal workers (λ same. IsTrue same ↔ (tag ≡ expected)) answer → MatchResult answer (λ same. IsTrue same) (IsShortage workers)
+    IsOutcome refusal workers (λ same. IsTrue same ↔ (tag ≡ expected)) answer → MatchResult answer (λ same. IsTrue same) (IsResourceError workers)
 accepted_verdict tag expected None workers (Ok same) none e h = h.1 e
 accepted_verdict tag expected None workers (Err error) none e h = h
 accepted_verdict tag expected (Some r) workers answer none e h = absurd (cc)
 
--- a tag is as long as asked for and, of accepted settings, verifies or meets a shortage
+-- a tag is as long as asked for and, of accepted settings, verifies or meets a resource error
 pub own_tag_verifies : OwnTagVerifies
 own_tag_verifies pwd salt config len =
     let tag = tag_of pwd salt config len in

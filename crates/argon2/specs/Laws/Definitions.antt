@@ -1,9 +1,9 @@
--- Laws of the blocks, the tag and the verdict.
+-- Theorems of the blocks, the tag and the verdict.
 use Rattle.std.specs.Prelude.{◌≡◌, ℕ, List, length, None, Result, Bool, IsTrue, MatchResult}
 use Rattle.argon2_standard.specs.declared.config.Config.{Config}
 use Rattle.argon2_standard.specs.declared.error.Error.{Error}
 use Rattle.argon2_standard.specs.declared.thread_mode.ThreadMode.{ThreadMode}
-use Rattle.argon2_standard.specs.Standard.Outcome.{IsShortage}
+use Rattle.argon2_standard.specs.Standard.Outcome.{IsResourceError}
 use Rattle.argon2_standard.specs.Standard.Setting.{Setting, Position}
 use Rattle.argon2_memory.specs.Views.Jobs.{IsSetting, IsPosition}
 use Rattle.argon2_standard.specs.Standard.SettingsTable.{refusal_of}
@@ -25,7 +25,7 @@ abbrev pub TagForgetsMode : Type 0
 TagForgetsMode = (pwd salt : List ℕ) (config : Config) (mode : ThreadMode) (len : ℕ) →
     tag_of pwd salt (record config { thread_mode = mode }) len ≡ tag_of pwd salt config len
 
--- neither the refusal nor the tag depends on the configuration's own field for the hash length, where
+-- neither the error nor the tag depends on the configuration's own field for the hash length, where
 -- another length is judged
 abbrev pub LengthIsTheHash : Type 0
 LengthIsTheHash = (pwd salt : List ℕ) (config : Config) (field len : ℕ) →
@@ -39,4 +39,4 @@ OwnTagVerifies = (pwd salt : List ℕ) (config : Config) (len : ℕ) →
     let tag = tag_of pwd salt config len in
     (length tag ≡ len) × (refusal_of config (length pwd) (length salt) len ≡ None →
     (workers : Bool) (answer : Result Bool Error) → IsVerdict pwd salt tag config workers answer →
-    MatchResult answer (λ same. IsTrue same) (IsShortage workers))
+    MatchResult answer (λ same. IsTrue same) (IsResourceError workers))

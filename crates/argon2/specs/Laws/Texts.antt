@@ -1,4 +1,4 @@
--- Laws of the encoded text.
+-- Theorems of the encoded hash.
 use Rattle.std.specs.Prelude.{◌≡◌, ◌⊎◌, ℕ, ◌==◌, ◌<◌, ◌^◌, List, [], ◌∷◌, ◌++◌, codes, count_by, length, None, Result, Bool, IsTrue, MatchResult}
 use Rattle.std.specs.Fmt.{decimal}
 use Rattle.std.specs.List.{join_with_byte}
@@ -7,9 +7,9 @@ use Rattle.argon2_standard.specs.declared.config.Config.{Config}
 use Rattle.argon2_standard.specs.declared.error.Error.{Error}
 use Rattle.argon2_standard.specs.declared.variant.Variant.TheVariants.{Argon2i}
 use Rattle.argon2_standard.specs.declared.version.Version.TheVariants.{Version10}
-use Rattle.argon2_standard.specs.Standard.Outcome.{IsShortage}
+use Rattle.argon2_standard.specs.Standard.Outcome.{IsResourceError}
 use Rattle.argon2_standard.specs.Standard.SettingsTable.{refusal_of}
-use Rattle.argon2_standard.specs.Standard.Stored.{IsStoredConfig}
+use Rattle.argon2_standard.specs.Standard.Decoded.{decoded_config}
 use Rattle.argon2_standard.specs.Standard.Tag.{tag_of}
 use Rattle.argon2_standard.specs.Standard.Variant.{lowercase_name}
 use Rattle.argon2_standard.specs.Standard.Outcome.{IsVerdict}
@@ -18,7 +18,7 @@ use Rattle.argon2_standard.specs.Standard.Text.{Spelled, base64, spelled_of, tex
 use Rattle.argon2_text.specs.Views.Faults.{HasHead, comma}
 use Rattle.argon2_standard.specs.Standard.Grammar.{Spells, dollar}
 
--- a text spells at most one value
+-- a string decodes to at most one value
 abbrev pub SpellsOne : Type 0
 SpellsOne = (text : List ℕ) (d e : Spelled) → Spells text d → Spells text e → d ≡ e
 
@@ -30,11 +30,11 @@ pub record IsInRange (d : Spelled) : Type 0 where
   pub salt : IsBytes d.salt
   pub hash : IsBytes d.hash
 
--- a written text spells the value that it was written for
+-- an encoded hash decodes to the value that it was written for
 abbrev pub SpellsOwnValue : Type 0
 SpellsOwnValue = (d : Spelled) → IsInRange d → Spells (text_of d) d
 
--- the costs between the `,` of a written text
+-- the costs between the `,` of an encoded hash
 abbrev pub costs_of : Spelled → List (List ℕ)
 costs_of d =
     (codes "m=" ++ decimal d.mem_cost)
@@ -51,11 +51,11 @@ items_of d =
     ∷ base64 d.salt
     ∷ base64 d.hash ∷ []
 
--- the written text, said once more by its items
+-- the encoded hash, said once more by its items
 abbrev pub IsJoinedItems : Type 0
 IsJoinedItems = (d : Spelled) → text_of d ≡ join_with_byte dollar (items_of d)
 
--- a text whose head is spelled begins with a `$` and has four or five of them: its first item is
+-- a string whose head decodes begins with a `$` and has four or five of them: its first item is
 -- empty, and there are five or six
 pub record HasItems (text : List ℕ) : Type 0 where
   pub behind : List ℕ
@@ -65,7 +65,7 @@ pub record HasItems (text : List ℕ) : Type 0 where
 abbrev pub HeadHasItems : Type 0
 HeadHasItems = (text : List ℕ) → HasHead text → HasItems text
 
--- one value, and two texts that spell it: the written one, and one with every freedom of the format
+-- one value, and two strings that decode to it: the written one, and one with every freedom of the format
 abbrev pub example_value : Spelled
 example_value = record {
   variant = Argon2i;
@@ -93,14 +93,14 @@ pub record IsInput (config : Config) (given_salt : List ℕ) : Type 0 where
   pub lanes : config.lanes < 2 ^ 32
   pub salt : IsBytes given_salt
 
--- the answer is that the hash is the tag, or that memory or a worker was lacking
+-- the answer is that the hash is the tag, or a resource error
 abbrev pub IsVerified : Bool → Result Bool Error → Type 0
-IsVerified workers answer = MatchResult answer (λ same. IsTrue same) (IsShortage workers)
+IsVerified workers answer = MatchResult answer (λ same. IsTrue same) (IsResourceError workers)
 
--- the text of an accepted tag spells a value that verifies with the same password, secret and
+-- the encoded hash of an accepted tag decodes to a value that verifies with the same password, secret and
 -- associated data, whatever the thread mode
 abbrev pub HashedTextVerifies : Type 0
 HashedTextVerifies = (pwd salt : List ℕ) (config : Config) (len : ℕ) → IsInput config salt → refusal_of config (length pwd) (length salt) len ≡ None →
     let text = text_of (spelled_of config salt (tag_of pwd salt config len)) in
-    (d : Spelled) × Spells text d × ((used : Config) (workers : Bool) (answer : Result Bool Error) → IsStoredConfig d config.secret.now config.ad.now used →
-    IsVerdict pwd d.salt d.hash used workers answer → IsVerified workers answer)
+    (d : Spelled) × Spells text d × ((workers : Bool) (answer : Result Bool Error) →
+    IsVerdict pwd d.salt d.hash (decoded_config d config.secret config.ad) workers answer → IsVerified workers answer)

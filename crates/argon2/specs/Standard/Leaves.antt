@@ -1,4 +1,4 @@
--- What a call leaves in the memory that its caller keeps.
+-- What a call leaves in a caller-provided memory.
 use Rattle.std.specs.Prelude.{◌≡◌, ℕ, Bool, List, Result, IsNone, IsSome, OnErr, OnOk, length}
 use Rattle.argon2_standard.specs.declared.config.Config.{Config}
 use Rattle.argon2_standard.specs.declared.error.Error.{Error}
@@ -7,7 +7,7 @@ use Rattle.argon2_standard.specs.Standard.Prehash.{setting_of}
 use Rattle.argon2_memory.specs.Standard.Kept.{MemoryValue, HoldsFill, IsLeft}
 
 -- the memory before and after a call with a hash of len bytes: as it was, where the settings table
--- refuses something; else that of the computation, or what a shortage leaves
+-- rejects something; else that of the computation, or what a resource error leaves
 pub record LeavesMemory {A : Type 0} (pwd salt : List ℕ) (config : Config) (len : ℕ) (workers : Bool) (before after : MemoryValue)
     (answer : Result A Error) : Type 0 where
   pub kept : IsSome (refusal_of config (length pwd) (length salt) len) → after ≡ before

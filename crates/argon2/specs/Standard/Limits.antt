@@ -1,4 +1,4 @@
--- What the calls within limits answer.
+-- What the calls within limits return.
 use Rattle.std.specs.Prelude.{◌≡◌, ◌||◌, ◌*◌, ℕ, Bool, true, false, nat_lt, Result, Ok, Err}
 use Rattle.argon2_standard.specs.declared.error.Error.{Error}
 use Rattle.argon2_standard.specs.Standard.Text.{Spelled}
@@ -11,7 +11,7 @@ abbrev pub are_exceeded : Limits → ℕ → ℕ → ℕ → Bool
 are_exceeded limits mem_cost time_cost lanes =
     nat_lt limits.mem_cost mem_cost || nat_lt limits.time_cost time_cost || nat_lt limits.lanes lanes || nat_lt limits.work (mem_cost * time_cost)
 
--- the text spells more than a limit
+-- what was decoded is above a limit
 abbrev pub is_too_costly : Limits → Spelled → Bool
 is_too_costly limits d = are_exceeded limits d.mem_cost d.time_cost d.parallelism
 

@@ -1,4 +1,4 @@
--- The default limits, and the texts of why nothing was verified.
+-- The default limits, and the messages of why nothing was verified.
 use Rattle.std.specs.Prelude.{ℕ, List, codes}
 use Rattle.argon2_standard.specs.Views.Messages.{message_of as refusal_text}
 use Rattle.argon2.specs.declared.limits.Limits.{Limits}

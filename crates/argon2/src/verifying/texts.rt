@@ -1,11 +1,11 @@
 //! Verifying a password against an encoded hash.
 
-ghost use Rattle.std.specs.Prelude.{◌≡◌, ◌⊎◌, [], IsErr, false, length, nat_lt};
-ghost use Rattle.argon2_standard.specs.declared.config.Config.{Config};
+ghost use Rattle.std.specs.Prelude.{◌≡◌, ◌⊎◌, ℕ, List, [], IsErr, false, length, nat_lt};
+ghost use Rattle.std.specs.Borrow.{Bor};
 ghost use Rattle.argon2_standard.specs.Standard.Grammar.{Spells, SpellsNothing};
 ghost use Rattle.argon2_standard.specs.Standard.Text.{Spelled};
 ghost use Rattle.argon2.specs.Standard.Leaves.{LeavesMemory};
-ghost use Rattle.argon2_standard.specs.Standard.Stored.{IsStoredConfig};
+ghost use Rattle.argon2_standard.specs.Standard.Decoded.{decoded_config};
 ghost use Rattle.argon2_standard.specs.Standard.Outcome.{IsVerdict};
 
 use crate::ending::release;
@@ -29,9 +29,9 @@ pub fn verify_encoded<R: Threads + Wait + Sync>(
     pwd: &[u8],
 ) -> Result<bool>
     ensures unspelled { SpellsNothing encoded.now → result ≡ Err Error.DecodingFail }
-    ensures spelled { (d : Spelled) (config : Config) → Spells encoded.now d
-        → IsStoredConfig d [] [] config
-        → IsVerdict pwd.now d.salt d.hash config (nat_lt 1 d.parallelism) result }
+    ensures spelled { (d : Spelled) (none : Bor (List ℕ)) → none.now ≡ []
+        → Spells encoded.now d → IsVerdict pwd.now d.salt d.hash (decoded_config d none none)
+        (nat_lt 1 d.parallelism) result }
 {
     verify_encoded_ext(rt, alloc, encoded, pwd, &[], &[])
 }
@@ -52,9 +52,8 @@ pub fn verify_encoded_ext<R: Threads + Wait + Sync>(
     ad: &[u8],
 ) -> Result<bool>
     ensures unspelled { SpellsNothing encoded.now → result ≡ Err Error.DecodingFail }
-    ensures spelled { (d : Spelled) (config : Config) → Spells encoded.now d
-        → IsStoredConfig d secret.now ad.now config
-        → IsVerdict pwd.now d.salt d.hash config (nat_lt 1 d.parallelism) result }
+    ensures spelled { (d : Spelled) → Spells encoded.now d → IsVerdict pwd.now d.salt d.hash
+        (decoded_config d secret.entry ad.entry) (nat_lt 1 d.parallelism) result }
 {
     let mut memory = Memory::empty(alloc);
     let verdict = verify_encoded_in(rt, alloc, &mut memory, encoded, pwd, secret, ad);
@@ -76,14 +75,13 @@ pub fn verify_encoded_in<R: Threads + Wait + Sync>(
     ad: &[u8],
 ) -> Result<bool>
     ensures unspelled { SpellsNothing encoded.now → result ≡ Err Error.DecodingFail }
-    ensures spelled { (d : Spelled) (config : Config) → Spells encoded.now d
-        → IsStoredConfig d secret.now ad.now config
-        → IsVerdict pwd.now d.salt d.hash config (nat_lt 1 d.parallelism) result }
+    ensures spelled { (d : Spelled) → Spells encoded.now d → IsVerdict pwd.now d.salt d.hash
+        (decoded_config d secret.entry ad.entry) (nat_lt 1 d.parallelism) result }
     ensures untouched { SpellsNothing encoded.now → memory.new ≡ memory.old }
-    ensures memory { (d : Spelled) (config : Config) → Spells encoded.now d
-        → IsStoredConfig d secret.now ad.now config
-        → (IsErr result × (memory.new ≡ memory.old)) ⊎ LeavesMemory pwd.now d.salt config
-        (length d.hash) (nat_lt 1 d.parallelism) memory.old memory.new result }
+    ensures memory { (d : Spelled) → Spells encoded.now d
+        → (IsErr result × (memory.new ≡ memory.old)) ⊎ LeavesMemory pwd.now d.salt
+        (decoded_config d secret.entry ad.entry) (length d.hash) (nat_lt 1 d.parallelism)
+        memory.old memory.new result }
 {
     let stored = accepted_text(alloc, encoded, pwd.len() as u64, secret, ad)?;
     let config = config_of(&stored, secret, ad);
@@ -100,9 +98,8 @@ pub fn verify_encoded_sequential(
     ad: &[u8],
 ) -> Result<bool>
     ensures unspelled { SpellsNothing encoded.now → result ≡ Err Error.DecodingFail }
-    ensures spelled { (d : Spelled) (config : Config) → Spells encoded.now d
-        → IsStoredConfig d secret.now ad.now config
-        → IsVerdict pwd.now d.salt d.hash config false result }
+    ensures spelled { (d : Spelled) → Spells encoded.now d → IsVerdict pwd.now d.salt d.hash
+        (decoded_config d secret.entry ad.entry) false result }
 {
     let mut memory = Memory::empty(alloc);
     let verdict = verify_encoded_in_sequential(alloc, &mut memory, encoded, pwd, secret, ad);
@@ -124,14 +121,12 @@ pub fn verify_encoded_in_sequential(
     ad: &[u8],
 ) -> Result<bool>
     ensures unspelled { SpellsNothing encoded.now → result ≡ Err Error.DecodingFail }
-    ensures spelled { (d : Spelled) (config : Config) → Spells encoded.now d
-        → IsStoredConfig d secret.now ad.now config
-        → IsVerdict pwd.now d.salt d.hash config false result }
+    ensures spelled { (d : Spelled) → Spells encoded.now d → IsVerdict pwd.now d.salt d.hash
+        (decoded_config d secret.entry ad.entry) false result }
     ensures untouched { SpellsNothing encoded.now → memory.new ≡ memory.old }
-    ensures memory { (d : Spelled) (config : Config) → Spells encoded.now d
-        → IsStoredConfig d secret.now ad.now config
-        → (IsErr result × (memory.new ≡ memory.old)) ⊎ LeavesMemory pwd.now d.salt config
-        (length d.hash) false memory.old memory.new result }
+    ensures memory { (d : Spelled) → Spells encoded.now d
+        → (IsErr result × (memory.new ≡ memory.old)) ⊎ LeavesMemory pwd.now d.salt
+        (decoded_config d secret.entry ad.entry) (length d.hash) false memory.old memory.new result }
 {
     let stored = accepted_text(alloc, encoded, pwd.len() as u64, secret, ad)?;
     let config = config_of(&stored, secret, ad);

@@ -1,4 +1,4 @@
--- One lane of a slice that is lent, and from slice to slice.
+-- One lane of a slice of the caller, and from slice to slice.
 use Rattle.std.proofs.Common.{◌≡◌, ◌≢◌, ℕ, ◌+◌, ◌-◌, ◌*◌, ◌<◌, ◌≤◌, List, [], ◌∷◌, ◌++◌, length, take, drop, set, get_or, refl, arith, inl, inr, sym, ◌∙◌, ap, subst}
 use Rattle.std.specs.List.{remove}
 use Rattle.std.proofs.Math.Nat.{mul-le-mul_right}

@@ -16,7 +16,7 @@ pub record BoardValue : Type 0 where
   pub places : List Place
   pub log : List Event
 
--- a segment for each lane, in order, as a fill of the job asks for it
+-- a segment for each lane, in order, as a fill of the job needs it
 pub record AreReady (job : Job) (segments : List SegmentValue) : Type 0 where
   pub lanes : length segments ≡ job.setting.lanes
   pub each : IsReadySlice job.setting job.pass job.slice (lanes_in segments)

@@ -41,7 +41,7 @@ events_left place.Waiting = 2
 events_left place.Out = 1
 events_left place.Done = 0
 
--- and there is room for the events that are left, and for the finished slice
+-- and there is capacity for the events that are left, and for the finished slice
 pub record IsBoard (b : Inside) : Type 0 where
   pub kept : AreLanes b.job b.next b.slots.items b.log.items
   pub log_room : vec_len b.log + sum_by events_left (map place_in b.slots.items) ≤ vec_capacity b.log

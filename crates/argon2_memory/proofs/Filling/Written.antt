@@ -25,7 +25,7 @@ read_behind [] index d h = absurd (omega arith)
 read_behind (x ∷ xs) zero d h = refl
 read_behind (x ∷ xs) (suc i) d h = read_behind xs i d (omega arith)
 
--- `lent` is the blocks, lent as a slice; `p` and `r` are the two sources' blocks, and `d` is any
+-- `lent` is the caller's blocks, as a slice; `p` and `r` are the two sources' blocks, and `d` is any
 pub write_in_place : (blocks lent front back : List (List ℕ)) (index : ℕ) (prev reference : Source) (with_xor : Bool) (p r d new : List ℕ) →
     lent ≡ blocks → index < length blocks → front ≡ take index lent → back ≡ drop index lent →
     IsBefore index prev → IsBefore index reference → p ≡ source_block front prev → r ≡ source_block front reference →

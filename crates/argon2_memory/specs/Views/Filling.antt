@@ -27,7 +27,7 @@ pub record IsBeside (v : SnapshotValue) : Type 0 where
   pub blocks : (slice lane : ℕ) → slice < 4 → slice ≢ v.job.slice → lane < v.job.setting.lanes →
       length (other_blocks v slice lane) ≡ v.job.setting.segment_length
 
--- the same, with the blocks that a fill of the job asks for
+-- the same, with the blocks that a fill of the job needs
 pub record IsSnapshot (v : SnapshotValue) : Type 0 where
   pub beside : IsBeside v
   pub held : HoldOthers v.job (other_blocks v)
@@ -38,7 +38,7 @@ pub record IsAround (j : Job) (slices : List (List SegmentValue)) : Type 0 where
   pub count : length slices ≡ 4
   pub stand_in : slice_index_or slices j.slice [] ≡ slice_index_or (remove slices j.slice) 0 []
 
--- slices that are lent, lane after lane
+-- slices of the caller, lane after lane
 abbrev pub lent_segment : Setting → List (List ℕ) → ℕ → SegmentValue
 lent_segment s blocks lane = record { blocks = lent_blocks s blocks lane; tally = 0 }
 

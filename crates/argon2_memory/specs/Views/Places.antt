@@ -1,4 +1,4 @@
--- The blocks of each slice and lane while they are filled, wherever they stand: in a memory's segments or lent.
+-- The blocks of each slice and lane while they are filled, wherever they stand: in a memory's segments or in the caller's slices.
 use Rattle.std.specs.Prelude.{◌≡◌, ℕ, suc, ◌-◌, ◌*◌, ◌<◌, ◌≤◌, nat_lt, if◌then◌else◌, List, [], map, slice_index_or, take, drop}
 use Rattle.std.specs.List.{range_with_len}
 use Rattle.argon2_standard.specs.Standard.Setting.{Setting}
@@ -24,11 +24,11 @@ lanes_in segments lane = (slice_index_or segments lane no_segment).blocks
 abbrev pub places_in : List (List SegmentValue) → Places
 places_in slices slice lane = lanes_in (slice_index_or slices slice []) lane
 
--- in a slice that is lent, lane after lane
+-- in a slice of the caller, lane after lane
 abbrev pub lent_blocks : Setting → List (List ℕ) → Lanes
 lent_blocks s blocks lane = take s.segment_length (drop (lane * s.segment_length) blocks)
 
--- in slices that are lent
+-- in slices of the caller
 abbrev pub lent_places : Setting → List (List (List ℕ)) → Places
 lent_places s slices slice lane = lent_blocks s (slice_index_or slices slice []) lane
 
@@ -42,7 +42,7 @@ among j three slice lane = three (rank_among j slice) lane
 
 -- ---- what they hold
 
--- each lane is as a pass over the slice asks for it
+-- each lane is as a pass over the slice needs it
 abbrev pub IsReadySlice : Setting → ℕ → ℕ → Lanes → Type 0
 IsReadySlice s pass slice lanes = (lane : ℕ) → lane < s.lanes → IsReady s pass slice lane (lanes lane)
 
@@ -62,11 +62,11 @@ pub record HoldOthers (j : Job) (places : Places) : Type 0 where
       places slice lane ≡ segment_at j.setting last slice lane
 
 -- what a fill of a lane's segment of the job's slice leaves there: where the other slices hold their
--- blocks, and the segment was as a fill asks for it, the blocks of the job's pass
+-- blocks, and the segment was as a fill needs it, the blocks of the job's pass
 abbrev pub Fills : Job → ℕ → Places → List (List ℕ) → List (List ℕ) → Type 0
 Fills j lane places old new = HoldOthers j places → IsReady j.setting j.pass j.slice lane old → new ≡ segment_at j.setting j.pass j.slice lane
 
--- the same beside three slices that are lent in rising order
+-- the same beside three slices of the caller in rising order
 abbrev pub FillsLent : Job → ℕ → List (List (List ℕ)) → List (List ℕ) → List (List ℕ) → Type 0
 FillsLent j lane others old new = Fills j lane (among j (lent_places j.setting others)) old new
 

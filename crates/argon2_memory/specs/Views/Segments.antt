@@ -47,7 +47,7 @@ wiped_segment s = zero_segment (length s.blocks)
 abbrev pub with_zeros : List (List ℕ) → ℕ → List (List ℕ)
 with_zeros made zeros = made ++ replicate zeros zero_block
 
--- there is room for the zeros that are not made; where there are some, the last block that is made is
+-- there is capacity for the zeros that are not made; where there are some, the last block that is made is
 -- of zeros too, and is read in place of each of them
 pub record IsMadeInPart (made : List (List ℕ)) (count capacity zeros : ℕ) : Type 0 where
   pub room : count + zeros ≤ capacity

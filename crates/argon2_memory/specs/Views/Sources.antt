@@ -3,7 +3,7 @@ use Rattle.std.specs.Prelude.{ℕ, ◌<◌, List, [], slice_index_or}
 use Rattle.argon2_memory.specs.declared.segment.counted.Source.{Source}
 use Rattle.argon2_memory.specs.declared.segment.counted.Source.TheVariants.{Own, Other}
 
--- one of the segment's own blocks, or the one that is lent
+-- one of the segment's own blocks, or the other one
 abbrev pub source_block : List (List ℕ) → Source → List ℕ
 source_block blocks (Own index) = slice_index_or blocks index []
 source_block blocks (Other block) = block.now

@@ -1,4 +1,4 @@
--- What settings keep to that are not refused, and what H0 is the hash of.
+-- What settings keep to that are not rejected, and what H0 is the hash of.
 use Rattle.std.proofs.Common.{◌≡◌, ℕ, ◌*◌, ◌/◌, ◌^◌, ◌<◌, ◌≤◌, Bool, true, false, ltb, List, [], ◌∷◌, length, refl, arith, cond, inl, inr, ◌∙◌}
 use Rattle.std.proofs.Common.{ap, ◌++◌, append_assoc, append-nil}
 use Rattle.std.specs.Prelude.{◌==◌, IsNone, min, ⊤}
@@ -23,7 +23,7 @@ abbrev NoneApplies : List (Bool × Error) → Type 0
 NoneApplies [] = ⊤
 NoneApplies ((applies, refusal) ∷ rows) = (applies ≡ false) × NoneApplies rows
 
--- where a table refuses nothing, none of its rows applies
+-- where a table rejects nothing, none of its rows applies
 none_applies : (rows : List (Bool × Error)) → IsNone (first_that_applies rows) → NoneApplies rows
 none_applies [] h = tt
 none_applies ((true, refusal) ∷ rows) h = absurd (let e : true ≡ false = h in cc)
@@ -42,7 +42,7 @@ pub record AreAccepted (config : Config) (salt_len hash_len : ℕ) : Type 0 wher
   pub hash_suffices : 4 ≤ hash_len
   pub hash_fits : hash_len ≤ max_length
 
--- what is not refused has its lanes, memory, passes and lengths within bounds
+-- what is not rejected has its lanes, memory, passes and lengths within bounds
 pub accepted : (config : Config) (p s h : ℕ) → IsNone (refusal_of config p s h) → AreAccepted config s h
 unfolding refusal_of
 accepted config p s h none =
@@ -61,7 +61,7 @@ accepted config p s h none =
 length_fits : (n : ℕ) → ltb max_length n ≡ false → Fits w32 n
 length_fits n e = let few = ltb-false max_length n e in record { fits = omega arith }
 
--- what is not refused has inputs whose lengths have 32 bits: the password, the salt, the secret and the associated data
+-- what is not rejected has inputs whose lengths have 32 bits: the password, the salt, the secret and the associated data
 pub inputs_fit : (config : Config) (p s h : ℕ) → IsNone (refusal_of config p s h)
     → Fits w32 p × (Fits w32 s × (Fits w32 (length config.secret.now) × Fits w32 (length config.ad.now)))
 unfolding refusal_of

@@ -1,4 +1,6 @@
--- Which texts spell a value: a relation on whole texts.
+-- Which strings decode to which value: a relation on whole strings. They are more than the PHC strings that are
+-- written, as in rust-argon2: a name may have a capital, a number a plus and leading zeros, and the version may be
+-- missing.
 use Rattle.std.specs.Prelude.{◌≡◌, ◌≢◌, ◌⊎◌, ℕ, ◌<◌, ◌^◌, List, [], ◌++◌, codes, Option, Some, None}
 use Rattle.std.specs.List.{AllByRecursion}
 use Rattle.std.specs.Str.Parse.{IsNumeral, digits_value}
@@ -9,11 +11,11 @@ use Rattle.argon2_standard.specs.Standard.Variant.{IsName}
 use Rattle.argon2_standard.specs.Standard.Version.{version_text}
 use Rattle.argon2_standard.specs.Standard.Text.{Spelled, base64}
 
--- the mark `$` between the items of a text
+-- the mark `$` between the items of an encoded hash
 abbrev pub dollar : ℕ
 dollar = 36
 
--- the pieces of a text, each as it is written there; the version may be missing
+-- the pieces of an encoded hash, each as it is written there; the version may be missing
 pub record Pieces : Type 0 where
   pub name : List ℕ
   pub version : Option (List ℕ)
@@ -23,28 +25,29 @@ pub record Pieces : Type 0 where
   pub salt : List ℕ
   pub hash : List ℕ
 
--- the version as it is written in a text, or nothing
+-- the version with its mark, or nothing
 abbrev pub version_part : Option (List ℕ) → List ℕ
 version_part None = []
 version_part (Some number) = codes "$v=" ++ number
 
--- the text of these pieces, with nothing else before, between or after them
+-- the string of these pieces, with nothing else before, between or after them
 unfoldable pub text_of_pieces : Pieces → List ℕ
 text_of_pieces pieces =
     codes "$" ++ pieces.name ++ version_part pieces.version
     ++ codes "$m=" ++ pieces.memory ++ codes ",t=" ++ pieces.time ++ codes ",p=" ++ pieces.lanes
     ++ codes "$" ++ pieces.salt ++ codes "$" ++ pieces.hash
 
--- no byte of the text is c
+-- no byte of the string is c
 abbrev pub Lacks : ℕ → List ℕ → Type 0
 Lacks c text = AllByRecursion (λ b. b ≢ c) text
 
--- 16 or 19; a text without a version means the older one
+-- 16 or 19; without a version it is the older one: wider than the PHC string format
 abbrev pub IsVersion : Option (List ℕ) → Version → Type 0
 IsVersion None version = version ≡ Version10
 IsVersion (Some number) version = number ≡ version_text version
 
--- a plus or nothing, and one or more decimal digits whose value fits 32 bits
+-- a plus or nothing, and one or more decimal digits whose value fits 32 bits: wider than the PHC string
+-- format, which has neither the plus nor leading zeros
 pub record IsNumber (text : List ℕ) (n : ℕ) : Type 0 where
   pub sign : List ℕ
   pub digits : List ℕ
@@ -59,13 +62,13 @@ pub record IsItem (text bytes : List ℕ) : Type 0 where
   pub encoded : text ≡ base64 bytes
   pub bytes_fit : IsBytes bytes
 
--- the text is these pieces, and neither the salt nor the hash has a `$`
+-- the string is these pieces, and neither the salt nor the hash has a `$`
 pub record IsCut (text : List ℕ) (pieces : Pieces) : Type 0 where
   pub whole : text ≡ text_of_pieces pieces
   pub salt : Lacks dollar pieces.salt
   pub hash : Lacks dollar pieces.hash
 
--- the pieces before the salt spell what d has before its salt
+-- the pieces before the salt decode to what d has before its salt
 pub record IsHead (pieces : Pieces) (d : Spelled) : Type 0 where
   pub name : IsName pieces.name d.variant
   pub version : IsVersion pieces.version d.version
@@ -73,7 +76,7 @@ pub record IsHead (pieces : Pieces) (d : Spelled) : Type 0 where
   pub time : IsNumber pieces.time d.time_cost
   pub lanes : IsNumber pieces.lanes d.parallelism
 
--- the text spells the value
+-- the string decodes to the value
 pub record Spells (text : List ℕ) (d : Spelled) : Type 0 where
   pub pieces : Pieces
   pub cut : IsCut text pieces
@@ -81,6 +84,6 @@ pub record Spells (text : List ℕ) (d : Spelled) : Type 0 where
   pub salt : IsItem pieces.salt d.salt
   pub hash : IsItem pieces.hash d.hash
 
--- the text spells no value at all
+-- the string decodes to no value at all
 abbrev pub SpellsNothing : List ℕ → Type 0
 SpellsNothing text = (d : Spelled) → Spells text d → ⊥

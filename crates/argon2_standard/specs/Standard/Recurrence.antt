@@ -70,7 +70,8 @@ abbrev pub recurrence : Setting → Blocks → Position → List ℕ
 recurrence s block at =
     if (at.pass == 0) && nat_lt at.column 2 then first_block s at else next_block s block at
 
--- the recurrence applied n times
+-- the recurrence applied n times, from blocks of zeros. The recursion needs a number that falls; that the blocks
+-- at the start do not count is the theorem `recurrence_law`.
 unfoldable pub unroll : Setting → ℕ → Blocks
 unroll s zero at = zero_block
 unroll s (suc n) at = recurrence s (unroll s n) at
@@ -79,6 +80,7 @@ unroll s (suc n) at = recurrence s (unroll s n) at
 abbrev pub rank : Setting → Position → ℕ
 rank s at = at.pass * lane_length s + at.column
 
--- B: the block at a place. It is the one function that meets the recurrence.
+-- B: the block at a place: the recurrence is applied once more than there are places before it. It meets the
+-- recurrence, and no other function does (`recurrence_law`), so that `unroll` and `rank` need not be believed.
 unfoldable pub block_at : Setting → Blocks
 block_at s at = unroll s (suc (rank s at)) at

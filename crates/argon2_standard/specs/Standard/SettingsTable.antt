@@ -1,4 +1,4 @@
--- The settings table: the refusal of the first row that applies.
+-- The settings table: the error of the first row that applies.
 use Rattle.std.specs.Prelude.{ℕ, ◌*◌, Bool, ◌==◌, nat_lt, if◌then◌else◌, Option, Some, None, List, [], ◌∷◌, length}
 use Rattle.argon2_standard.specs.declared.config.Config.{Config}
 use Rattle.argon2_standard.specs.declared.error.Error.{Error}
@@ -25,7 +25,7 @@ min_salt_length = 8
 abbrev pub min_hash_length : ℕ
 min_hash_length = 4
 
--- the rows in their order, each with its condition and its refusal, for a password, a salt and a
+-- the rows in their order, each with its condition and its error, for a password, a salt and a
 -- hash of these lengths
 abbrev pub settings_table : Config → ℕ → ℕ → ℕ → List (Bool × Error)
 settings_table config pwd_len salt_len hash_len =
@@ -41,11 +41,11 @@ settings_table config pwd_len salt_len hash_len =
     ∷ (nat_lt hash_len min_hash_length, OutputTooShort)
     ∷ (nat_lt max_length hash_len, OutputTooLong) ∷ []
 
--- the refusal of the first row whose condition holds
+-- the error of the first row whose condition holds
 abbrev pub first_that_applies : List (Bool × Error) → Option Error
 first_that_applies [] = None
 first_that_applies ((applies, refusal) ∷ rows) = if applies then Some refusal else first_that_applies rows
 
--- the first refusal of the settings table, for a password, a salt and a hash of these lengths, in bytes
+-- the first error of the settings table, for a password, a salt and a hash of these lengths, in bytes
 unfoldable pub refusal_of : Config → ℕ → ℕ → ℕ → Option Error
 refusal_of config pwd_len salt_len hash_len = first_that_applies (settings_table config pwd_len salt_len hash_len)

@@ -1,4 +1,4 @@
--- The written text of a hash.
+-- The encoded hash (a PHC string) as it is written.
 use Rattle.std.specs.Prelude.{ℕ, List, ◌++◌, codes}
 use Rattle.std.specs.Fmt.{decimal}
 use Rattle.base64.specs.Engines.{standard_no_pad}
@@ -9,7 +9,7 @@ use Rattle.argon2_standard.specs.declared.version.Version.{Version}
 use Rattle.argon2_standard.specs.Standard.Variant.{lowercase_name}
 use Rattle.argon2_standard.specs.Standard.Version.{version_text}
 
--- the value that a text spells. It has neither the secret nor the associated data.
+-- what an encoded hash decodes to. It has neither the secret nor the associated data.
 pub record Spelled : Type 0 where
   pub variant : Variant
   pub version : Version
@@ -23,7 +23,7 @@ pub record Spelled : Type 0 where
 abbrev pub base64 : List ℕ → List ℕ
 base64 bytes = encode_of standard_no_pad bytes
 
--- `$argon2id$v=19$m=256,t=2,p=1$salt$hash`: the lower-case name, plain decimals, base64
+-- the encoded hash, as `$argon2id$v=19$m=256,t=2,p=1$salt$hash`: the lower-case name, plain decimals, base64
 unfoldable pub text_of : Spelled → List ℕ
 text_of d =
     codes "$" ++ lowercase_name d.variant
@@ -32,7 +32,7 @@ text_of d =
     ++ codes "$" ++ base64 d.salt
     ++ codes "$" ++ base64 d.hash
 
--- what the text of a hash spells: the settings as they were given, the salt and the hash
+-- what the encoded hash of these settings decodes to: the settings, the salt and the hash
 abbrev pub spelled_of : Config → List ℕ → List ℕ → Spelled
 spelled_of config salt hash = record {
   variant = config.variant;

@@ -9,18 +9,18 @@ variant_number Argon2d = 0
 variant_number Argon2i = 1
 variant_number Argon2id = 2
 
--- the name that a written text has
+-- the name that an encoded hash is written with
 abbrev pub lowercase_name : Variant → List ℕ
 lowercase_name Argon2d = codes "argon2d"
 lowercase_name Argon2i = codes "argon2i"
 lowercase_name Argon2id = codes "argon2id"
 
--- the other name that is read
-abbrev pub uppercase_name : Variant → List ℕ
-uppercase_name Argon2d = codes "Argon2d"
-uppercase_name Argon2i = codes "Argon2i"
-uppercase_name Argon2id = codes "Argon2id"
+-- the other name that is read: wider than the PHC string format, which has lower case alone
+abbrev pub capitalised_name : Variant → List ℕ
+capitalised_name Argon2d = codes "Argon2d"
+capitalised_name Argon2i = codes "Argon2i"
+capitalised_name Argon2id = codes "Argon2id"
 
 -- one of the two names of a variant
 abbrev pub IsName : List ℕ → Variant → Type 0
-IsName name variant = (name ≡ lowercase_name variant) ⊎ (name ≡ uppercase_name variant)
+IsName name variant = (name ≡ lowercase_name variant) ⊎ (name ≡ capitalised_name variant)

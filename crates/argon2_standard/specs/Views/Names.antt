@@ -1,4 +1,4 @@
--- Names, numbers and texts of no variant or version.
+-- Names and numbers of no variant or version.
 use Rattle.std.specs.Prelude.{◌≡◌, ℕ, List}
 use Rattle.argon2_standard.specs.declared.variant.Variant.{Variant}
 use Rattle.argon2_standard.specs.Standard.Variant.{variant_number, IsName}

@@ -1,4 +1,4 @@
--- The sums of letters are those of base64, and a text without faults is the base64 of the bytes that are read of it.
+-- The sums of letters are those of base64, and a string without faults is the base64 of the bytes that are read of it.
 use Rattle.std.proofs.Common.{◌≡◌, ℕ, zero, suc, ◌+◌, ◌*◌, ◌/◌, ◌%◌, ◌<◌, ◌==◌, not, ◌||◌, ◌&&◌, ◌≤◌, nat_lt, List, [], ◌∷◌, ◌++◌, length, get_or, slice_index, refl, sym, ap, ◌∙◌, arith, inl, inr}
 use Rattle.std.specs.Prelude.{◌↔◌}
 use Rattle.std.proofs.lemmas.Bool.{and_parts, eqb-true, eq-eqb, ltb-true, or_cases, not-true}
@@ -56,7 +56,7 @@ letter_from byte small none =
           record { small = ltb-true (bits_of byte) 64 parts.0; same = eqb-true (slice_index alphabet (bits_of byte)) byte parts.1 }
     ]
 
--- ---- a whole text
+-- ---- a whole string
 
 -- base64 without padding is the symbols alone
 base64-symbols : (bytes : List ℕ) → base64 bytes ≡ encode_symbols alphabet bytes
@@ -105,7 +105,7 @@ three_again a b c d rest x y z w =
     let e3 : third_byte c d % 64 ≡ bits_of d = omega arith in
     rw (e0, e1, e2, e3, x.same, y.same, z.same, w.same) refl
 
--- what is read of any text is bytes
+-- what is read of any string is bytes
 read_bytes : (text : List ℕ) → IsBytes (bytes_read text)
 unfolding bytes_read
 read_bytes [] i = omega arith
@@ -120,7 +120,7 @@ read_bytes (a ∷ b ∷ c ∷ d ∷ rest) (suc zero) = omega arith
 read_bytes (a ∷ b ∷ c ∷ d ∷ rest) (suc (suc zero)) = omega arith
 read_bytes (a ∷ b ∷ c ∷ d ∷ rest) (suc (suc (suc i))) = read_bytes rest i
 
--- a text without faults is the symbols of what is read of it
+-- a string without faults is the symbols of what is read of it
 symbols_again : (text : List ℕ) → IsBytes text → faults_of text ≡ 0 → text ≡ encode_symbols alphabet (bytes_read text)
 unfolding faults_of bytes_read
 symbols_again [] fits none = no_symbols
@@ -162,7 +162,7 @@ symbols_right (a ∷ b ∷ c ∷ rest) fits =
       fault_at (c % 64) (omega arith),
     ) (omega (arith, symbols_right rest (λ i. fits (suc (suc (suc i))))))
 
--- a text is an item exactly where it has no faults
+-- a string is an item exactly where it has no faults
 pub faults_tell : (text : List ℕ) → IsBytes text → (faults_of text ≡ 0) ↔ IsSomeItem text
 faults_tell text fits = (
   λ none. (bytes_read text, record { encoded = symbols_again text fits none ∙ sym (base64-symbols (bytes_read text)); bytes_fit = read_bytes text }),
@@ -175,7 +175,7 @@ item_read text fits some =
     let none = (faults_tell text fits).1 some in
     record { encoded = symbols_again text fits none ∙ sym (base64-symbols (bytes_read text)); bytes_fit = read_bytes text }
 
--- ---- a text in groups of four letters
+-- ---- a string in groups of four letters
 
 -- the faults of four letters are those of each
 pub group_faults : (group : List ℕ) → length group ≡ 4

@@ -24,7 +24,7 @@ pub strip-again : (front rest : List ℕ) → strip front (front ++ rest) ≡ So
 strip-again [] rest = refl
 strip-again (x ∷ front) rest = rw (eq-eqb x x refl) (strip-again front rest)
 
--- where stripping finds a rest, the text is the front and that rest
+-- where stripping finds a rest, the string is the front and that rest
 pub strip_found : (front text rest : List ℕ) → strip front text ≡ Some rest → text ≡ front ++ rest
 strip_found [] text rest e = cc
 strip_found (x ∷ front) [] rest e = absurd cc
@@ -37,7 +37,7 @@ strip_found (x ∷ front) (y ∷ text) rest e = elim (cases_eq x y) [
       absurd cc
 ]
 
--- stripping finds nothing in a text that does not begin with the front
+-- stripping finds nothing in a string that does not begin with the front
 pub strip_none : (front text : List ℕ) → ((rest : List ℕ) → text ≢ front ++ rest) → strip front text ≡ None
 strip_none front text h = elim (strip front text) as (λ o. strip front text ≡ o → o ≡ None) [
   | None ↦ λ e. refl
@@ -51,7 +51,7 @@ pub cut-again : (c : ℕ) (a rest : List ℕ) → Lacks c a → cut c (a ++ c �
 cut-again c [] rest lacks = rw (eq-eqb c c refl) refl
 cut-again c (x ∷ a) rest lacks = rw (ne_eqb x c lacks.0, cut-again c a rest lacks.1) refl
 
--- a text without c is not cut
+-- a string without c is not cut
 pub cut_none : (c : ℕ) (bs : List ℕ) → Lacks c bs → cut c bs ≡ None
 cut_none c [] lacks = refl
 cut_none c (x ∷ bs) lacks = rw (ne_eqb x c lacks.0, cut_none c bs lacks.1) refl
@@ -68,7 +68,7 @@ strip_gives front text (Some x) h =
     let whole : text ≡ front ++ x.now = rw h.2 h.1.1 in
     sym (ap (strip front) whole ∙ strip-again front x.now)
 
--- a text is cut at the place of its first mark
+-- a string is cut at the place of its first mark
 pub cut_at : (mark : ℕ) (text : List ℕ) (at : ℕ) → at < length text → get_or text at 0 ≡ mark → ((i : ℕ) → i < at → get_or text i 0 ≢ mark)
     → cut mark text ≡ Some (take at text, drop 1 (drop at text))
 cut_at mark [] at lt is before = absurd (omega arith)
@@ -102,7 +102,7 @@ cut_found_at c x bs a rest (Some y) ih e =
     let same : (x ∷ y.0 ≡ a) × (y.1 ≡ rest) = some_pair_parts (x ∷ y.0) a y.1 rest e in
     rw (← same.0, ← same.1) (ap (λ (t : List ℕ). x ∷ t) (ih y refl))
 
--- where a cut is found, the text is the first part, the mark and the rest
+-- where a cut is found, the string is the first part, the mark and the rest
 pub cut_found : (c : ℕ) (bs a rest : List ℕ) → cut c bs ≡ Some (a, rest) → bs ≡ a ++ c ∷ rest
 cut_found c [] a rest e = absurd cc
 cut_found c (x ∷ bs) a rest e = elim (cases_eq x c) [

@@ -1,12 +1,13 @@
--- The pieces of a spelled head are clean, so a text has one head.
+-- The pieces of a decoded head are clean, so a string has one head.
 use Rattle.std.proofs.Common.{◌≡◌, ℕ, List, Option, Some, None, refl, sym, ap, subst, ◌∙◌, arith, inl, inr}
 use Rattle.std.specs.Prelude.{codes, IfSome}
+use Rattle.std.specs.Fmt.{digits}
 use Rattle.argon2_standard.specs.declared.variant.Variant.{Variant}
 use Rattle.argon2_standard.specs.declared.variant.Variant.TheVariants.{Argon2d, Argon2i, Argon2id}
 use Rattle.argon2_standard.specs.declared.version.Version.{Version}
 use Rattle.argon2_standard.specs.declared.version.Version.TheVariants.{Version10, Version13}
 use Rattle.argon2_text.specs.declared.encoding.reading.Head.{Head}
-use Rattle.argon2_standard.specs.Standard.Variant.{lowercase_name, uppercase_name, IsName}
+use Rattle.argon2_standard.specs.Standard.Variant.{lowercase_name, capitalised_name, IsName}
 use Rattle.argon2_standard.specs.Standard.Version.{version_text}
 use Rattle.argon2_standard.specs.Standard.Grammar.{Pieces, Lacks, IsVersion, IsCut, IsHead, IsItem, Spells, SpellsNothing}
 use Rattle.argon2_standard.specs.Standard.Text.{Spelled}
@@ -24,19 +25,20 @@ lowercase_lacks Argon2d = any_lacks 36 (codes "argon2d") refl
 lowercase_lacks Argon2i = any_lacks 36 (codes "argon2i") refl
 lowercase_lacks Argon2id = any_lacks 36 (codes "argon2id") refl
 
--- no `$` stands in the uppercase name of a variant
-uppercase_lacks : (variant : Variant) → Lacks 36 (uppercase_name variant)
-uppercase_lacks Argon2d = any_lacks 36 (codes "Argon2d") refl
-uppercase_lacks Argon2i = any_lacks 36 (codes "Argon2i") refl
-uppercase_lacks Argon2id = any_lacks 36 (codes "Argon2id") refl
+-- no `$` stands in the capitalised name of a variant
+capitalised_lacks : (variant : Variant) → Lacks 36 (capitalised_name variant)
+capitalised_lacks Argon2d = any_lacks 36 (codes "Argon2d") refl
+capitalised_lacks Argon2i = any_lacks 36 (codes "Argon2i") refl
+capitalised_lacks Argon2id = any_lacks 36 (codes "Argon2id") refl
 
 -- no `$` stands in either name of a variant
 name_lacks : (name : List ℕ) (variant : Variant) → IsName name variant → Lacks 36 name
 name_lacks name variant (inl e) = rw e (lowercase_lacks variant)
-name_lacks name variant (inr e) = rw e (uppercase_lacks variant)
+name_lacks name variant (inr e) = rw e (capitalised_lacks variant)
 
 -- no `$` stands in the number of a version as it is written
 number_of_lacks : (version : Version) → Lacks 36 (version_text version)
+unfolding digits
 number_of_lacks Version10 = any_lacks 36 (codes "16") refl
 number_of_lacks Version13 = any_lacks 36 (codes "19") refl
 
@@ -45,11 +47,11 @@ version_lacks : (piece : Option (List ℕ)) (version : Version) → IsVersion pi
 version_lacks None version h = tt
 version_lacks (Some number) version h = rw h (number_of_lacks version)
 
--- a cut text is a split one
+-- a cut string is a split one
 pub split_of : (text : List ℕ) (p : Pieces) → IsCut text p → IsSplit text p
 split_of text p cut = record { whole = cut.whole; salt = cut.salt }
 
--- pieces that are split from a text and spell a head are clean
+-- pieces that are split from a string and decode to a head are clean
 pub head_clean : (text : List ℕ) (p : Pieces) (d : Spelled) → IsSplit text p → IsHead p d → IsClean p
 head_clean text p d cut head = record {
   name = name_lacks p.name d.variant head.name;
@@ -60,11 +62,11 @@ head_clean text p d cut head = record {
   salt = cut.salt;
 }
 
--- the pieces of a spelled head are those that are cut
+-- the pieces of a decoded head are those that are cut
 pub head_cut : (text : List ℕ) (p : Pieces) (d : Spelled) → IsSplit text p → IsHead p d → pieces_of text ≡ Some p
 head_cut text p d cut head = ap pieces_of cut.whole ∙ pieces-again p (head_clean text p d cut head)
 
--- two splits of one text that each spell a head have the same pieces
+-- two splits of one string that each decode to a head have the same pieces
 pub pieces_unique : (text : List ℕ) (p q : Pieces) (d e : Spelled) → IsSplit text p → IsHead p d → IsSplit text q → IsHead q e → p ≡ q
 pieces_unique text p q d e cut_p head_p cut_q head_q =
     let both = sym (head_cut text p d cut_p head_p) ∙ head_cut text q e cut_q head_q in
@@ -83,9 +85,9 @@ head_at text p some (q, d, cut, head) =
     let same : q ≡ p = cc in
     (d, subst (λ (x : Pieces). IsHead x d) same head)
 
--- ---- spellings
+-- ---- decodings
 
--- any spelling of the text has the salt and the hash of its head
+-- any decoding of the string has the salt and the hash of its head
 pub items_at : (text : List ℕ) (h : Head) (d : Spelled) → IsHeadOf text h → Spells text d → IsItem h.salt.now d.salt × IsItem h.hash.now d.hash
 items_at text h d head s =
     let same : s.pieces ≡ head.pieces = pieces_unique text s.pieces head.pieces d (settings_of h) (split_of text s.pieces s.cut) s.head head.cut head.head in
@@ -93,19 +95,19 @@ items_at text h d head s =
     let hash : s.pieces.hash ≡ h.hash.now = ap (λ (p : Pieces). p.hash) same ∙ head.hash in
     (subst (λ (t : List ℕ). IsItem t d.salt) salt s.salt, subst (λ (t : List ℕ). IsItem t d.hash) hash s.hash)
 
--- where no salt or no hash stands behind the head, the text spells nothing
+-- where no salt or no hash stands behind the head, the string decodes to nothing
 pub headless : (text : List ℕ) → (HasSplit text → ⊥) → SpellsNothing text
 headless text none d s = none (s.pieces, d, split_of text s.pieces s.cut, s.head)
 
--- a text spells nothing where what stands for its salt is no item
+-- a string decodes to nothing where what stands for its salt is no item
 pub saltless : (text : List ℕ) (h : Head) → IsHeadOf text h → (IsSomeItem h.salt.now → ⊥) → SpellsNothing text
 saltless text h head none d s = none (d.salt, (items_at text h d head s).0)
 
--- a text spells nothing where what stands for its hash is no item
+-- a string decodes to nothing where what stands for its hash is no item
 pub hashless : (text : List ℕ) (h : Head) → IsHeadOf text h → (IsSomeItem h.hash.now → ⊥) → SpellsNothing text
 hashless text h head none d s = none (d.hash, (items_at text h d head s).1)
 
--- with both it spells a value
+-- with both it decodes to a value
 pub spelling_at : (text : List ℕ) (h : Head) → IsHeadOf text h → IsSomeItem h.salt.now → IsSomeItem h.hash.now → IsSpellingOf text h
 spelling_at text h head (salt, salt_item) (hash, hash_item) = (
   salt,

@@ -1,4 +1,4 @@
--- base64 of bytes: no `$`, one text for each, and its length.
+-- base64 of bytes: no `$`, one string for each, and its length.
 use Rattle.std.proofs.Common.{◌≡◌, ◌≢◌, Bool, false, ℕ, zero, suc, List, [], ◌∷◌, ◌++◌, length, get_or, take, drop}
 use Rattle.std.proofs.Common.{refl, sym, ap, ◌∙◌, arith, subst, Option, None, Some, Result, Ok, ◌*◌, ◌≤◌, ◌/◌, nat_lt}
 use Rattle.base64.specs.Decode.{IsWrittenOver, or_else, groups_before_last, groups_error, lone_error, suffix_error, decode_error, decoded_bytes, decode_slice_result}
@@ -44,7 +44,7 @@ base64_lacks bytes =
     rw (append-nil (encode_symbols alphabet bytes))
     (encode_lacks 36 alphabet bytes (λ i. symbol_lacks 36 alphabet i (λ e. cc) letters))
 
--- a text is the base64 of one list of bytes
+-- a string is the base64 of one list of bytes
 pub item_unique : (text a b : List ℕ) → IsItem text a → IsItem text b → a ≡ b
 item_unique text a b x y =
     let first = decode_of-encode_of standard_no_pad a refl x.bytes_fit in
@@ -75,7 +75,7 @@ both_bytes (x ∷ a) b p q (suc i) = both_bytes a b (λ k. p (suc k)) q i
 pub take_bytes : (n : ℕ) (bytes : List ℕ) → IsBytes bytes → IsBytes (take n bytes)
 take_bytes n bytes h = front_bytes (take n bytes) (drop n bytes) (rw (take-append-drop n bytes) h)
 
--- a text that is told to be no item is none
+-- a string that is told to be no item is none
 pub no_item : (text : List ℕ) (told : Bool) → IsTrue told ↔ IsSomeItem text → told ≡ false → IsSomeItem text → ⊥
 no_item text told tells fails item = let t = sym fails ∙ tells.1 item in cc
 

@@ -25,12 +25,12 @@ number_digits text sign digits whole plus numeral = elim plus [
       rw e refl
 ]
 
--- a text whose first byte is a plus is a plus and what stands behind it
+-- a string whose first byte is a plus is a plus and what stands behind it
 plus_begins : (text : List ℕ) → get_or text 0 0 ≡ 43 → text ≡ codes "+" ++ drop 1 text
 plus_begins [] h = absurd cc
 plus_begins (b ∷ bs) h = rw h refl
 
--- a text that is a numeral below 2^32 behind its plus, if any, spells the number of its digits
+-- a string that is a numeral below 2^32 behind its plus, if any, decodes to the number of its digits
 number_from_parse : (text : List ℕ) → IsNumeral 10 (without_leading_plus text) → digits_value 10 (without_leading_plus text) < 2 ^ 32
     → IsNumber text (digits_value 10 (without_leading_plus text))
 number_from_parse text numeral fits = elim (cases_eq (get_or text 0 0) 43) [
@@ -57,7 +57,7 @@ number_from_parse text numeral fits = elim (cases_eq (get_or text 0 0) 43) [
       }
 ]
 
--- a number that `parse` gives is the one that the text spells; where it fails, there is none
+-- a number that `parse` gives is the one that the string decodes to; where it fails, there is none
 pub number_gives : {E : Type 0} → (text : List ℕ) (r : Result ℕ E) → ParsesUnsigned 32 10 text r → MatchOption (result_ok r) (IsNoNumber text) (IsNumber text)
 number_gives text (Ok n) h = rw (h.1) (number_from_parse text h.0.0 h.0.1)
 number_gives text (Err e) h = λ n number.
@@ -65,7 +65,7 @@ number_gives text (Err e) h = λ n number.
     let small : digits_value 10 number.digits < 2 ^ 32 = rw number.value number.fits in
     h (rw read (number.decimal, small))
 
--- a text spells one number
+-- a string decodes to one number
 pub number_unique : (text : List ℕ) (m n : ℕ) → IsNumber text m → IsNumber text n → m ≡ n
 number_unique text m n a b =
     let first = number_digits text a.sign a.digits a.whole a.plus a.decimal in

@@ -1,4 +1,4 @@
--- The two laws of cutting: the pieces that are found are the text's, and clean pieces are found again.
+-- The two theorems of cutting: the pieces that are found are the string's, and clean pieces are found again.
 use Rattle.std.proofs.Common.{◌≡◌, ℕ, List, ◌∷◌, ◌++◌, Option, Some, None, refl, sym, ap, subst, ◌∙◌, append_assoc}
 use Rattle.std.specs.Prelude.{codes, IfSome}
 use Rattle.std.proofs.lemmas.Option.{some_pair_parts, same_Some}
@@ -19,7 +19,7 @@ piece-again : (front : List ℕ) (mark : ℕ) (a rest : List ℕ) → Lacks mark
 unfolding piece
 piece-again front mark a rest lacks = rw (strip-again front (a ++ mark ∷ rest)) (cut-again mark a rest lacks)
 
--- where a piece is found, the text is the front, the piece, the mark and the rest
+-- where a piece is found, the string is the front, the piece, the mark and the rest
 piece_found : (front : List ℕ) (mark : ℕ) (text a rest : List ℕ) → piece front mark text ≡ Some (a, rest) → text ≡ front ++ (a ++ mark ∷ rest)
 unfolding piece
 piece_found front mark text a rest e =
@@ -40,7 +40,7 @@ unfolding version_piece
 version_piece-again None rest lacks = refl
 version_piece-again (Some number) rest lacks = rw (cut-again 36 number (codes "m=" ++ rest) lacks) refl
 
--- whether `v=` was stripped or not, the version that is found and the rest make up the text
+-- whether `v=` was stripped or not, the version that is found and the rest make up the string
 version_behind_found : (text : List ℕ) (o : Option (List ℕ)) (version : Option (List ℕ)) (rest : List ℕ) → strip (codes "v=") text ≡ o
     → version_behind text o ≡ Some (version, rest) → text ≡ version_front version rest
 version_behind_found text None version rest is e =
@@ -53,7 +53,7 @@ version_behind_found text (Some r) version rest is e =
     let found : Option (List ℕ) × List ℕ = (Some b.0.0, b.0.1) in
     subst (λ (x : Option (List ℕ) × List ℕ). text ≡ version_front x.0 x.1) (same_Some found (version, rest) b.2) whole
 
--- the version that is found, or none, and the rest make up the text
+-- the version that is found, or none, and the rest make up the string
 version_piece_found : (text : List ℕ) (version : Option (List ℕ)) (rest : List ℕ) → version_piece text ≡ Some (version, rest)
     → text ≡ version_front version rest
 unfolding version_piece
@@ -67,7 +67,7 @@ nested p =
     codes "$" ++ (p.name ++ 36 ∷ version_front p.version
     (codes "m=" ++ (p.memory ++ 44 ∷ (codes "t=" ++ (p.time ++ 44 ∷ (codes "p=" ++ (p.lanes ++ 36 ∷ (p.salt ++ 36 ∷ p.hash))))))))
 
--- the text of pieces, given one by one, is the same in the order in which they are cut
+-- the string of pieces, given one by one, is the same in the order in which they are cut
 joined_nested_at : (name : List ℕ) (version : Option (List ℕ)) (memory time lanes salt hash : List ℕ)
     → text_of_pieces (record { name = name; version = version; memory = memory; time = time; lanes = lanes; salt = salt; hash = hash })
     ≡ nested (record { name = name; version = version; memory = memory; time = time; lanes = lanes; salt = salt; hash = hash })
@@ -75,7 +75,7 @@ unfolding text_of_pieces
 joined_nested_at name None memory time lanes salt hash = simp append_assoc
 joined_nested_at name (Some number) memory time lanes salt hash = simp append_assoc
 
--- the text of pieces is the same in the order in which they are cut
+-- the string of pieces is the same in the order in which they are cut
 joined-nested : (p : Pieces) → text_of_pieces p ≡ nested p
 joined-nested p = joined_nested_at p.name p.version p.memory p.time p.lanes p.salt p.hash
 
@@ -88,7 +88,7 @@ pub record IsClean (p : Pieces) : Type 0 where
   pub lanes : Lacks 36 p.lanes
   pub salt : Lacks 36 p.salt
 
--- clean pieces are found again in their text
+-- clean pieces are found again in their string
 pub pieces-again : (p : Pieces) → IsClean p → pieces_of (text_of_pieces p) ≡ Some p
 unfolding pieces_of
 pieces-again p clean =
@@ -105,14 +105,14 @@ pieces-again p clean =
       cut-again 36 p.salt p.hash clean.salt,
     ) refl
 
--- each step's text, in that of the step before it
+-- each step's string, in that of the step before it
 nested_from : (p : Pieces) (text after_name after_version after_memory after_time after_lanes : List ℕ) → text ≡ codes "$" ++ (p.name ++ 36 ∷ after_name)
     → after_name ≡ version_front p.version after_version → after_version ≡ codes "m=" ++ (p.memory ++ 44 ∷ after_memory)
     → after_memory ≡ codes "t=" ++ (p.time ++ 44 ∷ after_time) → after_time ≡ codes "p=" ++ (p.lanes ++ 36 ∷ after_lanes)
     → after_lanes ≡ p.salt ++ 36 ∷ p.hash → text ≡ nested p
 nested_from p text after_name after_version after_memory after_time after_lanes e1 e2 e3 e4 e5 e6 = rw (e1, e2, e3, e4, e5, e6) refl
 
--- the pieces that are found in a text are a split of it
+-- the pieces that are found in a string are a split of it
 pub pieces_found : (text : List ℕ) (p : Pieces) → pieces_of text ≡ Some p → IsSplit text p
 unfolding pieces_of
 pieces_found text p e =

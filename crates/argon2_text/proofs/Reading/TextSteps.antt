@@ -1,4 +1,4 @@
--- What is written in steps is the written text.
+-- What is written in steps is the encoded hash.
 use Rattle.std.proofs.Common.{◌≡◌, ℕ, List, ◌++◌, Result, Ok, Err, append_assoc}
 use Rattle.std.specs.Prelude.{codes, MatchOption, MatchResult}
 use Rattle.std.specs.Result.{result_ok}
@@ -6,7 +6,7 @@ use Rattle.argon2_standard.specs.declared.config.Config.{Config}
 use Rattle.argon2_standard.specs.Standard.Text.{base64, spelled_of, text_of}
 use Rattle.argon2_text.specs.Views.Texts.{front_of}
 
--- the front, and then the salt, a `$` and the hash, each written behind it, are the value's text
+-- the front, and then the salt, a `$` and the hash, each written behind it, are the value's string
 pub text_in_steps : (c : Config) (salt hash front with_salt with_mark whole : List ℕ) → front ≡ front_of c → with_salt ≡ front ++ base64 salt
     → with_mark ≡ with_salt ++ codes "$" → whole ≡ with_mark ++ base64 hash → whole ≡ text_of (spelled_of c salt hash)
 unfolding text_of

@@ -1,9 +1,9 @@
--- A written text is ASCII.
+-- A written string is ASCII.
 use Rattle.std.proofs.Common.{◌≡◌, ◌<◌, ◌^◌, ℕ, List, [], ◌∷◌, ◌++◌, true, nat_lt, refl}
 use Rattle.std.specs.Prelude.{codes}
 use Rattle.std.specs.List.{list_all}
 use Rattle.std.specs.Str.{IsAscii}
-use Rattle.std.specs.Fmt.{decimal}
+use Rattle.std.specs.Fmt.{decimal, digits}
 use Rattle.std.proofs.lemmas.Bool.{and_parts, ltb-true}
 use Rattle.std.proofs.lemmas.Fmt.{IsAscii-decimal}
 use Rattle.std.proofs.lemmas.Str.{IsAscii-append}
@@ -31,6 +31,7 @@ IsAscii-name Argon2i = told (codes "argon2i") refl
 IsAscii-name Argon2id = told (codes "argon2id") refl
 
 IsAscii-version : (version : Version) → IsAscii (version_text version)
+unfolding digits
 IsAscii-version Version10 = told (codes "16") refl
 IsAscii-version Version13 = told (codes "19") refl
 
@@ -38,7 +39,7 @@ IsAscii-version Version13 = told (codes "19") refl
 with_piece : (before mark piece : List ℕ) → IsAscii before → list_all (λ b. nat_lt b 128) mark ≡ true → IsAscii piece → IsAscii (before ++ mark ++ piece)
 with_piece before mark piece front ascii back = IsAscii-append (before ++ mark) piece (IsAscii-append before mark front (told mark ascii)) back
 
--- the text of numbers that fit 64 bits is ASCII
+-- the string of numbers that fit 64 bits is ASCII
 pub IsAscii-text_of : (d : Spelled) → d.mem_cost < 2 ^ 64 → d.time_cost < 2 ^ 64 → d.parallelism < 2 ^ 64 → IsAscii (text_of d)
 unfolding text_of
 IsAscii-text_of d memory time lanes =

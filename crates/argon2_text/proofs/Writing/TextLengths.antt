@@ -1,6 +1,6 @@
--- The lengths of the pieces of a written text.
+-- The lengths of the pieces of an encoded hash.
 use Rattle.std.proofs.Common.{◌≡◌, ℕ, ◌+◌, ◌^◌, ◌/◌, ◌%◌, ◌<◌, ◌≤◌, [], ◌∷◌, length, refl, ap, ◌∙◌, arith, length-append}
-use Rattle.std.specs.Fmt.{decimal}
+use Rattle.std.specs.Fmt.{decimal, digits}
 use Rattle.std.proofs.lemmas.Fmt.{decimal_step}
 use Rattle.argon2_standard.specs.declared.variant.Variant.{Variant}
 use Rattle.argon2_standard.specs.declared.variant.Variant.TheVariants.{Argon2d, Argon2i, Argon2id}
@@ -20,12 +20,13 @@ length-name Argon2d = omega arith
 length-name Argon2i = omega arith
 length-name Argon2id = omega arith
 
--- the text of a version has two bytes
+-- the number of a version has two digits
 pub length-version : (version : Version) → length (version_text version) ≡ 2
+unfolding digits
 length-version Version10 = refl
 length-version Version13 = refl
 
--- the length of a written text, its marks and its version making up 17
+-- the length of an encoded hash, its marks and its version making up 17
 pub length-text_of : (d : Spelled) → length (text_of d) ≡ 17 + length (lowercase_name d.variant)
     + (length (decimal d.mem_cost) + length (decimal d.time_cost) + length (decimal d.parallelism)) + length (base64 d.salt) + length (base64 d.hash)
 unfolding text_of

@@ -1,4 +1,4 @@
--- Cutting a text into its pieces from left to right, as the code does.
+-- Cutting a string into its pieces from left to right, as the code does.
 use Rattle.std.specs.Prelude.{ℕ, ◌==◌, if◌then◌else◌, List, [], ◌∷◌, codes, Option, Some, None, option_map}
 use Rattle.argon2_standard.specs.Standard.Grammar.{Pieces, dollar}
 use Rattle.argon2_text.specs.Views.Faults.{comma}
@@ -31,7 +31,7 @@ version_behind text (Some rest) = cut dollar rest >>= λ x. Some (Some x.0, x.1)
 unfoldable pub version_piece : List ℕ → Option (Option (List ℕ) × List ℕ)
 version_piece text = version_behind text (strip (codes "v=") text)
 
--- all pieces, where the text has them: the hash is what is left, whatever stands in it
+-- all pieces, where the string has them: the hash is what is left, whatever stands in it
 unfoldable pub pieces_of : List ℕ → Option Pieces
 pieces_of text = do
   name ← piece (codes "$") dollar text

@@ -18,7 +18,7 @@ abbrev pub fault_of : ℕ → ℕ
 fault_of letter = 1 + reaches letter 44 + reaches letter 58 + reaches letter 91 + reaches letter 123
     - reaches letter 43 - reaches letter 47 - reaches letter 65 - reaches letter 97
 
--- how many faults a text has: bytes that are no letters, a letter alone, and bits behind the last byte
+-- how many faults a string has: bytes that are no letters, a letter alone, and bits behind the last byte
 unfoldable pub faults_of : List ℕ → ℕ
 faults_of [] = 0
 faults_of (a ∷ []) = 1
@@ -36,7 +36,7 @@ second_byte b c = (bits_of b * 16 + bits_of c / 4) % 256
 abbrev pub third_byte : ℕ → ℕ → ℕ
 third_byte c d = (bits_of c * 64 + bits_of d) % 256
 
--- the bytes of a text
+-- the bytes of a string
 unfoldable pub bytes_read : List ℕ → List ℕ
 bytes_read [] = []
 bytes_read (a ∷ []) = []

@@ -1,4 +1,4 @@
--- What the contracts of the text see of the code's values.
+-- What the contracts of reading and writing see of the code's values.
 use Rattle.std.specs.Prelude.{◌≡◌, ℕ, List, [], ◌++◌, Option, codes, length, option_map}
 use Rattle.std.specs.Fmt.{decimal}
 use Rattle.std.specs.Borrow.{Bor}
@@ -37,13 +37,13 @@ numbers_of d = record {
   hash_len = length d.hash;
 }
 
--- the written text up to the salt
+-- the encoded hash up to the salt
 abbrev pub front_of : Config → List ℕ
 front_of c =
     codes "$" ++ lowercase_name c.variant ++ codes "$v=" ++ version_text c.version ++ codes "$m=" ++ decimal c.mem_cost
     ++ codes ",t=" ++ decimal c.time_cost ++ codes ",p=" ++ decimal c.lanes ++ codes "$"
 
--- two parts of a text
+-- two parts of a string
 abbrev pub two_texts : Bor (List ℕ) × Bor (List ℕ) → List ℕ × List ℕ
 two_texts x = (x.0.now, x.1.now)
 
@@ -65,7 +65,7 @@ pieces_view p = record {
   hash = p.hash.now;
 }
 
--- what the head of a text spells with this salt and this hash
+-- what the head of a string decodes to with this salt and this hash
 abbrev pub spelled_with : Head → List ℕ → List ℕ → Spelled
 spelled_with h salt hash = record {
   variant = h.variant;
@@ -81,7 +81,7 @@ spelled_with h salt hash = record {
 abbrev pub settings_of : Head → Spelled
 settings_of h = spelled_with h [] []
 
--- h is the head of the text, with the salt and the hash as they are written there
+-- h is the head of the string, with the salt and the hash as they are written there
 pub record IsHeadOf (text : List ℕ) (h : Head) : Type 0 where
   pub pieces : Pieces
   pub cut : IsSplit text pieces
@@ -89,7 +89,7 @@ pub record IsHeadOf (text : List ℕ) (h : Head) : Type 0 where
   pub salt : pieces.salt ≡ h.salt.now
   pub hash : pieces.hash ≡ h.hash.now
 
--- h is the head of a text that spells a value with this salt and this hash
+-- h is the head of a string that decodes to a value with this salt and this hash
 pub record IsSpelledBy (text : List ℕ) (h : Head) (salt hash : List ℕ) : Type 0 where
   pub spells : Spells text (spelled_with h salt hash)
   pub salt_item : IsItem h.salt.now salt

@@ -1,4 +1,4 @@
--- The decoded value is the only one that the text spells.
+-- The decoded value is the only one that the string decodes to.
 use Rattle.std.proofs.Common.{◌∙◌, ap, Err}
 use Rattle.std.proofs.lemmas.Result.{err_from_is_err_and}
 use Rattle.argon2_text.specs.Views.Texts.{spelled_by}

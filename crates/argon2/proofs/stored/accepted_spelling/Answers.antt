@@ -1,4 +1,4 @@
--- The head of a text that spells a value is refused as the value is.
+-- The head of a string that decodes to a value is rejected as the value is.
 use Rattle.std.proofs.lemmas.Option.{MatchOption-at_none, MatchOption-at_some}
 use Rattle.argon2_text.specs.Views.Texts.{IsSpellingOf}
 use Rattle.argon2.proofs.Verification.StoredTexts.{head_accepted, head_refused, spells_some}

@@ -1,4 +1,4 @@
--- The head of a text has the numbers of each value that the text spells.
+-- The head of a string has the numbers of each value that the string decodes to.
 use Rattle.std.proofs.Common.{Ok, ap, sym, ◌∙◌}
 use Rattle.argon2_text.specs.Views.Texts.{numbers_of}
 use Rattle.argon2.proofs.Verification.StoredTexts.{spelled_at, spells_some}

@@ -1,4 +1,4 @@
--- The length that is asked for is that of the text.
+-- The length that is asked for is that of the string.
 use Rattle.std.proofs.Common.{arith, refl}
 use Rattle.argon2_c.proofs.encoding.write_tag_text.Goals as goal
 

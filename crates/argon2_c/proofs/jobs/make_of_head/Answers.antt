@@ -2,18 +2,25 @@
 use Rattle.std.proofs.Common.{Err, length, refl, sym, ap, ◌∙◌}
 use Rattle.std.proofs.lemmas.Result.{err_from_is_err_and}
 use Rattle.argon2_text.specs.Views.Texts.{spelled_with}
-use Rattle.argon2.proofs.Verification.StoredTexts.{own_length, stored_accepted}
+use Rattle.argon2_standard.specs.Standard.Decoded.{decoded_config}
+use Rattle.argon2.proofs.Verification.StoredTexts.{is_stored, own_length, stored_accepted}
 use Rattle.argon2_text.proofs.Reading.TextItems.{item_unique}
 use Rattle.argon2_c.proofs.StoredJobs.{made_job, with_items}
 use Rattle.argon2_c.proofs.jobs.make_of_head.Goals as goal
 
 pub returns-in-Some : goal.returns-in-Some
-returns-in-Some c s h config salt hash stored =
+returns-in-Some c s h salt hash =
+    let d = spelled_with c.args.head.now s h in
+    let config = decoded_config d c.args.secret c.args.ad in
+    let stored = is_stored d c.args.secret c.args.ad c.args.secret.now c.args.ad.now refl refl in
     let found = sym (c.refusal.ensures config s h salt hash stored) ∙ c.in-Some.is in
     rw found (refl, refl)
 
 pub returns-in_err-read_items : goal.returns-in_err-read_items
-returns-in_err-read_items c s h config salt hash stored =
+returns-in_err-read_items c s h salt hash =
+    let d = spelled_with c.args.head.now s h in
+    let config = decoded_config d c.args.secret c.args.ad in
+    let stored = is_stored d c.args.secret c.args.ad c.args.secret.now c.args.ad.now refl refl in
     let p = err_from_is_err_and c.from_residual.result c.from_residual.ensures.1 in
     let none = sym (c.refusal.ensures config s h salt hash stored) ∙ c.in_default.is in
     let answer = c.in_err-read_items.ensures.answer s h salt hash in
@@ -31,13 +38,15 @@ accepted_context-requires c =
     (c.config_of_numbers-config.ensures d (c.numbers.ensures _ _ items.0 items.1))
 
 pub returns : goal.returns
-returns c s h config salt hash stored =
+returns c s h salt hash =
+    let d = spelled_with c.args.head.now s h in
+    let config = decoded_config d c.args.secret c.args.ad in
+    let stored = is_stored d c.args.secret c.args.ad c.args.secret.now c.args.ad.now refl refl in
     let none = sym (c.refusal.ensures config s h salt hash stored) ∙ c.in_default.is in
     let items = c.in_ok-read_items.ensures.items in
     let answer = c.in_ok-read_items.ensures.answer s h salt hash in
     let same_salt = item_unique c.args.head.now.salt.now c.read_items.new.salt s items.0 salt in
     let same_hash = item_unique c.args.head.now.hash.now c.read_items.new.hash h items.1 hash in
-    let d = spelled_with c.args.head.now s h in
     let used = c.config_of_numbers-config.result in
     let is_used = c.config_of_numbers-config.ensures d (c.numbers.ensures s h salt hash) in
     let own = own_length d (length c.args.pwd.now) c.args.secret.now c.args.ad.now used

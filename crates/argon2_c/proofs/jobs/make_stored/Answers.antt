@@ -11,4 +11,4 @@ pub returns-in-Err : goal.returns-in-Err
 returns-in-Err c = no_head c.args.text.now c.in-Err.refusal _ _ c.in-Err.ensures
 
 pub returns-in-Ok : goal.returns-in-Ok
-returns-in-Ok c = by_head c.args.text.now c.in-Ok.head _ _ _ _ c.in-Ok.ensures (λ s h salt hash config. c.make_of_head.ensures s h config salt hash)
+returns-in-Ok c = by_head c.args.text.now c.in-Ok.head _ _ _ _ c.in-Ok.ensures c.make_of_head.ensures

@@ -1,6 +1,7 @@
 use Rattle.std.proofs.Common.{◌≡◌, ℕ, ◌*◌, List, Ok, Err, subst, sym}
 use Rattle.argon2_standard.specs.Standard.Tag.{tag_of}
-use Rattle.argon2_c.specs.Jobs.{Finishes, Verifies, setting_of_job}
+use Rattle.argon2_c.specs.Jobs.{setting_of_job}
+use Rattle.argon2_c.specs.Steps.{Finishes, Verifies}
 use Rattle.argon2_c.specs.Over.{HashesJob, JudgesJob, Lent}
 use Rattle.argon2_c.specs.Runs.{IsMade, IsRun, slice_at}
 use Rattle.argon2_c.specs.declared.jobs.LentJob.{LentJob}

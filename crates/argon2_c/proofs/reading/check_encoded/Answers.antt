@@ -7,13 +7,13 @@ pub returns-in-Err : goal.returns-in-Err
 returns-in-Err c = no_head c.args.text.now c.in-Err.refusal _ _ c.in-Err.ensures
 
 pub returns-in-Some : goal.returns-in-Some
-returns-in-Some c = by_head c.args.text.now c.in-Ok.head _ _ _ _ c.in-Ok.ensures (λ salt hash s h secret ad config secret_len ad_len stored.
+returns-in-Some c = by_head c.args.text.now c.in-Ok.head _ _ _ _ c.in-Ok.ensures (λ salt hash s h secret ad secret_len ad_len.
     let d = spelled_with c.in-Ok.head salt hash in
     let numbers = c.numbers-numbers.ensures salt hash s h in
-    rw (sym (c.refusal_for.ensures d secret ad config numbers secret_len ad_len stored) ∙ c.in-Some.is) (refl, refl))
+    rw (sym (c.refusal_for.ensures d secret ad numbers secret_len ad_len) ∙ c.in-Some.is) (refl, refl))
 
 pub returns-in-None : goal.returns-in-None
-returns-in-None c = by_head c.args.text.now c.in-Ok.head _ _ _ _ c.in-Ok.ensures (λ salt hash s h secret ad config secret_len ad_len stored.
+returns-in-None c = by_head c.args.text.now c.in-Ok.head _ _ _ _ c.in-Ok.ensures (λ salt hash s h secret ad secret_len ad_len.
     let d = spelled_with c.in-Ok.head salt hash in
     let numbers = c.numbers-numbers.ensures salt hash s h in
-    rw (sym (c.refusal_for.ensures d secret ad config numbers secret_len ad_len stored) ∙ c.in-None.is) (refl, c.of.ensures d numbers))
+    rw (sym (c.refusal_for.ensures d secret ad numbers secret_len ad_len) ∙ c.in-None.is) (refl, c.of.ensures d numbers))

@@ -1,13 +1,11 @@
-use Rattle.std.proofs.Common.{◌≡◌, Err, ap, sym, subst, ◌∙◌}
+use Rattle.std.proofs.Common.{◌≡◌, Err, ap, inl, inr, sym, subst, ◌∙◌}
 use Rattle.std.specs.Io.KnownBytes.{Appends}
 use Rattle.std.proofs.lemmas.Result.{IfOk-from_err, err_from_is_err_and}
 use Rattle.argon2_commands.specs.Fault.{IsBeforeOutput}
 use Rattle.argon2_commands.specs.Words.{texts_of}
 use Rattle.argon2_commands.specs.declared.fault.Fault.TheVariants.{Usage, Refused, TooCostly}
-use Rattle.argon2_commands.proofs.Attempts.{a_command, answer_is_no_usage, no_command, output_is_not, same_error, status_is_no_usage}
+use Rattle.argon2_commands.proofs.Attempts.{answer_is_no_usage, output_is_not, same_error, status_is_no_usage}
 use Rattle.argon2_commands.proofs.Checks.{fails_costly, is_costly, no_answer}
-use Rattle.argon2_commands.specs.Run.{most_read_by}
-use Rattle.argon2_commands.proofs.Passwords.{fewer_read, most_read_of, nothing_read}
 use Rattle.argon2_commands.proofs.Refusals.{is_no_output, is_refused, passed_on, told, untouched}
 use Rattle.argon2_commands.proofs.runs.attempt.Goals as goal
 
@@ -18,36 +16,32 @@ returns-in_err-command-clause-answered g c = IfOk-from_err _ _ c.from_residual.e
 
 pub returns-in_err-command-clause-usage : goal.returns-in_err-command-clause-usage
 returns-in_err-command-clause-usage g c =
-    let none = no_command c.args.program (texts_of c.args.words.now) c.from_words.result c.in_err-command.field-0.0 c.from_words.ensures c.in_err-command.ensures.value in
     let p = err_from_is_err_and c.from_residual.result c.from_residual.ensures.1 in
-    (λ _. none.0, λ _. p.1 ∙ ap Err (p.2 ∙ none.1))
+    (λ _. c.in_err-command.ensures.0, λ _. p.1 ∙ ap Err (p.2 ∙ c.in_err-command.ensures.1))
 
 pub returns-in_err-command-clause-refused : goal.returns-in_err-command-clause-refused
 returns-in_err-command-clause-refused g c =
-    let none = no_command c.args.program (texts_of c.args.words.now) c.from_words.result c.in_err-command.field-0.0 c.from_words.ensures c.in_err-command.ensures.value in
-    passed_on c.from_residual.result c.in_err-command.field-0.0 _ c.from_residual.ensures (λ refusal refused. absurd (cc (none.1, refused)))
+    passed_on c.from_residual.result c.in_err-command.field-0.0 _ c.from_residual.ensures (λ refusal refused. absurd (cc (c.in_err-command.ensures.1, refused)))
 
 pub returns-in_err-command-clause-short : goal.returns-in_err-command-clause-short
 returns-in_err-command-clause-short g c =
-    let none = no_command c.args.program (texts_of c.args.words.now) c.from_words.result c.in_err-command.field-0.0 c.from_words.ensures c.in_err-command.ensures.value in
-    passed_on c.from_residual.result c.in_err-command.field-0.0 _ c.from_residual.ensures (λ short. absurd (cc (none.1, short)))
+    passed_on c.from_residual.result c.in_err-command.field-0.0 _ c.from_residual.ensures (λ short. absurd (cc (c.in_err-command.ensures.1, short)))
 
 pub returns-in_err-command-clause-costly : goal.returns-in_err-command-clause-costly
 returns-in_err-command-clause-costly g c =
-    let none = no_command c.args.program (texts_of c.args.words.now) c.from_words.result c.in_err-command.field-0.0 c.from_words.ensures c.in_err-command.ensures.value in
-    passed_on c.from_residual.result c.in_err-command.field-0.0 _ c.from_residual.ensures (λ costly. absurd (cc (none.1, costly)))
+    passed_on c.from_residual.result c.in_err-command.field-0.0 _ c.from_residual.ensures (λ costly. absurd (cc (c.in_err-command.ensures.1, costly)))
 
 pub returns-in_err-command-clause-judged : goal.returns-in_err-command-clause-judged
 returns-in_err-command-clause-judged g c costly =
-    let none = no_command c.args.program (texts_of c.args.words.now) c.from_words.result c.in_err-command.field-0.0 c.from_words.ensures c.in_err-command.ensures.value in
-    absurd (none.0 costly.command costly.is_command)
+    absurd (c.in_err-command.ensures.0 costly.command costly.is_command)
 
 pub returns-in_err-command-clause-unwritten : goal.returns-in_err-command-clause-unwritten
 returns-in_err-command-clause-unwritten g c =
     passed_on c.from_residual.result c.in_err-command.field-0.0 _ c.from_residual.ensures (λ _. untouched (g.O.Write.contents c.args.output.now))
 
 pub returns-in_err-command-clause-stops : goal.returns-in_err-command-clause-stops
-returns-in_err-command-clause-stops g c = nothing_read (most_read_by c.args.program) (g.I.Read.remaining c.args.input.now)
+returns-in_err-command-clause-stops g c =
+    inr (c.in_err-command.ensures.0, untouched (g.I.Read.remaining c.args.input.now))
 
 pub returns-in_err-command-clause-unread : goal.returns-in_err-command-clause-unread
 returns-in_err-command-clause-unread g c _ = untouched (g.I.Read.remaining c.args.input.now)
@@ -59,17 +53,15 @@ returns-in_err-answer-clause-answered g c = IfOk-from_err _ _ c.from_residual-in
 
 pub returns-in_err-answer-clause-usage : goal.returns-in_err-answer-clause-usage
 returns-in_err-answer-clause-usage g c =
-    let is = a_command c.args.program (texts_of c.args.words.now) c.from_words.result c.in_ok-command.command c.from_words.ensures c.in_ok-command.ensures.value in
     let p = err_from_is_err_and c.from_residual-in_err-answer.result c.from_residual-in_err-answer.ensures.1 in (
       λ usage. answer_is_no_usage c.in_err-answer.field-0.0 _ _ c.in_err-answer.ensures.fault (sym p.2 ∙ same_error _ _ (sym p.1 ∙ usage)),
-      λ none. absurd (none c.in_ok-command.command is),
+      λ none. absurd (none c.in_ok-command.command c.in_ok-command.ensures),
     )
 
 pub returns-in_err-answer-clause-refused : goal.returns-in_err-answer-clause-refused
 returns-in_err-answer-clause-refused g c =
-    let is = a_command c.args.program (texts_of c.args.words.now) c.from_words.result c.in_ok-command.command c.from_words.ensures c.in_ok-command.ensures.value in
     passed_on c.from_residual-in_err-answer.result c.in_err-answer.field-0.0 _ c.from_residual-in_err-answer.ensures
-    (is_refused c.args.program (texts_of c.args.words.now) (g.I.Read.remaining c.args.input.now) c.in_ok-command.command c.in_err-answer.field-0.0 is
+    (is_refused c.args.program (texts_of c.args.words.now) (g.I.Read.remaining c.args.input.now) c.in_ok-command.command c.in_err-answer.field-0.0 c.in_ok-command.ensures
     c.in_err-answer.ensures.fault)
 
 pub returns-in_err-answer-clause-short : goal.returns-in_err-answer-clause-short
@@ -79,16 +71,14 @@ returns-in_err-answer-clause-short g c =
 
 pub returns-in_err-answer-clause-costly : goal.returns-in_err-answer-clause-costly
 returns-in_err-answer-clause-costly g c =
-    let is = a_command c.args.program (texts_of c.args.words.now) c.from_words.result c.in_ok-command.command c.from_words.ensures c.in_ok-command.ensures.value in
     passed_on c.from_residual-in_err-answer.result c.in_err-answer.field-0.0 _ c.from_residual-in_err-answer.ensures
-    (is_costly c.args.program (texts_of c.args.words.now) (g.I.Read.remaining c.args.input.now) c.in_ok-command.command c.in_err-answer.field-0.0 is
+    (is_costly c.args.program (texts_of c.args.words.now) (g.I.Read.remaining c.args.input.now) c.in_ok-command.command c.in_err-answer.field-0.0 c.in_ok-command.ensures
     c.in_err-answer.ensures.fault)
 
 pub returns-in_err-answer-clause-judged : goal.returns-in_err-answer-clause-judged
 returns-in_err-answer-clause-judged g c costly =
-    let is = a_command c.args.program (texts_of c.args.words.now) c.from_words.result c.in_ok-command.command c.from_words.ensures c.in_ok-command.ensures.value in
     told c.from_residual-in_err-answer.result c.in_err-answer.field-0.0 _ c.from_residual-in_err-answer.ensures
-    (fails_costly c.args.program (texts_of c.args.words.now) (g.I.Read.remaining c.args.input.now) c.in_ok-command.command c.in_err-answer.field-0.0 is
+    (fails_costly c.args.program (texts_of c.args.words.now) (g.I.Read.remaining c.args.input.now) c.in_ok-command.command c.in_err-answer.field-0.0 c.in_ok-command.ensures
     c.in_err-answer.ensures.fault costly)
 
 pub returns-in_err-answer-clause-unwritten : goal.returns-in_err-answer-clause-unwritten
@@ -98,13 +88,11 @@ returns-in_err-answer-clause-unwritten g c =
 
 pub returns-in_err-answer-clause-stops : goal.returns-in_err-answer-clause-stops
 returns-in_err-answer-clause-stops g c =
-    let is = a_command c.args.program (texts_of c.args.words.now) c.from_words.result c.in_ok-command.command c.from_words.ensures c.in_ok-command.ensures.value in
-    fewer_read _ _ _ _ (most_read_of c.args.program (texts_of c.args.words.now) c.in_ok-command.command is) c.to.ensures.stops
+    inl (record { command = c.in_ok-command.command; is_command = c.in_ok-command.ensures; stops = c.to.ensures.stops })
 
 pub returns-in_err-answer-clause-unread : goal.returns-in_err-answer-clause-unread
 returns-in_err-answer-clause-unread g c need =
-    let is = a_command c.args.program (texts_of c.args.words.now) c.from_words.result c.in_ok-command.command c.from_words.ensures c.in_ok-command.ensures.value in
-    c.to.ensures.unread (need c.in_ok-command.command is)
+    c.to.ensures.unread (need c.in_ok-command.command c.in_ok-command.ensures)
 
 -- ---- an answer that is written
 
@@ -112,7 +100,7 @@ pub returns-in-Ok-clause-answered : goal.returns-in-Ok-clause-answered
 returns-in-Ok-clause-answered g c = record {
   command = c.in_ok-command.command;
   answer = c.in_ok-answer.answer;
-  is_command = a_command c.args.program (texts_of c.args.words.now) c.from_words.result c.in_ok-command.command c.from_words.ensures c.in_ok-command.ensures.value;
+  is_command = c.in_ok-command.ensures;
   is_answer = c.in_ok-answer.ensures.answer;
   is_status = c.status.ensures;
   is_written =
@@ -122,34 +110,29 @@ returns-in-Ok-clause-answered g c = record {
 
 pub returns-in-Ok-clause-usage : goal.returns-in-Ok-clause-usage
 returns-in-Ok-clause-usage g c =
-    let is = a_command c.args.program (texts_of c.args.words.now) c.from_words.result c.in_ok-command.command c.from_words.ensures c.in_ok-command.ensures.value in
-    (λ usage. status_is_no_usage c.status.result usage, λ none. absurd (none c.in_ok-command.command is))
+    (λ usage. status_is_no_usage c.status.result usage, λ none. absurd (none c.in_ok-command.command c.in_ok-command.ensures))
 
 pub returns-in-Ok-clause-judged : goal.returns-in-Ok-clause-judged
 returns-in-Ok-clause-judged g c =
-    let is = a_command c.args.program (texts_of c.args.words.now) c.from_words.result c.in_ok-command.command c.from_words.ensures c.in_ok-command.ensures.value in
-    no_answer c.args.program (texts_of c.args.words.now) (g.I.Read.remaining c.args.input.now) c.in_ok-command.command c.in_ok-answer.answer is
+    no_answer c.args.program (texts_of c.args.words.now) (g.I.Read.remaining c.args.input.now) c.in_ok-command.command c.in_ok-answer.answer c.in_ok-command.ensures
     c.in_ok-answer.ensures.answer
 
 pub returns-in-Ok-clause-stops : goal.returns-in-Ok-clause-stops
 returns-in-Ok-clause-stops g c =
-    let is = a_command c.args.program (texts_of c.args.words.now) c.from_words.result c.in_ok-command.command c.from_words.ensures c.in_ok-command.ensures.value in
-    fewer_read _ _ _ _ (most_read_of c.args.program (texts_of c.args.words.now) c.in_ok-command.command is) c.to.ensures.stops
+    inl (record { command = c.in_ok-command.command; is_command = c.in_ok-command.ensures; stops = c.to.ensures.stops })
 
 pub returns-in-Ok-clause-unread : goal.returns-in-Ok-clause-unread
 returns-in-Ok-clause-unread g c need =
-    let is = a_command c.args.program (texts_of c.args.words.now) c.from_words.result c.in_ok-command.command c.from_words.ensures c.in_ok-command.ensures.value in
-    c.to.ensures.unread (need c.in_ok-command.command is)
+    c.to.ensures.unread (need c.in_ok-command.command c.in_ok-command.ensures)
 
 -- ---- an answer that cannot be written
 
 pub returns-clause-usage : goal.returns-clause-usage
-returns-clause-usage g c =
-    let is = a_command c.args.program (texts_of c.args.words.now) c.from_words.result c.in_ok-command.command c.from_words.ensures c.in_ok-command.ensures.value in (
-      λ usage. output_is_not c.of_stream.result (λ fault. fault ≡ Usage) c.of_stream.ensures.short c.of_stream.ensures.other (λ e. cc (e)) (λ e. cc (e))
-          (same_error _ _ usage),
-      λ none. absurd (none c.in_ok-command.command is),
-    )
+returns-clause-usage g c = (
+  λ usage. output_is_not c.of_stream.result (λ fault. fault ≡ Usage) c.of_stream.ensures.short c.of_stream.ensures.other (λ e. cc (e)) (λ e. cc (e))
+      (same_error _ _ usage),
+  λ none. absurd (none c.in_ok-command.command c.in_ok-command.ensures),
+)
 
 pub returns-clause-refused : goal.returns-clause-refused
 returns-clause-refused g c refusal =
@@ -159,7 +142,7 @@ pub returns-clause-short : goal.returns-clause-short
 returns-clause-short g c _ = record {
   command = c.in_ok-command.command;
   answer = c.in_ok-answer.answer;
-  is_command = a_command c.args.program (texts_of c.args.words.now) c.from_words.result c.in_ok-command.command c.from_words.ensures c.in_ok-command.ensures.value;
+  is_command = c.in_ok-command.ensures;
   is_answer = c.in_ok-answer.ensures.answer;
 }
 
@@ -169,8 +152,7 @@ returns-clause-costly g c =
 
 pub returns-clause-judged : goal.returns-clause-judged
 returns-clause-judged g c =
-    let is = a_command c.args.program (texts_of c.args.words.now) c.from_words.result c.in_ok-command.command c.from_words.ensures c.in_ok-command.ensures.value in
-    no_answer c.args.program (texts_of c.args.words.now) (g.I.Read.remaining c.args.input.now) c.in_ok-command.command c.in_ok-answer.answer is
+    no_answer c.args.program (texts_of c.args.words.now) (g.I.Read.remaining c.args.input.now) c.in_ok-command.command c.in_ok-answer.answer c.in_ok-command.ensures
     c.in_ok-answer.ensures.answer
 
 pub returns-clause-unwritten : goal.returns-clause-unwritten
@@ -179,10 +161,8 @@ returns-clause-unwritten g c =
 
 pub returns-clause-stops : goal.returns-clause-stops
 returns-clause-stops g c =
-    let is = a_command c.args.program (texts_of c.args.words.now) c.from_words.result c.in_ok-command.command c.from_words.ensures c.in_ok-command.ensures.value in
-    fewer_read _ _ _ _ (most_read_of c.args.program (texts_of c.args.words.now) c.in_ok-command.command is) c.to.ensures.stops
+    inl (record { command = c.in_ok-command.command; is_command = c.in_ok-command.ensures; stops = c.to.ensures.stops })
 
 pub returns-clause-unread : goal.returns-clause-unread
 returns-clause-unread g c need =
-    let is = a_command c.args.program (texts_of c.args.words.now) c.from_words.result c.in_ok-command.command c.from_words.ensures c.in_ok-command.ensures.value in
-    c.to.ensures.unread (need c.in_ok-command.command is)
+    c.to.ensures.unread (need c.in_ok-command.command c.in_ok-command.ensures)

@@ -1,9 +1,10 @@
--- What was decoded is the value that the text spells.
-use Rattle.std.proofs.Common.{◌≡◌, length, ap, false, inr, sym, ◌∙◌}
+-- What was decoded is the value that the string decodes to.
+use Rattle.std.proofs.Common.{◌≡◌, length, ap, false, inr, refl, sym, ◌∙◌}
+use Rattle.argon2_standard.specs.Standard.Decoded.{decoded_config}
 use Rattle.argon2_standard.specs.declared.config.Config.{Config}
 use Rattle.argon2_text.specs.Views.Texts.{spelled_by}
 use Rattle.argon2.proofs.Verification.Memories.{stored_leaves}
-use Rattle.argon2.proofs.Verification.StoredTexts.{accepted_value, own_length, stored_accepted, stored_verdict_alone}
+use Rattle.argon2.proofs.Verification.StoredTexts.{accepted_value, is_stored, own_length, stored_accepted, stored_verdict_alone}
 use Rattle.argon2.proofs.verifying.texts.verify_encoded_in_sequential.Goals as goal
 
 pub stored_context-context-requires : goal.stored_context-context-requires
@@ -21,7 +22,9 @@ is_tag_sequential-requires c =
     })
 
 pub returns-clause-spelled : goal.returns-clause-spelled
-returns-clause-spelled c d config spells stored =
+returns-clause-spelled c d spells =
+    let config = decoded_config d c.args.secret c.args.ad in
+    let stored = is_stored d c.args.secret c.args.ad c.args.secret.now c.args.ad.now refl refl in
     let same = accepted_value _ (λ x. spelled_by x ≡ d) c.in_ok-stored.stored (c.in_ok-stored.ensures.spelled d config spells stored) in
     let is = c.stored_context-context.ensures in
     let verdict = rw (is.pwd, is.salt, is.config, c.deref.ensures.value) at c.is_tag_sequential.ensures.answer in
@@ -29,7 +32,9 @@ returns-clause-spelled c d config spells stored =
     c.config_of-config.ensures stored verdict
 
 pub returns-clause-memory : goal.returns-clause-memory
-returns-clause-memory c d config spells stored =
+returns-clause-memory c d spells =
+    let config = decoded_config d c.args.secret c.args.ad in
+    let stored = is_stored d c.args.secret c.args.ad c.args.secret.now c.args.ad.now refl refl in
     let v = spelled_by c.in_ok-stored.stored in
     let used = c.config_of-config.result in
     let same = accepted_value _ (λ x. spelled_by x ≡ d) c.in_ok-stored.stored (c.in_ok-stored.ensures.spelled d config spells stored) in

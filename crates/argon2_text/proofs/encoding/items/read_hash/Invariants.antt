@@ -2,7 +2,7 @@ use Rattle.std.proofs.Common.{◌≡◌, ◌+◌, ◌*◌, ◌/◌, ◌++◌, le
 use Rattle.argon2_text.specs.Views.Letters.{bytes_read}
 use Rattle.argon2_text.proofs.encoding.items.read_hash.Given as goal
 
--- the bytes so far and those of what is left are those of the text, for which there is just room
+-- the bytes so far and those of what is left are those of the string, for which there is just room
 abbrev pub invariant-loop-rest : goal.invariant-loop-rest
 invariant-loop-rest l = record {
   all : take l.at l.hash ++ bytes_read l.rest ≡ bytes_read l.fn.text;

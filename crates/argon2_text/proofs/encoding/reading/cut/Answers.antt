@@ -1,4 +1,4 @@
--- At the first mark, an ASCII byte, the text is cut there, and both parts are texts.
+-- At the first mark, an ASCII byte, the string is cut there, and both parts are strings.
 use Rattle.std.proofs.Common.{◌≡◌, ◌+◌, ◌<◌, ℕ, List, length, drop, get_or, sym, arith}
 use Rattle.std.specs.Str.{IsCharBoundary, IsUtf8}
 use Rattle.std.proofs.lemmas.List.{get_or-drop, length-drop}
@@ -6,7 +6,7 @@ use Rattle.std.proofs.lemmas.Str.{IsCharBoundary-after_ascii, IsCharBoundary-bef
 use Rattle.argon2_text.proofs.Reading.TextCuts.{Lacks-from_places, cut_at, cut_none}
 use Rattle.argon2_text.proofs.encoding.reading.cut.Goals as goal
 
--- a text may be cut one byte behind an ASCII byte at which it was cut
+-- a string may be cut one byte behind an ASCII byte at which it was cut
 behind_mark : (text : List ℕ) (at : ℕ) → IsUtf8 text → at < length text → get_or text at 0 < 128 → IsCharBoundary (drop at text) 1
 behind_mark text at utf8 lt small =
     let rest = IsUtf8-drop text at utf8 (IsCharBoundary-before_ascii text at lt small) in

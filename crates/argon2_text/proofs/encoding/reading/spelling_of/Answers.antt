@@ -1,4 +1,4 @@
--- Where no salt or no hash stands behind the head, the text spells nothing.
+-- Where no salt or no hash stands behind the head, the string decodes to nothing.
 use Rattle.argon2_text.proofs.Reading.TextHeads.{hashless, headless, saltless, spelling_at}
 use Rattle.argon2_text.proofs.Reading.TextItems.{no_item}
 use Rattle.argon2_text.proofs.encoding.reading.spelling_of.Goals as goal

@@ -1,4 +1,4 @@
--- The buffer's length is that of the pieces, and the pieces are those of the text.
+-- The buffer's length is that of the pieces, and the pieces are those of the string.
 use Rattle.std.proofs.Common.{arith}
 use Rattle.argon2_standard.specs.Standard.Text.{spelled_of}
 use Rattle.argon2_text.proofs.Reading.TextItems.{length-base64}

@@ -1,0 +1,67 @@
+-- The code's own table: the numbers and the messages of the errors. A caller of C compares a number with the header,
+-- and no definition beside `code_of` and `WritesMessage` looks into the table.
+use Rattle.std.specs.Prelude.{ℕ, List, codes}
+use Rattle.argon2_standard.specs.declared.error.Error.{Error}
+use Rattle.argon2_standard.specs.declared.error.Error.TheVariants as error
+use Rattle.argon2_standard.specs.Views.Messages.{message_of as library_message}
+use Rattle.argon2_c.specs.declared.refusal.Refusal.{Refusal}
+use Rattle.argon2_c.specs.declared.refusal.Refusal.TheVariants as refusal
+
+-- the numbers of the library's errors, from 1 in their order
+abbrev pub library_number : Error → ℕ
+-- errors, by .ci/pages/presets
+library_number error.OutputTooShort = 1
+library_number error.OutputTooLong = 2
+library_number error.PwdTooShort = 3
+library_number error.PwdTooLong = 4
+library_number error.SaltTooShort = 5
+library_number error.SaltTooLong = 6
+library_number error.AdTooShort = 7
+library_number error.AdTooLong = 8
+library_number error.SecretTooShort = 9
+library_number error.SecretTooLong = 10
+library_number error.TimeTooSmall = 11
+library_number error.TimeTooLarge = 12
+library_number error.MemoryTooLittle = 13
+library_number error.MemoryTooMuch = 14
+library_number error.LanesTooFew = 15
+library_number error.LanesTooMany = 16
+library_number error.IncorrectType = 17
+library_number error.IncorrectVersion = 18
+library_number error.DecodingFail = 19
+library_number error.OutOfMemory = 20
+library_number error.WorkerRefused = 21
+
+-- end
+
+-- those, and from 64 on the numbers of the errors of the C calls alone
+abbrev pub number_of : Refusal → ℕ
+number_of (refusal.Library e) = library_number e
+-- errors of C, by .ci/pages/presets
+number_of refusal.Mismatch = 64
+number_of refusal.WrongLength = 65
+number_of refusal.NotUtf8 = 66
+number_of refusal.UnknownNumber = 67
+number_of refusal.NeedsRehash = 68
+number_of refusal.TooCostly = 69
+number_of refusal.NoJob = 70
+number_of refusal.NoPlace = 71
+number_of refusal.WrongBlocks = 72
+
+-- end
+
+-- the messages
+abbrev pub message_of : Refusal → List ℕ
+message_of (refusal.Library e) = library_message e
+-- messages of C, by .ci/pages/presets
+message_of refusal.Mismatch = codes "The password does not match"
+message_of refusal.WrongLength = codes "The buffer has the wrong length"
+message_of refusal.NotUtf8 = codes "The encoded hash is not UTF-8"
+message_of refusal.UnknownNumber = codes "There is no error of this number"
+message_of refusal.NeedsRehash = codes "The encoded hash was made with other settings"
+message_of refusal.TooCostly = codes "The encoded hash is above the limits"
+message_of refusal.NoJob = codes "The job is none"
+message_of refusal.NoPlace = codes "The job has no such pass, slice or lane"
+message_of refusal.WrongBlocks = codes "There are too many or too few blocks"
+
+-- end

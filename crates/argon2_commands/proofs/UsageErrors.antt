@@ -1,0 +1,142 @@
+-- Arguments that are not what they have to be are those of no command.
+use Rattle.std.proofs.Common.{◌≡◌, ◌<◌, ℕ, zero, suc, List, [], length, slice_index_or, nat_eq, cond, Option, None, Some, MatchOption, IsSome, Ok, arith, string_bytes, sym, refl, ◌∙◌, ap, subst}
+use Rattle.std.specs.declared.alloc.Global.{Global}
+use Rattle.std.specs.declared.string.String.{String}
+use Rattle.std.proofs.lemmas.List.{get_or-map}
+use Rattle.hex.specs.Hex.{decode_of}
+use Rattle.std.specs.Result.{result_ok}
+use Rattle.argon2_standard.specs.declared.config.Config.{Config}
+use Rattle.argon2_commands.specs.Usage.{AreRight, Fits, FitBelow, IsUsageError, SettingsFit, kinds_of, name_text}
+use Rattle.argon2_commands.specs.Words.{IsCommand, IsHash, IsNew, IsNoCommand, IsNumber, IsRehash, texts_of, word}
+use Rattle.argon2_commands.specs.declared.command.Command.{Command}
+use Rattle.argon2_commands.specs.declared.command.Command.TheVariants as commands
+use Rattle.argon2_commands.specs.declared.usage.Program.{Program}
+use Rattle.argon2_commands.specs.declared.usage.Program.TheVariants.{Argon2, Tool}
+use Rattle.argon2_commands.specs.declared.usage.UsageError.{UsageError}
+use Rattle.argon2_commands.specs.declared.usage.UsageError.TheVariants as errors
+use Rattle.argon2_commands.specs.declared.usage.Name.{Name}
+use Rattle.argon2_commands.specs.declared.usage.Name.TheVariants.{New, Check, Hash, Verify, Rehash}
+
+-- the text of a word is the word at its place
+pub word-texts_of : (words : List (String Global)) (place : ℕ) (s : String Global) (text : List ℕ) → place < length words
+    → s ≡ slice_index_or words place s → text ≡ string_bytes s → word (texts_of words) place ≡ text
+word-texts_of words place s text h is e = get_or-map string_bytes words place s [] h ∙ ap string_bytes (sym is) ∙ sym e
+
+-- of a word that fits a number was read
+pub number_read : (text : List ℕ) (read : Option ℕ) → MatchOption read ((n : ℕ) → IsNumber text n → ⊥) (IsNumber text)
+    → ((n : ℕ) × IsNumber text n) → IsSome read
+number_read text None none fits = absurd (none fits.0 fits.1)
+number_read text (Some n) is fits = refl
+
+-- ---- the arguments of a command are what they have to be
+
+module _ (words : List (List ℕ)) where
+  hash_fits : (config : Config) (salt : List ℕ) → IsHash words config salt → FitBelow (kinds_of Hash) words 9
+  hash_fits config salt is zero within = tt
+  hash_fits config salt is (suc zero) within = (config.variant, is.settings.variant)
+  hash_fits config salt is (suc (suc zero)) within = (config.version, is.settings.version)
+  hash_fits config salt is (suc (suc (suc zero))) within = (config.time_cost, is.settings.time_cost)
+  hash_fits config salt is (suc (suc (suc (suc zero)))) within = (config.mem_cost, is.settings.mem_cost)
+  hash_fits config salt is (suc (suc (suc (suc (suc zero))))) within = (config.lanes, is.settings.lanes)
+  hash_fits config salt is (suc (suc (suc (suc (suc (suc zero)))))) within = (config.hash_length, is.settings.hash_length)
+  hash_fits config salt is (suc (suc (suc (suc (suc (suc (suc zero))))))) within = (config.thread_mode, is.mode)
+  hash_fits config salt is (suc (suc (suc (suc (suc (suc (suc (suc zero)))))))) within = tt
+  hash_fits config salt is (suc (suc (suc (suc (suc (suc (suc (suc (suc n))))))))) within = absurd (omega (arith, within))
+
+  rehash_fits : (config : Config) (encoded : List ℕ) → IsRehash words config encoded → FitBelow (kinds_of Rehash) words 8
+  rehash_fits config encoded is zero within = tt
+  rehash_fits config encoded is (suc zero) within = (config.variant, is.settings.variant)
+  rehash_fits config encoded is (suc (suc zero)) within = (config.version, is.settings.version)
+  rehash_fits config encoded is (suc (suc (suc zero))) within = (config.time_cost, is.settings.time_cost)
+  rehash_fits config encoded is (suc (suc (suc (suc zero)))) within = (config.mem_cost, is.settings.mem_cost)
+  rehash_fits config encoded is (suc (suc (suc (suc (suc zero))))) within = (config.lanes, is.settings.lanes)
+  rehash_fits config encoded is (suc (suc (suc (suc (suc (suc zero)))))) within = (config.hash_length, is.settings.hash_length)
+  rehash_fits config encoded is (suc (suc (suc (suc (suc (suc (suc zero))))))) within = tt
+  rehash_fits config encoded is (suc (suc (suc (suc (suc (suc (suc (suc n)))))))) within = absurd (omega (arith, within))
+
+  decodes : (text bytes : List ℕ) → decode_of text ≡ Ok bytes → IsSome (result_ok (decode_of text))
+  decodes text bytes e = rw e refl
+
+  new_fits : (config : Config) (salt : List ℕ) → IsNew words config salt → FitBelow (kinds_of New) words 9
+  new_fits config salt is zero within = tt
+  new_fits config salt is (suc zero) within = (config.variant, is.settings.variant)
+  new_fits config salt is (suc (suc zero)) within = (config.version, is.settings.version)
+  new_fits config salt is (suc (suc (suc zero))) within = (config.time_cost, is.settings.time_cost)
+  new_fits config salt is (suc (suc (suc (suc zero)))) within = (config.mem_cost, is.settings.mem_cost)
+  new_fits config salt is (suc (suc (suc (suc (suc zero))))) within = (config.lanes, is.settings.lanes)
+  new_fits config salt is (suc (suc (suc (suc (suc (suc zero)))))) within = (config.hash_length, is.settings.hash_length)
+  new_fits config salt is (suc (suc (suc (suc (suc (suc (suc zero))))))) within = (config.thread_mode, is.mode)
+  new_fits config salt is (suc (suc (suc (suc (suc (suc (suc (suc zero)))))))) within = decodes _ _ is.salted
+  new_fits config salt is (suc (suc (suc (suc (suc (suc (suc (suc (suc n))))))))) within = absurd (omega (arith, within))
+
+  text_fits : FitBelow (kinds_of Verify) words 2
+  text_fits zero within = tt
+  text_fits (suc zero) within = tt
+  text_fits (suc (suc n)) within = absurd (omega (arith, within))
+
+  right : (program : Program) (command : Command) → IsCommand program words command → (name : Name) × AreRight program words name
+  right Argon2 (commands.Hash config salt) is = (Hash, record { has = tt; named = is.name; count = is.count; fit = hash_fits config salt.now is })
+  right Argon2 (commands.Verify encoded) is = (Verify, record { has = tt; named = is.name; count = is.count; fit = text_fits })
+  right Argon2 (commands.Rehash config encoded) is =
+      (Rehash, record { has = tt; named = is.name; count = is.count; fit = rehash_fits config encoded.now is })
+  right Argon2 (commands.New config salt) is = absurd is
+  right Argon2 (commands.Check encoded) is = absurd is
+  right Tool (commands.Hash config salt) is = (Hash, record { has = tt; named = is.name; count = is.count; fit = hash_fits config salt.now is })
+  right Tool (commands.Verify encoded) is = (Verify, record { has = tt; named = is.name; count = is.count; fit = text_fits })
+  right Tool (commands.Rehash config encoded) is =
+      (Rehash, record { has = tt; named = is.name; count = is.count; fit = rehash_fits config encoded.now is })
+  right Tool (commands.New config salt) is = (New, record { has = tt; named = is.name; count = is.count; fit = new_fits config salt is })
+  right Tool (commands.Check encoded) is = (Check, record { has = tt; named = is.name; count = is.count; fit = text_fits })
+
+-- and where they are, so are the settings
+pub fits_as : (words : List (List ℕ)) (name other : Name) → FitBelow (kinds_of name) words (length (kinds_of name)) → name ≡ other
+    → FitBelow (kinds_of other) words (length (kinds_of other))
+fits_as words name other fit same = subst (λ n. FitBelow (kinds_of n) words (length (kinds_of n))) same fit
+
+pub settings_of_new : (words : List (List ℕ)) → FitBelow (kinds_of New) words 9 → SettingsFit words
+settings_of_new words fit = record {
+  variant = fit 1 (omega arith);
+  version = fit 2 (omega arith);
+  time_cost = fit 3 (omega arith);
+  mem_cost = fit 4 (omega arith);
+  lanes = fit 5 (omega arith);
+  hash_length = fit 6 (omega arith);
+}
+
+pub settings_of_hash : (words : List (List ℕ)) → FitBelow (kinds_of Hash) words 9 → SettingsFit words
+settings_of_hash words fit = record {
+  variant = fit 1 (omega arith);
+  version = fit 2 (omega arith);
+  time_cost = fit 3 (omega arith);
+  mem_cost = fit 4 (omega arith);
+  lanes = fit 5 (omega arith);
+  hash_length = fit 6 (omega arith);
+}
+
+-- names are told apart by their first letters
+abbrev named_by : ℕ → Name
+named_by letter = cond (nat_eq letter 110) New (cond (nat_eq letter 99) Check (cond (nat_eq letter 104) Hash (cond (nat_eq letter 118) Verify Rehash)))
+
+first_letter : (name : Name) → named_by (slice_index_or (name_text name) 0 0) ≡ name
+first_letter New = refl
+first_letter Check = refl
+first_letter Hash = refl
+first_letter Verify = refl
+first_letter Rehash = refl
+
+same_name : {word : List ℕ} (one other : Name) → word ≡ name_text one → word ≡ name_text other → one ≡ other
+same_name one other is also =
+    sym (first_letter one) ∙ ap (λ text. named_by (slice_index_or text 0 0)) (sym is ∙ also) ∙ first_letter other
+
+-- so what is wrong with arguments keeps them from being any command
+pub no_command : (program : Program) (words : List (List ℕ)) (error : UsageError) → IsUsageError program words error → IsNoCommand program words
+no_command program words errors.Command none command is =
+    let it = right words program command is in none it.0 it.1.has it.1.named
+no_command program words (errors.Count name) other command is =
+    let it = right words program command is in
+    other.count (it.1.count ∙ ap (λ n. length (kinds_of n)) (same_name it.0 name it.1.named other.named))
+no_command program words (errors.Argument place kind) (name, wrong) command is =
+    let it = right words program command is in
+    let same = same_name it.0 name it.1.named wrong.named in
+    wrong.first.3 (subst (λ k. Fits k (word words place)) (sym wrong.first.1)
+    (subst (λ n. FitBelow (kinds_of n) words (length (kinds_of n))) same it.1.fit place wrong.first.0))
