@@ -108,11 +108,11 @@ typedef struct Argon2_Context {
     uint32_t secretlen;
     uint8_t *ad; /* associated data, or null */
     uint32_t adlen;
-    uint32_t t_cost;  /* the passes */
-    uint32_t m_cost;  /* the memory in KiB */
-    uint32_t lanes;   /* the degree of parallelism, which the tag depends on */
-    uint32_t threads; /* at most so many at once */
-    uint32_t version; /* an argon2_version */
+    uint32_t t_cost;            /* the passes */
+    uint32_t m_cost;            /* the memory in KiB */
+    uint32_t lanes;             /* the degree of parallelism, which the tag depends on */
+    uint32_t threads;           /* at most so many at once */
+    uint32_t version;           /* an argon2_version */
     allocate_fptr allocate_cbk; /* where the memory comes from, or null */
     deallocate_fptr free_cbk;   /* where it goes, with zeros in it, or null */
     uint32_t flags;
@@ -155,23 +155,21 @@ ARGON2_PUBLIC int argon2id_verify_ctx(argon2_context *context, const char *hash)
  * Writes the tag to hash, where that is not null, and the encoded hash to encoded, where that has room for bytes. Where
  * it has room for fewer than argon2_encodedlen says, that is ARGON2_ENCODING_FAIL, and it has zeros.
  */
-ARGON2_PUBLIC int argon2_hash(
-    const uint32_t t_cost, const uint32_t m_cost, const uint32_t parallelism, const void *pwd, const size_t pwdlen,
-    const void *salt, const size_t saltlen, void *hash, const size_t hashlen, char *encoded, const size_t encodedlen,
-    argon2_type type, const uint32_t version);
+ARGON2_PUBLIC int argon2_hash(const uint32_t t_cost, const uint32_t m_cost, const uint32_t parallelism, const void *pwd,
+    const size_t pwdlen, const void *salt, const size_t saltlen, void *hash, const size_t hashlen, char *encoded,
+    const size_t encodedlen, argon2_type type, const uint32_t version);
 
 /* Whether an encoded hash is of this type and this password: ARGON2_OK only where it is. */
 ARGON2_PUBLIC int argon2_verify(const char *encoded, const void *pwd, const size_t pwdlen, argon2_type type);
 
 /* The same for one type, with version 0x13. */
 #define ARGON2_CALLS_OF(variant) \
-    ARGON2_PUBLIC int variant##_hash_encoded( \
-        const uint32_t t_cost, const uint32_t m_cost, const uint32_t parallelism, const void *pwd, \
-        const size_t pwdlen, const void *salt, const size_t saltlen, const size_t hashlen, char *encoded, \
-        const size_t encodedlen); \
-    ARGON2_PUBLIC int variant##_hash_raw( \
-        const uint32_t t_cost, const uint32_t m_cost, const uint32_t parallelism, const void *pwd, \
-        const size_t pwdlen, const void *salt, const size_t saltlen, void *hash, const size_t hashlen); \
+    ARGON2_PUBLIC int variant##_hash_encoded(const uint32_t t_cost, const uint32_t m_cost, const uint32_t parallelism, \
+        const void *pwd, const size_t pwdlen, const void *salt, const size_t saltlen, const size_t hashlen, \
+        char *encoded, const size_t encodedlen); \
+    ARGON2_PUBLIC int variant##_hash_raw(const uint32_t t_cost, const uint32_t m_cost, const uint32_t parallelism, \
+        const void *pwd, const size_t pwdlen, const void *salt, const size_t saltlen, void *hash, \
+        const size_t hashlen); \
     ARGON2_PUBLIC int variant##_verify(const char *encoded, const void *pwd, const size_t pwdlen)
 ARGON2_CALLS_OF(argon2d);
 ARGON2_CALLS_OF(argon2i);

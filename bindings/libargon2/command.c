@@ -27,7 +27,8 @@ static void stop(const char *error)
 static void print_usage(const char *command)
 {
     printf("Usage:  %s [-h] salt [-i|-d|-id] [-t iterations] [-m log2(memory in KiB) | -k memory in KiB] "
-           "[-p parallelism] [-l hash length] [-e|-r] [-v (10|13)]\n", command);
+           "[-p parallelism] [-l hash length] [-e|-r] [-v (10|13)]\n",
+        command);
     printf("\tPassword is read from stdin\n"
            "Parameters:\n"
            "\tsalt\t\tThe salt to use, at least 8 characters\n"
@@ -219,8 +220,8 @@ int main(int count, char **words)
         stop("cannot provide both -e and -r");
     }
     if (!s.encoded_only && !s.raw_only) {
-        printf("Type:\t\t%s\nIterations:\t%u\nMemory:\t\t%u KiB\nParallelism:\t%u\n",
-            argon2_type2string(s.type, 1), s.passes, s.memory, s.lanes);
+        printf("Type:\t\t%s\nIterations:\t%u\nMemory:\t\t%u KiB\nParallelism:\t%u\n", argon2_type2string(s.type, 1),
+            s.passes, s.memory, s.lanes);
     }
     run(&s, words[1], length);
     explicit_bzero(password, sizeof password);

@@ -10,8 +10,9 @@
 #include <stdlib.h>
 #include <string.h>
 
-#define INPUTS const uint32_t t_cost, const uint32_t m_cost, const uint32_t parallelism, const void *pwd, \
-    const size_t pwdlen, const void *salt, const size_t saltlen
+#define INPUTS \
+    const uint32_t t_cost, const uint32_t m_cost, const uint32_t parallelism, const void *pwd, const size_t pwdlen, \
+        const void *salt, const size_t saltlen
 #define OF_INPUTS t_cost, m_cost, parallelism, pwd, pwdlen, salt, saltlen
 
 int FLAG_clear_internal_memory = 1;
@@ -26,7 +27,7 @@ const char *argon2_type2string(argon2_type type, int uppercase)
 
 const char *argon2_error_message(int error_code)
 {
-    static const char *const messages[] = { /* of 0, -1, -2 .. */
+    static const char *const messages[] = {/* of 0, -1, -2 .. */
         "OK", "Output pointer is NULL", "Output is too short", "Output is too long", "Password is too short",
         "Password is too long", "Salt is too short", "Salt is too long", "Associated data is too short",
         "Associated data is too long", "Secret is too short", "Secret is too long", "Time cost is too small",
@@ -38,8 +39,9 @@ const char *argon2_error_message(int error_code)
         "There is no such version of Argon2", "Output pointer mismatch", "Not enough threads", "Too many threads",
         "Missing arguments", "Encoding failed", "Decoding failed", "Threading failure",
         "Some of encoded parameters are too long or too short", "The password does not match the supplied hash"};
-    return error_code == -PROVED_ARGON2_OLD_PROCESSOR ? "The processor is too old"
-        : error_code > 0 || error_code < ARGON2_VERIFY_MISMATCH ? "Unknown error code" : messages[-error_code];
+    return error_code == -PROVED_ARGON2_OLD_PROCESSOR           ? "The processor is too old"
+        : error_code > 0 || error_code < ARGON2_VERIFY_MISMATCH ? "Unknown error code"
+                                                                : messages[-error_code];
 }
 
 /* libargon2's code for one of the proved calls; a version that does not exist is a wrong parameter. */
@@ -50,7 +52,8 @@ static int code_of(uint32_t code)
     case PROVED_ARGON2_MISMATCH: return ARGON2_VERIFY_MISMATCH;
     case PROVED_ARGON2_OUT_OF_MEMORY: return ARGON2_MEMORY_ALLOCATION_ERROR;
     case PROVED_ARGON2_WORKER_REFUSED: return ARGON2_THREAD_FAIL;
-    case PROVED_ARGON2_DECODING_FAIL: case PROVED_ARGON2_NOT_UTF8: return ARGON2_DECODING_FAIL;
+    case PROVED_ARGON2_DECODING_FAIL:
+    case PROVED_ARGON2_NOT_UTF8: return ARGON2_DECODING_FAIL;
     case PROVED_ARGON2_OLD_PROCESSOR: return -PROVED_ARGON2_OLD_PROCESSOR; /* for which libargon2 has no code */
     default: return ARGON2_INCORRECT_PARAMETER;
     }
@@ -88,8 +91,10 @@ static proved_argon2_settings settings_of(const argon2_context *c, argon2_type t
 
 static void give_memory_back(const argon2_context *c, const proved_argon2_options *with)
 {
-    if (c->free_cbk == NULL) proved_argon2_memory_free(with->memory, with->memory_len);
-    else if (with->memory != NULL) c->free_cbk(with->memory, with->memory_len);
+    if (c->free_cbk == NULL)
+        proved_argon2_memory_free(with->memory, with->memory_len);
+    else if (with->memory != NULL)
+        c->free_cbk(with->memory, with->memory_len);
 }
 
 /* Without a callback the driver allocates the memory, unless flags say that inputs are cleared: without memory those
@@ -98,7 +103,8 @@ static int take_memory(const argon2_context *c, const proved_argon2_settings *se
 {
     uint8_t *memory = NULL;
     if (c->allocate_cbk == NULL) {
-        return c->flags == ARGON2_DEFAULT_FLAGS ? ARGON2_OK
+        return c->flags == ARGON2_DEFAULT_FLAGS
+            ? ARGON2_OK
             : code_of(proved_argon2_memory_new(settings, &with->memory, &with->memory_len));
     }
     with->memory_len = (size_t)proved_argon2_memory_len(settings);
@@ -134,7 +140,7 @@ static int compute(argon2_context *c, argon2_type type, const uint8_t *hash)
         clear_if(c->flags & ARGON2_FLAG_CLEAR_PASSWORD, c->pwd, &c->pwdlen);
         clear_if(c->flags & ARGON2_FLAG_CLEAR_SECRET, c->secret, &c->secretlen);
         code = code_of(hash == NULL ? proved_argon2_job_run(&with, &job, c->out, c->outlen)
-            : proved_argon2_job_run_verify(&with, &job, hash, c->outlen));
+                                    : proved_argon2_job_run_verify(&with, &job, hash, c->outlen));
         give_memory_back(c, &with);
     }
     explicit_bzero(&job, sizeof job);
@@ -184,10 +190,18 @@ CLEARS_REGISTERS int argon2_hash(INPUTS, void *hash, const size_t hashlen, char 
     if (hashlen < ARGON2_MIN_OUTLEN) return ARGON2_OUTPUT_TOO_SHORT;
     uint8_t *const out = malloc(hashlen);
     if (out == NULL) return ARGON2_MEMORY_ALLOCATION_ERROR;
-    argon2_context c = { /* without flags, so that nothing writes to the password */
-        .out = out, .outlen = (uint32_t)hashlen, .pwd = (uint8_t *)(uintptr_t)pwd, .pwdlen = (uint32_t)pwdlen,
-        .salt = (uint8_t *)(uintptr_t)salt, .saltlen = (uint32_t)saltlen, .t_cost = t_cost, .m_cost = m_cost,
-        .lanes = parallelism, .threads = parallelism, .version = version};
+    argon2_context c = {/* without flags, so that nothing writes to the password */
+        .out = out,
+        .outlen = (uint32_t)hashlen,
+        .pwd = (uint8_t *)(uintptr_t)pwd,
+        .pwdlen = (uint32_t)pwdlen,
+        .salt = (uint8_t *)(uintptr_t)salt,
+        .saltlen = (uint32_t)saltlen,
+        .t_cost = t_cost,
+        .m_cost = m_cost,
+        .lanes = parallelism,
+        .threads = parallelism,
+        .version = version};
     int code = argon2_ctx(&c, type);
     if (code == ARGON2_OK && hash != NULL) memcpy(hash, out, hashlen);
     if (code == ARGON2_OK && encoded != NULL && encodedlen != 0) code = encode(&c, type, encoded, encodedlen);
@@ -218,21 +232,34 @@ int argon2_verify(const char *encoded, const void *pwd, const size_t pwdlen, arg
     if (code == -PROVED_ARGON2_OLD_PROCESSOR) return code;
     if (code != ARGON2_OK || !is_spelled(encoded, its, type)) return ARGON2_DECODING_FAIL;
     uint8_t any; /* the salt and the hash are checked by their lengths */
-    const argon2_context c = {
-        .out = &any, .outlen = its->hash_length, .pwd = (uint8_t *)(uintptr_t)pwd, .pwdlen = (uint32_t)pwdlen,
-        .salt = &any, .saltlen = stored.salt_length, .t_cost = its->time_cost, .m_cost = its->mem_cost,
-        .lanes = its->lanes, .threads = its->lanes};
+    const argon2_context c = {.out = &any,
+        .outlen = its->hash_length,
+        .pwd = (uint8_t *)(uintptr_t)pwd,
+        .pwdlen = (uint32_t)pwdlen,
+        .salt = &any,
+        .saltlen = stored.salt_length,
+        .t_cost = its->time_cost,
+        .m_cost = its->mem_cost,
+        .lanes = its->lanes,
+        .threads = its->lanes};
     const proved_argon2_options with = {.size = sizeof with, .threads = its->lanes};
     code = judge(&c);
-    return code != ARGON2_OK ? code
+    return code != ARGON2_OK
+        ? code
         : code_of(proved_argon2_verify_encoded_with(&with, encoded, len, pwd, pwdlen, NULL, 0, NULL, 0));
 }
 
 /* ---- the calls of one type */
 
 #define CALLS_OF(variant, type) \
-    int variant##_ctx(argon2_context *c) { return argon2_ctx(c, type); } \
-    int variant##_verify_ctx(argon2_context *c, const char *hash) { return argon2_verify_ctx(c, hash, type); } \
+    int variant##_ctx(argon2_context *c) \
+    { \
+        return argon2_ctx(c, type); \
+    } \
+    int variant##_verify_ctx(argon2_context *c, const char *hash) \
+    { \
+        return argon2_verify_ctx(c, hash, type); \
+    } \
     int variant##_hash_encoded(INPUTS, const size_t hashlen, char *encoded, const size_t encodedlen) \
     { \
         return argon2_hash(OF_INPUTS, NULL, hashlen, encoded, encodedlen, type, ARGON2_VERSION_NUMBER); \

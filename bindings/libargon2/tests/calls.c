@@ -116,7 +116,7 @@ int make_call(const library *l, enum call which, inputs *i)
             c->t_cost, c->m_cost, c->lanes, c->pwd, i->pwdlen, c->salt, i->saltlen, hash, i->hashlen);
     default:
         return i->is_of_type ? l->verify_of[type](i->text, c->pwd, i->pwdlen)
-            : l->verify(i->text, c->pwd, i->pwdlen, type);
+                             : l->verify(i->text, c->pwd, i->pwdlen, type);
     }
 }
 

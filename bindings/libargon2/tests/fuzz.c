@@ -61,7 +61,7 @@ static void draw_numbers(inputs *i)
     c->t_cost = one_in(30) ? 0 : 1 + below(3);
     c->threads = one_in(30) ? ONE_OF(0, 0xFFFFFF, 0x1000000, UINT32_MAX) : 1 + below(5);
     c->version = one_in(30) ? ONE_OF(0, 15, 17, 18, 20, 0x1300, UINT32_MAX)
-        : ONE_OF(ARGON2_VERSION_10, ARGON2_VERSION_13);
+                            : ONE_OF(ARGON2_VERSION_10, ARGON2_VERSION_13);
     c->flags = one_in(3) ? below(4) : one_in(20) ? (uint32_t)draw() : ARGON2_DEFAULT_FLAGS;
     c->outlen = one_in(30) ? below(4) : 4 + below(one_in(4) ? SIZE - 4 : 32);
     c->pwdlen = one_in(8) ? 0 : below(40);
@@ -149,13 +149,14 @@ static enum purpose purpose_of_text(const inputs *given, int its_code)
 {
     const unsigned long version = version_of(given->text);
     return version != ARGON2_VERSION_10 && version != ARGON2_VERSION_13 ? VERSION
-        : has_high_byte(given->text) ? HIGH_BYTE
-        : is_of_the_rest(given, its_code) ? WHOLE_TEXT : NONE;
+        : has_high_byte(given->text)                                    ? HIGH_BYTE
+        : is_of_the_rest(given, its_code)                               ? WHOLE_TEXT
+                                                                        : NONE;
 }
 
 /* The difference on purpose that two answers have, where they differ. What is refused leaves all as it was. */
-static enum purpose is_on_purpose(enum call which, const inputs *given, const inputs *a, int its_code, const inputs *b,
-    int code)
+static enum purpose is_on_purpose(
+    enum call which, const inputs *given, const inputs *a, int its_code, const inputs *b, int code)
 {
     const uint32_t version = given->context.version;
     if (which == VERIFY) {
@@ -171,7 +172,9 @@ static enum purpose is_on_purpose(enum call which, const inputs *given, const in
         return its_code != ARGON2_MEMORY_ALLOCATION_ERROR && is_as_it_was ? ADDRESS : NONE;
     }
     return which == VERIFY_CTX && code == ARGON2_VERIFY_MISMATCH && its_code == code && is_same(a, b, 1)
-        && is_clear(b->out, b->context.outlen) ? OTHER_TAG : NONE;
+            && is_clear(b->out, b->context.outlen)
+        ? OTHER_TAG
+        : NONE;
 }
 
 /* Makes a call of both, and tells where they differ. */
@@ -257,12 +260,12 @@ static void replace(char *text, const char *old, const char *new)
 /* Damages that a byte would seldom do. */
 static void respell(char *text)
 {
-    static const char *const pairs[][2] = {
-        {"$v=19", "$v=18"}, {"$v=16", "$v=17"}, {"$v=16", ""}, {"$v=19", ""}, {"$v=19", "$v=16"}, {"$v=19", "$v=+19"},
-        {"$v=", "$v=0"}, {"$v=", "$v=4294967296"}, {"$v=19$", "$"}, {"$a", "$A"}, {"m=", "m=+"}, {"m=", "m=0"},
-        {",t=", ",t=+"}, {",t=", ",t=0"}, {",t=", ",t=99999999999999999999"}, {",p=", ",p=0"}, {",p=", ",p=+"},
-        {",p=", ",p=4294967296"}, {"id$", "i$"}, {"i$", "d$"}, {"$m=8", "$m=7"}, {",p=1$", ",p=0$"}, {",p=1$", ",p=9$"},
-        {",t=1,", ",t=0,"}, {",p=", ",keyid=AAAA,p="}, {"$argon2", "argon2"}};
+    static const char *const pairs[][2] = {{"$v=19", "$v=18"}, {"$v=16", "$v=17"}, {"$v=16", ""}, {"$v=19", ""},
+        {"$v=19", "$v=16"}, {"$v=19", "$v=+19"}, {"$v=", "$v=0"}, {"$v=", "$v=4294967296"}, {"$v=19$", "$"},
+        {"$a", "$A"}, {"m=", "m=+"}, {"m=", "m=0"}, {",t=", ",t=+"}, {",t=", ",t=0"},
+        {",t=", ",t=99999999999999999999"}, {",p=", ",p=0"}, {",p=", ",p=+"}, {",p=", ",p=4294967296"}, {"id$", "i$"},
+        {"i$", "d$"}, {"$m=8", "$m=7"}, {",p=1$", ",p=0$"}, {",p=1$", ",p=9$"}, {",t=1,", ",t=0,"},
+        {",p=", ",keyid=AAAA,p="}, {"$argon2", "argon2"}};
     const uint32_t pair = below(sizeof pairs / sizeof pairs[0]);
     replace(text, pairs[pair][0], pairs[pair][1]);
 }
@@ -273,11 +276,18 @@ static void damage(char *text)
     const size_t length = strlen(text), at = below((uint32_t)length + 1);
     const char letter = (char)(one_in(3) ? 1 + below(255) : (uint8_t)common[below(sizeof common - 1)]);
     switch (below(6)) {
-    case 0: case 1: respell(text); break;
+    case 0:
+    case 1: respell(text); break;
     case 2: text[at] = at < length ? letter : 0; break;
-    case 3: memmove(text + at + 1, text + at, length - at + 1); text[at] = letter; break;
+    case 3:
+        memmove(text + at + 1, text + at, length - at + 1);
+        text[at] = letter;
+        break;
     case 4: memmove(text + at, text + at + (at < length), length - at + (at == length)); break;
-    default: text[one_in(2) ? at : length] = 0; text[length + 1] = 0; text[length] = one_in(2) ? letter : text[length];
+    default:
+        text[one_in(2) ? at : length] = 0;
+        text[length + 1] = 0;
+        text[length] = one_in(2) ? letter : text[length];
     }
 }
 

@@ -25,7 +25,7 @@ static const char password[] = "the password", salt[] = "somesaltsomesalt";
 static const uint8_t zeros[LENGTH];
 static uint8_t stack[STACK] __attribute__((aligned(4096))), seen[STACK + FREED + sizeof registers], tag[LENGTH];
 static char encoded[128];
-static size_t freed;      /* bytes that were noted */
+static size_t freed; /* bytes that were noted */
 static int is_noting, is_out_of_memory;
 void __libc_free(void *block);
 void *__libc_memalign(size_t alignment, size_t len);
@@ -48,21 +48,44 @@ void *aligned_alloc(size_t alignment, size_t len)
 
 static argon2_context context(uint8_t *out)
 {
-    return (argon2_context){.out = out, .outlen = LENGTH, .pwd = (uint8_t *)(uintptr_t)password,
-        .pwdlen = sizeof password - 1, .salt = (uint8_t *)(uintptr_t)salt, .saltlen = sizeof salt - 1, .t_cost = PASSES,
-        .m_cost = MEMORY, .lanes = 1, .threads = 1, .version = ARGON2_VERSION_13};
+    return (argon2_context){.out = out,
+        .outlen = LENGTH,
+        .pwd = (uint8_t *)(uintptr_t)password,
+        .pwdlen = sizeof password - 1,
+        .salt = (uint8_t *)(uintptr_t)salt,
+        .saltlen = sizeof salt - 1,
+        .t_cost = PASSES,
+        .m_cost = MEMORY,
+        .lanes = 1,
+        .threads = 1,
+        .version = ARGON2_VERSION_13};
 }
 
 #define INPUTS PASSES, MEMORY, 1, password, sizeof password - 1, salt, sizeof salt - 1
 
-static int does_hash(uint8_t *out) { return argon2id_hash_raw(INPUTS, out, LENGTH); }
-static int does_hash_encoded(uint8_t *out) { return argon2id_hash_encoded(INPUTS, LENGTH, (char *)out, sizeof encoded); }
-static int does_verify(uint8_t *out) { (void)out; return argon2id_verify(encoded, password, sizeof password - 1); }
-static int does_ctx(uint8_t *out) { argon2_context c = context(out); return argon2id_ctx(&c); }
+static int does_hash(uint8_t *out)
+{
+    return argon2id_hash_raw(INPUTS, out, LENGTH);
+}
+static int does_hash_encoded(uint8_t *out)
+{
+    return argon2id_hash_encoded(INPUTS, LENGTH, (char *)out, sizeof encoded);
+}
+static int does_verify(uint8_t *out)
+{
+    (void)out;
+    return argon2id_verify(encoded, password, sizeof password - 1);
+}
+static int does_ctx(uint8_t *out)
+{
+    argon2_context c = context(out);
+    return argon2id_ctx(&c);
+}
 static int does_verify_ctx(uint8_t *out)
 {
     argon2_context c = context(out);
-    return argon2id_verify_ctx(&c, (const char *)zeros) == ARGON2_VERIFY_MISMATCH ? ARGON2_OK : ARGON2_INCORRECT_PARAMETER;
+    return argon2id_verify_ctx(&c, (const char *)zeros) == ARGON2_VERIFY_MISMATCH ? ARGON2_OK
+                                                                                  : ARGON2_INCORRECT_PARAMETER;
 }
 
 typedef struct row {
@@ -133,19 +156,22 @@ static int leaves_nothing(const row *it, const proved_argon2_job *job)
         return child > 0 && waitpid(child, &status, 0) == child && status == 0;
     }
     const int is_made = is_done(it), of_job = found(job->prehash, sizeof job->prehash), of_tag = found(tag, LENGTH);
-    printf("%s leaves %d pieces of H0 and %d of the tag, in %zu bytes that it freed\n", it->name, of_job, of_tag, freed);
+    printf(
+        "%s leaves %d pieces of H0 and %d of the tag, in %zu bytes that it freed\n", it->name, of_job, of_tag, freed);
     fflush(stdout);
     _exit(is_made && of_job == 0 && of_tag == 0 ? 0 : 1);
 }
 
 int main(void)
 {
-    static const proved_argon2_settings settings = {PROVED_ARGON2_ID, PROVED_ARGON2_VERSION_13, MEMORY, PASSES, 1, LENGTH};
+    static const proved_argon2_settings settings = {
+        PROVED_ARGON2_ID, PROVED_ARGON2_VERSION_13, MEMORY, PASSES, 1, LENGTH};
     proved_argon2_job job;
     int good = argon2id_hash_encoded(INPUTS, LENGTH, encoded, sizeof encoded) == ARGON2_OK
         && argon2id_hash_raw(INPUTS, tag, LENGTH) == ARGON2_OK
-        && proved_argon2_job_make((const uint8_t *)password, sizeof password - 1, (const uint8_t *)salt, sizeof salt - 1,
-            zeros, 0, zeros, 0, &settings, &job) == PROVED_ARGON2_OK;
+        && proved_argon2_job_make((const uint8_t *)password, sizeof password - 1, (const uint8_t *)salt,
+               sizeof salt - 1, zeros, 0, zeros, 0, &settings, &job)
+            == PROVED_ARGON2_OK;
     printf("of the registers are looked at: %s\n", REGISTERS);
     fflush(stdout);
     for (size_t i = 0; i < sizeof rows / sizeof *rows; i++) {

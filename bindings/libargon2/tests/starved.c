@@ -77,9 +77,18 @@ static void give_back(uint8_t *memory, size_t bytes)
 static argon2_context context_of(uint8_t *tag, char *own, uint32_t memory, uint32_t lanes)
 {
     strcpy(own, password);
-    return (argon2_context){.out = tag, .outlen = LENGTH, .pwd = (uint8_t *)own, .pwdlen = sizeof password - 1,
-        .salt = (uint8_t *)(uintptr_t)salt, .saltlen = sizeof salt - 1, .t_cost = 1, .m_cost = memory, .lanes = lanes,
-        .threads = lanes, .version = ARGON2_VERSION_13, .flags = ARGON2_FLAG_CLEAR_PASSWORD};
+    return (argon2_context){.out = tag,
+        .outlen = LENGTH,
+        .pwd = (uint8_t *)own,
+        .pwdlen = sizeof password - 1,
+        .salt = (uint8_t *)(uintptr_t)salt,
+        .saltlen = sizeof salt - 1,
+        .t_cost = 1,
+        .m_cost = memory,
+        .lanes = lanes,
+        .threads = lanes,
+        .version = ARGON2_VERSION_13,
+        .flags = ARGON2_FLAG_CLEAR_PASSWORD};
 }
 
 /* The tag by as many threads as there are. */
@@ -102,11 +111,9 @@ static int is_right_without_threads(void)
 static int is_right_for_a_text(void)
 {
     char encoded[128];
-    const int code = argon2id_hash_encoded(
-        1, PAYING, LANES, password, 8, salt, 16, LENGTH, encoded, sizeof encoded);
+    const int code = argon2id_hash_encoded(1, PAYING, LANES, password, 8, salt, 16, LENGTH, encoded, sizeof encoded);
     granted = 0;
-    return code == ARGON2_OK && argon2id_verify(encoded, password, 8) == ARGON2_OK
-        && granted == MOST_FOR_A_TEXT - 1
+    return code == ARGON2_OK && argon2id_verify(encoded, password, 8) == ARGON2_OK && granted == MOST_FOR_A_TEXT - 1
         && argon2id_verify(encoded, password, 7) == ARGON2_VERIFY_MISMATCH;
 }
 
@@ -130,9 +137,11 @@ static int is_right_without_memory(void)
     char encoded[128] = "";
     return argon2id_hash_raw(1, GREAT, 1, password, 8, salt, 16, tag, LENGTH) == ARGON2_MEMORY_ALLOCATION_ERROR
         && argon2id_hash_encoded(1, GREAT, 1, password, 8, salt, 16, LENGTH, encoded, sizeof encoded)
-            == ARGON2_MEMORY_ALLOCATION_ERROR
+        == ARGON2_MEMORY_ALLOCATION_ERROR
         && argon2id_verify("$argon2id$v=19$m=262144,t=1,p=1$c29tZXNhbHRzb21lc2FsdA$"
-            "AAAAAAAAAAAAAAAAAAAAAAAAAAAAAAAAAAAAAAAAAAA", password, 8) == ARGON2_MEMORY_ALLOCATION_ERROR
+                           "AAAAAAAAAAAAAAAAAAAAAAAAAAAAAAAAAAAAAAAAAAA",
+               password, 8)
+        == ARGON2_MEMORY_ALLOCATION_ERROR
         && is_denied(GREAT, 0);
 }
 

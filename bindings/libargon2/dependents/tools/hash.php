@@ -1,0 +1,1 @@
+<?php echo password_hash('right', PASSWORD_ARGON2ID);
