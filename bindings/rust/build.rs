@@ -34,19 +34,18 @@ fn library_folder() -> Result<PathBuf, String> {
     }
     let libraries = here().join("lib");
     if libraries.is_dir() {
-        require_target()?;
         return packaged_folder(&libraries);
     }
-    let found = require_target().and_then(|()| found_folder());
+    let found = name_of_target().and_then(|name| found_folder(&name));
     match sources_in_c() {
         Some(sources) if found.is_err() => compiled_folder(&sources),
         _ => found,
     }
 }
 
-/// The folder of the archive that the repository keeps, or that is installed.
-fn found_folder() -> Result<PathBuf, String> {
-    released_folder().or_else(|reason| {
+/// The folder of the archive that the repository keeps by this name, or that is installed.
+fn found_folder(name: &str) -> Result<PathBuf, String> {
+    released_folder(name).or_else(|reason| {
         installed_folder().ok_or_else(|| {
             format!(
                 "there is no {ARCHIVE} for {}{reason}: run ./install at the top of the repository, or build/all \
@@ -72,21 +71,24 @@ fn target(part: &str) -> String {
     named(&format!("CARGO_CFG_TARGET_{part}"))
 }
 
-/// Whether archives are built for the target's system, C library and kind of processor at all.
-fn require_target() -> Result<(), String> {
-    let is_linux = target("OS") == "linux" && ["gnu", "musl"].contains(&&*target("ENV"));
-    if is_linux && target("POINTER_WIDTH") == "64" && target("ENDIAN") == "little" {
-        return Ok(());
+/// The name of the folder that has an archive for the target, or why there is none for its system, C library and kind of
+/// processor at all.
+fn name_of_target() -> Result<String, String> {
+    let is_wide = target("POINTER_WIDTH") == "64" && target("ENDIAN") == "little";
+    match (&*target("OS"), &*target("ENV")) {
+        ("linux", "gnu" | "musl") if is_wide => Ok(target("ARCH")),
+        ("windows", "gnu") if target("ARCH") == "x86_64" => Ok("windows-x86_64".to_string()),
+        _ => Err(format!(
+            "there is no archive for {}: they are for Linux with the GNU C library or musl, and for Windows on x86-64 \
+             with mingw-w64's",
+            named("TARGET")
+        )),
     }
-    Err(format!(
-        "there is no archive for {}: they are for Linux with the GNU C library or musl",
-        named("TARGET")
-    ))
 }
 
 /// The folder of this crate for the target, where the crate has archives.
 fn packaged_folder(libraries: &Path) -> Result<PathBuf, String> {
-    let folder = libraries.join(target("ARCH"));
+    let folder = libraries.join(name_of_target()?);
     if !folder.is_dir() {
         Err(format!("the crate has no archive for {}", named("TARGET")))
     } else if has_archive(&folder) {
@@ -102,14 +104,13 @@ fn repository() -> Option<&'static Path> {
 }
 
 /// The folder of what the repository keeps, where no source has changed; or else why not.
-fn released_folder() -> Result<PathBuf, String> {
+fn released_folder(name: &str) -> Result<PathBuf, String> {
     let root = repository().ok_or_else(String::new)?;
-    let folder = root.join("release").join(target("ARCH"));
+    let folder = root.join("release").join(name);
     if !has_archive(&folder) {
         return Err(String::new());
     }
-    require_released(root, &format!("{}/{ARCHIVE}", target("ARCH")))
-        .map_err(|reason| format!(" ({reason})"))?;
+    require_released(root, &format!("{name}/{ARCHIVE}")).map_err(|reason| format!(" ({reason})"))?;
     Ok(folder)
 }
 
@@ -125,7 +126,7 @@ fn require_released(root: &Path, part: &str) -> Result<(), String> {
 /// The library as C, where the target is one for which `release/` has no archive.
 fn sources_in_c() -> Option<PathBuf> {
     let release = repository()?.join("release");
-    let has_none = require_target().is_err() || !has_archive(&release.join(target("ARCH")));
+    let has_none = name_of_target().map_or(true, |name| !has_archive(&release.join(name)));
     let sources = release.join("portable");
     (has_none && target("OS") == "linux" && sources.is_dir()).then_some(sources)
 }

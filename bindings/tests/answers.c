@@ -17,19 +17,20 @@
 #define EACH(it) (it)->variant, (it)->version, (it)->mem_cost, (it)->time_cost, (it)->lanes, (it)->hash_length
 
 /* The numbers that the header gives to names. */
+/* clang-format off */
 #define NUMBER(name) {#name, PROVED_ARGON2_##name}
+/* clang-format on */
 static const struct {
     const char *name;
     uint32_t number;
-} numbers[] = {
-    NUMBER(OK), NUMBER(OUTPUT_TOO_SHORT), NUMBER(OUTPUT_TOO_LONG), NUMBER(PWD_TOO_SHORT), NUMBER(PWD_TOO_LONG),
-    NUMBER(SALT_TOO_SHORT), NUMBER(SALT_TOO_LONG), NUMBER(AD_TOO_SHORT), NUMBER(AD_TOO_LONG),
+} numbers[] = {NUMBER(OK), NUMBER(OUTPUT_TOO_SHORT), NUMBER(OUTPUT_TOO_LONG), NUMBER(PWD_TOO_SHORT),
+    NUMBER(PWD_TOO_LONG), NUMBER(SALT_TOO_SHORT), NUMBER(SALT_TOO_LONG), NUMBER(AD_TOO_SHORT), NUMBER(AD_TOO_LONG),
     NUMBER(SECRET_TOO_SHORT), NUMBER(SECRET_TOO_LONG), NUMBER(TIME_TOO_SMALL), NUMBER(TIME_TOO_LARGE),
     NUMBER(MEMORY_TOO_LITTLE), NUMBER(MEMORY_TOO_MUCH), NUMBER(LANES_TOO_FEW), NUMBER(LANES_TOO_MANY),
     NUMBER(INCORRECT_TYPE), NUMBER(INCORRECT_VERSION), NUMBER(DECODING_FAIL), NUMBER(OUT_OF_MEMORY),
     NUMBER(WORKER_REFUSED), NUMBER(MISMATCH), NUMBER(WRONG_LENGTH), NUMBER(NOT_UTF8), NUMBER(NEEDS_REHASH),
-    NUMBER(TOO_COSTLY), NUMBER(STOPPED), NUMBER(OLD_PROCESSOR), NUMBER(D), NUMBER(I), NUMBER(ID), NUMBER(VERSION_10), NUMBER(VERSION_13),
-};
+    NUMBER(TOO_COSTLY), NUMBER(STOPPED), NUMBER(OLD_PROCESSOR), NUMBER(D), NUMBER(I), NUMBER(ID), NUMBER(VERSION_10),
+    NUMBER(VERSION_13)};
 
 uint32_t number_of(const char *name)
 {
@@ -113,7 +114,8 @@ static void take(const proved_argon2_options *with)
     told = with->tell == NULL ? -1 : with->tell(with->arg, 1, 12);
     threads = with->size != sizeof *with || has_pool ? UINT32_MAX : with->threads;
     lent = with->memory != NULL && (uintptr_t)with->memory % 8 == 0 ? (int64_t)with->memory_len
-        : with->memory != NULL || with->memory_len != 0 ? INT64_MIN : -1;
+        : with->memory != NULL || with->memory_len != 0             ? INT64_MIN
+                                                                    : -1;
 }
 
 /* What the last call was passed that computes, that checks, and that does neither. */
@@ -126,11 +128,11 @@ const char *passed_to(uint32_t kind)
 }
 
 static uint32_t hash(const char *name, PIECE(pwd), PIECE(salt), PIECE(secret), PIECE(ad),
-                     const proved_argon2_settings *settings, uint8_t *out, size_t out_len)
+    const proved_argon2_settings *settings, uint8_t *out, size_t out_len)
 {
     wait_while_held();
-    snprintf(passed[COMPUTING], sizeof *passed, "%s %.*s %.*s %.*s %.*s " SETTINGS, name,
-             SHOWN(pwd), SHOWN(salt), SHOWN(secret), SHOWN(ad), EACH(settings));
+    snprintf(passed[COMPUTING], sizeof *passed, "%s %.*s %.*s %.*s %.*s " SETTINGS, name, SHOWN(pwd), SHOWN(salt),
+        SHOWN(secret), SHOWN(ad), EACH(settings));
     memset(out, 'x', out_len);
     return answer;
 }
@@ -140,21 +142,21 @@ uint32_t proved_argon2_check(
 {
     const unsigned lengths[] = {(unsigned)pwd_len, (unsigned)salt_len, (unsigned)secret_len, (unsigned)ad_len};
     snprintf(passed[JUDGING], sizeof *passed, "check " SETTINGS " %u %u %u %u", EACH(settings), lengths[0], lengths[1],
-             lengths[2], lengths[3]);
+        lengths[2], lengths[3]);
     return checking;
 }
 
 uint32_t proved_argon2_hash_raw(PIECE(pwd), PIECE(salt), PIECE(secret), PIECE(ad),
-                                const proved_argon2_settings *settings, uint8_t *out, size_t out_len)
+    const proved_argon2_settings *settings, uint8_t *out, size_t out_len)
 {
     return hash("raw", pwd, pwd_len, salt, salt_len, secret, secret_len, ad, ad_len, settings, out, out_len);
 }
 
 uint32_t proved_argon2_hash_encoded(PIECE(pwd), PIECE(salt), PIECE(secret), PIECE(ad),
-                                    const proved_argon2_settings *settings, char *text, size_t text_len)
+    const proved_argon2_settings *settings, char *text, size_t text_len)
 {
-    const uint32_t number =
-        hash("encoded", pwd, pwd_len, salt, salt_len, secret, secret_len, ad, ad_len, settings, (uint8_t *)text, text_len);
+    const uint32_t number = hash(
+        "encoded", pwd, pwd_len, salt, salt_len, secret, secret_len, ad, ad_len, settings, (uint8_t *)text, text_len);
     if (text_len > 0) {
         text[text_len - 1] = 0;
     }
@@ -162,15 +164,14 @@ uint32_t proved_argon2_hash_encoded(PIECE(pwd), PIECE(salt), PIECE(secret), PIEC
 }
 
 uint32_t proved_argon2_hash_raw_with(const proved_argon2_options *with, PIECE(pwd), PIECE(salt), PIECE(secret),
-                                     PIECE(ad), const proved_argon2_settings *settings, uint8_t *out, size_t out_len)
+    PIECE(ad), const proved_argon2_settings *settings, uint8_t *out, size_t out_len)
 {
     take(with);
     return proved_argon2_hash_raw(pwd, pwd_len, salt, salt_len, secret, secret_len, ad, ad_len, settings, out, out_len);
 }
 
 uint32_t proved_argon2_hash_encoded_with(const proved_argon2_options *with, PIECE(pwd), PIECE(salt), PIECE(secret),
-                                         PIECE(ad), const proved_argon2_settings *settings, char *text,
-                                         size_t text_len)
+    PIECE(ad), const proved_argon2_settings *settings, char *text, size_t text_len)
 {
     take(with);
     return proved_argon2_hash_encoded(
@@ -178,24 +179,23 @@ uint32_t proved_argon2_hash_encoded_with(const proved_argon2_options *with, PIEC
 }
 
 uint32_t proved_argon2_verify_raw_with(const proved_argon2_options *with, PIECE(pwd), PIECE(salt), PIECE(secret),
-                                       PIECE(ad), const proved_argon2_settings *settings, PIECE(hash))
+    PIECE(ad), const proved_argon2_settings *settings, PIECE(hash))
 {
     take(with);
     snprintf(passed[COMPUTING], sizeof *passed, "verify %.*s %.*s %.*s %.*s " SETTINGS " %.*s", SHOWN(pwd), SHOWN(salt),
-             SHOWN(secret), SHOWN(ad), EACH(settings), SHOWN(hash));
+        SHOWN(secret), SHOWN(ad), EACH(settings), SHOWN(hash));
     return answer;
 }
 
-uint32_t proved_argon2_verify_encoded_with(const proved_argon2_options *with, const char *text, size_t text_len, PIECE(pwd), PIECE(secret),
-                                           PIECE(ad))
+uint32_t proved_argon2_verify_encoded_with(
+    const proved_argon2_options *with, const char *text, size_t text_len, PIECE(pwd), PIECE(secret), PIECE(ad))
 {
     static const proved_argon2_limits none = {0, 0, 0, 0};
     const proved_argon2_limits *const limits = with->limits == NULL ? &none : with->limits;
     take(with);
     wait_while_held();
     snprintf(passed[COMPUTING], sizeof *passed, "text %.*s %.*s %.*s %.*s %u %u %u %llu", SHOWN(text), SHOWN(pwd),
-             SHOWN(secret), SHOWN(ad), limits->mem_cost, limits->time_cost, limits->lanes,
-             (unsigned long long)limits->work);
+        SHOWN(secret), SHOWN(ad), limits->mem_cost, limits->time_cost, limits->lanes, (unsigned long long)limits->work);
     return answer;
 }
 

@@ -1,16 +1,30 @@
 # shellcheck shell=bash
-# Source packages of Debian, from the archive that the machine's own lists take packages from, by lists of its own.
+# Packages of Debian, from the archive that the machine's own lists take packages from, by lists of its own.
+
+# apt-get by the lists of a folder alone: `apt_in FOLDER WORD..`.
+apt_in() {
+    apt-get -qq -o "Dir::Etc::sourcelist=$1/sources.list" -o Dir::Etc::sourceparts=- -o "Dir::State::lists=$1/lists" \
+        -o APT::Sandbox::User=root "${@:2}"
+}
+
+# The lists of a release in a folder: `make_lists deb|deb-src RELEASE FOLDER`.
+make_lists() {
+    local mirror
+    mirror=$(cat /etc/apt/sources.list /etc/apt/sources.list.d/*.{list,sources} 2>/dev/null | grep -E '^(URIs:|deb )' \
+        | grep -oE '[a-z+]+://[^ ]+/debian/?( |$)' | head -n 1)
+    mkdir -p "$3/lists/partial"
+    echo "$1 [signed-by=/usr/share/keyrings/debian-archive-keyring.gpg] $mirror $2 main" >"$3/sources.list"
+    apt_in "$3" update
+}
 
 # Unpacks the newest source of a package in a release into a folder, without what Debian adds:
 # `fetch_source RELEASE PACKAGE FOLDER`.
 fetch_source() {
-    local tree=$3 mirror apt
-    apt=(apt-get -qq -o "Dir::Etc::sourcelist=$tree/sources.list" -o Dir::Etc::sourceparts=-
-        -o "Dir::State::lists=$tree/lists" -o APT::Sandbox::User=root)
-    mirror=$(cat /etc/apt/sources.list /etc/apt/sources.list.d/*.{list,sources} 2>/dev/null | grep -E '^(URIs:|deb )' \
-        | grep -oE '[a-z+]+://[^ ]+/debian/?( |$)' | head -n 1)
-    mkdir -p "$tree/lists/partial"
-    echo "deb-src [signed-by=/usr/share/keyrings/debian-archive-keyring.gpg] $mirror $1 main" >"$tree/sources.list"
-    (cd "$tree" && "${apt[@]}" update && "${apt[@]}" source --tar-only --download-only "$2" \
+    make_lists deb-src "$1" "$3" && (cd "$3" && apt_in "$PWD" source --tar-only --download-only "$2" \
         && tar xf "$2"_*.orig.tar.* --strip-components=1)
+}
+
+# Unpacks the newest package of a release into a folder: `fetch_package RELEASE PACKAGE FOLDER`.
+fetch_package() {
+    make_lists deb "$1" "$3" && (cd "$3" && apt_in "$PWD" download "$2" && dpkg-deb -x "$2"_*.deb .)
 }

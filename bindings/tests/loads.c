@@ -7,9 +7,8 @@
 #include <stdio.h>
 #include <string.h>
 
-typedef uint32_t hash_encoded_with(
-    const proved_argon2_options *, const uint8_t *, size_t, const uint8_t *, size_t, const uint8_t *, size_t,
-    const uint8_t *, size_t, const proved_argon2_settings *, char *, size_t);
+typedef uint32_t hash_encoded_with(const proved_argon2_options *, const uint8_t *, size_t, const uint8_t *, size_t,
+    const uint8_t *, size_t, const uint8_t *, size_t, const proved_argon2_settings *, char *, size_t);
 
 int main(int argc, char **argv)
 {
@@ -25,9 +24,8 @@ int main(int argc, char **argv)
         return 1;
     }
     memcpy(&hash, &call, sizeof hash);
-    const uint32_t code = hash(
-        &options, password, strlen((const char *)password), salt, strlen((const char *)salt), NULL, 0, NULL, 0,
-        &settings, text, sizeof text);
+    const uint32_t code = hash(&options, password, strlen((const char *)password), salt, strlen((const char *)salt),
+        NULL, 0, NULL, 0, &settings, text, sizeof text);
     printf("%u %s\n", code, code == PROVED_ARGON2_OK ? text : "");
     return code != PROVED_ARGON2_OK;
 }

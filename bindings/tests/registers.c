@@ -31,7 +31,9 @@ int pieces_left(
 /* How many are found where a register was filled with a tag of 16 bytes. */
 int pieces_filled(const uint8_t tag[16])
 {
-    struct { uint8_t bytes[16]; } filled;
+    struct {
+        uint8_t bytes[16];
+    } filled;
     memcpy(&filled, tag, sizeof filled);
     FILL_ONE(filled);
     NOTE_ALL();

@@ -32,7 +32,7 @@ export async function runInPlace(task, progress) {
     } finally {
         isBusy = !queue.isEmpty;
         if (isBusy) {
-            queue.hand();
+            queue.give();
         }
     }
 }

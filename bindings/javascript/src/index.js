@@ -1,4 +1,4 @@
-// Argon2 password hashing (RFC 9106) by a WebAssembly module that is proved. docs/JAVASCRIPT.md says how to use it.
+// Argon2 password hashing (RFC 9106) by a WebAssembly module of proved code. docs/JAVASCRIPT.md says how to use it.
 import { copyOf } from './bytes.js';
 import { MISMATCH, OK, Rejected, check } from './codes.js';
 import { splitData } from './data.js';

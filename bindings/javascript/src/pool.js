@@ -48,16 +48,16 @@ function forgetWorker(ended) {
     }
     idle.filter((worker) => worker.joined.has(ended)).forEach((worker) => worker.end());
     if (!queue.isEmpty) {
-        handWorkerOn();
+        passWorkerOn();
     }
 }
 
 /** Has the call that waits in front go on, if a worker can be had. */
-function handWorkerOn() {
+function passWorkerOn() {
     try {
         const worker = takeLeader();
         if (worker) {
-            queue.hand(worker);
+            queue.give(worker);
         }
     } catch (error) {
         queue.fail(error);
@@ -76,7 +76,7 @@ function release(worker) {
         idle.push(worker);
         worker.rest();
     } else {
-        queue.hand(worker);
+        queue.give(worker);
     }
 }
 

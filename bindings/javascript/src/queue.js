@@ -8,10 +8,10 @@ export class Queue {
         return this.#waiting.length === 0;
     }
 
-    /** What the call in front is handed, once it is its turn. One that is aborted meanwhile goes. */
+    /** What the call in front is given, once it is its turn. One that is aborted meanwhile goes. */
     wait(progress) {
         let forget;
-        const handed = new Promise((resolve, reject) => {
+        const given = new Promise((resolve, reject) => {
             const it = { resolve, reject };
             this.#waiting.push(it);
             forget = progress.whenAborted(() => {
@@ -19,11 +19,11 @@ export class Queue {
                 reject(new Rejected(STOPPED));
             });
         });
-        return handed.finally(forget);
+        return given.finally(forget);
     }
 
-    /** Hands something to the call in front. */
-    hand(value) {
+    /** Gives something to the call in front. */
+    give(value) {
         this.#waiting.shift().resolve(value);
     }
 

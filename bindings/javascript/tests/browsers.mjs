@@ -6,6 +6,7 @@ import { connect, createServer } from 'node:net';
 import { tmpdir } from 'node:os';
 import { join } from 'node:path';
 import { setTimeout as sleep } from 'node:timers/promises';
+import { keptBelow } from './processes.mjs';
 
 /** Whether a program is there, a browser or another one. */
 export const isThere = (program) => spawnSync('sh', ['-c', `command -v ${program}`]).status === 0;
@@ -79,6 +80,11 @@ class Browser {
         this.#end();
         await this.ended;
         rmSync(this.profile, { recursive: true, force: true, maxRetries: 10 });
+    }
+
+    /** The bytes that its processes keep. */
+    kept() {
+        return keptBelow(this.process.pid);
     }
 
     /** Ends it as a fault would. */

@@ -1,11 +1,12 @@
 // The package as bundlers, module systems and policies for content meet it. docs/JAVASCRIPT.md has these lines.
 import assert from 'node:assert/strict';
 import { execFile } from 'node:child_process';
-import { cpSync, mkdtempSync, writeFileSync } from 'node:fs';
+import { cpSync, mkdtempSync, readFileSync, writeFileSync } from 'node:fs';
 import { dirname, join } from 'node:path';
 import { test } from 'node:test';
 import { fileURLToPath } from 'node:url';
 import { promisify } from 'node:util';
+import { gzipSync } from 'node:zlib';
 import { Chromium, isThere } from './browsers.mjs';
 import { serve } from './server.mjs';
 
@@ -125,6 +126,16 @@ bundledTest('rollup for Node and for pages: the single file', ['rollup', 'chromi
     await runsInNode(folder, 'bundle.mjs');
     cpSync(join(folder, 'bundle.mjs'), join(folder, 'bundle.js'));
     await runsInPage(folder, INLINE_POLICY);
+});
+
+test('the files are as large as the page says', () => {
+    const page = readFileSync(join(process.env.PAGE, '../JAVASCRIPT.md'), 'utf8').replace(/\s+/g, ' ');
+    const [, ...told] = page.match(/one file, of (\d+) KB \((\d+) KB by gzip\).* module only, of (\d+) KB by gzip/);
+    const [single, module] = ['inline.js', 'proved_argon2.wasm'].map((name) => readFileSync(join(sources, name)));
+    const sizes = [single, gzipSync(single), gzipSync(module)].map((bytes) => bytes.length / 1000);
+    for (const [i, size] of sizes.entries()) {
+        assert.ok(Math.abs(size - told[i]) < 1 + size / 50, `${size} KB, and ${told[i]} are told`);
+    }
 });
 
 test('CommonJS requires it', async () => {

@@ -3,6 +3,7 @@
 import assert from 'node:assert/strict';
 import { readFileSync, writeFileSync } from 'node:fs';
 import { after, before, describe, test } from 'node:test';
+import { setTimeout as sleep } from 'node:timers/promises';
 import * as argon2 from 'proved-argon2';
 import { BrowserEnded, Chromium, Firefox, WebKit } from './browsers.mjs';
 import { serve } from './server.mjs';
@@ -10,6 +11,15 @@ import { serve } from './server.mjs';
 const { BROWSER, PAGE, PICTURES, RANDOM_HASHES, VECTORS } = process.env;
 const linesOf = (file) => readFileSync(file, 'utf8').split('\n').filter(Boolean);
 const WORKERS = 8;
+const MIB = 2 ** 20;
+const CALLS = 300;
+const AT_ONCE = 10;
+/** In KiB. The larger one is as much as a worker's memory may take. */
+const MEMORIES = [4096, 16384];
+/** What a browser may keep more than it began with: the code and the heaps of its workers. */
+const BESIDES = 64 * MIB;
+/** Workers end after 5 seconds without work. */
+const IDLE = { tries: 40, pause: 500 };
 const SIZES = {
     light: { width: 1040, height: 700, isDark: false },
     dark: { width: 1040, height: 700, isDark: true },
@@ -17,6 +27,10 @@ const SIZES = {
 };
 
 const MEASURED = `document.getElementById('estimate').textContent.startsWith('A hash takes')`;
+
+/** What does not fit into its place. */
+const TOO_WIDE = `[...document.querySelectorAll('form, p')].filter((it) => it.scrollWidth > it.clientWidth)
+    .map((it) => it.textContent)`;
 
 const literal = (value) => JSON.stringify(value);
 const of = (form, part) => `document.querySelector('#${form} ${part}')`;
@@ -41,10 +55,21 @@ async function submit(browser, form) {
     return statusOf(browser, form);
 }
 
-/** Lines of hashes, computed in the page by at most so many workers. */
-const hashesInPage = (lines, threads) => `
+/** Imports the package into a page that has so many processors. */
+const IMPORTED = `
     Object.defineProperty(navigator, 'hardwareConcurrency', { value: ${WORKERS}, configurable: true });
-    const argon2 = await import('/proved-argon2/index.js');
+    const argon2 = await import('/proved-argon2/index.js');`;
+
+/** Calls of one and four lanes and two sizes, one after another. */
+const mixedCalls = (from, to) => `${IMPORTED}
+    for (let call = ${from}; call < ${to}; call++) {
+        const memoryCost = ${literal(MEMORIES)}[(call >> 1) % 2];
+        await argon2.hash('password', { memoryCost, timeCost: 1, parallelism: call % 2 === 0 ? 1 : 4 });
+    }
+    return true;`;
+
+/** Lines of hashes, computed in the page by at most so many workers. */
+const hashesInPage = (lines, threads) => `${IMPORTED}
     const variants = { argon2d: 0, argon2i: 1, argon2id: 2 };
     const bytes = (hex) => Uint8Array.from(hex === '-' ? [] : hex.match(/../g), (it) => parseInt(it, 16));
     const hex = (it) => [...it].map((byte) => byte.toString(16).padStart(2, '0')).join('');
@@ -120,6 +145,21 @@ function tests(Browser, isIsolated) {
         assert.equal(found, isIsolated);
     }
 
+    pageTest('300 calls of several kinds take one memory a worker at most, and an idle browser none', async () => {
+        const start = browser.kept();
+        let most = 0;
+        for (let call = 0; call < CALLS; call += AT_ONCE) {
+            await browser.told(mixedCalls(call, call + AT_ONCE));
+            most = Math.max(most, browser.kept() - start);
+        }
+        const limit = WORKERS * MEMORIES[1] * 1024 + BESIDES;
+        assert.ok(most <= limit, `${most / MIB} MiB above the start, and ${limit / MIB} MiB is the limit`);
+        for (let tries = IDLE.tries; tries > 0 && browser.kept() - start > BESIDES; tries--) {
+            await sleep(IDLE.pause);
+        }
+        assert.ok(browser.kept() - start <= BESIDES, `${(browser.kept() - start) / MIB} MiB stay`);
+    });
+
     pageTest('the outside hashes', () => compare(linesOf(`${VECTORS}/raw.txt`), 240, WORKERS));
 
     pageTest('2,000 random hashes of libargon2, by 1 to 8 workers', async () => {
@@ -181,6 +221,7 @@ function tests(Browser, isIsolated) {
         await press(browser, 'hashing', '.cancel');
         assert.match(await textOf(browser, 'hashing'), /^(Stopping|Cancelled)/);
         assert.equal(await statusOf(browser, 'hashing'), 'Cancelled. The memory is overwritten.');
+        assert.equal(await browser.evaluate(`${of('hashing', '[role=status]')}.className`), 'quiet');
         await set(browser, 'memory', '10');
         assert.match(await submit(browser, 'hashing'), /^Hashed in /);
     });
@@ -188,9 +229,11 @@ function tests(Browser, isIsolated) {
     pageTest('the page is seen', async () => {
         await set(browser, 'memory', '14');
         await submit(browser, 'hashing');
+        await set(browser, 'encoded', '$argon2id$');
         await submit(browser, 'verifying');
         for (const [name, size] of Object.entries(SIZES)) {
             await browser.show(size);
+            assert.deepEqual(await browser.evaluate(TOO_WIDE), [], name);
             const picture = await browser.screenshot();
             assert.deepEqual([...picture.subarray(1, 4)], [...Buffer.from('PNG')]);
             if (PICTURES) {

@@ -5,9 +5,11 @@ import subprocess
 import sys
 import types
 import unittest
+from importlib.util import find_spec
 from pathlib import Path
 
 from proved_argon2 import PasswordHasher
+from proved_argon2.exceptions import InvalidHashError
 
 try:
     import django
@@ -17,8 +19,16 @@ try:
     import passlib
 except ImportError:
     passlib = None
+pwdlib = find_spec("pwdlib") and find_spec("bcrypt")
 
 PAGE = Path(__file__).resolve().parents[3] / "docs/MOVING.md"
+# The lines of docs/PYTHON.md that put this package in argon2-cffi's place.
+IN_ITS_PLACE = """
+import sys, proved_argon2
+sys.modules["argon2"] = proved_argon2
+for name in ("exceptions", "low_level", "profiles"):
+    sys.modules["argon2." + name] = getattr(proved_argon2, name)
+"""
 SMALL = {"time_cost": 1, "memory_cost": 64, "parallelism": 1}
 
 
@@ -49,30 +59,35 @@ class Moving(unittest.TestCase):
         tag = hashlib.scrypt(b"password", salt=b"somesalt", n=16384, r=8, p=1, dklen=32)
         self.moves(run("In your own code").log_in, f"scrypt:{b'somesalt'.hex()}:{tag.hex()}")
 
-    def test_a_hasher_in_the_form_of_pwdlib(self):
-        class Old:
-            identify = staticmethod(lambda stored: stored.startswith("old:"))
-            verify = staticmethod(lambda password, stored: stored == f"old:{password}")
-            check_needs_rehash = staticmethod(lambda stored: False)
+    def test_a_hash_of_another_scheme_or_in_braces_is_an_error(self):
+        stored = PasswordHasher(**SMALL).hash("password")
+        for other in ("$2b$04$" + 53 * "a", "{argon2}" + stored):
+            self.assertRaises(InvalidHashError, PasswordHasher().verify, other, "password")
+        self.assertTrue(PasswordHasher().verify(("{argon2}" + stored).removeprefix("{argon2}"), "password"))
 
-        hashers = [run("pwdlib").ProvedHasher(), Old]
-
-        def log_in(stored, password):
-            found = next(it for it in hashers if it.identify(stored))
-            if not found.verify(password, stored):
-                return False, stored
-            is_renewed = found is not hashers[0] or found.check_needs_rehash(stored)
-            return True, hashers[0].hash(password) if is_renewed else stored
-
-        self.moves(log_in, "old:password")
+    @unittest.skipUnless(pwdlib, "python3-pwdlib or python3-bcrypt is not there")
+    def test_pwdlib_renews_what_another_hasher_made(self):
+        program = f"""
+{IN_ITS_PLACE}
+from pwdlib.hashers.bcrypt import BcryptHasher
+password, stored = "password", BcryptHasher(4).hash("password")
+{lines("pwdlib")}
+assert matches and renewed.startswith("$argon2id$"), renewed
+assert context.verify_and_update("password", renewed) == (True, None)
+assert context.verify_and_update("Password", renewed) == (False, None)
+assert context.verify_and_update("Password", stored) == (False, None)
+assert proved_argon2.PasswordHasher().verify(renewed, "password")
+old = proved_argon2.PasswordHasher(time_cost=1, memory_cost=64, parallelism=1).hash("password")
+assert context.verify_and_update("password", old)[1].startswith("$argon2id$v=19$m=65536,")
+costly = proved_argon2.PasswordHasher(time_cost=11, memory_cost=64, parallelism=1)
+assert costly.verify(costly.hash("password"), "password") and not context.verify("password", costly.hash("password"))
+"""
+        subprocess.run([sys.executable, "-W", "ignore", "-c", program], check=True, timeout=600)
 
     @unittest.skipUnless(passlib, "python3-passlib is not installed")
     def test_passlib_renews_what_another_scheme_made(self):
         program = f"""
-import sys, proved_argon2
-sys.modules["argon2"] = proved_argon2
-for name in ("exceptions", "low_level", "profiles"):
-    sys.modules["argon2." + name] = getattr(proved_argon2, name)
+{IN_ITS_PLACE}
 from passlib.hash import pbkdf2_sha256
 password, stored = "password", pbkdf2_sha256.using(rounds=10).hash("password")
 {lines("passlib")}

@@ -108,10 +108,10 @@ class OfLimits(unittest.TestCase):
                 setattr(limits, name, 1000)
             with self.assertRaises(AttributeError):
                 delattr(limits, name)
-        self.assertEqual(limits, Limits(2097152, 10, 16, 4194304))
+        self.assertEqual(limits, DEFAULT_LIMITS)
         with self.assertRaises(AttributeError):
             PasswordHasher().limits.time_cost = 1000
-        self.assertEqual(PasswordHasher().limits, Limits(2097152, 10, 16, 4194304))
+        self.assertEqual(PasswordHasher().limits, DEFAULT_LIMITS)
 
     def test_limits_are_values(self):
         limits = Limits(memory_cost=1, time_cost=2, parallelism=3, work=4)

@@ -59,9 +59,9 @@ int main(void)
     const uint8_t password[] = "password", salt[] = "somesaltsomesalt";
     unsigned firsts[THREADS];
     pthread_t threads[THREADS];
-    if (proved_argon2_hash_encoded(
-            password, sizeof password - 1, salt, sizeof salt - 1, pepper, sizeof pepper, NULL, 0, &small,
-            older, sizeof older) != PROVED_ARGON2_OK
+    if (proved_argon2_hash_encoded(password, sizeof password - 1, salt, sizeof salt - 1, pepper, sizeof pepper, NULL, 0,
+            &small, older, sizeof older)
+            != PROVED_ARGON2_OK
         || sem_init(&places, 0, PLACES) != 0) {
         return 2;
     }
@@ -76,7 +76,7 @@ int main(void)
         pthread_join(threads[at], NULL);
     }
     const long grown = peak_kib() - before, most = PLACES * (long)proved_argon2_owasp2().mem_cost + SLACK_KIB;
-    printf("%d match, %d differ, %d busy, %d errors; %d wrong; %ld KiB of %ld\n", seen[MATCHES], seen[DIFFERS], seen[BUSY],
-        seen[ERROR], wrong, grown, most);
+    printf("%d match, %d differ, %d busy, %d errors; %d wrong; %ld KiB of %ld\n", seen[MATCHES], seen[DIFFERS],
+        seen[BUSY], seen[ERROR], wrong, grown, most);
     return !(seen[MATCHES] && seen[DIFFERS] && seen[BUSY] && seen[ERROR] && !wrong && grown <= most);
 }

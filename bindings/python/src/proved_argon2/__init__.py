@@ -8,7 +8,8 @@ argon2-cffi.
     True
 
 `text` is an encoded hash (PHC string), to be stored. `low_level` has the calls that take bytes and settings,
-`profiles` recommended settings, and `exceptions` what is raised.
+`profiles` recommended settings, and `exceptions` what is raised. The values `DEFAULT_*` are a hasher's settings: the
+memory in KiB, lengths in bytes, and the time in passes.
 """
 from . import exceptions, low_level, profiles
 from ._legacy import hash_password, hash_password_raw, verify_password
@@ -25,6 +26,11 @@ from ._password_hasher import (
 from .low_level import Type
 
 __version__ = "1.0.0"
+
+# (so that `help` names them as they are imported)
+for _public in (Limits, Parameters, PasswordHasher):
+    _public.__module__ = __name__
+del _public
 
 __all__ = [
     "DEFAULT_HASH_LENGTH",

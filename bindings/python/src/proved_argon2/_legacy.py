@@ -34,7 +34,7 @@ def hash_password(
     hash_len: int = DEFAULT_HASH_LENGTH,
     type: Type = Type.I,
 ) -> bytes:
-    """Call `low_level.hash_secret` with defaults, and with a random salt if none is passed. Its variant is Argon2i."""
+    """Deprecated. Call `low_level.hash_secret` with defaults, Argon2i, and a random salt if none is passed."""
     _warn("hash_password")
     return hash_secret(password, _salt_or_random(salt), time_cost, memory_cost, parallelism, hash_len, type)
 
@@ -48,12 +48,12 @@ def hash_password_raw(
     hash_len: int = DEFAULT_HASH_LENGTH,
     type: Type = Type.I,
 ) -> bytes:
-    """Call `low_level.hash_secret_raw` with defaults, and with a random salt if none is passed."""
+    """Deprecated. Call `low_level.hash_secret_raw` with defaults, Argon2i, and a random salt if none is passed."""
     _warn("hash_password_raw")
     return hash_secret_raw(password, _salt_or_random(salt), time_cost, memory_cost, parallelism, hash_len, type)
 
 
 def verify_password(hash: bytes, password: bytes, type: Type = Type.I) -> "Literal[True]":
-    """Call `low_level.verify_secret`, with Argon2i if no variant is named."""
+    """Deprecated. Call `low_level.verify_secret`, with Argon2i if no variant is named."""
     _warn("verify_password")
     return verify_secret(hash, password, type)
