@@ -14,8 +14,7 @@ static double seconds(void)
 
 int main(int argc, char **argv)
 {
-    if (argc != 4)
-        return 2;
+    if (argc != 4) return 2;
     const proved_argon2_settings settings = {
         PROVED_ARGON2_ID, PROVED_ARGON2_VERSION_13, (uint32_t)atoi(argv[1]), 1, 1, 32};
     const uint8_t *const password = (const uint8_t *)"password", *const salt = (const uint8_t *)"a salt of 16 byt";

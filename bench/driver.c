@@ -25,7 +25,7 @@
 
 enum { MOST_HASHERS = 20, MOST_ROUNDS = 8192 };
 
-static const struct input the_input = { "password", 8, "somesaltsomesalt" };
+static const struct input the_input = {"password", 8, "somesaltsomesalt"};
 
 static struct hasher hashers[MOST_HASHERS];
 static int hasher_count;
@@ -45,17 +45,17 @@ static double nanoseconds(void)
 
 static void name_hashers(void)
 {
-    hashers[hasher_count++] = (struct hasher) { "ours", ours_default };
-    hashers[hasher_count++] = (struct hasher) { "ours-v3", ours_v3 };
+    hashers[hasher_count++] = (struct hasher){"ours", ours_default};
+    hashers[hasher_count++] = (struct hasher){"ours-v3", ours_v3};
     for (const struct hasher *peer = peers; peer->name != NULL; peer++)
         hashers[hasher_count++] = *peer;
-    hashers[hasher_count++] = (struct hasher) { "with", ours_with };
-    hashers[hasher_count++] = (struct hasher) { "with-v3", ours_v3_with };
-    hashers[hasher_count++] = (struct hasher) { "before-v3", before_v3 };
-    hashers[hasher_count++] = (struct hasher) { "before-with-v3", before_v3_with };
+    hashers[hasher_count++] = (struct hasher){"with", ours_with};
+    hashers[hasher_count++] = (struct hasher){"with-v3", ours_v3_with};
+    hashers[hasher_count++] = (struct hasher){"before-v3", before_v3};
+    hashers[hasher_count++] = (struct hasher){"before-with-v3", before_v3_with};
     process_count = hasher_count;
-    hashers[hasher_count++] = (struct hasher) { "kept", ours_kept };
-    hashers[hasher_count++] = (struct hasher) { "kept-v3", ours_v3_kept };
+    hashers[hasher_count++] = (struct hasher){"kept", ours_kept};
+    hashers[hasher_count++] = (struct hasher){"kept-v3", ours_v3_kept};
 }
 
 /* Argon2 rounds the memory down to a multiple of four blocks a lane. */
@@ -71,8 +71,7 @@ static void compare_tags(const struct cost *cost, int answers[MOST_HASHERS])
     int has_first = 0;
     for (int i = 0; i < hasher_count; i++) {
         answers[i] = hashers[i].hash(cost, &the_input, tag) == 0;
-        if (!answers[i])
-            continue;
+        if (!answers[i]) continue;
         if (has_first && memcmp(first, tag, TAG_LENGTH) != 0) {
             fprintf(stderr, "%s gives another tag\n", hashers[i].name);
             exit(1);
@@ -90,8 +89,7 @@ struct times {
 
 static void add(struct times *times, double spent)
 {
-    if (times->count < MOST_ROUNDS)
-        times->of_round[times->count++] = spent;
+    if (times->count < MOST_ROUNDS) times->of_round[times->count++] = spent;
 }
 
 /* Two rounds at least: a large case may take longer than its seconds, and the first round is a cold one. */
@@ -101,8 +99,7 @@ static void time_hashes(const struct cost *cost, const int answers[MOST_HASHERS]
     const double end = nanoseconds() + seconds * 1e9;
     for (int round = 0; round < 2 || nanoseconds() < end; round++) {
         for (int i = 0; i < hasher_count; i++) {
-            if (!answers[i])
-                continue;
+            if (!answers[i]) continue;
             const double begin = nanoseconds();
             hashers[i].hash(cost, &the_input, tag);
             add(&times[i], nanoseconds() - begin);
@@ -121,8 +118,7 @@ static void print_times(const char *what, const struct cost *cost, struct times 
 {
     for (int i = 0; i < hasher_count; i++) {
         double *const sorted = times[i].of_round;
-        if (times[i].count == 0)
-            continue;
+        if (times[i].count == 0) continue;
         qsort(sorted, (size_t)times[i].count, sizeof *sorted, by_size);
         printf("%s\t(%u, %u, %u) x %u\t%s\t%.1f\t%.1f\n", what, cost->memory, cost->passes, cost->lanes, cost->threads,
             hashers[i].name, sorted[0] / blocks(cost), sorted[times[i].count / 2] / blocks(cost));
@@ -149,8 +145,7 @@ static double least_compression(compress_function *compress)
         const double begin = nanoseconds();
         compress(count, (uint64_t)round);
         const double spent = nanoseconds() - begin;
-        if (spent < least)
-            least = spent;
+        if (spent < least) least = spent;
     }
     return least / (2 * count);
 }
@@ -168,20 +163,17 @@ static long memory_beside(int i, const struct cost *cost)
 {
     int ends[2];
     long raised = -1;
-    if (pipe(ends) != 0)
-        exit(1);
+    if (pipe(ends) != 0) exit(1);
     fflush(stdout);
     const pid_t child = fork();
     if (child == 0) {
         uint8_t tag[TAG_LENGTH];
         const long before = peak_kib();
-        if (hashers[i].hash(cost, &the_input, tag) == 0)
-            raised = peak_kib() - before - (long)cost->memory;
+        if (hashers[i].hash(cost, &the_input, tag) == 0) raised = peak_kib() - before - (long)cost->memory;
         _exit(write(ends[1], &raised, sizeof raised) != sizeof raised);
     }
     close(ends[1]);
-    if (read(ends[0], &raised, sizeof raised) != sizeof raised)
-        raised = -1;
+    if (read(ends[0], &raised, sizeof raised) != sizeof raised) raised = -1;
     close(ends[0]);
     waitpid(child, NULL, 0);
     return raised;
@@ -196,8 +188,7 @@ static void print_memory(const struct cost *cost)
             const long raised = memory_beside(i, cost);
             least = raised < least ? raised : least;
         }
-        if (least >= 0)
-            printf("memory\t%u\t%s\t%ld\n", cost->memory, hashers[i].name, least);
+        if (least >= 0) printf("memory\t%u\t%s\t%ld\n", cost->memory, hashers[i].name, least);
     }
 }
 
@@ -212,8 +203,7 @@ static void run_program(const char *program, const struct cost *cost, int tag_en
     snprintf(memory, sizeof memory, "%u", cost->memory);
     snprintf(lanes, sizeof lanes, "%u", cost->lanes);
     snprintf(length, sizeof length, "%u", (unsigned)TAG_LENGTH);
-    if (pipe(password) != 0 || write(password[1], the_input.password, the_input.password_length) < 0)
-        _exit(1);
+    if (pipe(password) != 0 || write(password[1], the_input.password, the_input.password_length) < 0) _exit(1);
     close(password[1]);
     dup2(password[0], 0);
     dup2(tag_end, 1);
@@ -225,8 +215,7 @@ static void run_program(const char *program, const struct cost *cost, int tag_en
 static void run_peer(hash_function *hash, const struct cost *cost, int tag_end)
 {
     uint8_t tag[TAG_LENGTH];
-    if (hash(cost, &the_input, tag) != 0)
-        _exit(1);
+    if (hash(cost, &the_input, tag) != 0) _exit(1);
     for (int i = 0; i < TAG_LENGTH; i++)
         dprintf(tag_end, "%02x", tag[i]);
     _exit(0);
@@ -240,13 +229,10 @@ static double time_process(int i, const struct cost *cost, char tag[2 * TAG_LENG
     ssize_t more;
     fflush(stdout);
     const double begin = nanoseconds();
-    if (pipe(ends) != 0)
-        exit(1);
+    if (pipe(ends) != 0) exit(1);
     const pid_t child = fork();
-    if (child == 0 && i < FIRST_PEER)
-        run_program(programs[i], cost, ends[1]);
-    if (child == 0)
-        run_peer(hashers[i].hash, cost, ends[1]);
+    if (child == 0 && i < FIRST_PEER) run_program(programs[i], cost, ends[1]);
+    if (child == 0) run_peer(hashers[i].hash, cost, ends[1]);
     close(ends[1]);
     while (got < 2 * TAG_LENGTH && (more = read(ends[0], tag + got, 2 * TAG_LENGTH - got)) > 0)
         got += (size_t)more;
@@ -259,13 +245,11 @@ static void run_threads(const char *what, const struct cost *cost, double second
 {
     char first[2 * TAG_LENGTH], tag[2 * TAG_LENGTH];
     const double end = nanoseconds() + seconds * 1e9;
-    if (time_process(OURS, cost, first) < 0)
-        exit(1);
+    if (time_process(OURS, cost, first) < 0) exit(1);
     for (int round = 0; round < 2 || nanoseconds() < end; round++) {
         for (int i = 0; i < process_count; i++) {
             const double spent = time_process(i, cost, tag);
-            if (spent < 0)
-                continue;
+            if (spent < 0) continue;
             if (memcmp(first, tag, sizeof tag) != 0) {
                 fprintf(stderr, "%s gives another tag\n", hashers[i].name);
                 exit(1);
@@ -278,14 +262,19 @@ static void run_threads(const char *what, const struct cost *cost, double second
 
 /* The cases of docs/PERFORMANCE.md's table; openssl.c has the same. */
 static const struct cost table[] = {
-    { 256, 2, 1, 1 }, { 1024, 2, 1, 1 }, { 19456, 2, 1, 1 }, { 65536, 3, 1, 1 }, { 65536, 3, 4, 1 },
-    { 65536, 3, 4, 4 }, { 262144, 1, 4, 4 },
+    {256, 2, 1, 1},
+    {1024, 2, 1, 1},
+    {19456, 2, 1, 1},
+    {65536, 3, 1, 1},
+    {65536, 3, 4, 1},
+    {65536, 3, 4, 4},
+    {262144, 1, 4, 4},
 };
 enum { CASES = sizeof table / sizeof *table };
 
 static void measure_table(double seconds)
 {
-    print_memory(&(struct cost) { 65536, 1, 1, 1 });
+    print_memory(&(struct cost){65536, 1, 1, 1});
     printf("compression\twarm\tours\t%.1f\n", least_compression(compress_default));
     printf("compression\twarm\tours-v3\t%.1f\n", least_compression(compress_v3));
     for (int i = 0; i < CASES; i++)
@@ -297,8 +286,7 @@ static void print_tags(void)
 {
     for (int i = 0; i < CASES; i++) {
         uint8_t tag[TAG_LENGTH];
-        if (ours_v3_with(&table[i], &the_input, tag) != 0)
-            exit(1);
+        if (ours_v3_with(&table[i], &the_input, tag) != 0) exit(1);
         printf("(%u, %u, %u) ", table[i].memory, table[i].passes, table[i].lanes);
         for (int byte = 0; byte < TAG_LENGTH; byte++)
             printf("%02x", tag[byte]);
@@ -309,23 +297,22 @@ static void print_tags(void)
 /* The program's cases, each hash in a process of its own. It forks, so it has to be a process that is small. */
 static void measure_processes(double seconds)
 {
-    run_threads("process", &(struct cost) { 65536, 3, 4, 4 }, seconds);
-    run_threads("process", &(struct cost) { 262144, 1, 4, 4 }, seconds);
+    run_threads("process", &(struct cost){65536, 3, 4, 4}, seconds);
+    run_threads("process", &(struct cost){262144, 1, 4, 4}, seconds);
 }
 
 /* The points of its plots: two passes over 64 KiB to 1 GiB, and as many threads as lanes over 64 MiB in three passes. */
 static void measure_plots(double seconds)
 {
     for (uint32_t threads = 1; threads <= 8; threads *= 2)
-        run_case("thread-plot", &(struct cost) { 65536, 3, threads, threads }, seconds);
+        run_case("thread-plot", &(struct cost){65536, 3, threads, threads}, seconds);
     for (uint32_t memory = 64; memory <= 1048576; memory *= 4)
-        run_case("memory-plot", &(struct cost) { memory, 2, 1, 1 }, seconds);
+        run_case("memory-plot", &(struct cost){memory, 2, 1, 1}, seconds);
 }
 
 int main(int argc, char **argv)
 {
-    if (argc != 4 || load_ours(argv[3]) || sodium_init() < 0 || gcry_check_version(NULL) == NULL)
-        return 1;
+    if (argc != 4 || load_ours(argv[3]) || sodium_init() < 0 || gcry_check_version(NULL) == NULL) return 1;
     snprintf(programs[OURS], sizeof programs[OURS], "%s/program", argv[3]);
     snprintf(programs[OURS_V3], sizeof programs[OURS_V3], "%s/program-v3", argv[3]);
     load_peers(argv[3]);

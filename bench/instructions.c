@@ -18,7 +18,7 @@ int main(int count, char **word)
     return argon2id_hash_raw(1, kib, 1, "password", 8, "somesalt", 8, tag, sizeof tag);
 #else
     const proved_argon2_settings settings = {PROVED_ARGON2_ID, PROVED_ARGON2_VERSION_13, kib, 1, 1, sizeof tag};
-    return (int)proved_argon2_hash_raw((const uint8_t *)"password", 8, (const uint8_t *)"somesalt", 8, NULL, 0, NULL, 0,
-        &settings, tag, sizeof tag);
+    return (int)proved_argon2_hash_raw(
+        (const uint8_t *)"password", 8, (const uint8_t *)"somesalt", 8, NULL, 0, NULL, 0, &settings, tag, sizeof tag);
 #endif
 }

@@ -23,18 +23,18 @@ static double of(struct timeval time)
 
 int main(int argc, char **argv)
 {
-    if (argc != 6)
-        return 2;
-    const proved_argon2_settings settings = { PROVED_ARGON2_ID, PROVED_ARGON2_VERSION_13, (uint32_t)atoi(argv[1]),
-        (uint32_t)atoi(argv[2]), (uint32_t)atoi(argv[3]), 32 };
+    if (argc != 6) return 2;
+    const proved_argon2_settings settings = {PROVED_ARGON2_ID, PROVED_ARGON2_VERSION_13, (uint32_t)atoi(argv[1]),
+        (uint32_t)atoi(argv[2]), (uint32_t)atoi(argv[3]), 32};
     proved_argon2_options options = PROVED_ARGON2_OPTIONS;
     double least = 0;
     options.threads = (uint32_t)atoi(argv[4]);
     for (int left = atoi(argv[5]); left > 0; left--) {
         uint8_t tag[32];
         const double begun = seconds();
-        if (proved_argon2_hash_raw_with(&options, (const uint8_t *)"password", 8, (const uint8_t *)"somesaltsomesalt", 16,
-                NULL, 0, NULL, 0, &settings, tag, sizeof tag) != 0)
+        if (proved_argon2_hash_raw_with(&options, (const uint8_t *)"password", 8, (const uint8_t *)"somesaltsomesalt",
+                16, NULL, 0, NULL, 0, &settings, tag, sizeof tag)
+            != 0)
             return 1;
         const double taken = seconds() - begun;
         least = least == 0 || taken < least ? taken : least;

@@ -34,8 +34,7 @@ static int time_case(void *kdf, const struct cost *cost, double seconds, uint8_t
     size_t count = 0;
     while (count < MOST_ROUNDS && (count < 3 || nanoseconds() < end)) {
         const double begin = nanoseconds();
-        if (hash_by_openssl(kdf, cost, tag) != 0)
-            return 1;
+        if (hash_by_openssl(kdf, cost, tag) != 0) return 1;
         spent[count++] = nanoseconds() - begin;
     }
     qsort(spent, count, sizeof *spent, by_size);
@@ -47,16 +46,19 @@ static int time_case(void *kdf, const struct cost *cost, double seconds, uint8_t
 int main(int argc, char **argv)
 {
     static const struct cost cases[] = {
-        { 256, 2, 1, 1 }, { 1024, 2, 1, 1 }, { 19456, 2, 1, 1 }, { 65536, 3, 1, 1 }, { 65536, 3, 4, 1 },
-        { 65536, 3, 4, 4 }, { 262144, 1, 4, 4 },
+        {256, 2, 1, 1},
+        {1024, 2, 1, 1},
+        {19456, 2, 1, 1},
+        {65536, 3, 1, 1},
+        {65536, 3, 4, 1},
+        {65536, 3, 4, 4},
+        {262144, 1, 4, 4},
     };
     uint8_t tag[TAG_LENGTH];
-    if (argc != 3 || load_openssl(argv[1]) != 0 || set_max_threads(NULL, 8) != 1)
-        return 1;
+    if (argc != 3 || load_openssl(argv[1]) != 0 || set_max_threads(NULL, 8) != 1) return 1;
     void *const kdf = fetch(NULL, "ARGON2ID", NULL);
     for (size_t i = 0; kdf != NULL && i < sizeof cases / sizeof *cases; i++) {
-        if (time_case(kdf, &cases[i], atof(argv[2]), tag) != 0)
-            return 1;
+        if (time_case(kdf, &cases[i], atof(argv[2]), tag) != 0) return 1;
         fprintf(stderr, "(%u, %u, %u) ", cases[i].memory, cases[i].passes, cases[i].lanes);
         for (int byte = 0; byte < TAG_LENGTH; byte++)
             fprintf(stderr, "%02x", tag[byte]);

@@ -38,20 +38,24 @@ static int load_openssl(const char *path)
 
 static struct parameter number(const char *key, const uint32_t *value)
 {
-    return (struct parameter) { key, UNSIGNED_INTEGER, (void *)value, sizeof *value, 0 };
+    return (struct parameter){key, UNSIGNED_INTEGER, (void *)value, sizeof *value, 0};
 }
 
 static struct parameter bytes(const char *key, const void *value, size_t length)
 {
-    return (struct parameter) { key, OCTET_STRING, (void *)value, length, 0 };
+    return (struct parameter){key, OCTET_STRING, (void *)value, length, 0};
 }
 
 static int hash_by_openssl(void *kdf, const struct cost *cost, uint8_t tag[TAG_LENGTH])
 {
     const struct parameter parameters[] = {
-        number("threads", &cost->threads), number("lanes", &cost->lanes), number("memcost", &cost->memory),
-        number("iter", &cost->passes), bytes("pass", "password", 8), bytes("salt", "somesaltsomesalt", SALT_LENGTH),
-        { NULL, 0, NULL, 0, 0 },
+        number("threads", &cost->threads),
+        number("lanes", &cost->lanes),
+        number("memcost", &cost->memory),
+        number("iter", &cost->passes),
+        bytes("pass", "password", 8),
+        bytes("salt", "somesaltsomesalt", SALT_LENGTH),
+        {NULL, 0, NULL, 0, 0},
     };
     void *const context = new_context(kdf);
     const int refused = context == NULL || derive(context, tag, TAG_LENGTH, parameters) != 1;

@@ -8,8 +8,8 @@
 #include <unistd.h>
 
 typedef uint32_t hash_raw(const uint8_t *pwd, size_t pwd_len, const uint8_t *salt, size_t salt_len,
-    const uint8_t *secret, size_t secret_len, const uint8_t *ad, size_t ad_len,
-    const proved_argon2_settings *settings, uint8_t *out, size_t out_len);
+    const uint8_t *secret, size_t secret_len, const uint8_t *ad, size_t ad_len, const proved_argon2_settings *settings,
+    uint8_t *out, size_t out_len);
 
 typedef uint32_t hash_raw_with(const proved_argon2_options *options, const uint8_t *pwd, size_t pwd_len,
     const uint8_t *salt, size_t salt_len, const uint8_t *secret, size_t secret_len, const uint8_t *ad, size_t ad_len,
@@ -27,7 +27,7 @@ compress_function *compress_default, *compress_v3;
 
 static proved_argon2_settings settings_of(const struct cost *cost)
 {
-    return (proved_argon2_settings) {
+    return (proved_argon2_settings){
         .variant = PROVED_ARGON2_ID,
         .version = PROVED_ARGON2_VERSION_13,
         .mem_cost = cost->memory,
@@ -40,8 +40,7 @@ static proved_argon2_settings settings_of(const struct cost *cost)
 static int call(hash_raw *hash, const struct cost *cost, const struct input *input, uint8_t *tag)
 {
     const proved_argon2_settings settings = settings_of(cost);
-    if (cost->threads != 1)
-        return 1;
+    if (cost->threads != 1) return 1;
     return (int)hash((const uint8_t *)input->password, input->password_length, input->salt, SALT_LENGTH,
         (const uint8_t *)"", 0, (const uint8_t *)"", 0, &settings, tag, TAG_LENGTH);
 }
@@ -76,8 +75,7 @@ static int call_kept(hash_raw_with *hash, const struct cost *cost, const struct 
         options = (proved_argon2_options)PROVED_ARGON2_OPTIONS;
         kept = cost->memory;
     }
-    if (options.memory == NULL && memory_new_default(&settings, &options.memory, &options.memory_len) != 0)
-        return 1;
+    if (options.memory == NULL && memory_new_default(&settings, &options.memory, &options.memory_len) != 0) return 1;
     return cost->threads != 1 || call_with(hash, options, cost, input, tag);
 }
 
@@ -111,7 +109,7 @@ int before_v3(const struct cost *cost, const struct input *input, uint8_t tag[TA
 int before_v3_with(const struct cost *cost, const struct input *input, uint8_t tag[TAG_LENGTH])
 {
     /* (without the fields that came later) */
-    const proved_argon2_options options = { .size = offsetof(proved_argon2_options, tell) };
+    const proved_argon2_options options = {.size = offsetof(proved_argon2_options, tell)};
     return hash_with_before_v3 == NULL || call_with(hash_with_before_v3, options, cost, input, tag);
 }
 
@@ -122,20 +120,18 @@ static void *loaded(const char *folder, const char *library_name, const char *na
     snprintf(path, sizeof path, "%s/%s", folder, library_name);
     void *library = dlopen(path, RTLD_NOW | RTLD_LOCAL);
     void *function = library == NULL ? NULL : dlsym(library, name);
-    if (function == NULL)
-        fprintf(stderr, "%s\n", dlerror());
+    if (function == NULL) fprintf(stderr, "%s\n", dlerror());
     return function;
 }
 
 /* A library chooses its build in its first call, and goes by this variable there. */
 static void choose(const char *build, hash_raw *hash)
 {
-    const struct cost least = { 8, 1, 1, 1 };
-    const struct input input = { "password", 8, "somesaltsomesalt" };
+    const struct cost least = {8, 1, 1, 1};
+    const struct input input = {"password", 8, "somesaltsomesalt"};
     uint8_t tag[TAG_LENGTH];
     setenv("PROVED_ARGON2_CPU", build, 1);
-    if (hash != NULL)
-        call(hash, &least, &input, tag);
+    if (hash != NULL) call(hash, &least, &input, tag);
     unsetenv("PROVED_ARGON2_CPU");
 }
 
@@ -143,8 +139,7 @@ static void load_before(const char *folder)
 {
     char path[4096];
     snprintf(path, sizeof path, "%s/before-v3.so", folder);
-    if (access(path, F_OK) != 0)
-        return;
+    if (access(path, F_OK) != 0) return;
     hash_before_v3 = (hash_raw *)loaded(folder, "before-v3.so", "proved_argon2_hash_raw");
     hash_with_before_v3 = (hash_raw_with *)loaded(folder, "before-v3.so", "proved_argon2_hash_raw_with");
 }

@@ -1,5 +1,5 @@
 # The peers of bench/run, which sources this: where they come from, how they are built, and what each is. It uses out,
-# tree, here and the arrays cargo and rustc_of_cargo.
+# tree and here.
 
 # The archive that the machine's own lists take Debian's packages from.
 debian_archive() {
@@ -64,7 +64,7 @@ build_crate() {
     printf '%s\n' '[source.crates-io]' 'replace-with = "debian"' '[source.debian]' "directory = \"$2\"" \
         >"$crate/.cargo/config.toml"
     [ -z "${4:-}" ] || sed -i "s|^rust-argon2 = .*|rust-argon2 = $4|" "$crate/Cargo.toml"
-    (cd "$crate" && "${cargo[@]}" build --offline --release --target-dir target) \
+    (cd "$crate" && cargo build --offline --release --target-dir target) \
         && cp "$crate/target/release/libbench_$1.so" "$out/$3.so"
 }
 
@@ -76,26 +76,23 @@ fetch_crates() {
     ((${#names[@]})) && unpack_newer "$folder" "${names[@]}"
 }
 
-# rust-argon2: Debian 12 has the source of 1.0.0, and RUST_ARGON2 names a folder with that of 3.0.0, which Debian has not.
+# rust-argon2 3.0.0, which Debian has not: RUST_ARGON2 names a folder with its source.
 build_rust_argon2() {
     local debian=$tree/crates-of-rust-argon2 needed=(librust-{base64,blake2b-simd,constant-time-eq,crossbeam-utils,serde}-dev)
-    rm -f "$out"/rust-argon2-*.so
-    build_crate rust_argon2 "$crates_of_debian" rust-argon2-1.0.0 '"=1.0.0"' >"$out/rust-argon2-1.0.0.log" 2>&1 \
-        || echo 'rust-argon2 1.0.0: skipped, its source cannot be had'
-    if [ -n "${RUST_ARGON2:-}" ] && fetch_crates "$debian" "${needed[@]}"; then
-        build_crate rust_argon2 "$debian$crates_of_debian" rust-argon2-3.0.0 "{ path = \"$RUST_ARGON2\" }"
-    fi >"$out/rust-argon2-3.0.0.log" 2>&1
-    [ -e "$out/rust-argon2-3.0.0.so" ] || echo 'rust-argon2 3.0.0: skipped, RUST_ARGON2 names no source of it'
+    rm -f "$out/rust-argon2-3.0.0.so"
+    {
+        [ -n "${RUST_ARGON2:-}" ] && fetch_crates "$debian" "${needed[@]}" \
+            && build_crate rust_argon2 "$debian$crates_of_debian" rust-argon2-3.0.0 "{ path = \"$RUST_ARGON2\" }"
+    } >"$out/rust-argon2-3.0.0.log" 2>&1 \
+        || echo 'rust-argon2 3.0.0: skipped, RUST_ARGON2 names no source of it that compiles here'
 }
 
 # RustCrypto's argon2, by the crates of Debian 13.
 build_rustcrypto() {
     local debian=$tree/crates-of-rustcrypto
     rm -f "$out/rustcrypto.so"
-    if fetch_crates "$debian" librust-argon2-dev; then
-        build_crate rustcrypto "$debian$crates_of_debian" rustcrypto
-    fi >"$out/rustcrypto.log" 2>&1
-    [ -e "$out/rustcrypto.so" ] || echo 'rustcrypto: skipped, its source cannot be had'
+    { fetch_crates "$debian" librust-argon2-dev && build_crate rustcrypto "$debian$crates_of_debian" rustcrypto; } \
+        >"$out/rustcrypto.log" 2>&1 || echo 'rustcrypto: skipped, its source cannot be had or does not compile here'
 }
 
 # OpenSSL of Debian 13, with the C library that it is for.
@@ -149,7 +146,7 @@ describe_package() {
 
 describe_all() {
     local gcc rustc
-    gcc=$(gcc -dumpfullversion) rustc=$("${rustc_of_cargo[@]}" --version)
+    gcc=$(gcc -dumpfullversion) rustc=$(rustc --version)
     describe ours "$out/argon2_c.so" 'its builds for x86-64-v2 and, with AVX2, x86-64-v3, of which it chooses one'
     describe libsodium "$(linked libsodium)" "$(of_debian libsodium23), which chooses its code by the processor; one lane only"
     describe upstream-v3 "$out/upstream-v3.so" "the C reference of 20190702, its vector form opt.c, by gcc $gcc -O3 -march=x86-64-v3"
@@ -157,8 +154,7 @@ describe_all() {
     describe libargon2 "$(linked libargon2)" "$(of_debian libargon2-1): the C reference, its form without vectors"
     describe botan "$(linked libbotan)" "$(of_debian libbotan-2-19); timed with one lane only"
     describe libgcrypt "$(linked libgcrypt)" "$(of_debian libgcrypt20)"
-    describe rust-argon2-1 "$out/rust-argon2-1.0.0.so" "cargo build --release, $rustc" argon2
-    describe rust-argon2-3 "$out/rust-argon2-3.0.0.so" "cargo build --release, $rustc" argon2
+    describe rust-argon2 "$out/rust-argon2-3.0.0.so" "cargo build --release, $rustc" argon2
     describe rustcrypto "$out/rustcrypto.so" "RustCrypto's argon2, Debian's $(newer_version librust-argon2-dev), cargo build --release, $rustc; one thread only" argon2
     # (its Argon2 has no names in libcrypto.so.3, so its instructions cannot be told from others')
     [ ! -d "$out/openssl" ] || printf 'openssl\t%s\t%s\n' "Debian's openssl $(newer_version libssl3t64), in a process of its own" 'not counted'

@@ -51,18 +51,16 @@ static int upstream_native(const struct cost *cost, const struct input *input, u
 /* Its call has no parameter for lanes. */
 static int libsodium(const struct cost *cost, const struct input *input, uint8_t tag[TAG_LENGTH])
 {
-    if (cost->lanes != 1)
-        return 1;
-    return crypto_pwhash_argon2id(tag, TAG_LENGTH, input->password, input->password_length, input->salt,
-               cost->passes, (size_t)cost->memory * 1024, crypto_pwhash_ALG_ARGON2ID13)
+    if (cost->lanes != 1) return 1;
+    return crypto_pwhash_argon2id(tag, TAG_LENGTH, input->password, input->password_length, input->salt, cost->passes,
+               (size_t)cost->memory * 1024, crypto_pwhash_ALG_ARGON2ID13)
         != 0;
 }
 
 /* Where there are several lanes it hashes with threads of its own, which a process that was forked lacks. */
 static int botan(const struct cost *cost, const struct input *input, uint8_t tag[TAG_LENGTH])
 {
-    if (cost->lanes != 1)
-        return 1;
+    if (cost->lanes != 1) return 1;
     return botan_pwdhash("Argon2id", cost->memory, cost->passes, cost->lanes, tag, TAG_LENGTH, input->password,
                input->password_length, input->salt, SALT_LENGTH)
         != 0;
@@ -93,9 +91,8 @@ static int start_job(void *context, gcry_kdf_job_fn_t function, void *argument)
 {
     struct jobs *jobs = context;
     struct job *job = malloc(sizeof *job);
-    if (job == NULL || jobs->count == MOST_JOBS)
-        return -1;
-    *job = (struct job) { function, argument };
+    if (job == NULL || jobs->count == MOST_JOBS) return -1;
+    *job = (struct job){function, argument};
     return pthread_create(&jobs->threads[jobs->count++], NULL, run_job, job);
 }
 
@@ -110,12 +107,11 @@ static int join_jobs(void *context)
 /* It fills with as many threads as lanes, or with none. */
 static int libgcrypt(const struct cost *cost, const struct input *input, uint8_t tag[TAG_LENGTH])
 {
-    const unsigned long parameters[4] = { TAG_LENGTH, cost->passes, cost->memory, cost->lanes };
-    struct jobs jobs = { .count = 0 };
-    const gcry_kdf_thread_ops_t threads = { &jobs, start_job, join_jobs };
+    const unsigned long parameters[4] = {TAG_LENGTH, cost->passes, cost->memory, cost->lanes};
+    struct jobs jobs = {.count = 0};
+    const gcry_kdf_thread_ops_t threads = {&jobs, start_job, join_jobs};
     gcry_kdf_hd_t handle;
-    if (cost->threads != 1 && cost->threads != cost->lanes)
-        return 1;
+    if (cost->threads != 1 && cost->threads != cost->lanes) return 1;
     if (gcry_kdf_open(&handle, GCRY_KDF_ARGON2, GCRY_KDF_ARGON2ID, parameters, 4, input->password,
             input->password_length, input->salt, SALT_LENGTH, NULL, 0, NULL, 0))
         return 1;
@@ -125,24 +121,13 @@ static int libgcrypt(const struct cost *cost, const struct input *input, uint8_t
     return refused;
 }
 
-static hash_function *rust_argon2_1_hash, *rust_argon2_3_hash, *rustcrypto_hash;
+static hash_function *rust_argon2_hash, *rustcrypto_hash;
 
 /* It takes one thread, or as many as lanes. */
-static int rust_argon2(hash_function *hash, const struct cost *cost, const struct input *input, uint8_t *tag)
+static int rust_argon2(const struct cost *cost, const struct input *input, uint8_t tag[TAG_LENGTH])
 {
-    if (hash == NULL || (cost->threads != 1 && cost->threads != cost->lanes))
-        return 1;
-    return hash(cost, input, tag);
-}
-
-static int rust_argon2_1(const struct cost *cost, const struct input *input, uint8_t tag[TAG_LENGTH])
-{
-    return rust_argon2(rust_argon2_1_hash, cost, input, tag);
-}
-
-static int rust_argon2_3(const struct cost *cost, const struct input *input, uint8_t tag[TAG_LENGTH])
-{
-    return rust_argon2(rust_argon2_3_hash, cost, input, tag);
+    if (rust_argon2_hash == NULL || (cost->threads != 1 && cost->threads != cost->lanes)) return 1;
+    return rust_argon2_hash(cost, input, tag);
 }
 
 static int rustcrypto(const struct cost *cost, const struct input *input, uint8_t tag[TAG_LENGTH])
@@ -163,20 +148,18 @@ void load_peers(const char *folder)
 {
     v3_call = (argon2_call *)loaded(folder, "upstream-v3.so", "argon2_ctx");
     native_call = (argon2_call *)loaded(folder, "upstream-native.so", "argon2_ctx");
-    rust_argon2_1_hash = (hash_function *)loaded(folder, "rust-argon2-1.0.0.so", "bench_rust_argon2");
-    rust_argon2_3_hash = (hash_function *)loaded(folder, "rust-argon2-3.0.0.so", "bench_rust_argon2");
+    rust_argon2_hash = (hash_function *)loaded(folder, "rust-argon2-3.0.0.so", "bench_rust_argon2");
     rustcrypto_hash = (hash_function *)loaded(folder, "rustcrypto.so", "bench_rustcrypto");
 }
 
 const struct hasher peers[] = {
-    { "libsodium", libsodium },
-    { "upstream-v3", upstream_v3 },
-    { "upstream-native", upstream_native },
-    { "libargon2", libargon2 },
-    { "botan", botan },
-    { "libgcrypt", libgcrypt },
-    { "rust-argon2-1", rust_argon2_1 },
-    { "rust-argon2-3", rust_argon2_3 },
-    { "rustcrypto", rustcrypto },
-    { NULL, NULL },
+    {"libsodium", libsodium},
+    {"upstream-v3", upstream_v3},
+    {"upstream-native", upstream_native},
+    {"libargon2", libargon2},
+    {"botan", botan},
+    {"libgcrypt", libgcrypt},
+    {"rust-argon2", rust_argon2},
+    {"rustcrypto", rustcrypto},
+    {NULL, NULL},
 };

@@ -1,11 +1,15 @@
-"""The pictures of README.md and docs/PERFORMANCE.md: SVG whose letters are text, readable on white and on black. Each
-series has a colour of Okabe and Ito's palette, which differ in lightness too, and its name beside it."""
+"""The pictures of README.md and docs/PERFORMANCE.md: SVG whose letters are text, readable on white and on black, and on
+a phone, where they have 0.8 of their size. Each series has a colour of Okabe and Ito's palette, which differ in
+lightness too, and its name beside it."""
 
 import math
 import re
+import textwrap
 from html import escape
 
-WIDTH = 900
+WIDTH, MARGIN, LINE = 480, 16, 18
+# How many letters a line has at most: of a caption, and in bold.
+LETTERS, BOLD_LETTERS = 62, 52
 # The colour and the dashes of a series, in the order in which they are drawn.
 STYLES = {
     'with-v3': ('#0072b2', ''),
@@ -13,20 +17,20 @@ STYLES = {
     'libsodium': ('#d55e00', ''),
     'upstream-v3': ('#009e73', ''),
     'libargon2': ('#cc79a7', ''),
-    'rust-argon2-1': ('#e69f00', '7 4'),
+    'rust-argon2': ('#e69f00', '7 4'),
     'libgcrypt': ('#8a8d91', '2 4'),
 }
 LABELS = {
     'ours': 'this library', 'ours-v3': 'this library, AVX2', 'with': 'this library, no AVX2',
     'with-v3': 'this library, AVX2',
-    'upstream-v3': 'C reference, AVX2', 'upstream-native': 'C reference, native', 'rust-argon2-1': 'rust-argon2 1.0.0',
-    'rust-argon2-3': 'rust-argon2 3.0.0', 'rustcrypto': 'RustCrypto argon2', 'openssl': 'OpenSSL',
+    'upstream-v3': 'C reference, AVX2', 'upstream-native': 'C reference, native', 'rust-argon2': 'rust-argon2 3.0.0',
+    'rustcrypto': 'RustCrypto argon2', 'openssl': 'OpenSSL',
 }
 SHEET = '''text { font: 14px system-ui, sans-serif; fill: #6e7781 }
-.title { font-size: 17px; font-weight: 600 }
+.title { font-size: 16px; font-weight: 600 }
 .own { font-weight: 600 }
 .head { font-size: 13px; font-weight: 600 }
-.caption { font-size: 12px }
+.caption { font-size: 13px }
 .grid { stroke: #8b949e; stroke-opacity: 0.35 }
 @media (prefers-color-scheme: light) { text { fill: #24292f } }
 @media (prefers-color-scheme: dark) { text { fill: #d0d7de } }'''
@@ -37,12 +41,21 @@ def text(x, y, words, anchor='start', kind=''):
     return f'<text x="{x:.1f}" y="{y:.1f}" text-anchor="{anchor}"{kind}>{escape(words)}</text>'
 
 
-def picture(path, height, title, caption, parts):
-    """Writes an SVG of some parts, with a caption below them."""
+def lines(x, y, words, letters=LETTERS, kind='caption'):
+    """Words in lines, and how high these are."""
+    wrapped = textwrap.wrap(words, letters)
+    return [text(x, y + LINE * at, it, kind=kind) for at, it in enumerate(wrapped)], LINE * len(wrapped)
+
+
+def picture(path, bottom, title, caption, parts):
+    """Writes an SVG of some parts, which end at `bottom`, with a caption below them."""
+    below, height = lines(MARGIN, bottom + LINE, caption)
+    size = bottom + height + 12
     path.write_text('\n'.join([
-        f'<svg xmlns="http://www.w3.org/2000/svg" viewBox="0 0 {WIDTH} {height}" role="img">',
-        f'<title>{escape(title)}</title>', f'<style>{SHEET}</style>', text(16, 26, title, kind='title'), *parts,
-        text(16, height - 12, caption, kind='caption'), '</svg>', '']), encoding='utf-8')
+        f'<svg xmlns="http://www.w3.org/2000/svg" width="{WIDTH}" height="{size}" viewBox="0 0 {WIDTH} {size}" '
+        'role="img">',
+        f'<title>{escape(title)}</title>', f'<style>{SHEET}</style>', text(MARGIN, 26, title, kind='title'), *parts,
+        *below, '</svg>', '']), encoding='utf-8')
 
 
 def milliseconds(number):
@@ -77,16 +90,17 @@ class LogScale:
 def draw_lines(path, title, caption, below, places, series):
     """A plot: `places` are the words below, and each series has milliseconds at some of them. The axis is
     logarithmic."""
-    left, right, top, bottom, height = 70, 210, 66, 380, 466
+    left, right, top, bottom = 54, 150, 66, 400
     at_x = [left + (WIDTH - left - right) * (index + 0.3) / len(places) for index in range(len(places))]
     scale = LogScale([number for points in series.values() for number in points.values()], top, bottom)
     out = [text(16, 50, 'milliseconds a hash, on a logarithmic axis'),
-           text((left + WIDTH - right) / 2, bottom + 46, below, 'middle')]
+           text(WIDTH / 2, bottom + 62, below, 'middle', 'caption')]
     for number in scale.marks():
         y = scale.place(number)
         out += [f'<line class="grid" x1="{left}" x2="{WIDTH - right}" y1="{y:.1f}" y2="{y:.1f}"/>',
                 text(left - 8, y + 5, f'{number:g}', 'end')]
-    out += [text(x, bottom + 22, word, 'middle') for x, word in zip(at_x, places)]
+    out += [text(x, bottom + 20 + LINE * at, word, 'middle') for x, place in zip(at_x, places)
+            for at, word in enumerate(place.split())]
     drawn = [(name, series[name]) for name in STYLES if name in series]
     ends = apart({name: scale.place(points[max(points)]) for name, points in drawn}, 18)
     for name, points in drawn:
@@ -99,27 +113,29 @@ def draw_lines(path, title, caption, below, places, series):
         out += [f'<line x1="{x + 6:.1f}" y1="{y:.1f}" x2="{WIDTH - right + 6}" y2="{ends[name]:.1f}" stroke="{colour}" '
                 'stroke-opacity="0.5"/>',
                 f'<circle cx="{WIDTH - right + 10}" cy="{ends[name]:.1f}" r="4" fill="{colour}"/>',
-                text(WIDTH - right + 20, ends[name] + 5, LABELS.get(name, name), kind='own' if 'with' in name else '')]
-    picture(path, height, title, caption, out)
+                text(WIDTH - right + 18, ends[name] + 5, LABELS.get(name, name).replace('this library', 'ours'),
+                     kind='head' if 'with' in name else 'caption')]
+    picture(path, bottom + 70, title, caption, out)
 
 
 def draw_bars(path, title, caption, groups):
     """Bars from zero in groups, each of (words, [(label, milliseconds, whether it is ours)]), the quickest first."""
-    left, right, row, y = 236, 90, 26, 48
+    left, right, row, y = 206, 70, 26, 44
     out = []
     for words, bars in groups:
         most = max(number for _, number, _ in bars)
-        out.append(text(16, y + 14, words, kind='own'))
-        y += 28
+        head, height = lines(MARGIN, y + 14, words, BOLD_LETTERS, 'own')
+        out += head
+        y += height + 10
         for label, number, is_ours in sorted(bars, key=lambda bar: bar[1]):
             width = (WIDTH - left - right) * number / most
-            out += [text(left - 10, y + 15, label, 'end', 'own' if is_ours else ''),
+            out += [text(left - 8, y + 15, label, 'end', 'head' if is_ours else 'caption'),
                     f'<rect x="{left}" y="{y}" width="{width:.1f}" height="{row - 6}" rx="2" '
                     f'fill="{"#0072b2" if is_ours else "#8a8d91"}"/>',
                     text(left + width + 8, y + 15, f'{milliseconds(number)} ms', kind='own' if is_ours else '')]
             y += row
         y += 16
-    picture(path, y + 24, title, caption, out)
+    picture(path, y - 10, title, caption, out)
 
 
 def by_name(cases, told):

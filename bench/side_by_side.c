@@ -17,7 +17,7 @@ static double now(void)
 /* Several chains of sums, shifts and products, so that a core is busy. */
 static void *compute(void *result)
 {
-    uint64_t words[4] = { 1, 2, 3, 4 };
+    uint64_t words[4] = {1, 2, 3, 4};
     for (uint64_t i = 0; i < ROUNDS; i++) {
         words[0] = words[0] * 3 + i;
         words[1] ^= words[1] << 13;

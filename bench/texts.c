@@ -29,8 +29,7 @@ static char *letters_of(const uint8_t *bytes, size_t length, char *to)
         for (bits += BITS_OF_BYTE; bits >= BITS_OF_LETTER; bits -= BITS_OF_LETTER)
             *to++ = LETTERS[held >> (bits - BITS_OF_LETTER) & 63];
     }
-    if (bits > 0)
-        *to++ = LETTERS[held << (BITS_OF_LETTER - bits) & 63];
+    if (bits > 0) *to++ = LETTERS[held << (BITS_OF_LETTER - bits) & 63];
     return to;
 }
 
@@ -40,23 +39,22 @@ static const char *bytes_of(const char *letters, uint8_t *to)
     for (; *letters != '\0' && *letters != '$'; letters++) {
         held = held << BITS_OF_LETTER | numbers[(uint8_t)*letters];
         bits += BITS_OF_LETTER;
-        if (bits >= BITS_OF_BYTE)
-            *to++ = (uint8_t)(held >> (bits -= BITS_OF_BYTE));
+        if (bits >= BITS_OF_BYTE) *to++ = (uint8_t)(held >> (bits -= BITS_OF_BYTE));
     }
     return letters;
 }
 
 static void write_by_library(void)
 {
-    if (proved_argon2_encode(salt, SALT, &settings, tag, TAG, text, ROOM) != PROVED_ARGON2_OK)
-        exit(1);
+    if (proved_argon2_encode(salt, SALT, &settings, tag, TAG, text, ROOM) != PROVED_ARGON2_OK) exit(1);
 }
 
 static void write_by_tables(void)
 {
     char *const begin = by_tables;
-    char *at = begin + sprintf(begin, "$argon2id$v=%u$m=%u,t=%u,p=%u$", settings.version, settings.mem_cost,
-        settings.time_cost, settings.lanes);
+    char *at = begin
+        + sprintf(begin, "$argon2id$v=%u$m=%u,t=%u,p=%u$", settings.version, settings.mem_cost, settings.time_cost,
+            settings.lanes);
     at = letters_of(salt, SALT, at);
     *at++ = '$';
     *letters_of(tag, TAG, at) = '\0';
@@ -65,8 +63,7 @@ static void write_by_tables(void)
 static void read_by_library(void)
 {
     proved_argon2_stored stored;
-    if (proved_argon2_read(text, strlen(text), &stored) != PROVED_ARGON2_OK || stored.salt_length != SALT)
-        exit(1);
+    if (proved_argon2_read(text, strlen(text), &stored) != PROVED_ARGON2_OK || stored.salt_length != SALT) exit(1);
 }
 
 static void read_job_by_library(void)
@@ -74,8 +71,10 @@ static void read_job_by_library(void)
     static const uint8_t password[] = "password";
     proved_argon2_job job;
     uint8_t read_salt[SALT], hash[TAG];
-    if (proved_argon2_job_read(text, strlen(text), password, sizeof password - 1, NULL, 0, NULL, 0, &job,
-            read_salt, SALT, hash, TAG) != PROVED_ARGON2_OK || memcmp(hash, tag, TAG) != 0)
+    if (proved_argon2_job_read(
+            text, strlen(text), password, sizeof password - 1, NULL, 0, NULL, 0, &job, read_salt, SALT, hash, TAG)
+            != PROVED_ARGON2_OK
+        || memcmp(hash, tag, TAG) != 0)
         exit(1);
 }
 
@@ -85,24 +84,24 @@ static void read_by_tables(void)
     uint8_t read_salt[ROOM], read_tag[ROOM];
     int at = 0;
     if (sscanf(by_tables, "$argon2id$v=%u$m=%u,t=%u,p=%u$%n", &read.version, &read.mem_cost, &read.time_cost,
-            &read.lanes, &at) != 4)
+            &read.lanes, &at)
+        != 4)
         exit(1);
     const char *const mark = bytes_of(by_tables + at, read_salt);
     bytes_of(mark + 1, read_tag);
-    if (memcmp(read_salt, salt, SALT) != 0 || memcmp(read_tag, tag, TAG) != 0)
-        exit(1);
+    if (memcmp(read_salt, salt, SALT) != 0 || memcmp(read_tag, tag, TAG) != 0) exit(1);
 }
 
 static const struct {
     const char *what, *by;
     void (*call)(void);
 } CALLED[] = {
-    { "writing", "the library", write_by_library },
-    { "writing", "tables", write_by_tables },
-    { "reading its settings", "the library", read_by_library },
-    { "reading", "tables", read_by_tables },
-    { "reading it for a job", "the library", read_job_by_library },
-    { "reading", "tables", read_by_tables },
+    {"writing", "the library", write_by_library},
+    {"writing", "tables", write_by_tables},
+    {"reading its settings", "the library", read_by_library},
+    {"reading", "tables", read_by_tables},
+    {"reading it for a job", "the library", read_job_by_library},
+    {"reading", "tables", read_by_tables},
 };
 enum { COUNT = sizeof CALLED / sizeof CALLED[0] };
 
@@ -133,8 +132,7 @@ static void prepare(void)
         tag[i] = (uint8_t)(i * 59 + 7);
     write_by_library();
     write_by_tables();
-    if (strcmp(text, by_tables) != 0)
-        exit(1);
+    if (strcmp(text, by_tables) != 0) exit(1);
 }
 
 int main(void)
@@ -144,11 +142,10 @@ int main(void)
     for (int round = 0; round < ROUNDS; round++)
         for (size_t i = 0; i < COUNT; i++) {
             const double spent = time_of(CALLED[i].call);
-            if (round == 0 || spent < least[i])
-                least[i] = spent;
+            if (round == 0 || spent < least[i]) least[i] = spent;
         }
     for (size_t i = 0; i < COUNT; i += 2)
-        printf("%s: %.2f microseconds by %s, %.2f by %s\n", CALLED[i].what, least[i],
-            CALLED[i].by, least[i + 1], CALLED[i + 1].by);
+        printf("%s: %.2f microseconds by %s, %.2f by %s\n", CALLED[i].what, least[i], CALLED[i].by, least[i + 1],
+            CALLED[i + 1].by);
     return 0;
 }

@@ -45,7 +45,7 @@ async function inPage(Browser) {
 }
 
 const HEAD = ['Engine', '19 MiB, 2 passes, 1 lane', '64 MiB, 3 passes, 4 lanes: by 1 worker', 'by 2', 'by 4',
-    'by 4, part of 1'];
+    'time of 4 workers / 1'];
 console.log(`| ${HEAD.join(' | ')} |\n|---${'|---:'.repeat(HEAD.length - 1)}|`);
 say(`Node ${process.versions.node}`, await times(argon2, Number(rounds)));
 await inPage(Chromium);
