@@ -60,7 +60,7 @@ static void must(bool holds, const char *what)
 {
     if (!holds) {
         printf("fault: %s;%s%s%s%s%s, at", what, asked.is_large ? " large" : "", asked.is_lent ? " lent" : "",
-               asked.is_verdict ? " verdict" : "", asked.is_told ? " told" : "", asked.has_pool ? " pool" : "");
+            asked.is_verdict ? " verdict" : "", asked.is_told ? " told" : "", asked.has_pool ? " pool" : "");
         for (size_t i = 0; i < depth; i++) {
             printf(" %u", choices[i].way);
         }
@@ -77,12 +77,12 @@ static _Alignas(64) block arena[4096 + 8]; /* for the blocks, of which the first
 enum kind { LINES, PAGES, BYTES, WORKERS };
 
 static struct run {
-    uint32_t code;            /* how the call is to end: nothing fails behind the first failure */
-    uint32_t begun, filled;   /* lanes, a bit for each */
-    uint64_t stage, told;     /* slices that are filled, or are being filled, and those that were told */
+    uint32_t code;          /* how the call is to end: nothing fails behind the first failure */
+    uint32_t begun, filled; /* lanes, a bit for each */
+    uint64_t stage, told;   /* slices that are filled, or are being filled, and those that were told */
     bool is_finished, is_dirty, is_forked, is_kept, is_pool_wrong;
-    uint32_t early;           /* how often a thread went on before the caller's */
-    size_t there;             /* bytes that were populated */
+    uint32_t early; /* how often a thread went on before the caller's */
+    size_t there;   /* bytes that were populated */
     struct {
         void *at;
         size_t len;
@@ -190,8 +190,8 @@ static void release(void)
 
 static void run_member(void)
 {
-    __sanitizer_finish_switch_fiber(NULL, bottom_of_caller == NULL ? &bottom_of_caller : NULL,
-                                    size_of_caller == 0 ? &size_of_caller : NULL);
+    __sanitizer_finish_switch_fiber(
+        NULL, bottom_of_caller == NULL ? &bottom_of_caller : NULL, size_of_caller == 0 ? &size_of_caller : NULL);
     member_runs(member_arg, &one_team, current);
     threads[current].state = DONE;
     switch_to(next_ready());
@@ -376,7 +376,7 @@ void __wrap_free(void *at)
 
 /* ---- the proved calls, which watch in which order they are made */
 
-#define SLICE(number) (arena + (number) * slice_len())
+#define SLICE(number) (arena + (number)*slice_len())
 
 static void look_at_job(const proved_argon2_job *it)
 {
@@ -422,7 +422,7 @@ uint32_t proved_argon2_job_fill(const proved_argon2_job *it, uint32_t pass, uint
     must(4 * (uint64_t)pass + slice + 1 == run.stage && slice < 4 && pass < asked.passes, "slices in their order");
     must(first_len == len && second_len == len && third_len == len, "whole slices");
     must(first == SLICE(slice == 0) && second == SLICE(slice <= 1 ? 2 : 1) && third == SLICE(slice <= 2 ? 3 : 2),
-         "the other three slices in rising order");
+        "the other three slices in rising order");
     look_at_lane(&run.filled, lane, slice, own, own_len);
     return fails(PROVED_ARGON2_NO_PLACE) ? PROVED_ARGON2_NO_PLACE : PROVED_ARGON2_OK;
 }
@@ -488,7 +488,7 @@ uint32_t proved_argon2_job_verify_over(const proved_argon2_job *it, block *block
 static int tell(void *arg, uint64_t done, uint64_t all)
 {
     must(arg == &asked && run.code == PROVED_ARGON2_OK && done == ++run.told && all == 4 * (uint64_t)asked.passes,
-         "each slice is told once");
+        "each slice is told once");
     must(run.filled == all_lanes() && run.stage == done && current == 0, "it is filled then");
     errno = 5;
     if (fails(PROVED_ARGON2_STOPPED)) {

@@ -25,78 +25,95 @@ extern __typeof__(realloc) __libc_realloc;
 extern __typeof__(free) __libc_free;
 
 struct start {
-  void *(*run)(void *);
-  void *argument;
-  unsigned wait;
+    void *(*run)(void *);
+    void *argument;
+    unsigned wait;
 };
 
 static unsigned long requests, starts;
 
-static void say(const char *line) { write(STDERR_FILENO, line, strlen(line)); }
+static void say(const char *line)
+{
+    write(STDERR_FILENO, line, strlen(line));
+}
 
-static unsigned long number_in(const char *name, unsigned long other) {
-  const char *number = getenv(name);
-  return number ? strtoul(number, NULL, 10) : other;
+static unsigned long number_in(const char *name, unsigned long other)
+{
+    const char *number = getenv(name);
+    return number ? strtoul(number, NULL, 10) : other;
 }
 
 /* Whether this is one of those that are refused: from the first on, which those before it leave to its tries. */
-static int is_refused(const char *name, unsigned long *count) {
-  const unsigned long first = number_in(name, 0), number = __atomic_add_fetch(count, 1, __ATOMIC_SEQ_CST);
-  if (first == 0 || number < first || number - first >= number_in("REFUSE_TRIES", 1)) return 0;
-  say("refused\n");
-  errno = ENOMEM;
-  return 1;
+static int is_refused(const char *name, unsigned long *count)
+{
+    const unsigned long first = number_in(name, 0), number = __atomic_add_fetch(count, 1, __ATOMIC_SEQ_CST);
+    if (first == 0 || number < first || number - first >= number_in("REFUSE_TRIES", 1)) return 0;
+    say("refused\n");
+    errno = ENOMEM;
+    return 1;
 }
 
-static void tell_of_memory(const char *line) {
-  if (getenv("REFUSE_REQUEST")) say(line);
+static void tell_of_memory(const char *line)
+{
+    if (getenv("REFUSE_REQUEST")) say(line);
 }
 
-void free(void *block) {
-  if (block) tell_of_memory("freed\n");
-  __libc_free(block);
+void free(void *block)
+{
+    if (block) tell_of_memory("freed\n");
+    __libc_free(block);
 }
 
-static void *request(void *block, size_t bytes) {
-  if (is_refused("REFUSE_REQUEST", &requests)) return NULL;
-  tell_of_memory(block ? "request\nfreed\n" : "request\n");
-  return __libc_realloc(block, bytes);
+static void *request(void *block, size_t bytes)
+{
+    if (is_refused("REFUSE_REQUEST", &requests)) return NULL;
+    tell_of_memory(block ? "request\nfreed\n" : "request\n");
+    return __libc_realloc(block, bytes);
 }
 
-void *malloc(size_t bytes) { return request(NULL, bytes); }
+void *malloc(size_t bytes)
+{
+    return request(NULL, bytes);
+}
 
-void *realloc(void *block, size_t bytes) { return request(block, bytes); }
+void *realloc(void *block, size_t bytes)
+{
+    return request(block, bytes);
+}
 
-static void *run_late(void *given) {
-  const struct start start = *(struct start *)given;
-  __libc_free(given);
-  usleep(start.wait);
-  void *const result = start.run(start.argument);
-  usleep(start.wait);
-  say("late\n");
-  return result;
+static void *run_late(void *given)
+{
+    const struct start start = *(struct start *)given;
+    __libc_free(given);
+    usleep(start.wait);
+    void *const result = start.run(start.argument);
+    usleep(start.wait);
+    say("late\n");
+    return result;
 }
 
 /* The waits are random()'s without a seed, the same in each run. */
-int pthread_create(pthread_t *thread, const pthread_attr_t *attributes, void *(*run)(void *), void *argument) {
-  __typeof__(pthread_create) *const next = dlsym(RTLD_NEXT, "pthread_create");
-  const long delay = (long)number_in("DELAY", 0);
-  if (is_refused("REFUSE_START", &starts)) return EAGAIN;
-  if (delay) {
-    struct start *const late = __libc_realloc(NULL, sizeof *late);
-    *late = (struct start){run, argument, (unsigned)(random() % delay) + 1};
-    run = run_late, argument = late;
-  }
-  const int code = next(thread, attributes, run, argument);
-  say(code == 0 ? "start\n" : "denied\n");
-  return code;
+int pthread_create(pthread_t *thread, const pthread_attr_t *attributes, void *(*run)(void *), void *argument)
+{
+    __typeof__(pthread_create) *const next = dlsym(RTLD_NEXT, "pthread_create");
+    const long delay = (long)number_in("DELAY", 0);
+    if (is_refused("REFUSE_START", &starts)) return EAGAIN;
+    if (delay) {
+        struct start *const late = __libc_realloc(NULL, sizeof *late);
+        *late = (struct start){run, argument, (unsigned)(random() % delay) + 1};
+        run = run_late, argument = late;
+    }
+    const int code = next(thread, attributes, run, argument);
+    say(code == 0 ? "start\n" : "denied\n");
+    return code;
 }
 
-void _exit(int status) {
-  char said[4096] = "";
-  read(open("/proc/self/status", O_RDONLY), said, sizeof said - 1);
-  const char *const line = strstr(said, "VmHWM:");
-  if (line) write(STDERR_FILENO, line, strcspn(line, "\n") + 1);
-  syscall(SYS_exit_group, status);
-  __builtin_unreachable();
+void _exit(int status)
+{
+    char said[4096] = "";
+    read(open("/proc/self/status", O_RDONLY), said, sizeof said - 1);
+    const char *const line = strstr(said, "VmHWM:");
+    if (line) write(STDERR_FILENO, line, strcspn(line, "\n") + 1);
+    syscall(SYS_exit_group, status);
+    __builtin_unreachable();
 }

@@ -52,20 +52,21 @@ class Came:
         return self.told if is_refused else f'status {self.status}, {self.output!r:.500}, {self.told!r:.4000}'
 
 
-def run(words, library='', meanwhile=lambda process: None, given=PASSWORD, how=None, **variables):
-    """Runs a command with the password on its standard input, and stops it where it hangs. `meanwhile` is called with
-    the process, `how` is for subprocess, and the variables are for faults.c."""
+def run(words, library='', before=None, meanwhile=lambda process: None, given=PASSWORD, how=None, **variables):
+    """Runs a command with the password on its standard input, and stops it where it hangs. `before` is called with the
+    process while it waits for its input, or else `meanwhile` beside it; `how` is for subprocess, and the variables are
+    for faults.c."""
     variables = {name: str(value) for name, value in variables.items()}
     how = {**dict.fromkeys(('stdin', 'stdout', 'stderr'), subprocess.PIPE), **(how or {}),
            'env': {**os.environ, 'LD_PRELOAD': str(library), **variables}}
     with subprocess.Popen(words, **how) as process, ThreadPoolExecutor(1) as beside:
-        seen = beside.submit(meanwhile, process)
+        seen = before(process) if before else beside.submit(meanwhile, process)
         try:
             said = process.communicate(given, timeout=SECONDS)
         except subprocess.TimeoutExpired:
             process.kill()
             said = process.communicate()
-        return Came(process.returncode, *said, seen.result())
+        return Came(process.returncode, *said, seen if before else seen.result())
 
 
 class Hash(NamedTuple):

@@ -4,7 +4,7 @@ import functools
 import re
 from itertools import chain
 
-from machine import RETURN, Machine, add, computed, each, half_known, jump_if, left, right
+from machine import RETURN, Machine, add, computed, each, half_known, jump_if, left, register, right
 from rfc9106 import MASK, rotated
 from terms import Fault, picked, variable
 
@@ -35,12 +35,6 @@ class Arm64(Machine):
         return self.registers['x30']
 
 
-def general(name, mask):
-    def write(machine, word):
-        machine.registers[name] = word & mask
-    return (lambda machine: machine.registers[name] & mask), write
-
-
 def vector(number, size):
     def write(machine, words):
         machine.registers[f'd{number}'], machine.registers[f'h{number}'] = (*words, 0)[:2]
@@ -53,7 +47,7 @@ def operand(text):
         number = int(text.removeprefix('#'), 0) & MASK
         return (lambda machine: number), None
     if text == 'sp':
-        return general('sp', MASK)
+        return register('sp', MASK)
     found = REGISTER.fullmatch(text)
     if not found:
         raise Fault(f'the operand {text} is not known')
@@ -62,7 +56,7 @@ def operand(text):
         return (lambda machine: 0), (lambda machine, word: None)
     if of_vector:
         return vector(of_vector, 2)
-    return general(f'x{number}', LOW if kind == 'w' else MASK)
+    return register(f'x{number}', LOW if kind == 'w' else MASK)
 
 
 def readers(words):

@@ -14,12 +14,16 @@ from terms import Fault
 X86, ARM64, OBJECT = 62, 183, 1  # (numbers of ELF)
 # For each machine how the names of binutils begin, what objdump has to be told, and what runs and reads instructions.
 KINDS = {X86: ('', ('-M', 'intel'), x86.X86, x86.decode), ARM64: ('aarch64-linux-gnu-', (), arm64.Arm64, arm64.decode)}
+WINDOWS = 'x86_64-w64-mingw32-', *KINDS[X86][1:]
+# Where memset is in what is linked here of objects, which have no C library; its names elsewhere (build/link).
+OUTSIDE, CLEARS = 16, ('memset', 'memset@plt', 'proved_driver_memset', 'proved_sysv_memset')
+LINKS = 'ld', '--entry=0', '--unresolved-symbols=ignore-all', f'--defsym=memset={OUTSIDE}', '--whole-archive'
+# (a linker for Windows leaves nothing unresolved, and gcc knows what it needs)
+LINKS_FOR_WINDOWS = 'gcc', '-shared', '-nostartfiles', '-Wl,--entry=0', '-Wl,--whole-archive'
 SECTION = re.compile(r' *\d+ \S+ +([0-9a-f]+)  ([0-9a-f]+)  [0-9a-f]+  ([0-9a-f]+)  2\*\*\d+')
 LABEL = re.compile(r'([0-9a-f]+) <(.*)>:')
 LINE = re.compile(r' *([0-9a-f]+):\t([0-9a-f ]+?) *\t(.*?)(?:\s*(?:# |//).*)?')
 TARGET = re.compile(r'([0-9a-f]+) <.*')  # (of a jump)
-# Where memset is in what is linked here of objects, which have no C library; its names elsewhere (build/link).
-OUTSIDE, CLEARS = 16, ('memset', 'memset@plt', 'proved_driver_memset')
 
 
 class Missing(Exception):
@@ -46,14 +50,16 @@ class Code:
     def __init__(self, path):
         content = path.read_bytes()
         header = content[max(content.find(b'\x7fELF'), 0):]
-        prefix, self.words, self.kind, self.decode = KINDS.get(int.from_bytes(header[18:20], 'little')) or no_kind(path)
+        is_windows = path.parent.name.startswith('windows')
+        prefix, self.words, self.kind, self.decode = WINDOWS if is_windows else (
+            KINDS.get(int.from_bytes(header[18:20], 'little')) or no_kind(path))
         self.objdump = need(f'{prefix}objdump')
-        if content == header and header[16] != OBJECT:
+        if content[:2] == b'MZ' or content[:4] == b'\x7fELF' and content[16] != OBJECT:
             self.read(path)
         else:
-            with tempfile.NamedTemporaryFile() as linked:
-                run(f'{prefix}ld', '--entry=0', '--unresolved-symbols=ignore-all', f'--defsym=memset={OUTSIDE}',
-                    '-o', linked.name, '--whole-archive', path)
+            with tempfile.NamedTemporaryFile(suffix='.linked') as linked:
+                tool, *words = LINKS_FOR_WINDOWS if is_windows else LINKS
+                run(prefix + tool, '-o', linked.name, *words, path, *['-Wl,--no-whole-archive'] * is_windows)
                 self.read(Path(linked.name))
 
     def read(self, path):

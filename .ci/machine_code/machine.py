@@ -126,6 +126,12 @@ def half_known(number):
     return joined((number, 0, BITS // 2), (variable('upper half'), 0, BITS // 2))
 
 
+def register(name, mask):
+    def write(machine, word):
+        machine.registers[name] = word & mask
+    return (lambda machine: machine.registers[name] & mask), write
+
+
 def computed(function, sources, target):
     """The step that writes what a function makes of operands."""
     return lambda machine: target(machine, function(*(it(machine) for it in sources)))

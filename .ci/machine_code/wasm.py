@@ -129,8 +129,9 @@ class Wasm(Machine):
                 size, byte, address = self.pop(), self.pop(), self.pop()
                 self.clear(address, byte, size)
             case 'i32.wrap_i64':
-                word = self.pop()
-                return word if self.find(word) else word & LOW
+                return self.cut(self.pop())
+            case 'i32.add':
+                return self.cut(add(self.pop(), self.pop()))
             case 'select':
                 chooses, other, one = self.pop(), self.pop(), self.pop()
                 return one if self.chosen(chooses) else other
@@ -157,6 +158,10 @@ class Wasm(Machine):
                 self.local[number] = word = self.pop()
                 return word if name == 'local.tee' else None
         return None
+
+    def cut(self, word):
+        """Its lowest 32 bits."""
+        return word if self.find(word) else word & LOW
 
     def has_no_room(self, least, at):
         """It is asked before anything else whether the stack has room, which is so."""

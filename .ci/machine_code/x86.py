@@ -5,7 +5,7 @@ import functools
 import re
 from itertools import chain
 
-from machine import CONDITIONS, RETURN, WORD, Machine, add, computed, each, half_known, jump_if, left, right
+from machine import CONDITIONS, RETURN, WORD, Machine, add, computed, each, half_known, jump_if, left, register, right
 from rfc9106 import MASK, rotated
 from terms import BITS, Fault, picked, variable
 
@@ -46,12 +46,6 @@ class X86(Machine):
         return word
 
     return_address = pop
-
-
-def register(name, mask):
-    def write(machine, word):
-        machine.registers[name] = word & mask
-    return (lambda machine: machine.registers[name] & mask), write
 
 
 def vector(name, size, keeps_rest):

@@ -60,7 +60,8 @@ class Crate:
             return [(edit, False, fault) for edit in self.found]
         copies = [Copy(edit) for edit in self.found if can_be_copied(edit, self.folder)]
         in_place = [edit for edit in self.found if not can_be_copied(edit, self.folder)]
-        return [*(self.judged_in_copies(copies) if copies else ()), *map(self.judged_in_place, in_place)]
+        return [*(self.judged_in_copies(copies) if copies else ()),
+                *(it for group in apart(in_place) for it in self.judged_in_place(group))]
 
     def start(self):
         """Takes what is kept of the crate, or proves it. Gives the crate's fault, or None."""
@@ -109,22 +110,41 @@ class Crate:
             return [(it.edit, False, fault) for it in copies]
         return [(it.edit, *judge(it.edit, [*filter(it.is_called, report.verdicts)], report)) for it in copies]
 
-    def judged_in_place(self, edit):
-        """Judges one that no copy shows, by a check of its own."""
+    def judged_in_place(self, edits):
+        """Judges some that no copy shows by one check, and then those that do not pass so by one each: where one breaks
+        more than its function, nothing is said of others."""
         texts = {}
-        for file, old, new in edit.pairs:
+        for file, old, new in (pair for edit in edits for pair in edit.pairs):
             path = file.relative_to(self.folder).as_posix()
             texts[path] = (texts.get(path) or file.read_text(encoding='utf-8')).replace(old, new)
         report = self.checked(texts)
-        refused = [*filter(report.is_refused, report.verdicts)]
-        places = [place for place in report.verdicts if any(it.is_called(place) for it in edit.functions if it)]
-        # One outside a function's body may break any.
-        places = refused if None in edit.functions else places
-        stray = next((it for it in refused if it not in places), None)
-        if not report.is_told or stray:
-            why = f'another function is refused: {stray}' if stray else f'it does not compile: {report.first_error()}'
-            return edit, False, why
-        return (edit, *judge(edit, places, report))
+        places = {edit: places_of(edit, report) for edit in edits}
+        stray = {*filter(report.is_refused, report.verdicts)}.difference(*places.values())
+        fault = None if report.is_told else f'it does not compile: {report.first_error()}'
+        fault = f'another function is refused: {min(stray)}' if stray else fault
+        came = [(edit, *((False, fault) if fault else judge(edit, places[edit], report))) for edit in edits]
+        return came if len(edits) == 1 else [it if it[1] else self.judged_in_place(it[:1])[0] for it in came]
+
+
+def apart(edits):
+    """Edits in groups: those of a group are in functions of their own, and one outside functions is alone."""
+    groups = []
+    for edit in edits:
+        own = {*edit.functions}
+        group = next((it for it in groups if None not in own and own.isdisjoint(f for one in it for f in one.functions)
+                      and None not in it[0].functions), None)
+        if group:
+            group.append(edit)
+        else:
+            groups.append([edit])
+    return groups
+
+
+def places_of(edit, report):
+    """What the checker calls the functions of an edit; one outside a function's body may break any."""
+    if None in edit.functions:
+        return [*filter(report.is_refused, report.verdicts)]
+    return [place for place in report.verdicts if any(it.is_called(place) for it in edit.functions)]
 
 
 def write(folder, texts):

@@ -5,6 +5,7 @@ import os
 import re
 import subprocess
 import sys
+import tempfile
 from pathlib import Path
 
 sys.path.insert(0, str(Path(__file__).resolve().parents[1]))
@@ -58,6 +59,14 @@ class Script(Checks):
 
     def close(self):
         sys.exit(super().close())
+
+    def keep_picture(self, name, draw):
+        """Compares a picture of docs/ with what a function draws, or has it drawn."""
+        with tempfile.TemporaryDirectory() as folder:
+            drawn = TOP / 'docs' / name if self.writes else Path(folder, name)
+            draw(drawn)
+            is_same = (TOP / 'docs' / name).read_bytes() == drawn.read_bytes()
+            self.hold(f'{name} is of its list', is_same, f'{self.name} --write')
 
     def keep(self, file, name, part):
         """Compares the part of a file that stands between the marks of a name, or writes it."""

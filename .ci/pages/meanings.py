@@ -23,6 +23,8 @@ MODEL = re.compile(r'^impl(?:<[^>]*>)? Model for (\w+)[^{]*\{\n.*?^\}', re.M | r
 PARAMETERISED = re.compile(r'^module _ .*where\n((?:  .*\n|\s*\n)*)', re.M)
 # What begins a line, with the comment above it, up to the next.
 PIECE = re.compile(r'((?:^--.*\n+)*)(^(?!--)\S.*(?:\n+[^\S\n]+\S.*)*)', re.M)
+# A line that begins a part of a file, and one behind what a script writes.
+NO_COMMENT = re.compile(r'^-- (?:----.*|end$)', re.M)
 KEYWORDS = ('pub mod', 'mod ', 'unfolding', 'ruleset', 'infix', 'mutual', 'syntax', 'prefix', 'pub syntax')
 
 
@@ -104,7 +106,7 @@ class File:
             elif piece.startswith(KEYWORDS):
                 pass
             elif head and (head[1] or ' : ' in piece.partition(' = ')[0]) and head[2] not in self.definitions:
-                comment = ' '.join(re.sub('^--', '', re.split('^-- ----.*', above, flags=re.M)[-1], flags=re.M).split())
+                comment = ' '.join(re.sub('^--', '', NO_COMMENT.split(above)[-1], flags=re.M).split())
                 self.definitions[head[2]] = last = Definition(head[2], module, comment, piece)
             elif last:  # the definition goes on
                 last.text += '\n' + piece
@@ -150,10 +152,11 @@ class Meanings:
         raise Fault(f'{module}.{name} is no definition')
 
     def reached_by(self, text, imports):
-        """The definitions that a text with these imports uses. It may have whole modules of the toolchain alone."""
+        """The definitions that a text with these imports uses. Of whole modules it may have those of the
+        toolchain and the cases of a type."""
         words = words_of(text)
         for local, module, source in imports:
-            if source is None and module.split('.')[1] in CODE:
+            if source is None and module.split('.')[1] in CODE and not module.endswith('.TheVariants'):
                 raise Fault(f'{module}: a whole module')
             if source is None:
                 yield from [self.find(module, name) for name in re.findall(rf"(?<![\w.]){local}\.([\w'-]+)", text)]

@@ -16,7 +16,7 @@
 
 enum { PASSES = 2, LANES = 4, LARGE = 32768 };
 static uint32_t kib;
-static const struct input input = { "password", 8, "somesaltsomesalt" };
+static const struct input input = {"password", 8, "somesaltsomesalt"};
 static unsigned long threads, freed, left;
 static void *library;
 
@@ -31,8 +31,7 @@ int pthread_create(pthread_t *thread, const pthread_attr_t *how, void *(*run)(vo
 void free(void *at)
 {
     static __typeof__(free) *next;
-    if (next == NULL)
-        next = dlsym(RTLD_NEXT, "free");
+    if (next == NULL) next = dlsym(RTLD_NEXT, "free");
     const size_t length = at == NULL ? 0 : malloc_usable_size(at);
     freed += length >= LARGE;
     for (size_t i = 0; length >= LARGE && i < length; i++)
@@ -56,9 +55,8 @@ static int by_sodium(uint8_t *tag)
 
 static int by_openssl(const char *file, uint8_t *tag)
 {
-    const struct cost cost = { kib, PASSES, LANES, LANES };
-    if (load_openssl(file) != 0 || set_max_threads(NULL, LANES) != 1)
-        return 2;
+    const struct cost cost = {kib, PASSES, LANES, LANES};
+    if (load_openssl(file) != 0 || set_max_threads(NULL, LANES) != 1) return 2;
     return hash_by_openssl(fetch(NULL, "ARGON2ID", NULL), &cost, tag);
 }
 
@@ -66,7 +64,7 @@ static int by_bench(uint8_t *tag)
 {
     hash_function *const rust_argon2 = dlsym(library, "bench_rust_argon2");
     hash_function *const hash = rust_argon2 == NULL ? dlsym(library, "bench_rustcrypto") : rust_argon2;
-    return hash(&(const struct cost) { kib, PASSES, LANES, rust_argon2 == NULL ? 1 : LANES }, &input, tag);
+    return hash(&(const struct cost){kib, PASSES, LANES, rust_argon2 == NULL ? 1 : LANES}, &input, tag);
 }
 
 int main(int argc, char **argv)
@@ -74,10 +72,11 @@ int main(int argc, char **argv)
     uint8_t tag[TAG_LENGTH];
     const char *const memory = getenv("KIB");
     kib = memory == NULL ? 0 : (uint32_t)atoi(memory);
-    if (argc != 3 || (library = dlopen(argv[2], RTLD_NOW)) == NULL)
-        return 2;
-    const int result = strcmp(argv[1], "argon2") == 0 ? by_argon2(tag) : strcmp(argv[1], "sodium") == 0 ? by_sodium(tag)
-        : strcmp(argv[1], "openssl") == 0 ? by_openssl(argv[2], tag) : by_bench(tag);
+    if (argc != 3 || (library = dlopen(argv[2], RTLD_NOW)) == NULL) return 2;
+    const int result = strcmp(argv[1], "argon2") == 0 ? by_argon2(tag)
+        : strcmp(argv[1], "sodium") == 0              ? by_sodium(tag)
+        : strcmp(argv[1], "openssl") == 0             ? by_openssl(argv[2], tag)
+                                                      : by_bench(tag);
     printf("threads %lu, freed %lu, left %lu, result %d\n", threads, freed, left, result);
     return 0;
 }

@@ -26,29 +26,36 @@ enum { HASH_RAW, HASH_ENCODED, VERIFY_RAW, VERIFY_ENCODED, PASSWORD_HASH, PASSWO
 
 /* The call; whether secrets are hidden; how much of what is verified is open nevertheless. */
 static struct question {
-  uint32_t call, is_hiding, open;
-  proved_argon2_settings settings;
+    uint32_t call, is_hiding, open;
+    proved_argon2_settings settings;
 } question;
 
 static struct bytes {
-  uint32_t length;
-  uint8_t at[ROOM];
+    uint32_t length;
+    uint8_t at[ROOM];
 } fields[FIELDS], out;
 
 enum { PASSWORD, SALT, SECRET, AD, GIVEN }; /* the fields: the last is the hash or the text that is verified */
 
 static struct answer {
-  uint32_t reports, undefined, code, length;
+    uint32_t reports, undefined, code, length;
 } answer;
 
-static _Noreturn void stop(const char *why) {
-  fprintf(stderr, "%s\n", why);
-  exit(EXIT_FAILURE);
+static _Noreturn void stop(const char *why)
+{
+    fprintf(stderr, "%s\n", why);
+    exit(EXIT_FAILURE);
 }
 
-static void hide(const void *at, size_t length) { (void)VALGRIND_MAKE_MEM_UNDEFINED(at, length); }
+static void hide(const void *at, size_t length)
+{
+    (void)VALGRIND_MAKE_MEM_UNDEFINED(at, length);
+}
 
-static void show(const void *at, size_t length) { (void)VALGRIND_MAKE_MEM_DEFINED(at, length); }
+static void show(const void *at, size_t length)
+{
+    (void)VALGRIND_MAKE_MEM_DEFINED(at, length);
+}
 
 /* ---- options */
 
@@ -62,17 +69,19 @@ static const proved_argon2_limits WIDEST = {UINT32_MAX, UINT32_MAX, UINT32_MAX, 
 /* How often the tasks of a slice were run by run_here, and how often told here how far a call is. */
 static unsigned runs, tellings;
 
-static int run_here(void *pool, uint32_t tasks, void (*task)(void *, uint32_t), void *arg) {
-  for (uint32_t i = 0; i < tasks; i++) {
-    task(arg, i);
-  }
-  ++*(unsigned *)pool;
-  return 0;
+static int run_here(void *pool, uint32_t tasks, void (*task)(void *, uint32_t), void *arg)
+{
+    for (uint32_t i = 0; i < tasks; i++) {
+        task(arg, i);
+    }
+    ++*(unsigned *)pool;
+    return 0;
 }
 
-static int tell_here(void *arg, uint64_t done, uint64_t all) {
-  ++*(unsigned *)arg;
-  return done > all;
+static int tell_here(void *arg, uint64_t done, uint64_t all)
+{
+    ++*(unsigned *)arg;
+    return done > all;
 }
 
 #define COMMON .size = sizeof(proved_argon2_options), .limits = &WIDEST
@@ -82,11 +91,11 @@ static proved_argon2_options OF_THE_CALLER = {
     COMMON, .threads = UINT32_MAX, .memory = lent, .memory_len = sizeof lent, .run = run_here, .pool = &runs};
 
 static struct memory {
-  const char *name;
-  proved_argon2_options *options;
-  const proved_argon2_limits *limits;
-} MEMORIES[] = {{"fresh", NULL, NULL},       {"within", NULL, &WIDEST},      {"kept", &OF_ITS_OWN, NULL},
-                {"told", &TOLD, NULL},       {"threads", &BY_THREADS, NULL}, {"lent", &OF_THE_CALLER, NULL}};
+    const char *name;
+    proved_argon2_options *options;
+    const proved_argon2_limits *limits;
+} MEMORIES[] = {{"fresh", NULL, NULL}, {"within", NULL, &WIDEST}, {"kept", &OF_ITS_OWN, NULL}, {"told", &TOLD, NULL},
+    {"threads", &BY_THREADS, NULL}, {"lent", &OF_THE_CALLER, NULL}};
 
 /* That of this run. */
 static const struct memory *memory;
@@ -99,89 +108,95 @@ static const struct memory *memory;
 #define INPUTS IN(PASSWORD), IN(SALT), IN(SECRET), IN(AD), &question.settings
 #define OF_TEXT TEXT(GIVEN), fields[GIVEN].length, IN(PASSWORD), IN(SECRET), IN(AD)
 /* A call of the library: with options, or plain. */
-#define CALL(name, ...)                                                                                               \
-  (memory->options ? proved_argon2_##name##_with(memory->options, __VA_ARGS__) : proved_argon2_##name(__VA_ARGS__))
+#define CALL(name, ...) \
+    (memory->options ? proved_argon2_##name##_with(memory->options, __VA_ARGS__) : proved_argon2_##name(__VA_ARGS__))
 
-static uint32_t make_call(void) {
-  static uint8_t tag[ROOM];
-  const uint32_t length = question.settings.hash_length;
-  const size_t blocks = proved_argon2_memory_len(&question.settings) / sizeof *lent;
-  switch (question.call) {
-  case HASH_RAW: return CALL(hash_raw, INPUTS, OUT(length));
-  case HASH_ENCODED: return CALL(hash_encoded, INPUTS, (char *)out.at, out.length = ROOM);
-  case VERIFY_RAW: return CALL(verify_raw, INPUTS, IN(GIVEN));
-  case VERIFY_ENCODED:
-    return memory->limits ? proved_argon2_verify_encoded_within(OF_TEXT, memory->limits)
-                          : CALL(verify_encoded, OF_TEXT);
-  case PASSWORD_HASH:
-    out.length = ROOM;
-    return proved_argon2_password_hash((char *)out.at, TEXT(PASSWORD), fields[PASSWORD].length);
-  case PASSWORD_VERIFY: return proved_argon2_password_verify(TEXT(GIVEN), TEXT(PASSWORD), fields[PASSWORD].length);
-  case HASH_OVER: return proved_argon2_hash_over(INPUTS, lent, blocks, OUT(length));
-  case VERIFY_OVER: return proved_argon2_verify_over(INPUTS, lent, blocks, IN(GIVEN), tag, length);
-  default: stop("there is no such call");
-  }
+static uint32_t make_call(void)
+{
+    static uint8_t tag[ROOM];
+    const uint32_t length = question.settings.hash_length;
+    const size_t blocks = proved_argon2_memory_len(&question.settings) / sizeof *lent;
+    switch (question.call) {
+    case HASH_RAW: return CALL(hash_raw, INPUTS, OUT(length));
+    case HASH_ENCODED: return CALL(hash_encoded, INPUTS, (char *)out.at, out.length = ROOM);
+    case VERIFY_RAW: return CALL(verify_raw, INPUTS, IN(GIVEN));
+    case VERIFY_ENCODED:
+        return memory->limits ? proved_argon2_verify_encoded_within(OF_TEXT, memory->limits)
+                              : CALL(verify_encoded, OF_TEXT);
+    case PASSWORD_HASH:
+        out.length = ROOM;
+        return proved_argon2_password_hash((char *)out.at, TEXT(PASSWORD), fields[PASSWORD].length);
+    case PASSWORD_VERIFY: return proved_argon2_password_verify(TEXT(GIVEN), TEXT(PASSWORD), fields[PASSWORD].length);
+    case HASH_OVER: return proved_argon2_hash_over(INPUTS, lent, blocks, OUT(length));
+    case VERIFY_OVER: return proved_argon2_verify_over(INPUTS, lent, blocks, IN(GIVEN), tag, length);
+    default: stop("there is no such call");
+    }
 }
 
 /* ---- questions and answers */
 
-static void read_all(void *to, size_t length) {
-  if (fread(to, 1, length, stdin) != length) stop("a question is too short");
+static void read_all(void *to, size_t length)
+{
+    if (fread(to, 1, length, stdin) != length) stop("a question is too short");
 }
 
-static void read_fields(void) {
-  for (size_t i = 0; i < FIELDS; i++) {
-    memset(&fields[i], 0, sizeof fields[i]);
-    read_all(&fields[i].length, sizeof fields[i].length);
-    if (fields[i].length >= ROOM) stop("a field is too long");
-    read_all(fields[i].at, fields[i].length);
-  }
-  memset(&out, 0, sizeof out);
-  if (!question.is_hiding) return;
-  hide(IN(PASSWORD));
-  hide(IN(SECRET));
-  hide(&fields[GIVEN].at[question.open], fields[GIVEN].length - question.open);
+static void read_fields(void)
+{
+    for (size_t i = 0; i < FIELDS; i++) {
+        memset(&fields[i], 0, sizeof fields[i]);
+        read_all(&fields[i].length, sizeof fields[i].length);
+        if (fields[i].length >= ROOM) stop("a field is too long");
+        read_all(fields[i].at, fields[i].length);
+    }
+    memset(&out, 0, sizeof out);
+    if (!question.is_hiding) return;
+    hide(IN(PASSWORD));
+    hide(IN(SECRET));
+    hide(&fields[GIVEN].at[question.open], fields[GIVEN].length - question.open);
 }
 
-static void write_answer(void) {
-  static uint8_t bits[ROOM];
-  (void)VALGRIND_GET_VBITS(&answer.code, &answer.undefined, sizeof answer.code);
-  (void)VALGRIND_GET_VBITS(out.at, bits, out.length);
-  show(&answer.code, sizeof answer.code);
-  show(out.at, out.length);
-  answer.length = out.length;
-  fwrite(&answer, sizeof answer, 1, stdout);
-  fwrite(out.at, 1, out.length, stdout);
-  fwrite(bits, 1, out.length, stdout);
+static void write_answer(void)
+{
+    static uint8_t bits[ROOM];
+    (void)VALGRIND_GET_VBITS(&answer.code, &answer.undefined, sizeof answer.code);
+    (void)VALGRIND_GET_VBITS(out.at, bits, out.length);
+    show(&answer.code, sizeof answer.code);
+    show(out.at, out.length);
+    answer.length = out.length;
+    fwrite(&answer, sizeof answer, 1, stdout);
+    fwrite(out.at, 1, out.length, stdout);
+    fwrite(bits, 1, out.length, stdout);
 }
 
 /* A static program has the variables of its first thread behind its data, where memcheck takes them for undefined. */
-static void show_own_memory(void) {
-  extern char end[];
-  (void)VALGRIND_MAKE_MEM_DEFINED_IF_ADDRESSABLE(end, (size_t)((char *)sbrk(0) - end));
+static void show_own_memory(void)
+{
+    extern char end[];
+    (void)VALGRIND_MAKE_MEM_DEFINED_IF_ADDRESSABLE(end, (size_t)((char *)sbrk(0) - end));
 }
 
-int main(int argc, char **argv) {
-  for (size_t i = 0; argc == 2 && i < sizeof MEMORIES / sizeof MEMORIES[0]; i++) {
-    if (strcmp(argv[1], MEMORIES[i].name) == 0) memory = &MEMORIES[i];
-  }
-  if (memory == NULL) stop("usage: valgrind --tool=memcheck calls MEMORY <QUESTIONS >ANSWERS");
-  show_own_memory();
-  if (memory->options == &OF_ITS_OWN &&
-      proved_argon2_memory_new(&LARGEST, &OF_ITS_OWN.memory, &OF_ITS_OWN.memory_len) != PROVED_ARGON2_OK) {
-    stop("there is no memory to keep");
-  }
-  hide(lent, sizeof lent);
-  while (fread(&question, sizeof question, 1, stdin) == 1) {
-    read_fields();
-    const unsigned before = VALGRIND_COUNT_ERRORS;
-    answer.code = make_call();
-    answer.reports = VALGRIND_COUNT_ERRORS - before;
-    write_answer();
-  }
-  proved_argon2_memory_free(OF_ITS_OWN.memory, OF_ITS_OWN.memory_len);
-  if (memory->options == &OF_THE_CALLER && runs == 0) stop("no task was run here");
-  if (memory->options == &TOLD && tellings == 0) stop("nothing was told here");
-  fflush(stdout);
-  _exit(EXIT_SUCCESS); /* (where left.c looks: exit does not call it) */
+int main(int argc, char **argv)
+{
+    for (size_t i = 0; argc == 2 && i < sizeof MEMORIES / sizeof MEMORIES[0]; i++) {
+        if (strcmp(argv[1], MEMORIES[i].name) == 0) memory = &MEMORIES[i];
+    }
+    if (memory == NULL) stop("usage: valgrind --tool=memcheck calls MEMORY <QUESTIONS >ANSWERS");
+    show_own_memory();
+    if (memory->options == &OF_ITS_OWN
+        && proved_argon2_memory_new(&LARGEST, &OF_ITS_OWN.memory, &OF_ITS_OWN.memory_len) != PROVED_ARGON2_OK) {
+        stop("there is no memory to keep");
+    }
+    hide(lent, sizeof lent);
+    while (fread(&question, sizeof question, 1, stdin) == 1) {
+        read_fields();
+        const unsigned before = VALGRIND_COUNT_ERRORS;
+        answer.code = make_call();
+        answer.reports = VALGRIND_COUNT_ERRORS - before;
+        write_answer();
+    }
+    proved_argon2_memory_free(OF_ITS_OWN.memory, OF_ITS_OWN.memory_len);
+    if (memory->options == &OF_THE_CALLER && runs == 0) stop("no task was run here");
+    if (memory->options == &TOLD && tellings == 0) stop("nothing was told here");
+    fflush(stdout);
+    _exit(EXIT_SUCCESS); /* (where left.c looks: exit does not call it) */
 }

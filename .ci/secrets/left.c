@@ -16,8 +16,17 @@
 #include <ucontext.h>
 #include <unistd.h>
 
-enum { PIECE = 16, MOST_PIECES = 512, MOST_PLACES = 1024, MOST_OF_MAPS = 1 << 20, ROOM = 1 << 16, BELOW = 1 << 15,
-       ABOVE = 1 << 16, PAGE = 4096, OF_A_CALL = 5 };
+enum {
+    PIECE = 16,
+    MOST_PIECES = 512,
+    MOST_PLACES = 1024,
+    MOST_OF_MAPS = 1 << 20,
+    ROOM = 1 << 16,
+    BELOW = 1 << 15,
+    ABOVE = 1 << 16,
+    PAGE = 4096,
+    OF_A_CALL = 5
+};
 enum { NOTHING = 0x90, JUMP = 0xE9, RETURN = 0xC3, BREAKPOINT = 0xCC };
 enum { LEFT, FREED, IN_CALLERS, AT_STOPS };
 
@@ -25,11 +34,11 @@ extern void *const __libc_stack_end;
 
 /* A stack to look from, and the plan, whose places end with 0: what is here is no memory of the program. */
 static struct {
-  uint8_t room[ROOM];
-  struct {
-    uint32_t dropped[MOST_PLACES], stops[MOST_PLACES];
-    uint8_t pieces[MOST_PIECES][PIECE];
-  } plan;
+    uint8_t room[ROOM];
+    struct {
+        uint32_t dropped[MOST_PLACES], stops[MOST_PLACES];
+        uint8_t pieces[MOST_PIECES][PIECE];
+    } plan;
 } own __attribute__((used, aligned(16)));
 static size_t count;
 static uint8_t *program;
@@ -38,104 +47,119 @@ static uint8_t begins[1 << 16]; /* whether a piece begins with two bytes, so tha
 static char maps[MOST_OF_MAPS];
 
 /* Whether a piece begins here, byte by byte, so that it is copied nowhere. */
-static int is_piece(const uint8_t *at, const uint8_t *piece) {
-  size_t i = 0;
-  while (i < PIECE && at[i] == piece[i]) i += 1;
-  return i == PIECE;
+static int is_piece(const uint8_t *at, const uint8_t *piece)
+{
+    size_t i = 0;
+    while (i < PIECE && at[i] == piece[i])
+        i += 1;
+    return i == PIECE;
 }
 
-static void look(const uint8_t *from, const uint8_t *to, size_t row) {
-  for (; from + PIECE <= to; from++) {
-    for (size_t i = 0; begins[from[0] | from[1] << 8] && i < count; i++)
-      if (is_piece(from, own.plan.pieces[i])) __atomic_fetch_add(&found[row * MOST_PIECES + i], 1, __ATOMIC_RELAXED);
-  }
+static void look(const uint8_t *from, const uint8_t *to, size_t row)
+{
+    for (; from + PIECE <= to; from++) {
+        for (size_t i = 0; begins[from[0] | from[1] << 8] && i < count; i++)
+            if (is_piece(from, own.plan.pieces[i]))
+                __atomic_fetch_add(&found[row * MOST_PIECES + i], 1, __ATOMIC_RELAXED);
+    }
 }
 
 /* All but what is here. */
-static void look_everywhere(void) {
-  const uint8_t *const begin = (const uint8_t *)&own, *const end = (const uint8_t *)(&own + 1);
-  const int file = open("/proc/self/maps", O_RDONLY);
-  size_t length = 0;
-  for (long more; (more = read(file, maps + length, MOST_OF_MAPS - 1 - length)) > 0;) length += (size_t)more;
-  for (char *line = maps; line[0]; line = strchr(line, '\n') + 1) {
-    char *rest;
-    const uint8_t *from = (const uint8_t *)strtoul(line, &rest, 16);
-    const uint8_t *const to = (const uint8_t *)strtoul(rest + 1, &rest, 16);
-    if (rest[1] != 'r' || rest[2] != 'w') continue;
-    if (from <= begin && begin < to) {
-      look(from, begin, LEFT);
-      from = end;
+static void look_everywhere(void)
+{
+    const uint8_t *const begin = (const uint8_t *)&own, *const end = (const uint8_t *)(&own + 1);
+    const int file = open("/proc/self/maps", O_RDONLY);
+    size_t length = 0;
+    for (long more; (more = read(file, maps + length, MOST_OF_MAPS - 1 - length)) > 0;)
+        length += (size_t)more;
+    for (char *line = maps; line[0]; line = strchr(line, '\n') + 1) {
+        char *rest;
+        const uint8_t *from = (const uint8_t *)strtoul(line, &rest, 16);
+        const uint8_t *const to = (const uint8_t *)strtoul(rest + 1, &rest, 16);
+        if (rest[1] != 'r' || rest[2] != 'w') continue;
+        if (from <= begin && begin < to) {
+            look(from, begin, LEFT);
+            from = end;
+        }
+        look(from, to, LEFT);
     }
-    look(from, to, LEFT);
-  }
 }
 
-__attribute__((noreturn, used)) static void tell_and_exit(int status) {
-  look_everywhere();
-  dprintf(STDERR_FILENO, "sought %zu\n", count);
-  for (size_t at = 0; at < sizeof found / sizeof *found; at++)
-    if (found[at]) dprintf(STDERR_FILENO, "%zu %zu %u\n", at / MOST_PIECES, at % MOST_PIECES, found[at]);
-  ((__typeof__(_exit) *)dlsym(RTLD_NEXT, "_exit"))(status);
-  __builtin_unreachable();
+__attribute__((noreturn, used)) static void tell_and_exit(int status)
+{
+    look_everywhere();
+    dprintf(STDERR_FILENO, "sought %zu\n", count);
+    for (size_t at = 0; at < sizeof found / sizeof *found; at++)
+        if (found[at]) dprintf(STDERR_FILENO, "%zu %zu %u\n", at / MOST_PIECES, at % MOST_PIECES, found[at]);
+    ((__typeof__(_exit) *)dlsym(RTLD_NEXT, "_exit"))(status);
+    __builtin_unreachable();
 }
 
 /* Looks, in the first thread, and returns as the program does in place of the breakpoint. */
-static void stop(int signal, siginfo_t *information, void *context) {
-  greg_t *const words = ((ucontext_t *)context)->uc_mcontext.gregs;
-  const uint8_t *const top = (const uint8_t *)words[REG_RSP], *const end = __libc_stack_end;
-  size_t number = 0;
-  (void)information;
-  while (program + own.plan.stops[number] != (uint8_t *)words[REG_RIP] - 1) number += 1;
-  if ((uint8_t *)&signal >= own.room && (uint8_t *)&signal < own.room + ROOM) {
-    look(top - BELOW, top, AT_STOPS + number);
-    look(top, top + ABOVE < end ? top + ABOVE : end, IN_CALLERS);
-  }
-  words[REG_RIP] = *(const greg_t *)top;
-  words[REG_RSP] += (greg_t)sizeof(greg_t);
+static void stop(int signal, siginfo_t *information, void *context)
+{
+    greg_t *const words = ((ucontext_t *)context)->uc_mcontext.gregs;
+    const uint8_t *const top = (const uint8_t *)words[REG_RSP], *const end = __libc_stack_end;
+    size_t number = 0;
+    (void)information;
+    while (program + own.plan.stops[number] != (uint8_t *)words[REG_RIP] - 1)
+        number += 1;
+    if ((uint8_t *)&signal >= own.room && (uint8_t *)&signal < own.room + ROOM) {
+        look(top - BELOW, top, AT_STOPS + number);
+        look(top, top + ABOVE < end ? top + ABOVE : end, IN_CALLERS);
+    }
+    words[REG_RIP] = *(const greg_t *)top;
+    words[REG_RSP] += (greg_t)sizeof(greg_t);
 }
 
-void free(void *block) {
-  static __typeof__(free) *frees; /* (found once, since what looks for it uses the stack) */
-  if (!frees) frees = (__typeof__(free) *)dlsym(RTLD_NEXT, "free");
-  if (block) look(block, (uint8_t *)block + malloc_usable_size(block), FREED);
-  frees(block);
+void free(void *block)
+{
+    static __typeof__(free) *frees; /* (found once, since what looks for it uses the stack) */
+    if (!frees) frees = (__typeof__(free) *)dlsym(RTLD_NEXT, "free");
+    if (block) look(block, (uint8_t *)block + malloc_usable_size(block), FREED);
+    frees(block);
 }
 
 /* Writes bytes, and a first one, at each of some places. */
-static void write_at(const uint32_t *places, int byte, size_t length, int is_call) {
-  for (; *places; places++) {
-    uint8_t *const place = program + *places;
-    mprotect((void *)((uintptr_t)place & -(uintptr_t)PAGE), 2 * PAGE, PROT_READ | PROT_WRITE | PROT_EXEC);
-    const int is_jump = is_call && place[0] == JUMP;
-    memset(place, byte, length);
-    if (is_jump) place[0] = RETURN;
-  }
+static void write_at(const uint32_t *places, int byte, size_t length, int is_call)
+{
+    for (; *places; places++) {
+        uint8_t *const place = program + *places;
+        mprotect((void *)((uintptr_t)place & -(uintptr_t)PAGE), 2 * PAGE, PROT_READ | PROT_WRITE | PROT_EXEC);
+        const int is_jump = is_call && place[0] == JUMP;
+        memset(place, byte, length);
+        if (is_jump) place[0] = RETURN;
+    }
 }
 
 /* The first that is told is the program. */
-static int keep_first(struct dl_phdr_info *information, size_t length, void *unused) {
-  program = (uint8_t *)information->dlpi_addr;
-  return length != 0 || unused;
+static int keep_first(struct dl_phdr_info *information, size_t length, void *unused)
+{
+    program = (uint8_t *)information->dlpi_addr;
+    return length != 0 || unused;
 }
 
-__attribute__((constructor)) static void begin(void) {
-  const stack_t stack = {.ss_sp = own.room, .ss_size = ROOM};
-  const struct sigaction at_breakpoint = {.sa_sigaction = stop, .sa_flags = SA_ONSTACK | SA_SIGINFO};
-  const int file = open(getenv("PLAN"), O_RDONLY);
-  count = ((size_t)read(file, &own.plan, sizeof own.plan) - sizeof own.plan.dropped - sizeof own.plan.stops) / PIECE;
-  close(file);
-  for (size_t i = 0; i < count; i++) begins[own.plan.pieces[i][0] | own.plan.pieces[i][1] << 8] = 1;
-  dl_iterate_phdr(keep_first, NULL);
-  write_at(own.plan.dropped, NOTHING, OF_A_CALL, 1);
-  write_at(own.plan.stops, BREAKPOINT, 1, 0);
-  sigaltstack(&stack, NULL);
-  sigaction(SIGTRAP, &at_breakpoint, NULL);
+__attribute__((constructor)) static void begin(void)
+{
+    const stack_t stack = {.ss_sp = own.room, .ss_size = ROOM};
+    const struct sigaction at_breakpoint = {.sa_sigaction = stop, .sa_flags = SA_ONSTACK | SA_SIGINFO};
+    const int file = open(getenv("PLAN"), O_RDONLY);
+    count = ((size_t)read(file, &own.plan, sizeof own.plan) - sizeof own.plan.dropped - sizeof own.plan.stops) / PIECE;
+    close(file);
+    for (size_t i = 0; i < count; i++)
+        begins[own.plan.pieces[i][0] | own.plan.pieces[i][1] << 8] = 1;
+    dl_iterate_phdr(keep_first, NULL);
+    write_at(own.plan.dropped, NOTHING, OF_A_CALL, 1);
+    write_at(own.plan.stops, BREAKPOINT, 1, 0);
+    sigaltstack(&stack, NULL);
+    sigaction(SIGTRAP, &at_breakpoint, NULL);
 }
 
 /* Goes on over a stack of its own, since its frames would stand where those of the program stood. */
-__attribute__((noreturn, naked)) void _exit(int status) {
-  (void)status;
-  __asm__("lea own(%rip), %rsp\n"
-          "add $1 << 16, %rsp\n"
-          "call tell_and_exit");
+__attribute__((noreturn, naked)) void _exit(int status)
+{
+    (void)status;
+    __asm__("lea own(%rip), %rsp\n"
+            "add $1 << 16, %rsp\n"
+            "call tell_and_exit");
 }
