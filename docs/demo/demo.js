@@ -70,7 +70,7 @@ function tell(form, text, className = 'quiet') {
 /** What went wrong, for a visitor. */
 const WORDS = {
     AbortError: 'Cancelled. The memory is overwritten.',
-    DecodingFail: 'This is no encoded hash of Argon2. It begins with $argon2id$, $argon2i$ or $argon2d$.',
+    DecodingFail: 'This is no encoded hash of Argon2, such as $argon2id$v=19$m=19456,t=2,p=1$SALT$HASH.',
     MemoryTooLittle: 'Argon2 needs at least 8 KiB of memory for each lane.',
     OutOfMemory: 'This browser does not provide so much memory.',
     TooCostly: `This encoded hash needs more than the page allows: ${sizeOf(defaultLimits.memoryCost)}, ` +
@@ -97,7 +97,7 @@ async function callFor(form, call) {
         await call({ signal: controller.signal, onProgress: (done, all) => { bar.value = done / all; } });
     } catch (error) {
         bar.value = 0;
-        tell(form, wordsOf(error), 'bad');
+        tell(form, wordsOf(error), error.name === 'AbortError' ? 'quiet' : 'bad');
     } finally {
         submit.disabled = false;
         cancel.disabled = true;
