@@ -60,7 +60,7 @@ message_of refusal.NotUtf8 = codes "The encoded hash is not UTF-8"
 message_of refusal.UnknownNumber = codes "There is no error of this number"
 message_of refusal.NeedsRehash = codes "The encoded hash was made with other settings"
 message_of refusal.TooCostly = codes "The encoded hash is above the limits"
-message_of refusal.NoJob = codes "The job is none"
+message_of refusal.NoJob = codes "The job is of no accepted call"
 message_of refusal.NoPlace = codes "The job has no such pass, slice or lane"
 message_of refusal.WrongBlocks = codes "There are too many or too few blocks"
 

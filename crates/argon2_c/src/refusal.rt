@@ -172,7 +172,7 @@ impl Refusal {
             Refusal::UnknownNumber => "There is no error of this number",
             Refusal::NeedsRehash => "The encoded hash was made with other settings",
             Refusal::TooCostly => "The encoded hash is above the limits",
-            Refusal::NoJob => "The job is none",
+            Refusal::NoJob => "The job is of no accepted call",
             Refusal::NoPlace => "The job has no such pass, slice or lane",
             Refusal::WrongBlocks => "There are too many or too few blocks",
             // end
