@@ -9,11 +9,12 @@ use crate::workers::board::{Board, Gate, is_filled, put_lane, take_lane};
 use argon2_memory::segment::Snapshot;
 use argon2_standard::error::Error;
 use argon2_standard::result::Result;
+use arrayvec::ArrayVec;
 use std::marker::Sync;
 use std::sync::{Mutex, Wait};
+use std::thread;
 use std::thread::{Builder, JoinHandle, Parker, Scope, Threads};
 use std::time::Duration;
-use std::{array, thread};
 
 /// A set of numbers: the workers that may be started. It is consulted where one is started, so that
 /// threads need not share it.
@@ -49,51 +50,9 @@ fn all_permitted<P: Permit>(permit: &P, first: u64, count: u32) -> bool
     (0..count).all(|k| permit.may_start(first + u64::from(k)))
 }
 
-/// How many handles one call of `run_workers` has on its stack. For more workers it calls itself.
+/// How many handles one call of `run_workers` has on its stack, where no allocation can fail. For
+/// more workers it calls itself.
 const ROOM: usize = 32;
-
-/// Up to 32 handles. They are not on the heap, so no allocation can fail.
-#[derive(Drop)]
-struct Handles {
-    slots: [Option<JoinHandle<()>>; ROOM],
-    used: usize,
-    ghost fits: { used ≤ 32 },
-}
-
-impl Handles {
-    fn new() -> Handles
-        ensures { result.used ≡ 0 }
-    {
-        Handles {
-            slots: array::from_fn(|_| None),
-            used: 0,
-        }
-    }
-
-    fn are_full(&self) -> bool
-        ensures { IsTrue result ↔ (self.now.used ≡ 32) }
-    {
-        self.used == ROOM
-    }
-
-    fn keep(&mut self, handle: JoinHandle<()>)
-        requires room { self.old.used < 32 }
-        ensures { self.new.used ≡ self.old.used + 1 }
-    {
-        self.slots[self.used] = Some(handle);
-        self.used += 1;
-    }
-
-    /// Waits for the end of each thread, for which a scope alone does not wait. Threads that linger
-    /// would count against a limit of threads when those of the next slice start.
-    fn join<R: Threads>(self, rt: &R) {
-        for slot in self.slots {
-            if let Some(handle) = slot {
-                handle.join(rt);
-            }
-        }
-    }
-}
 
 /// The stack of a worker, in bytes. At most 16 KiB of it were used when measured, and `wipe_stack`
 /// takes little more. The rest is for a program's thread-locals and the calls of a gate.
@@ -200,26 +159,32 @@ fn run_workers<'s, E, R: Threads + Wait + Sync, G: Gate, P: Permit>(
 ) -> bool
     requires numbers_fit { first + count < 2 ^ 64 }
 {
-    let mut handles = Handles::new();
+    let mut handles: ArrayVec<Option<JoinHandle<()>>, ROOM> = ArrayVec::new();
     let mut all = true;
     for k in 0..count {
         let number = first + u64::from(k);
         // The others start before any of these is joined, so that all work at the same time. `&=`
         // and not `&&`, since they start after a denied start too.
-        if handles.are_full() {
+        if handles.is_full() {
             all &= run_workers(scope, rt, board, snapshot, gate, permit, number, count - k);
             break;
         }
         let tries = if all { TRIES } else { 1 };
-        if permit.may_start(number)
-            && let Some(handle) = start(scope, rt, board, snapshot, gate, permit, number, tries)
-        {
-            handles.keep(handle);
+        let handle = if permit.may_start(number) {
+            start(scope, rt, board, snapshot, gate, permit, number, tries)
         } else {
-            all = false;
+            None
+        };
+        all &= handle.is_some();
+        handles.push(handle);
+    }
+    // A scope alone waits for no thread's end. Threads that linger would count against a limit of
+    // threads when those of the next slice start.
+    for handle in handles {
+        if let Some(handle) = handle {
+            handle.join(rt);
         }
     }
-    handles.join(rt);
     all
 }
 

@@ -1,4 +1,5 @@
 use Rattle.std.proofs.Common.{◌≤◌}
+use Rattle.arrayvec.specs.ArrayVec.{array_vec_len}
 use Rattle.argon2_fill.proofs.workers.crew.+run_workers.Given as goal
 
 abbrev pub decreases-run_workers : goal.decreases-run_workers
@@ -6,4 +7,4 @@ decreases-run_workers g l = l.count
 
 -- each handle is of a number of its own
 abbrev pub invariant-loop-k : goal.invariant-loop-k
-invariant-loop-k g l = l.handles.used ≤ l.k
+invariant-loop-k g l = array_vec_len l.handles ≤ l.k
