@@ -1,4 +1,4 @@
-//! Both programs over any input and outputs.
+//! Where both programs begin: `start` with a command line, `run` with its arguments.
 
 ghost use Rattle.std.specs.Prelude.{◌≡◌, ◌<◌, ◌↔◌, ◌⊎◌};
 ghost use Rattle.std.specs.Process.{exit_status};

@@ -1,4 +1,4 @@
-//! A run of either program over any input and outputs.
+//! The stages of a run: the command of the arguments, its answer, the output, and the exit status.
 
 ghost use Rattle.std.specs.Prelude.{◌≡◌, ◌≢◌, ◌<◌, ◌↔◌, IfErr, IfOk, IsErrAnd, MatchResult, OnOk};
 ghost use Rattle.std.specs.Io.KnownBytes.{Appends, Keeps};

@@ -1,4 +1,4 @@
-//! What the arguments of each program have to be, which of them is wrong, and what is said of it.
+//! The arguments that each command takes, which of them is wrong, and what is said of it.
 
 ghost use Rattle.std.specs.Prelude.{◌≡◌, ◌↔◌, ℕ, IsTrue, MatchOption, MatchResult, length};
 ghost use Rattle.argon2_commands.specs.Fault.{fault_status};
