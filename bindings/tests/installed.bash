@@ -46,7 +46,12 @@ share/bash-completion/completions/proved-argon2
 share/doc/proved-argon2/LICENSE
 share/doc/proved-argon2/NOTICE
 share/doc/proved-argon2/README.md
+share/doc/proved-argon2/SECURITY.md
+share/doc/proved-argon2/docs/C.md
 share/doc/proved-argon2/docs/CLAIMS.md
+share/doc/proved-argon2/docs/LIBARGON2.md
+share/doc/proved-argon2/docs/SHELL.md
+share/doc/proved-argon2/docs/USE.md
 share/man/man1/proved-argon2.1
 share/man/man3/proved_argon2.3
 $(declared_names | sed 's|.*|share/man/man3/&.3|')
