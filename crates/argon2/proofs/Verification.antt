@@ -3,4 +3,3 @@ pub mod Verdicts
 pub mod StoredTexts
 pub mod Memories
 pub mod HashBytes
-pub mod KnownAnswers

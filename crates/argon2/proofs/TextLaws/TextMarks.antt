@@ -18,13 +18,6 @@ marks_none : (text : List ℕ) → Lacks 36 text → marks text ≡ 0
 marks_none [] lacks = refl
 marks_none (b ∷ text) lacks = rw (sum_by-cons (λ x. cond (x == 36) 1 0) b text, ne_eqb b 36 lacks.0, zero-add) (marks_none text lacks.1)
 
--- the `$` between the pieces, and those of the version
-marks_between : (name version memory time lanes salt hash : List ℕ) → marks name ≡ 0 → marks memory ≡ 0 → marks time ≡ 0 → marks lanes ≡ 0
-    → marks salt ≡ 0 → marks hash ≡ 0
-    → marks (codes "$" ++ name ++ version ++ codes "$m=" ++ memory ++ codes ",t=" ++ time ++ codes ",p=" ++ lanes ++ codes "$" ++ salt ++ codes "$" ++ hash)
-    ≡ 4 + marks version
-marks_between name version memory time lanes salt hash n m t l s h = simp sum_by-append (omega arith)
-
 -- four `$` and those of a version part whose number lacks them are four or five
 version_marks : (version : Option (List ℕ)) → IfSome version (Lacks 36) → (4 + marks (version_part version) ≡ 4) ⊎ (4 + marks (version_part version) ≡ 5)
 version_marks None lacks = inl refl
@@ -47,8 +40,15 @@ joined-behind p = refl
 marks-joined : (p : Pieces) → IsClean p → Lacks 36 p.memory → Lacks 36 p.time → Lacks 36 p.hash → marks (text_of_pieces p) ≡ 4 + marks (version_part p.version)
 unfolding text_of_pieces
 marks-joined p clean memory time hash =
-    marks_between p.name (version_part p.version) p.memory p.time p.lanes p.salt p.hash (marks_none p.name clean.name) (marks_none p.memory memory)
-    (marks_none p.time time) (marks_none p.lanes clean.lanes) (marks_none p.salt clean.salt) (marks_none p.hash hash)
+    simp sum_by-append (omega (
+      arith,
+      marks_none p.name clean.name,
+      marks_none p.memory memory,
+      marks_none p.time time,
+      marks_none p.lanes clean.lanes,
+      marks_none p.salt clean.salt,
+      marks_none p.hash hash,
+    ))
 
 -- a string with a decoded head begins with a `$` and holds four or five of them
 pub head_has_items : HeadHasItems

@@ -1,5 +1,5 @@
 -- A string decodes to at most one value.
-use Rattle.std.proofs.Common.{◌≡◌, ℕ, ◌+◌, List, get_or, Option, Some, None, refl, sym, ap, subst, ◌∙◌, arith, inl, inr}
+use Rattle.std.proofs.Common.{◌≡◌, ℕ, ◌==◌, if◌then◌else◌, List, get_or, Option, Some, None, refl, sym, ap, subst, ◌∙◌, inl, inr}
 use Rattle.std.specs.Fmt.{digits}
 use Rattle.argon2_standard.specs.declared.variant.Variant.{Variant}
 use Rattle.argon2_standard.specs.declared.variant.Variant.TheVariants.{Argon2d, Argon2i, Argon2id}
@@ -14,67 +14,44 @@ use Rattle.argon2_text.proofs.Reading.TextNumbers.{number_unique}
 use Rattle.argon2_text.proofs.Reading.TextItems.{item_unique}
 use Rattle.argon2_text.proofs.Reading.TextHeads.{pieces_unique, split_of}
 
--- what follows the number 2 in a name tells the variant
-abbrev ending : List ℕ → ℕ
-ending name = get_or name 6 0 + get_or name 7 0
+-- the variant that a name stands for
+abbrev named : List ℕ → Variant
+named name = if get_or name 6 0 == 100 then Argon2d else if get_or name 7 0 == 100 then Argon2id else Argon2i
 
--- what the end of a variant's names adds up to
-abbrev ending_of : Variant → ℕ
-ending_of Argon2d = 100
-ending_of Argon2i = 105
-ending_of Argon2id = 205
+-- the lowercase name of a variant stands for it
+named-lowercase : (v : Variant) → named (lowercase_name v) ≡ v
+named-lowercase Argon2d = refl
+named-lowercase Argon2i = refl
+named-lowercase Argon2id = refl
 
--- the lowercase name of a variant has the variant's ending
-lowercase-ending : (v : Variant) → ending (lowercase_name v) ≡ ending_of v
-lowercase-ending Argon2d = refl
-lowercase-ending Argon2i = refl
-lowercase-ending Argon2id = refl
+-- the uppercase name of a variant stands for it
+named-capitalised : (v : Variant) → named (capitalised_name v) ≡ v
+named-capitalised Argon2d = refl
+named-capitalised Argon2i = refl
+named-capitalised Argon2id = refl
 
--- the uppercase name of a variant has the variant's ending
-capitalised-ending : (v : Variant) → ending (capitalised_name v) ≡ ending_of v
-capitalised-ending Argon2d = refl
-capitalised-ending Argon2i = refl
-capitalised-ending Argon2id = refl
-
--- any name of a variant has the variant's ending
-name-ending : (name : List ℕ) (v : Variant) → IsName name v → ending name ≡ ending_of v
-name-ending name v (inl e) = ap ending e ∙ lowercase-ending v
-name-ending name v (inr e) = ap ending e ∙ capitalised-ending v
-
--- variants with the same ending are the same
-ending_of_unique : (v w : Variant) → ending_of v ≡ ending_of w → v ≡ w
-ending_of_unique Argon2d Argon2d e = refl
-ending_of_unique Argon2d Argon2i e = absurd (omega arith)
-ending_of_unique Argon2d Argon2id e = absurd (omega arith)
-ending_of_unique Argon2i Argon2d e = absurd (omega arith)
-ending_of_unique Argon2i Argon2i e = refl
-ending_of_unique Argon2i Argon2id e = absurd (omega arith)
-ending_of_unique Argon2id Argon2d e = absurd (omega arith)
-ending_of_unique Argon2id Argon2i e = absurd (omega arith)
-ending_of_unique Argon2id Argon2id e = refl
+-- any name of a variant stands for it
+named-name : (name : List ℕ) (v : Variant) → IsName name v → named name ≡ v
+named-name name v (inl e) = ap named e ∙ named-lowercase v
+named-name name v (inr e) = ap named e ∙ named-capitalised v
 
 -- a string is the name of at most one variant
 name_unique : (name : List ℕ) (v w : Variant) → IsName name v → IsName name w → v ≡ w
-name_unique name v w a b = ending_of_unique v w (sym (name-ending name v a) ∙ name-ending name w b)
+name_unique name v w a b = sym (named-name name v a) ∙ named-name name w b
 
--- and so does the last digit of a number the version
-abbrev last_digit : List ℕ → ℕ
-last_digit number = get_or number 1 0
+-- the version whose number is written so
+abbrev numbered : List ℕ → Version
+numbered number = if get_or number 1 0 == 54 then Version10 else Version13
 
--- versions that are written as the same number are the same
-version_text_unique : (v w : Version) → version_text v ≡ version_text w → v ≡ w
+numbered-version : (v : Version) → numbered (version_text v) ≡ v
 unfolding digits
-version_text_unique Version10 Version10 e = refl
-version_text_unique Version10 Version13 e = let digits : last_digit (version_text Version10) ≡ last_digit
-    (version_text Version13) = ap last_digit e in absurd (omega arith)
-version_text_unique Version13 Version10 e = let digits : last_digit (version_text Version13) ≡ last_digit
-    (version_text Version10) = ap last_digit e in absurd (omega arith)
-version_text_unique Version13 Version13 e = refl
+numbered-version Version10 = refl
+numbered-version Version13 = refl
 
 -- a version piece stands for at most one version
 version_unique : (piece : Option (List ℕ)) (v w : Version) → IsVersion piece v → IsVersion piece w → v ≡ w
 version_unique None v w a b = a ∙ sym b
-version_unique (Some number) v w a b = version_text_unique v w (sym a ∙ b)
+version_unique (Some number) v w a b = sym (ap numbered a ∙ numbered-version v) ∙ ap numbered b ∙ numbered-version w
 
 -- the decoded value with these fields
 abbrev record_of : Variant → Version → ℕ → ℕ → ℕ → List ℕ → List ℕ → Spelled

@@ -1,22 +1,18 @@
 -- What an encoded hash decodes to, and the same string in other words.
-use Rattle.std.proofs.Common.{◌≡◌, ℕ, zero, suc, ◌<◌, ◌^◌, true, List, [], ◌∷◌, ◌++◌, Some, None, refl, append_assoc, arith, rules, inl, inr}
-use Rattle.std.specs.Prelude.{codes, nat_lt}
-use Rattle.std.specs.Fmt.{decimal}
-use Rattle.std.specs.List.{join_with_byte, list_all}
-use borrow.Author.Tests.{ltb-true}
-use Rattle.std.proofs.lemmas.Bool.{and_parts}
-use Rattle.std.proofs.lemmas.Fmt.{decimal_is_IsNumeral, decimal_digit, decimal_step}
+use Rattle.std.proofs.Common.{◌≡◌, ℕ, ◌<◌, ◌^◌, List, [], ◌∷◌, ◌++◌, Some, None, refl, append_assoc, arith, rules, inl, inr}
+use Rattle.std.specs.Prelude.{codes}
+use Rattle.std.specs.Fmt.{decimal, digits}
+use Rattle.std.specs.List.{join_with_byte}
+use Rattle.std.proofs.lemmas.Fmt.{decimal_is_IsNumeral}
 use Rattle.base64.specs.Rfc4648.{encode_symbols}
-use Rattle.base64.specs.GeneralPurpose.{IsBytes}
 use Rattle.argon2_standard.specs.Standard.Variant.{lowercase_name}
 use Rattle.argon2_standard.specs.Standard.Version.{version_text}
-use Rattle.argon2_standard.proofs.Versions.{version_in_digits}
-use Rattle.argon2_standard.specs.declared.version.Version.TheVariants.{Version10}
 use Rattle.argon2_standard.specs.Standard.Text.{Spelled, base64, text_of}
 use Rattle.argon2_standard.specs.Standard.Grammar.{IsNumber, Pieces, text_of_pieces}
 use Rattle.argon2.specs.Laws.Texts.{IsJoinedItems, SpellsExample, SpellsOwnValue, WritesExample, example_value}
 use Rattle.argon2_text.proofs.Reading.TextItems.{base64_lacks}
 use Rattle.argon2_text.proofs.Reading.TextCuts.{any_lacks}
+use Rattle.argon2_text.proofs.Writing.TextBytes.{told}
 
 -- the decimal of a number below 2 ^ 32 decodes to that number
 decimal_spells : (n : ℕ) → n < 2 ^ 32 → IsNumber (decimal n) n
@@ -87,36 +83,10 @@ unfolding text_of
 is_joined_items d = items-joined (lowercase_name d.variant) (version_text d.version) (decimal d.mem_cost) (decimal d.time_cost)
     (decimal d.parallelism) (base64 d.salt) (base64 d.hash)
 
--- the decimal of 4096 is its four digits
-decimal-4096 : decimal 4096 ≡ codes "4096"
-decimal-4096 =
-    rw (
-      decimal_step 4096 (omega arith) (omega arith),
-      decimal_step 409 (omega arith) (omega arith),
-      decimal_step 40 (omega arith) (omega arith),
-      decimal_digit 4 (omega arith),
-    ) refl
-
--- with the decimals of its version, costs and lanes, the layout of the example is the stated string
-example_written : (version memory time lanes : List ℕ) → version ≡ codes "16" → memory ≡ codes "4096" → time ≡ codes "3" → lanes ≡ codes "1"
-    → codes "$" ++ codes "argon2i" ++ codes "$v=" ++ version ++ codes "$m=" ++ memory ++ codes ",t=" ++ time ++ codes ",p=" ++ lanes
-    ++ codes "$" ++ base64 (codes "salt1234") ++ codes "$" ++ base64 (codes "12345678901234567890123456789012")
-    ≡ codes "$argon2i$v=16$m=4096,t=3,p=1$c2FsdDEyMzQ$MTIzNDU2Nzg5MDEyMzQ1Njc4OTAxMjM0NTY3ODkwMTI"
-unfolding encode_symbols
-example_written version memory time lanes v m t p = rw (v, m, t, p) refl
-
 -- the encoded hash of the example value is the stated one
 pub writes_example : WritesExample
-unfolding text_of
-writes_example =
-    example_written (version_text Version10) (decimal 4096) (decimal 3) (decimal 1) (version_in_digits Version10) decimal-4096
-    (decimal_digit 3 (omega arith)) (decimal_digit 1 (omega arith))
-
--- a list of which each element passes the test of being below 256 is bytes
-is_bytes : (bytes : List ℕ) → list_all (λ b. nat_lt b 256) bytes ≡ true → IsBytes bytes
-is_bytes [] below i = omega arith
-is_bytes (b ∷ bytes) below zero = ltb-true b 256 (and_parts (nat_lt b 256) (list_all (λ x. nat_lt x 256) bytes) below).0
-is_bytes (b ∷ bytes) below (suc i) = is_bytes bytes (and_parts (nat_lt b 256) (list_all (λ x. nat_lt x 256) bytes) below).1 i
+unfolding text_of digits encode_symbols
+writes_example = refl
 
 -- a string that uses every freedom of the format decodes to the example value
 pub spells_example : SpellsExample
@@ -139,6 +109,6 @@ spells_example = record {
     time = record { sign = []; digits = codes "03"; whole = refl; plus = inl refl; decimal = search rules; value = refl; fits = omega arith };
     lanes = record { sign = []; digits = codes "1"; whole = refl; plus = inl refl; decimal = search rules; value = refl; fits = omega arith };
   };
-  salt = record { encoded = refl; bytes_fit = is_bytes example_value.salt refl };
-  hash = record { encoded = refl; bytes_fit = is_bytes example_value.hash refl };
+  salt = record { encoded = refl; bytes_fit = λ i. omega (arith, told example_value.salt refl i) };
+  hash = record { encoded = refl; bytes_fit = λ i. omega (arith, told example_value.hash refl i) };
 }

@@ -51,22 +51,7 @@ unfolding setting_of prehash_of
 setting_of-same x y pwd salt len variant version lanes mem_cost time_cost secret ad =
     rw (variant, version, lanes, mem_cost, time_cost, secret, ad) refl
 
--- what the configuration leaves that a string's value is verified with is what the string's would
-stored_leaves_at : (v : Spelled) (pwd secret ad : List ℕ) (used config : Config) (workers : Bool) (before after : MemoryValue) (answer : Result Bool Error)
-    → IsConfigOf v secret ad used → IsStoredConfig v secret ad config → IsAccepted v (length pwd) secret ad
-    → OnOk answer (HoldsFill (setting_of pwd v.salt used used.hash_length) after)
-    → OnErr answer (IsLeft workers (setting_of pwd v.salt used used.hash_length) before after)
-    → LeavesMemory pwd v.salt config (length v.hash) workers before after answer
-stored_leaves_at v pwd secret ad used config workers before after answer used_is is accepted filled left =
-    let a = used_is.stored in
-    let same : setting_of pwd v.salt used used.hash_length ≡ setting_of pwd v.salt config (length v.hash) =
-    ap (λ n. setting_of pwd v.salt used n) (own_length v (length pwd) secret ad used accepted used_is)
-    ∙ setting_of-same used config pwd v.salt (length v.hash) (a.variant ∙ sym is.variant) (a.version ∙ sym is.version) (a.lanes ∙ sym is.lanes)
-    (a.mem_cost ∙ sym is.mem_cost) (a.time_cost ∙ sym is.time_cost) (a.secret ∙ sym is.secret) (a.ad ∙ sym is.ad) in
-    leaves_accepted pwd v.salt config (length v.hash) workers before after answer (accepted config is)
-    (subst (λ s. OnOk answer (HoldsFill s after)) same filled) (subst (λ s. OnErr answer (IsLeft workers s before after)) same left)
-
--- and so for the value that was decoded, with the workers that it asks for
+-- what the configuration leaves that a decoded value is verified with is what the value's would, with the workers that it asks for
 pub stored_leaves : (v d : Spelled) (pwd secret ad : List ℕ) (used config : Config) (workers : Spelled → Bool) (before after : MemoryValue)
     (answer : Result Bool Error) → v ≡ d
     → IsConfigOf v secret ad used → IsStoredConfig d secret ad config → IsAccepted v (length pwd) secret ad
@@ -75,5 +60,11 @@ pub stored_leaves : (v d : Spelled) (pwd secret ad : List ℕ) (used config : Co
     → LeavesMemory pwd d.salt config (length d.hash) (workers d) before after answer
 stored_leaves v d pwd secret ad used config workers before after answer same used_is is accepted filled left =
     let here = subst (λ (x : Spelled). IsStoredConfig x secret ad config) (sym same) is in
+    let a = used_is.stored in
+    let setting : setting_of pwd v.salt used used.hash_length ≡ setting_of pwd v.salt config (length v.hash) =
+    ap (λ n. setting_of pwd v.salt used n) (own_length v (length pwd) secret ad used accepted used_is)
+    ∙ setting_of-same used config pwd v.salt (length v.hash) (a.variant ∙ sym here.variant) (a.version ∙ sym here.version) (a.lanes ∙ sym here.lanes)
+    (a.mem_cost ∙ sym here.mem_cost) (a.time_cost ∙ sym here.time_cost) (a.secret ∙ sym here.secret) (a.ad ∙ sym here.ad) in
     subst (λ (x : Spelled). LeavesMemory pwd x.salt config (length x.hash) (workers x) before after answer) same
-    (stored_leaves_at v pwd secret ad used config (workers v) before after answer used_is here accepted filled left)
+    (leaves_accepted pwd v.salt config (length v.hash) (workers v) before after answer (accepted config here)
+    (subst (λ s. OnOk answer (HoldsFill s after)) setting filled) (subst (λ s. OnErr answer (IsLeft (workers v) s before after)) setting left))

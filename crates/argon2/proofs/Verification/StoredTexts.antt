@@ -99,24 +99,14 @@ pub stored_workers : (stored : Decoded) (secret ad : List ℕ) (used : Config) �
 stored_workers stored secret ad used used_is =
     ap (λ n. not (fills_alone used.thread_mode n)) used_is.stored.lanes ∙ workers_flag used.thread_mode stored.parallelism used_is.thread_mode
 
--- the verdict of the configuration that a string's value is verified with is that of the string
-pub stored_verdict : (stored : Decoded) (d : Spelled) (pwd secret ad : List ℕ) (used config : Config) (answer : Result Bool Error) → spelled_by stored ≡ d
-    → IsConfigOf (spelled_by stored) secret ad used → IsStoredConfig d secret ad config
-    → IsVerdict pwd stored.salt.items stored.hash.items used (may_lack_workers used) answer → IsVerdict pwd d.salt d.hash config (nat_lt 1 d.parallelism) answer
-stored_verdict stored d pwd secret ad used config answer same used_is config_is verdict =
-    let flag = stored_workers stored secret ad used used_is in
-    let here = subst (λ (v : Spelled). IsStoredConfig v secret ad config) (sym same) config_is in
-    let told = verdict-same (spelled_by stored) pwd secret ad used config (nat_lt 1 stored.parallelism) answer used_is.stored here (rw flag at verdict) in
-    subst (λ (v : Spelled). IsVerdict pwd v.salt v.hash config (nat_lt 1 v.parallelism) answer) same told
-
--- without workers too, the verdict of the configuration that is verified with is that of the string
-pub stored_verdict_alone : (stored : Decoded) (d : Spelled) (pwd secret ad : List ℕ) (used config : Config) (answer : Result Bool Error) → spelled_by stored ≡ d
-    → IsConfigOf (spelled_by stored) secret ad used → IsStoredConfig d secret ad config
-    → IsVerdict pwd stored.salt.items stored.hash.items used false answer → IsVerdict pwd d.salt d.hash config false answer
-stored_verdict_alone stored d pwd secret ad used config answer same used_is config_is verdict =
-    let here = subst (λ (v : Spelled). IsStoredConfig v secret ad config) (sym same) config_is in
-    let told = verdict-same (spelled_by stored) pwd secret ad used config false answer used_is.stored here verdict in
-    subst (λ (v : Spelled). IsVerdict pwd v.salt v.hash config false answer) same told
+-- the verdict of the configuration that a value is verified with is that of the value, whatever the workers
+pub stored_verdict : (v d : Spelled) (pwd secret ad : List ℕ) (used config : Config) (workers : Spelled → Bool) (answer : Result Bool Error) → v ≡ d
+    → IsConfigOf v secret ad used → IsStoredConfig d secret ad config → IsVerdict pwd v.salt v.hash used (workers v) answer
+    → IsVerdict pwd d.salt d.hash config (workers d) answer
+stored_verdict v d pwd secret ad used config workers answer same used_is is verdict =
+    let here = subst (λ (x : Spelled). IsStoredConfig x secret ad config) (sym same) is in
+    let told = verdict-same v pwd secret ad used config (workers v) answer used_is.stored here verdict in
+    subst (λ (x : Spelled). IsVerdict pwd x.salt x.hash config (workers x) answer) same told
 
 -- ---- answers before the tag is asked for
 

@@ -1,5 +1,5 @@
 -- The sums of letters are those of base64, and a string without faults is the base64 of the bytes that are read of it.
-use Rattle.std.proofs.Common.{◌≡◌, ℕ, zero, suc, ◌+◌, ◌*◌, ◌/◌, ◌%◌, ◌<◌, ◌==◌, not, ◌||◌, ◌&&◌, ◌≤◌, nat_lt, List, [], ◌∷◌, ◌++◌, length, get_or, slice_index, refl, sym, ap, ◌∙◌, arith, inl, inr}
+use Rattle.std.proofs.Common.{◌≡◌, ℕ, zero, suc, ◌+◌, ◌*◌, ◌/◌, ◌%◌, ◌<◌, ◌==◌, not, ◌||◌, ◌&&◌, ◌≤◌, nat_lt, List, [], ◌∷◌, ◌++◌, length, get_or, slice_index, refl, sym, ap, subst, ◌∙◌, arith, inl, inr}
 use Rattle.std.specs.Prelude.{◌↔◌}
 use Rattle.std.proofs.lemmas.Bool.{and_parts, eqb-true, eq-eqb, ltb-true, or_cases, not-true}
 use Rattle.std.proofs.lemmas.List.{append-nil}
@@ -59,7 +59,7 @@ letter_from byte small none =
 -- ---- a whole string
 
 -- base64 without padding is the symbols alone
-base64-symbols : (bytes : List ℕ) → base64 bytes ≡ encode_symbols alphabet bytes
+pub base64-symbols : (bytes : List ℕ) → base64 bytes ≡ encode_symbols alphabet bytes
 base64-symbols bytes = append-nil (encode_symbols alphabet bytes)
 
 -- no bytes have no symbols
@@ -71,8 +71,6 @@ no_symbols = refl
 one_again : (a b : ℕ) → IsLetter a → IsLetter b → bits_of b % 16 ≡ 0 → a ∷ b ∷ [] ≡ encode_symbols alphabet (first_byte a b ∷ [])
 unfolding encode_symbols
 one_again a b x y none =
-    let sa = x.small in
-    let sb = y.small in
     let e0 : first_byte a b / 4 ≡ bits_of a = omega arith in
     let e1 : first_byte a b % 4 * 16 ≡ bits_of b = omega arith in
     rw (e0, e1, x.same, y.same) refl
@@ -82,9 +80,6 @@ two_again : (a b c : ℕ) → IsLetter a → IsLetter b → IsLetter c → bits_
     → a ∷ b ∷ c ∷ [] ≡ encode_symbols alphabet (first_byte a b ∷ second_byte b c ∷ [])
 unfolding encode_symbols
 two_again a b c x y z none =
-    let sa = x.small in
-    let sb = y.small in
-    let sc = z.small in
     let e0 : first_byte a b / 4 ≡ bits_of a = omega arith in
     let e1 : first_byte a b % 4 * 16 + second_byte b c / 16 ≡ bits_of b = omega arith in
     let e2 : second_byte b c % 16 * 4 ≡ bits_of c = omega arith in
@@ -95,10 +90,6 @@ three_again : (a b c d : ℕ) (rest : List ℕ) → IsLetter a → IsLetter b �
     → a ∷ b ∷ c ∷ d ∷ encode_symbols alphabet rest ≡ encode_symbols alphabet (first_byte a b ∷ second_byte b c ∷ third_byte c d ∷ rest)
 unfolding encode_symbols
 three_again a b c d rest x y z w =
-    let sa = x.small in
-    let sb = y.small in
-    let sc = z.small in
-    let sd = w.small in
     let e0 : first_byte a b / 4 ≡ bits_of a = omega arith in
     let e1 : first_byte a b % 4 * 16 + second_byte b c / 16 ≡ bits_of b = omega arith in
     let e2 : second_byte b c % 16 * 4 + third_byte c d / 64 ≡ bits_of c = omega arith in
@@ -175,112 +166,47 @@ item_read text fits some =
     let none = (faults_tell text fits).1 some in
     record { encoded = symbols_again text fits none ∙ sym (base64-symbols (bytes_read text)); bytes_fit = read_bytes text }
 
+-- ---- lists of a known length
+
+-- the first n values of f
+abbrev pub listed : (ℕ → ℕ) → ℕ → List ℕ
+listed f zero = []
+listed f (suc n) = f 0 ∷ listed (λ i. f (suc i)) n
+
+-- a list of length n is what stands at its n places
+pub placed : (l : List ℕ) (n : ℕ) → length l ≡ n → l ≡ listed (λ i. get_or l i 0) n
+placed [] n e = rw (← e) refl
+placed (x ∷ l) n e = rw (← e) (ap (λ (t : List ℕ). x ∷ t) (placed l (length l) refl))
+
 -- ---- a string in groups of four letters
 
 -- the faults of four letters are those of each
 pub group_faults : (group : List ℕ) → length group ≡ 4
     → faults_of group ≡ fault_of (get_or group 0 0) + fault_of (get_or group 1 0) + fault_of (get_or group 2 0) + fault_of (get_or group 3 0)
 unfolding faults_of
-group_faults [] four = absurd (omega arith)
-group_faults (a ∷ []) four = absurd (omega arith)
-group_faults (a ∷ b ∷ []) four = absurd (omega arith)
-group_faults (a ∷ b ∷ c ∷ []) four = absurd (omega arith)
-group_faults (a ∷ b ∷ c ∷ d ∷ []) four = omega arith
-group_faults (a ∷ b ∷ c ∷ d ∷ e ∷ rest) four = absurd (omega arith)
-
--- a byte has one fault at most
-one_fault : (byte : ℕ) → byte < 256 → fault_of byte ≤ 1
-one_fault byte small = omega arith
-
--- four letters have four faults at most
-pub few_faults : (group : List ℕ) → length group ≡ 4 → IsBytes group → faults_of group ≤ 4
-few_faults group four fits =
-    omega (arith, group_faults group four, one_fault (get_or group 0 0) (fits 0), one_fault (get_or group 1 0) (fits 1), one_fault (get_or group 2 0) (fits 2), one_fault (get_or group 3 0) (fits 3))
+group_faults group four = omega (arith, ap faults_of (placed group 4 four))
 
 -- behind four letters the faults are those of the rest
 pub faults_behind : (group rest : List ℕ) → length group ≡ 4 → faults_of (group ++ rest) ≡ faults_of group + faults_of rest
 unfolding faults_of
-faults_behind [] rest four = absurd (omega arith)
-faults_behind (a ∷ []) rest four = absurd (omega arith)
-faults_behind (a ∷ b ∷ []) rest four = absurd (omega arith)
-faults_behind (a ∷ b ∷ c ∷ []) rest four = absurd (omega arith)
-faults_behind (a ∷ b ∷ c ∷ d ∷ []) rest four = omega arith
-faults_behind (a ∷ b ∷ c ∷ d ∷ e ∷ more) rest four = absurd (omega arith)
-
--- the faults of no letter, of one, of two and of three
-pub no_faults : (tail : List ℕ) → length tail < 1 → 0 ≡ faults_of tail
-unfolding faults_of
-no_faults [] short = refl
-no_faults (a ∷ rest) short = absurd (omega arith)
-
-pub faults_of_one : (tail : List ℕ) → 1 ≤ length tail → length tail < 2 → 1 ≡ faults_of tail
-unfolding faults_of
-faults_of_one [] long short = absurd (omega arith)
-faults_of_one (a ∷ []) long short = refl
-faults_of_one (a ∷ b ∷ rest) long short = absurd (omega arith)
-
-pub faults_of_two : (tail : List ℕ) → 2 ≤ length tail → length tail < 3
-    → fault_of (get_or tail 0 0) + fault_of (get_or tail 1 0) + bits_of (get_or tail 1 0) % 16 ≡ faults_of tail
-unfolding faults_of
-faults_of_two [] long short = absurd (omega arith)
-faults_of_two (a ∷ []) long short = absurd (omega arith)
-faults_of_two (a ∷ b ∷ []) long short = refl
-faults_of_two (a ∷ b ∷ c ∷ rest) long short = absurd (omega arith)
-
-pub faults_of_three : (tail : List ℕ) → 3 ≤ length tail → length tail < 4
-    → fault_of (get_or tail 0 0) + fault_of (get_or tail 1 0) + fault_of (get_or tail 2 0) + bits_of (get_or tail 2 0) % 4 ≡ faults_of tail
-unfolding faults_of
-faults_of_three [] long short = absurd (omega arith)
-faults_of_three (a ∷ []) long short = absurd (omega arith)
-faults_of_three (a ∷ b ∷ []) long short = absurd (omega arith)
-faults_of_three (a ∷ b ∷ c ∷ []) long short = refl
-faults_of_three (a ∷ b ∷ c ∷ d ∷ rest) long short = absurd (omega arith)
+faults_behind group rest four =
+    let places = placed group 4 four in
+    omega (arith, ap (λ (g : List ℕ). faults_of (g ++ rest)) places, ap faults_of places)
 
 -- ---- the bytes, group by group
-
--- the bytes of four letters
-pub group_read : (group : List ℕ) → length group ≡ 4 → first_byte (get_or group 0 0) (get_or group 1 0) ∷ second_byte (get_or group 1 0) (get_or group 2 0)
-    ∷ third_byte (get_or group 2 0) (get_or group 3 0) ∷ [] ≡ bytes_read group
-unfolding bytes_read
-group_read [] four = absurd (omega arith)
-group_read (a ∷ []) four = absurd (omega arith)
-group_read (a ∷ b ∷ []) four = absurd (omega arith)
-group_read (a ∷ b ∷ c ∷ []) four = absurd (omega arith)
-group_read (a ∷ b ∷ c ∷ d ∷ []) four = refl
-group_read (a ∷ b ∷ c ∷ d ∷ e ∷ rest) four = absurd (omega arith)
 
 -- behind four letters the bytes are those of the rest
 pub read_behind : (group rest : List ℕ) → length group ≡ 4 → bytes_read (group ++ rest) ≡ bytes_read group ++ bytes_read rest
 unfolding bytes_read
-read_behind [] rest four = absurd (omega arith)
-read_behind (a ∷ []) rest four = absurd (omega arith)
-read_behind (a ∷ b ∷ []) rest four = absurd (omega arith)
-read_behind (a ∷ b ∷ c ∷ []) rest four = absurd (omega arith)
-read_behind (a ∷ b ∷ c ∷ d ∷ []) rest four = refl
-read_behind (a ∷ b ∷ c ∷ d ∷ e ∷ more) rest four = absurd (omega arith)
+read_behind group rest four =
+    subst (λ (g : List ℕ). bytes_read (g ++ rest) ≡ bytes_read g ++ bytes_read rest) (sym (placed group 4 four)) refl
 
--- fewer than two letters have no byte, two have one, and three have two
+-- fewer than two letters have no byte
 pub none_read : (tail : List ℕ) → length tail < 2 → [] ≡ bytes_read tail
 unfolding bytes_read
 none_read [] short = refl
 none_read (a ∷ []) short = refl
 none_read (a ∷ b ∷ rest) short = absurd (omega arith)
-
-pub one_read : (tail : List ℕ) → 2 ≤ length tail → length tail < 3 → first_byte (get_or tail 0 0) (get_or tail 1 0) ∷ [] ≡ bytes_read tail
-unfolding bytes_read
-one_read [] long short = absurd (omega arith)
-one_read (a ∷ []) long short = absurd (omega arith)
-one_read (a ∷ b ∷ []) long short = refl
-one_read (a ∷ b ∷ c ∷ rest) long short = absurd (omega arith)
-
-pub two_read : (tail : List ℕ) → 3 ≤ length tail → length tail < 4
-    → first_byte (get_or tail 0 0) (get_or tail 1 0) ∷ second_byte (get_or tail 1 0) (get_or tail 2 0) ∷ [] ≡ bytes_read tail
-unfolding bytes_read
-two_read [] long short = absurd (omega arith)
-two_read (a ∷ []) long short = absurd (omega arith)
-two_read (a ∷ b ∷ []) long short = absurd (omega arith)
-two_read (a ∷ b ∷ c ∷ []) long short = refl
-two_read (a ∷ b ∷ c ∷ d ∷ rest) long short = absurd (omega arith)
 
 -- ---- the letters, group by group
 
@@ -289,45 +215,39 @@ pub three_written : (group : List ℕ) → length group ≡ 3 → IsBytes group 
     ∷ letter_of (get_or group 0 0 % 4 * 16 + get_or group 1 0 / 16) ∷ letter_of (get_or group 1 0 % 16 * 4 + get_or group 2 0 / 64)
     ∷ letter_of (get_or group 2 0 % 64) ∷ [] ≡ base64 group
 unfolding encode_symbols
-three_written [] three fits = absurd (omega arith)
-three_written (a ∷ []) three fits = absurd (omega arith)
-three_written (a ∷ b ∷ []) three fits = absurd (omega arith)
-three_written (a ∷ b ∷ c ∷ []) three fits =
-    let x : a < 256 = fits 0 in
-    let y : b < 256 = fits 1 in
-    let z : c < 256 = fits 2 in
+three_written group three fits =
+    let x : get_or group 0 0 < 256 = fits 0 in
+    let y : get_or group 1 0 < 256 = fits 1 in
+    let z : get_or group 2 0 < 256 = fits 2 in
     rw (
-      letter_at (a / 4) (omega arith),
-      letter_at (a % 4 * 16 + b / 16) (omega arith),
-      letter_at (b % 16 * 4 + c / 64) (omega arith),
-      letter_at (c % 64) (omega arith),
-    ) refl
-three_written (a ∷ b ∷ c ∷ d ∷ rest) three fits = absurd (omega arith)
+      letter_at (get_or group 0 0 / 4) (omega arith),
+      letter_at (get_or group 0 0 % 4 * 16 + get_or group 1 0 / 16) (omega arith),
+      letter_at (get_or group 1 0 % 16 * 4 + get_or group 2 0 / 64) (omega arith),
+      letter_at (get_or group 2 0 % 64) (omega arith),
+    ) (sym (ap base64 (placed group 3 three)))
 
 pub none_written : (tail : List ℕ) → length tail < 1 → [] ≡ base64 tail
 unfolding encode_symbols
-none_written [] short = refl
-none_written (a ∷ rest) short = absurd (omega arith)
+none_written tail short = sym (ap base64 (placed tail 0 (omega arith)))
 
 pub one_written : (tail : List ℕ) → 1 ≤ length tail → length tail < 2 → IsBytes tail
     → letter_of (get_or tail 0 0 / 4) ∷ letter_of (get_or tail 0 0 % 4 * 16) ∷ [] ≡ base64 tail
 unfolding encode_symbols
-one_written [] long short fits = absurd (omega arith)
-one_written (a ∷ []) long short fits =
-    let x : a < 256 = fits 0 in
-    rw (letter_at (a / 4) (omega arith), letter_at (a % 4 * 16) (omega arith)) refl
-one_written (a ∷ b ∷ rest) long short fits = absurd (omega arith)
+one_written tail long short fits =
+    let x : get_or tail 0 0 < 256 = fits 0 in
+    rw (letter_at (get_or tail 0 0 / 4) (omega arith), letter_at (get_or tail 0 0 % 4 * 16) (omega arith)) (sym (ap base64 (placed tail 1 (omega arith))))
 
 pub two_written : (tail : List ℕ) → 2 ≤ length tail → length tail < 3 → IsBytes tail → letter_of (get_or tail 0 0 / 4)
     ∷ letter_of (get_or tail 0 0 % 4 * 16 + get_or tail 1 0 / 16) ∷ letter_of (get_or tail 1 0 % 16 * 4) ∷ [] ≡ base64 tail
 unfolding encode_symbols
-two_written [] long short fits = absurd (omega arith)
-two_written (a ∷ []) long short fits = absurd (omega arith)
-two_written (a ∷ b ∷ []) long short fits =
-    let x : a < 256 = fits 0 in
-    let y : b < 256 = fits 1 in
-    rw (letter_at (a / 4) (omega arith), letter_at (a % 4 * 16 + b / 16) (omega arith), letter_at (b % 16 * 4) (omega arith)) refl
-two_written (a ∷ b ∷ c ∷ rest) long short fits = absurd (omega arith)
+two_written tail long short fits =
+    let x : get_or tail 0 0 < 256 = fits 0 in
+    let y : get_or tail 1 0 < 256 = fits 1 in
+    rw (
+      letter_at (get_or tail 0 0 / 4) (omega arith),
+      letter_at (get_or tail 0 0 % 4 * 16 + get_or tail 1 0 / 16) (omega arith),
+      letter_at (get_or tail 1 0 % 16 * 4) (omega arith),
+    ) (sym (ap base64 (placed tail 2 (omega arith))))
 
 -- behind three bytes base64 begins afresh
 pub written_behind : (group rest : List ℕ) → length group ≡ 3 → base64 (group ++ rest) ≡ base64 group ++ base64 rest

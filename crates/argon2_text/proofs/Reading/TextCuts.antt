@@ -1,11 +1,11 @@
 -- Cutting at a byte and behind a front, both ways, and what std's methods give in these words.
-use Rattle.std.proofs.Common.{◌≡◌, ◌≢◌, ℕ, zero, suc, ◌+◌, ◌<◌, ◌==◌, true, false, List, [], ◌∷◌, ◌++◌, length, get_or, take, drop, Option, Some}
-use Rattle.std.proofs.Common.{None, refl, sym, ap, ◌∙◌, arith, inl, inr, eq-eqb}
+use Rattle.std.proofs.Common.{◌≡◌, ◌≢◌, ℕ, zero, suc, ◌+◌, ◌<◌, ◌==◌, false, List, [], ◌∷◌, ◌++◌, length, get_or, take, drop, Option, Some}
+use Rattle.std.proofs.Common.{None, refl, sym, ap, ◌∙◌, arith, ◌⊎◌, inl, inr, eq-eqb}
 use Rattle.std.specs.Prelude.{option_map, MatchOption}
 use Rattle.std.specs.List.{list_any}
 use Rattle.std.specs.Borrow.{Bor}
 use Rattle.std.specs.Str.Pattern.{FindsTextPrefix}
-use Rattle.std.proofs.lemmas.Bool.{ne_eqb, cases_eq, or_right}
+use Rattle.std.proofs.lemmas.Bool.{ne_eqb, cases_eq, or_parts}
 use Rattle.std.proofs.lemmas.Option.{some_pair_parts}
 use Rattle.argon2_standard.specs.Standard.Grammar.{Lacks}
 use Rattle.argon2_text.specs.Views.Cutting.{strip, cut}
@@ -76,62 +76,31 @@ cut_at mark (b ∷ text) zero lt is before = rw (eq-eqb b mark is) refl
 cut_at mark (b ∷ text) (suc at) lt is before =
     rw (ne_eqb b mark (before 0 (omega arith)), cut_at mark text at (omega arith) is (λ i small. before (suc i) (omega arith))) refl
 
--- a list with c at one of its places is told to hold c
-any_at : (c : ℕ) (bs : List ℕ) (i : ℕ) → i < length bs → get_or bs i 0 ≡ c → list_any (λ b. b == c) bs ≡ true
-any_at c [] i lt e = absurd (omega arith)
-any_at c (b ∷ bs) zero lt e = rw (eq-eqb b c e) refl
-any_at c (b ∷ bs) (suc i) lt e = or_right (b == c) (list_any (λ b. b == c) bs) (any_at c bs i (omega arith) e)
-
 -- a list that is told to hold no c lacks c
 pub any_lacks : (c : ℕ) (bs : List ℕ) → list_any (λ b. b == c) bs ≡ false → Lacks c bs
-any_lacks c bs h = Lacks-from_places c bs (λ i lt e. let yes = any_at c bs i lt e in absurd (cc))
+any_lacks c [] h = tt
+any_lacks c (b ∷ bs) h =
+    let parts = or_parts (b == c) (list_any (λ b. b == c) bs) h in
+    (λ e. let yes = eq-eqb b c e in absurd cc, any_lacks c bs parts.1)
 
--- a list that lacks c is told to hold no c
-pub lacks_any : (c : ℕ) (bs : List ℕ) → Lacks c bs → list_any (λ b. b == c) bs ≡ false
-lacks_any c [] h = refl
-lacks_any c (b ∷ bs) h = rw (ne_eqb b c h.0) (lacks_any c bs h.1)
-
-abbrev Two : Type 0
-Two = List ℕ × List ℕ
-
--- where bs is two parts around c, x before bs is those parts around c, with x before the first
-cut_found_at : (c x : ℕ) (bs a rest : List ℕ) (o : Option Two) → ((y : Two) → o ≡ Some y → bs ≡ y.0 ++ c ∷ y.1)
-    → option_map {U = Two} (λ y. (x ∷ y.0, y.1)) o ≡ Some (a, rest) → x ∷ bs ≡ a ++ c ∷ rest
-cut_found_at c x bs a rest None ih e = absurd cc
-cut_found_at c x bs a rest (Some y) ih e =
-    let same : (x ∷ y.0 ≡ a) × (y.1 ≡ rest) = some_pair_parts (x ∷ y.0) a y.1 rest e in
-    rw (← same.0, ← same.1) (ap (λ (t : List ℕ). x ∷ t) (ih y refl))
-
--- where a cut is found, the string is the first part, the mark and the rest
-pub cut_found : (c : ℕ) (bs a rest : List ℕ) → cut c bs ≡ Some (a, rest) → bs ≡ a ++ c ∷ rest
-cut_found c [] a rest e = absurd cc
-cut_found c (x ∷ bs) a rest e = elim (cases_eq x c) [
-  | inl same ↦
-      let e2 : Some ([], bs) ≡ Some (a, rest) = rw (eq-eqb x c same) at e in
-      let parts = some_pair_parts [] a bs rest e2 in
-      rw (same, ← parts.0, ← parts.1) refl
+-- a list lacks c, or it is a first part without c, then c, then a rest
+around : (c : ℕ) (bs : List ℕ) → Lacks c bs ⊎ ((a : List ℕ) × (rest : List ℕ) × (bs ≡ a ++ c ∷ rest) × Lacks c a)
+around c [] = inl tt
+around c (x ∷ bs) = elim (cases_eq x c) [
+  | inl same ↦ inr ([], bs, rw same refl, tt)
   | inr other ↦
-      let e2 : option_map {U = Two} (λ y. (x ∷ y.0, y.1)) (cut c bs) ≡ Some (a, rest) = rw (ne_eqb x c other) at e in
-      cut_found_at c x bs a rest (cut c bs) (λ y is. cut_found c bs y.0 y.1 is) e2
+      elim (around c bs) [
+        | inl lacks ↦ inl (other, lacks)
+        | inr found ↦ inr (x ∷ found.0, found.1, ap (λ (t : List ℕ). x ∷ t) found.2, (other, found.3))
+      ]
 ]
 
--- a first part that lacks c still lacks it with another byte before it
-cut_lacks_at : (c x : ℕ) (a rest : List ℕ) (o : Option Two) → x ≢ c → ((y : Two) → o ≡ Some y → Lacks c y.0)
-    → option_map {U = Two} (λ y. (x ∷ y.0, y.1)) o ≡ Some (a, rest) → Lacks c a
-cut_lacks_at c x a rest None other ih e = absurd cc
-cut_lacks_at c x a rest (Some y) other ih e =
-    let same : (x ∷ y.0 ≡ a) × (y.1 ≡ rest) = some_pair_parts (x ∷ y.0) a y.1 rest e in
-    rw (← same.0) (other, ih y refl)
-
--- the part before the cut lacks the mark
-pub cut_lacks : (c : ℕ) (bs a rest : List ℕ) → cut c bs ≡ Some (a, rest) → Lacks c a
-cut_lacks c [] a rest e = absurd cc
-cut_lacks c (x ∷ bs) a rest e = elim (cases_eq x c) [
-  | inl same ↦
-      let e2 : Some ([], bs) ≡ Some (a, rest) = rw (eq-eqb x c same) at e in
-      let parts = some_pair_parts [] a bs rest e2 in
-      rw (← parts.0) tt
-  | inr other ↦
-      let e2 : option_map {U = Two} (λ y. (x ∷ y.0, y.1)) (cut c bs) ≡ Some (a, rest) = rw (ne_eqb x c other) at e in
-      cut_lacks_at c x a rest (cut c bs) other (λ y is. cut_lacks c bs y.0 y.1 is) e2
+-- where a cut is found, the string is the first part, which lacks the mark, the mark and the rest
+pub cut_found : (c : ℕ) (bs a rest : List ℕ) → cut c bs ≡ Some (a, rest) → (bs ≡ a ++ c ∷ rest) × Lacks c a
+cut_found c bs a rest e = elim (around c bs) [
+  | inl lacks ↦ let none = cut_none c bs lacks in absurd cc
+  | inr found ↦
+      let again = sym (ap (cut c) found.2 ∙ cut-again c found.0 found.1 found.3) ∙ e in
+      let parts = some_pair_parts found.0 a found.1 rest again in
+      rw (← parts.0, ← parts.1) (found.2, found.3)
 ]

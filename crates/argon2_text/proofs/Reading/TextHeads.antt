@@ -95,10 +95,6 @@ items_at text h d head s =
     let hash : s.pieces.hash ≡ h.hash.now = ap (λ (p : Pieces). p.hash) same ∙ head.hash in
     (subst (λ (t : List ℕ). IsItem t d.salt) salt s.salt, subst (λ (t : List ℕ). IsItem t d.hash) hash s.hash)
 
--- where no salt or no hash stands behind the head, the string decodes to nothing
-pub headless : (text : List ℕ) → (HasSplit text → ⊥) → SpellsNothing text
-headless text none d s = none (s.pieces, d, split_of text s.pieces s.cut, s.head)
-
 -- a string decodes to nothing where what stands for its salt is no item
 pub saltless : (text : List ℕ) (h : Head) → IsHeadOf text h → (IsSomeItem h.salt.now → ⊥) → SpellsNothing text
 saltless text h head none d s = none (d.salt, (items_at text h d head s).0)

@@ -6,22 +6,20 @@ use Rattle.base64.specs.declared.decode.DecodeError.{DecodeError}
 use Rattle.base64.specs.declared.decode.DecodeSliceError.{DecodeSliceError}
 use Rattle.base64.specs.declared.engine.general_purpose.GeneralPurpose.{GeneralPurpose}
 use Rattle.base64.specs.declared.engine.DecodePaddingMode.{DecodePaddingMode}
-use Rattle.base64.proofs.RoundTrip.{decode-encode}
+use Rattle.base64.proofs.RoundTrip.{decode-encode, length-encode_symbols}
 use Rattle.std.proofs.lemmas.Bool.{le-ltb}
 use Rattle.std.proofs.lemmas.List.{append-nil, take-append-drop}
 use Rattle.std.proofs.Math.ListN.{drop_of_length-le}
 use Rattle.base64.specs.Rfc4648.{encode_symbols, unpadded_len}
 use Rattle.base64.specs.Engines.{standard_no_pad}
-use Rattle.base64.specs.GeneralPurpose.{IsBytes, engine_symbols, decode_of, decode_slice_of, decoded_bytes_of}
+use Rattle.base64.specs.GeneralPurpose.{IsBytes, decode_of, decode_slice_of, decoded_bytes_of}
 use Rattle.base64.proofs.EngineFacts.{decode_of-encode_of, front_bytes}
 use Rattle.std.specs.Prelude.{◌↔◌, IsTrue, OnOk}
 use Rattle.argon2_standard.specs.Standard.Text.{base64}
 use Rattle.argon2_standard.specs.Standard.Grammar.{Lacks, IsItem}
 use Rattle.argon2_text.specs.Views.Faults.{IsSomeItem}
+use Rattle.argon2_text.proofs.Letters.LetterSums.{alphabet, base64-symbols}
 use Rattle.argon2_text.proofs.Reading.TextCuts.{any_lacks}
-
-abbrev alphabet : List ℕ
-alphabet = engine_symbols standard_no_pad
 
 -- at each place, and past the end
 symbol_lacks : (c : ℕ) (t : List ℕ) (i : ℕ) → 0 ≢ c → Lacks c t → get_or t i 0 ≢ c
@@ -41,8 +39,7 @@ encode_lacks c t (a ∷ b ∷ d ∷ rest) h = (h _, (h _, (h _, (h _, encode_lac
 pub base64_lacks : (bytes : List ℕ) → Lacks 36 (base64 bytes)
 base64_lacks bytes =
     let letters : Lacks 36 alphabet = any_lacks 36 alphabet refl in
-    rw (append-nil (encode_symbols alphabet bytes))
-    (encode_lacks 36 alphabet bytes (λ i. symbol_lacks 36 alphabet i (λ e. cc) letters))
+    rw (base64-symbols bytes) (encode_lacks 36 alphabet bytes (λ i. symbol_lacks 36 alphabet i (λ e. cc) letters))
 
 -- a string is the base64 of one list of bytes
 pub item_unique : (text a b : List ℕ) → IsItem text a → IsItem text b → a ≡ b
@@ -53,17 +50,9 @@ item_unique text a b x y =
     let both = sym first ∙ ap (decode_of standard_no_pad) same ∙ second in
     cc
 
--- the symbols of encoded bytes are as many as unpadded base64 has for that many bytes
-length-encode_symbols : (t m : List ℕ) → length (encode_symbols t m) ≡ unpadded_len (length m)
-unfolding encode_symbols
-length-encode_symbols t [] = refl
-length-encode_symbols t (a ∷ []) = refl
-length-encode_symbols t (a ∷ b ∷ []) = refl
-length-encode_symbols t (a ∷ b ∷ d ∷ rest) = omega (arith, length-encode_symbols t rest)
-
 -- the base64 of bytes has the unpadded length for that many bytes
 pub length-base64 : (bytes : List ℕ) → length (base64 bytes) ≡ unpadded_len (length bytes)
-length-base64 bytes = rw (append-nil (encode_symbols alphabet bytes)) (length-encode_symbols alphabet bytes)
+length-base64 bytes = rw (base64-symbols bytes) (length-encode_symbols alphabet bytes)
 
 -- two lists of bytes, joined, are a list of bytes
 pub both_bytes : (a b : List ℕ) → IsBytes a → IsBytes b → IsBytes (a ++ b)

@@ -5,7 +5,7 @@ use Rattle.std.proofs.lemmas.Option.{some_pair_parts, same_Some}
 use Rattle.argon2_standard.specs.Standard.Grammar.{Pieces, text_of_pieces, Lacks}
 use Rattle.argon2_text.specs.Views.Faults.{IsSplit}
 use Rattle.argon2_text.specs.Views.Cutting.{◌>>=◌, strip, cut, piece, version_behind, version_piece, pieces_of}
-use Rattle.argon2_text.proofs.Reading.TextCuts.{strip-again, strip_found, cut-again, cut_found, cut_lacks}
+use Rattle.argon2_text.proofs.Reading.TextCuts.{strip-again, strip_found, cut-again, cut_found}
 
 -- the value of a step that did not fail
 bind_some : {A B : Type 0} (o : Option A) (f : A → Option B) (y : B) → (o >>= f) ≡ Some y → (x : A) × (o ≡ Some x) × (f x ≡ Some y)
@@ -24,7 +24,7 @@ piece_found : (front : List ℕ) (mark : ℕ) (text a rest : List ℕ) → piece
 unfolding piece
 piece_found front mark text a rest e =
     let b = bind_some (strip front text) (cut mark) (a, rest) e in
-    strip_found front text b.0 b.1 ∙ ap (λ (t : List ℕ). front ++ t) (cut_found mark b.0 a rest b.2)
+    strip_found front text b.0 b.1 ∙ ap (λ (t : List ℕ). front ++ t) (cut_found mark b.0 a rest b.2).0
 
 -- ---- the version
 
@@ -48,7 +48,7 @@ version_behind_found text None version rest is e =
     rw (← parts.0, ← parts.1) refl
 version_behind_found text (Some r) version rest is e =
     let b = bind_some (cut 36 r) (λ x. Some (Some x.0, x.1)) (version, rest) e in
-    let inside : r ≡ b.0.0 ++ 36 ∷ b.0.1 = cut_found 36 r b.0.0 b.0.1 b.1 in
+    let inside : r ≡ b.0.0 ++ 36 ∷ b.0.1 = (cut_found 36 r b.0.0 b.0.1 b.1).0 in
     let whole : text ≡ codes "v=" ++ (b.0.0 ++ 36 ∷ b.0.1) = strip_found (codes "v=") text r is ∙ ap (λ (t : List ℕ). codes "v=" ++ t) inside in
     let found : Option (List ℕ) × List ℕ = (Some b.0.0, b.0.1) in
     subst (λ (x : Option (List ℕ) × List ℕ). text ≡ version_front x.0 x.1) (same_Some found (version, rest) b.2) whole
@@ -132,11 +132,11 @@ pieces_found text p e =
       hash = items.0.1;
     } in
     let same = same_Some found p items.2 in
+    let last = cut_found 36 lanes.0.1 items.0.0 items.0.1 items.1 in
     let whole = nested_from found text name.0.1 version.0.1 memory.0.1 time.0.1 lanes.0.1 (piece_found (codes "$") 36 text name.0.0 name.0.1 name.1)
     (version_piece_found name.0.1 version.0.0 version.0.1 version.1) (piece_found (codes "m=") 44 version.0.1 memory.0.0 memory.0.1 memory.1)
-    (piece_found (codes "t=") 44 memory.0.1 time.0.0 time.0.1 time.1) (piece_found (codes "p=") 36 time.0.1 lanes.0.0 lanes.0.1 lanes.1)
-    (cut_found 36 lanes.0.1 items.0.0 items.0.1 items.1) in
+    (piece_found (codes "t=") 44 memory.0.1 time.0.0 time.0.1 time.1) (piece_found (codes "p=") 36 time.0.1 lanes.0.0 lanes.0.1 lanes.1) last.0 in
     subst (IsSplit text) same (record {
       whole = whole ∙ sym (joined-nested found);
-      salt = cut_lacks 36 lanes.0.1 items.0.0 items.0.1 items.1;
+      salt = last.1;
     })

@@ -19,7 +19,7 @@ use Rattle.argon2_standard.specs.Standard.Version.{version_text}
 use Rattle.argon2_standard.specs.Standard.Text.{Spelled, base64, text_of}
 
 -- bytes that are told to be below 128 are ASCII
-told : (bs : List ℕ) → list_all (λ b. nat_lt b 128) bs ≡ true → IsAscii bs
+pub told : (bs : List ℕ) → list_all (λ b. nat_lt b 128) bs ≡ true → IsAscii bs
 told [] h = IsAscii-nil
 told (b ∷ bs) h =
     let parts = and_parts (nat_lt b 128) (list_all (λ b. nat_lt b 128) bs) h in

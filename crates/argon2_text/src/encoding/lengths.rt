@@ -7,6 +7,7 @@ ghost use Rattle.argon2_standard.specs.Standard.Text.{base64, text_of};
 ghost use Rattle.argon2_standard.specs.declared.version.Version.{Version};
 
 use argon2_standard::variant::Variant;
+use itoa::Buffer;
 
 /// The length of what each encoded hash has: its marks and the digits of its version, which are two
 /// in both versions, so that no length depends on it.
@@ -23,6 +24,7 @@ fn characters(len: u64) -> u64
 
 /// The length of the unpadded base64 (RFC 4648) of `len` bytes. It is in 64 bits, since four times
 /// a length may not fit 32.
+#[tactic(auto, using(crate::proofs::Writing::TextLengths::lengths))]
 pub fn base64_len(len: u32) -> u64
     ensures value { result ≡ unpadded_len len }
     ensures exact { (bytes : List ℕ) → length bytes ≡ len → result ≡ length (base64 bytes) }
@@ -34,13 +36,8 @@ pub fn base64_len(len: u32) -> u64
 pub fn num_len(number: u32) -> u32
     ensures { result ≡ length (decimal number) }
 {
-    let mut len = 1;
-    let mut rest = number;
-    while rest >= 10 {
-        len += 1;
-        rest /= 10;
-    }
-    len
+    let mut digits = Buffer::new();
+    digits.format(number).len() as u32
 }
 
 /// The length of the encoded hash that `encode_string` writes for a salt and a hash of these
@@ -77,6 +74,7 @@ pub fn encoded_len(
 }
 
 /// The length of an encoded hash whose tag may be longer than any that the settings table accepts.
+#[tactic(auto, using(crate::proofs::Writing::TextLengths::lengths))]
 pub fn text_len(
     variant: Variant,
     mem_cost: u32,

@@ -43,6 +43,7 @@ fn tail_faults(tail: &[u8]) -> u32
 
 /// How many bytes an unpadded base64 string encodes. It decodes none, so that lengths can be
 /// checked before memory is allocated.
+#[tactic(auto, using(crate::proofs::Writing::TextLengths::lengths))]
 pub fn item_len(text: &str) -> u64
     ensures value { result ≡ 3 * length text.now / 4 }
     ensures exact { (bytes : List ℕ) → IsItem text.now bytes → result ≡ length bytes }
@@ -85,7 +86,8 @@ pub fn bits(letter: u8) -> u32
 
 /// 0 for a base64 character, and 1 for any other byte.
 fn fault(letter: u8) -> u32
-    ensures { result ≡ fault_of letter }
+    ensures value { result ≡ fault_of letter }
+    ensures few { result ≤ 1 }
 {
     let letter = u32::from(letter);
     // In a range of characters, one more has begun than lies behind.
@@ -101,6 +103,7 @@ fn fault(letter: u8) -> u32
 }
 
 /// How many of four characters are not base64, gathered to the end.
+#[tactic(auto, using(crate::proofs::Letters::LetterSums::group_faults))]
 fn group_faults(group: &[u8]) -> u32
     requires { length group.now ≡ 4 }
     ensures value { result ≡ faults_of group.now }

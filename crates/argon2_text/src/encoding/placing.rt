@@ -3,6 +3,8 @@
 ghost use Rattle.std.specs.Prelude.{◌≡◌, ◌+◌, ◌++◌, ◌≤◌, length, take};
 ghost use Rattle.std.specs.Fmt.{decimal};
 
+use itoa::Buffer;
+
 /// Puts bytes behind the first `at` of a buffer. Returns where they end.
 pub fn put(out: &mut [u8], at: usize, bytes: &[u8]) -> usize
     requires { at + length bytes.now ≤ length out.old }
@@ -22,10 +24,6 @@ pub fn put_number(out: &mut [u8], at: usize, number: u32) -> usize
     ensures front { take result out.new ≡ take at out.old ++ decimal number }
     ensures len { length out.new ≡ length out.old }
 {
-    let digit = [b'0' + (number % 10) as u8];
-    if number < 10 {
-        return put(out, at, &digit);
-    }
-    let behind = put_number(out, at, number / 10);
-    put(out, behind, &digit)
+    let mut digits = Buffer::new();
+    put(out, at, digits.format(number).as_bytes())
 }

@@ -104,7 +104,7 @@ fn head_of(text: &str) -> Option<Head<'_>>
 
 /// The pieces of a string, if it has all of them but the version. The hash is all that is left: no
 /// byte of it is looked at here.
-#[tactic(auto)]
+#[tactic(auto, unfolding(crate::specs::Views::Cutting::pieces_of))]
 fn pieces_of(text: &str) -> Option<Pieces<'_>>
     ensures { option_map pieces_view result ≡ pieces_of text.now }
 {
@@ -126,7 +126,7 @@ fn pieces_of(text: &str) -> Option<Pieces<'_>>
 }
 
 /// Behind `front`, the piece up to the first `mark`, and what is after the mark.
-#[tactic(auto)]
+#[tactic(auto, unfolding(crate::specs::Views::Cutting::piece))]
 fn piece<'a>(text: &'a str, front: &str, mark: u8) -> Option<(&'a str, &'a str)>
     requires { mark < 128 }
     ensures { option_map two_texts result ≡ piece front.now mark text.now }
@@ -135,7 +135,7 @@ fn piece<'a>(text: &'a str, front: &str, mark: u8) -> Option<(&'a str, &'a str)>
 }
 
 /// The version up to its `$`, if the string begins with one, and what is after it.
-#[tactic(auto)]
+#[tactic(auto, unfolding(crate::specs::Views::Cutting::version_piece))]
 fn version_piece(text: &str) -> Option<(Option<&str>, &str)>
     ensures { option_map version_and_rest result ≡ version_piece text.now }
 {
@@ -147,6 +147,7 @@ fn version_piece(text: &str) -> Option<(Option<&str>, &str)>
 }
 
 /// What is after `front`: `strip_prefix`, apart so that other proofs go by the definition's words.
+#[tactic(auto, using(crate::proofs::Reading::TextCuts::strip_gives))]
 fn strip<'a>(text: &'a str, front: &str) -> Option<&'a str>
     ensures { option_map (λ x. x.now) result ≡ strip front.now text.now }
 {
@@ -194,6 +195,7 @@ fn version_of(piece: Option<&str>) -> Option<Version>
 
 /// The number that a piece names: a plus or nothing, and decimal digits. It is apart, so that other
 /// proofs go by the grammar's words and not by those of `parse`.
+#[tactic(auto, using(crate::proofs::Reading::TextNumbers::number_gives))]
 fn number(text: &str) -> Option<u32>
     ensures { MatchOption result (IsNoNumber text.now) (IsNumber text.now) }
 {

@@ -29,8 +29,9 @@ returns-clause-spelled g c d spells =
     let same = accepted_value _ (λ x. spelled_by x ≡ d) c.in_ok-stored.stored (c.in_ok-stored.ensures.spelled d config spells stored) in
     let is = c.stored_context-context.ensures in
     let verdict = rw (is.pwd, is.salt, is.config, c.deref.ensures.value) at c.is_tag.ensures.answer in
-    stored_verdict c.in_ok-stored.stored d c.args.pwd.now c.args.secret.now c.args.ad.now c.config_of-config.result config c.is_tag.result same
-    c.config_of-config.ensures stored verdict
+    let flag = stored_workers c.in_ok-stored.stored c.args.secret.now c.args.ad.now c.config_of-config.result c.config_of-config.ensures in
+    stored_verdict (spelled_by c.in_ok-stored.stored) d c.args.pwd.now c.args.secret.now c.args.ad.now c.config_of-config.result config
+    (λ v. nat_lt 1 v.parallelism) c.is_tag.result same c.config_of-config.ensures stored (rw flag at verdict)
 
 pub returns-clause-memory : goal.returns-clause-memory
 returns-clause-memory g c d spells =

@@ -4,7 +4,7 @@ use Rattle.argon2_standard.specs.Standard.Decoded.{decoded_config}
 use Rattle.argon2_standard.specs.declared.config.Config.{Config}
 use Rattle.argon2_text.specs.Views.Texts.{spelled_by}
 use Rattle.argon2.proofs.Verification.Memories.{stored_leaves}
-use Rattle.argon2.proofs.Verification.StoredTexts.{accepted_value, is_stored, own_length, stored_accepted, stored_verdict_alone}
+use Rattle.argon2.proofs.Verification.StoredTexts.{accepted_value, is_stored, own_length, stored_accepted, stored_verdict}
 use Rattle.argon2.proofs.verifying.texts.verify_encoded_in_sequential.Goals as goal
 
 pub stored_context-context-requires : goal.stored_context-context-requires
@@ -28,8 +28,8 @@ returns-clause-spelled c d spells =
     let same = accepted_value _ (λ x. spelled_by x ≡ d) c.in_ok-stored.stored (c.in_ok-stored.ensures.spelled d config spells stored) in
     let is = c.stored_context-context.ensures in
     let verdict = rw (is.pwd, is.salt, is.config, c.deref.ensures.value) at c.is_tag_sequential.ensures.answer in
-    stored_verdict_alone c.in_ok-stored.stored d c.args.pwd.now c.args.secret.now c.args.ad.now c.config_of-config.result config c.is_tag_sequential.result same
-    c.config_of-config.ensures stored verdict
+    stored_verdict (spelled_by c.in_ok-stored.stored) d c.args.pwd.now c.args.secret.now c.args.ad.now c.config_of-config.result config (λ v. false)
+    c.is_tag_sequential.result same c.config_of-config.ensures stored verdict
 
 pub returns-clause-memory : goal.returns-clause-memory
 returns-clause-memory c d spells =

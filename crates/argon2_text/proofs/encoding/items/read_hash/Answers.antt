@@ -1,4 +1,4 @@
-use Rattle.std.proofs.Common.{◌≡◌, ◌++◌, take-append-drop, arith, sym, ap, ◌∙◌}
+use Rattle.std.proofs.Common.{arith, ◌∙◌}
 use Rattle.base64.specs.GeneralPurpose.{IsBytes}
 use Rattle.argon2_text.specs.Views.Letters.{bytes_read}
 use Rattle.argon2_text.proofs.Letters.LetterSums.{item_read, read_behind}
@@ -7,14 +7,9 @@ use Rattle.argon2_text.proofs.encoding.items.read_hash.Goals as goal
 
 pub loop-rest-preserved : goal.loop-rest-preserved
 loop-rest-preserved c =
-    let group = c.split_at.result.0.now in
-    let behind = c.split_at.result.1.now in
-    let whole : group ++ behind ≡ c.loop-rest.rest.now = rw (c.split_at.ensures.front, c.split_at.ensures.back) (take-append-drop 4 c.loop-rest.rest.now) in
-    let parts : bytes_read c.loop-rest.rest.now ≡ bytes_read group ++ bytes_read behind =
-    ap bytes_read (sym whole) ∙ read_behind group behind c.split_at.ensures.front_len in
     record {
-      all = put_ahead _ _ _ (bytes_read group) (bytes_read behind) (bytes_read c.loop-rest.rest.now) c.put-at.result c.put-at.ensures.front c.three_bytes.ensures parts
-          ∙ c.loop-rest.invariant.all;
+      all = put_ahead bytes_read _ _ _ _ _ _ 4 _ c.put-at.ensures.front c.three_bytes.ensures c.split_at.ensures.front c.split_at.ensures.back
+          (read_behind c.split_at.result.0.now c.split_at.result.1.now c.split_at.ensures.front_len) ∙ c.loop-rest.invariant.all;
       room = omega (arith, c.put-at.ensures.end, c.put-at.ensures.len, c.loop-rest.invariant.room, c.split_at.ensures.back_len);
     }
 

@@ -1,15 +1,20 @@
-use Rattle.std.proofs.Common.{arith}
-use Rattle.argon2_text.proofs.Letters.LetterSums.{faults_of_one, faults_of_three, faults_of_two, no_faults}
+use Rattle.std.proofs.Common.{ap, arith, sym}
+use Rattle.argon2_text.specs.Views.Letters.{faults_of}
+use Rattle.argon2_text.proofs.Letters.LetterSums.{placed}
 use Rattle.argon2_text.proofs.encoding.letters.tail_faults.Goals as goal
 
 pub returns-in-empty : goal.returns-in-empty
-returns-in-empty c = no_faults c.args.tail.now c.in-empty.len_below
+unfolding faults_of
+returns-in-empty c = sym (ap faults_of (placed c.args.tail.now 0 (omega arith)))
 
 pub returns-in-len1 : goal.returns-in-len1
-returns-in-len1 c = faults_of_one c.args.tail.now c.in-len1.len_at_least c.in-len1.len_below
+unfolding faults_of
+returns-in-len1 c = sym (ap faults_of (placed c.args.tail.now 1 (omega arith)))
 
 pub returns-in-len2 : goal.returns-in-len2
-returns-in-len2 c = omega (arith, faults_of_two c.args.tail.now c.in-len2.len_at_least c.in-len2.len_below)
+unfolding faults_of
+returns-in-len2 c = omega (arith, ap faults_of (placed c.args.tail.now 2 (omega arith)))
 
 pub returns-in-len3-up : goal.returns-in-len3-up
-returns-in-len3-up c = omega (arith, faults_of_three c.args.tail.now c.in-len3-up.len_at_least c.requires)
+unfolding faults_of
+returns-in-len3-up c = omega (arith, ap faults_of (placed c.args.tail.now 3 (omega arith)))

@@ -18,12 +18,6 @@ returns-in_err-at c =
     let whole : c.as_bytes.result.now ≡ text = c.as_bytes.ensures.value in
     rw c.from_residual.ensures (sym (cut_none c.args.mark text (Lacks-from_places c.args.mark text (rw whole at c.in_err-at.ensures))))
 
-pub split_at-requires : goal.split_at-requires
-split_at-requires c =
-    let found = rw c.as_bytes.ensures.value at c.in_ok-at.ensures in
-    let is : get_or c.args.text.now c.in_ok-at.at 0 ≡ c.args.mark = found.1 in
-    IsCharBoundary-before_ascii c.args.text.now c.in_ok-at.at found.0 (omega (arith, is, c.requires))
-
 pub range_from-requires : goal.range_from-requires
 range_from-requires c =
     let found = rw c.as_bytes.ensures.value at c.in_ok-at.ensures in

@@ -1,11 +1,8 @@
 -- Where no salt or no hash stands behind the head, the string decodes to nothing.
-use Rattle.argon2_text.proofs.Reading.TextHeads.{hashless, headless, saltless, spelling_at}
+use Rattle.argon2_text.proofs.Reading.TextHeads.{hashless, saltless, spelling_at}
 use Rattle.argon2_text.proofs.Reading.TextItems.{no_item}
 use Rattle.argon2_text.proofs.encoding.reading.spelling_of.Goals as goal
 use Rattle.argon2_text.proofs.encoding.reading.spelling_of.Goals.{else-is_item-via-then-is_item+else-is_item-2, else-is_item-via-else-is_item}
-
-pub returns-in_err-head : goal.returns-in_err-head
-returns-in_err-head c = rw c.from_residual.ensures (headless c.args.text.now c.in_err-head.ensures)
 
 pub returns-then-is_item-2 : goal.returns-then-is_item-2
 returns-then-is_item-2 c =
