@@ -1,4 +1,4 @@
-//! Laws of the definitions that contracts cite.
+//! Theorems on the definitions that contracts cite.
 
 ghost use Rattle.argon2_blocks.specs.Laws.KnownAnswers.{CompressesOneBit, CompressesZeros, HashesAbc, HashesNothing, HashesTo100Bytes, HashesTo16Bytes, HashesTwoBlocks};
 

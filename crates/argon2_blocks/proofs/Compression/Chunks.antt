@@ -1,6 +1,7 @@
 -- A block as sixteen vectors.
 use Rattle.std.proofs.Common.{◌≡◌, ℕ, zero, suc, ◌<◌, ◌≤◌, ◌+◌, ◌*◌, List, [], ◌∷◌, ◌++◌, length, take, drop, refl, ap, arith, sym, ◌∙◌, bit_xor, length-append}
-use Rattle.std.proofs.Math.Seq.{drop-append-add, take-append_seam}
+use Rattle.std.proofs.Math.Seq.{drop-append-add}
+use Rattle.std.proofs.lemmas.List.{take_at}
 use Rattle.std.specs.Prelude.{slice_index_or}
 use Rattle.std.specs.Simd.Lanes.{zip2, Each1, chunk, put_chunk}
 use Rattle.argon2_blocks.specs.Standard.Block.{xor}
@@ -50,10 +51,6 @@ length_xor (x ∷ xs) (y ∷ ys) e = ap suc (length_xor xs ys (omega arith))
 abbrev pub Long : List ℕ → Type 0
 Long a = length a ≡ 8
 
--- the first n words of two joined lists, the first of them of n words, are the first list
-pub take_front : (xs ys : List ℕ) (n : ℕ) → length xs ≡ n → take n (xs ++ ys) ≡ xs
-take_front xs ys n e = ap (λ k. take k (xs ++ ys)) (sym e) ∙ take-append_seam xs ys
-
 -- behind n + m words of two joined lists, the first of n, is the second without its first m words
 pub drop_front : (xs ys : List ℕ) (n m k : ℕ) → length xs ≡ n → k ≡ n + m → drop k (xs ++ ys) ≡ drop m ys
 drop_front xs ys n m k e f = ap (λ k. drop k (xs ++ ys)) (f ∙ ap (λ n. n + m) (sym e)) ∙ drop-append-add xs ys m
@@ -61,7 +58,7 @@ drop_front xs ys n m k e f = ap (λ k. drop k (xs ++ ys)) (f ∙ ap (λ n. n + m
 -- of vectors of eight words each, joined, the eight words from place 8 * k on are vector k
 pub vector_at : (v : List (List ℕ)) (k : ℕ) → Each1 Long v → k < length v → slice_index_or v k [] ≡ chunk (8 * k) 8 (vector_words v)
 vector_at [] k e h = absurd (omega arith)
-vector_at (x ∷ v) zero e h = sym (take_front x (vector_words v) 8 e.0)
+vector_at (x ∷ v) zero e h = sym (take_at x (vector_words v) 8 e.0)
 vector_at (x ∷ v) (suc k) e h =
     vector_at v k e.1 (omega arith)
     ∙ sym (ap (λ l. take 8 l) (drop_front x (vector_words v) 8 (8 * k) (8 * suc k) e.0 (omega arith)))

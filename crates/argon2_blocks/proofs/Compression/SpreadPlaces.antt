@@ -2,11 +2,11 @@
 use Rattle.std.proofs.Common.{◌≡◌, ℕ, ◌<◌, ◌+◌, List, [], ◌∷◌, ◌++◌, length, refl, arith, sym}
 use Rattle.std.specs.List.{range_with_len}
 use Rattle.std.specs.Simd.Lanes.{Each1, pick_l}
-use Rattle.std.proofs.lemmas.Simd.{Each1-get_or}
+use Rattle.std.proofs.lemmas.Simd.{Each1-from_get_or, Each1-get_or}
 use Rattle.argon2_blocks.specs.Views.Lane.{column, vector_pair}
 use Rattle.argon2_blocks.specs.Views.Spread.{four_and_four, high_halves, low_halves, nth_vector, spread_row}
 use Rattle.argon2_blocks.proofs.Compression.Chunks.{Long}
-use Rattle.argon2_blocks.proofs.Compression.Places.{each_of_4, each_of_8, two_eights}
+use Rattle.argon2_blocks.proofs.Compression.Places.{each_of_4, each_of_8, each_of_16, two_eights}
 
 -- ---- from vectors to rows, from rows to columns, and back to vectors
 
@@ -77,60 +77,19 @@ rows_joined u v lu lv eu ev j h =
 pub halves_long : (u v : List (List ℕ)) → length u ≡ 8 → length v ≡ 8 → Each1 Long u → Each1 Long v → Each1 Long (halves_joined u v)
 halves_long u v lu lv eu ev =
     let a = λ (k : ℕ) (h : k < 8). Each1-get_or Long u k [] (omega arith) eu in
-    let b = λ (k : ℕ) (h : k < 8). Each1-get_or Long v k [] (omega arith) ev in (
-      a 0 (omega arith),
-      (
-        b 0 (omega arith),
-        (
-          a 1 (omega arith),
-          (
-            b 1 (omega arith),
-            (
-              a 2 (omega arith),
-              (
-                b 2 (omega arith),
-                (
-                  a 3 (omega arith),
-                  (
-                    b 3 (omega arith),
-                    (
-                      a 4 (omega arith),
-                      (
-                        b 4 (omega arith),
-                        (
-                          a 5 (omega arith),
-                          (
-                            b 5 (omega arith),
-                            (
-                              a 6 (omega arith),
-                              (
-                                b 6 (omega arith),
-                                (
-                                  a 7
-                                      (omega arith),
-                                  (b 7 (omega arith), tt),
-                                ),
-                              ),
-                            ),
-                          ),
-                        ),
-                      ),
-                    ),
-                  ),
-                ),
-              ),
-            ),
-          ),
-        ),
-      ),
-    )
+    let b = λ (k : ℕ) (h : k < 8). Each1-get_or Long v k [] (omega arith) ev in
+    Each1-from_get_or Long (halves_joined u v) []
+    (each_of_16 (λ k. Long (nth_vector (halves_joined u v) k))
+    (a 0 (omega arith)) (b 0 (omega arith)) (a 1 (omega arith)) (b 1 (omega arith)) (a 2 (omega arith)) (b 2 (omega arith))
+    (a 3 (omega arith)) (b 3 (omega arith)) (a 4 (omega arith)) (b 4 (omega arith)) (a 5 (omega arith)) (b 5 (omega arith))
+    (a 6 (omega arith)) (b 6 (omega arith)) (a 7 (omega arith)) (b 7 (omega arith)))
 
 -- ---- eight rows, or columns, four by four
 
 -- eight lists are those of q if the first four and the last four are
-pub told_by_fours : (f g q : ℕ → List ℕ) → ((k : ℕ) → k < 4 → f k ≡ q k) → ((k : ℕ) → k < 4 → g k ≡ q (k + 4)) →
+pub eight_by_fours : (f g q : ℕ → List ℕ) → ((k : ℕ) → k < 4 → f k ≡ q k) → ((k : ℕ) → k < 4 → g k ≡ q (k + 4)) →
     (k : ℕ) → k < 8 → four_and_four f g k ≡ q k
-told_by_fours f g q ef eg k h =
+eight_by_fours f g q ef eg k h =
     each_of_8 (λ k. four_and_four f g k ≡ q k)
     (ef 0 (omega arith)) (ef 1 (omega arith)) (ef 2 (omega arith)) (ef 3 (omega arith))
     (eg 0 (omega arith)) (eg 1 (omega arith)) (eg 2 (omega arith)) (eg 3 (omega arith)) k h

@@ -10,15 +10,14 @@ use Rattle.argon2_blocks.proofs.Compression.Chunks.{Long, chunk_xor, length_xor,
 
 -- ---- vectors that are made one by one
 
+-- the eight words that a part of n words begins with, which is read from a block
+pub part_read : (k n : ℕ) (w : List ℕ) → n ≡ 8 → take 8 (take n (drop (8 * k) w)) ≡ chunk (8 * k) 8 w
+part_read k n w hn = ap (λ q. take 8 (take q (drop (8 * k) w))) hn ∙ take-take 8 8 (drop (8 * k) w) (omega arith)
+
 -- the exclusive or of two parts of eight words that are read from two blocks
 pub chunk_made : (x y r : List ℕ) (k n m : ℕ) → n ≡ 8 → m ≡ 8 →
     r ≡ zip2 bit_xor (take 8 (take n (drop (8 * k) x))) (take 8 (take m (drop (8 * k) y))) → r ≡ chunk (8 * k) 8 (xor x y)
-chunk_made x y r k n m hn hm e =
-    let a : take 8 (take n (drop (8 * k) x)) ≡ chunk (8 * k) 8 x = ap (λ q. take 8 (take q (drop (8 * k) x))) hn
-    ∙ take-take 8 8 (drop (8 * k) x) (omega arith) in
-    let b : take 8 (take m (drop (8 * k) y)) ≡ chunk (8 * k) 8 y = ap (λ q. take 8 (take q (drop (8 * k) y))) hm
-    ∙ take-take 8 8 (drop (8 * k) y) (omega arith) in
-    rw (e, a, b) (sym (chunk_xor (8 * k) 8 x y))
+chunk_made x y r k n m hn hm e = rw (e, part_read k n x hn, part_read k m y hm) (sym (chunk_xor (8 * k) 8 x y))
 
 -- vectors that are the parts of w from the i-th on, joined
 chunks_joined : (v : List (List ℕ)) (i : ℕ) (w : List ℕ) → length w ≡ 8 * (i + length v) →
@@ -73,7 +72,7 @@ put_step k t o w u lt lo h e f = rw (e, f) (put_next (8 * k) 8 (8 * suc k) t o (
 put_done : (t o : List ℕ) → length t ≡ 128 → length o ≡ 128 → take 128 t ++ drop 128 o ≡ t
 put_done t o lt lo = rw (take_all 128 t (omega arith), drop_all 128 o (omega arith), append-nil) refl
 
--- eight words that are put into a part of n words, which is lent for the write
+-- eight words that are put into a part of n words, which is borrowed for the write
 pub put_part : (k n : ℕ) (w u : List ℕ) → n ≡ 8 → length w ≡ 128 → k < 16 → length u ≡ 8 →
     take (8 * k) w ++ (put_chunk zero (take n (drop (8 * k) w)) u ++ drop n (drop (8 * k) w)) ≡ put_chunk (8 * k) w u
 put_part k n w u hn lw h lu =
@@ -88,10 +87,6 @@ put_part k n w u hn lw h lu =
 -- the XOR of two vectors has eight words
 pub long_sum : (x y r : List ℕ) → r ≡ zip2 bit_xor x y → length x ≡ 8 → length y ≡ 8 → length r ≡ 8
 long_sum x y r e lx ly = ap length e ∙ (length-zip2 bit_xor x y (omega arith) ∙ lx)
-
--- the eight words that a part of n words begins with, which is read from a block
-pub part_read : (k n : ℕ) (w : List ℕ) → n ≡ 8 → take 8 (take n (drop (8 * k) w)) ≡ chunk (8 * k) 8 w
-part_read k n w hn = ap (λ q. take 8 (take q (drop (8 * k) w))) hn ∙ take-take 8 8 (drop (8 * k) w) (omega arith)
 
 -- o once the XORs of the first k vectors of two blocks were put
 abbrev puts : ℕ → List (List ℕ) → List (List ℕ) → List ℕ → List ℕ

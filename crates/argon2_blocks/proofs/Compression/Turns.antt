@@ -21,61 +21,36 @@ by_shifts bits (suc n) (x ∷ xs) some lt l =
 
 -- ---- a turn as a sum
 
+-- x rotated by r bits of 64, which are m fewer: the lower bits go up, and the others come down
+turn : (r m x low : ℕ) → x * 2 ^ m % 2 ^ 64 ≡ low * 2 ^ m → x / 2 ^ r < 2 ^ m →
+    bit_or (x / 2 ^ r) (x * 2 ^ m % 2 ^ 64) ≡ low * 2 ^ m + x / 2 ^ r
+turn r m x low up fits = ap (λ v. bit_or (x / 2 ^ r) v) up ∙ or_shifted_r low m (x / 2 ^ r) fits
+
 turn32 : (x : ℕ) → x < 2 ^ 64 → rotate_right w64 x 32 ≡ (x % 2 ^ 32) * 2 ^ 32 + x / 2 ^ 32
-turn32 x h =
-    let up : x * 2 ^ 32 % 2 ^ 64 ≡ (x % 2 ^ 32) * 2 ^ 32 = omega arith in
-    ap (λ v. bit_or (x / 2 ^ 32) v) up ∙ or_shifted_r (x % 2 ^ 32) 32 (x / 2 ^ 32) (omega arith)
-
-turn24 : (x : ℕ) → x < 2 ^ 64 → rotate_right w64 x 24 ≡ (x % 2 ^ 24) * 2 ^ 40 + x / 2 ^ 24
-turn24 x h =
-    let up : x * 2 ^ 40 % 2 ^ 64 ≡ (x % 2 ^ 24) * 2 ^ 40 = omega arith in
-    ap (λ v. bit_or (x / 2 ^ 24) v) up ∙ or_shifted_r (x % 2 ^ 24) 40 (x / 2 ^ 24) (omega arith)
-
-turn16 : (x : ℕ) → x < 2 ^ 64 → rotate_right w64 x 16 ≡ (x % 2 ^ 16) * 2 ^ 48 + x / 2 ^ 16
-turn16 x h =
-    let up : x * 2 ^ 48 % 2 ^ 64 ≡ (x % 2 ^ 16) * 2 ^ 48 = omega arith in
-    ap (λ v. bit_or (x / 2 ^ 16) v) up ∙ or_shifted_r (x % 2 ^ 16) 48 (x / 2 ^ 16) (omega arith)
-
-turn56 : (x : ℕ) → x < 2 ^ 64 → rotate_right w64 x 56 ≡ (x % 2 ^ 56) * 2 ^ 8 + x / 2 ^ 56
-turn56 x h =
-    let up : x * 2 ^ 8 % 2 ^ 64 ≡ (x % 2 ^ 56) * 2 ^ 8 = omega arith in
-    ap (λ v. bit_or (x / 2 ^ 56) v) up ∙ or_shifted_r (x % 2 ^ 56) 8 (x / 2 ^ 56) (omega arith)
-
-turn48 : (x : ℕ) → x < 2 ^ 64 → rotate_right w64 x 48 ≡ (x % 2 ^ 48) * 2 ^ 16 + x / 2 ^ 48
-turn48 x h =
-    let up : x * 2 ^ 16 % 2 ^ 64 ≡ (x % 2 ^ 48) * 2 ^ 16 = omega arith in
-    ap (λ v. bit_or (x / 2 ^ 48) v) up ∙ or_shifted_r (x % 2 ^ 48) 16 (x / 2 ^ 48) (omega arith)
-
--- ---- two turns
-
--- where two functions one after the other are a third on words of 64 bits, they are so on a vector, lane by lane
-in_two : (f g t : ℕ → ℕ) → ((x : ℕ) → x < 2 ^ 64 → f (g x) ≡ t x) → (xs : List ℕ) → Each1 (λ a. a < 2 ^ 64) xs → map f (map g xs) ≡ map t xs
-in_two f g t e [] h = refl
-in_two f g t e (x ∷ xs) h = cons_same _ _ _ _ (e x h.0) (in_two f g t e xs h.1)
+turn32 x h = turn 32 32 x (x % 2 ^ 32) (omega arith) (omega arith)
 
 -- a turn by 32 bits and one by 56 are one by 24
-turns24 : (x : ℕ) → x < 2 ^ 64 → rotate_right w64 (rotate_right w64 x 32) 56 ≡ rotate_right w64 x 24
+pub turns24 : (x : ℕ) → x < 2 ^ 64 → rotate_right w64 (rotate_right w64 x 32) 56 ≡ rotate_right w64 x 24
 turns24 x h =
     let y = (x % 2 ^ 32) * 2 ^ 32 + x / 2 ^ 32 in
     let e : (y % 2 ^ 56) * 2 ^ 8 + y / 2 ^ 56 ≡ (x % 2 ^ 24) * 2 ^ 40 + x / 2 ^ 24 = omega arith in
-    ap (λ v. rotate_right w64 v 56) (turn32 x h) ∙ (turn56 y (omega arith) ∙ (e ∙ sym (turn24 x h)))
+    ap (λ v. rotate_right w64 v 56) (turn32 x h)
+    ∙ (turn 56 8 y (y % 2 ^ 56) (omega arith) (omega arith) ∙ (e ∙ sym (turn 24 40 x (x % 2 ^ 24) (omega arith) (omega arith))))
 
 -- a turn by 32 bits and one by 48 are one by 16
-turns16 : (x : ℕ) → x < 2 ^ 64 → rotate_right w64 (rotate_right w64 x 32) 48 ≡ rotate_right w64 x 16
+pub turns16 : (x : ℕ) → x < 2 ^ 64 → rotate_right w64 (rotate_right w64 x 32) 48 ≡ rotate_right w64 x 16
 turns16 x h =
     let y = (x % 2 ^ 32) * 2 ^ 32 + x / 2 ^ 32 in
     let e : (y % 2 ^ 48) * 2 ^ 16 + y / 2 ^ 48 ≡ (x % 2 ^ 16) * 2 ^ 48 + x / 2 ^ 16 = omega arith in
-    ap (λ v. rotate_right w64 v 48) (turn32 x h) ∙ (turn48 y (omega arith) ∙ (e ∙ sym (turn16 x h)))
+    ap (λ v. rotate_right w64 v 48) (turn32 x h)
+    ∙ (turn 48 16 y (y % 2 ^ 48) (omega arith) (omega arith) ∙ (e ∙ sym (turn 16 48 x (x % 2 ^ 16) (omega arith) (omega arith))))
 
-pub by24 : (xs ys zs : List ℕ) → Each1 (λ a. a < 2 ^ 64) xs → ys ≡ map (λ x. rotate_right w64 x 32) xs → zs ≡ map (λ x. rotate_right w64 x 56) ys → zs ≡ map (λ x. rotate_right w64 x 24) xs
-by24 xs ys zs h e f =
-    f ∙ (ap (λ l. map (λ x. rotate_right w64 x 56) l) e
-    ∙ in_two (λ x. rotate_right w64 x 56) (λ x. rotate_right w64 x 32) (λ x. rotate_right w64 x 24) turns24 xs h)
-
-pub by16 : (xs ys zs : List ℕ) → Each1 (λ a. a < 2 ^ 64) xs → ys ≡ map (λ x. rotate_right w64 x 32) xs → zs ≡ map (λ x. rotate_right w64 x 48) ys → zs ≡ map (λ x. rotate_right w64 x 16) xs
-by16 xs ys zs h e f =
-    f ∙ (ap (λ l. map (λ x. rotate_right w64 x 48) l) e
-    ∙ in_two (λ x. rotate_right w64 x 48) (λ x. rotate_right w64 x 32) (λ x. rotate_right w64 x 16) turns16 xs h)
+-- where a turn by 32 bits and a next one are one turn of a word, they are so lane by lane
+pub by_two : (next all : ℕ) → ((x : ℕ) → x < 2 ^ 64 → rotate_right w64 (rotate_right w64 x 32) next ≡ rotate_right w64 x all) →
+    (xs ys zs : List ℕ) → Each1 (λ a. a < 2 ^ 64) xs → ys ≡ map (λ x. rotate_right w64 x 32) xs →
+    zs ≡ map (λ x. rotate_right w64 x next) ys → zs ≡ map (λ x. rotate_right w64 x all) xs
+by_two next all e [] ys zs h a b = rw (b, a) refl
+by_two next all e (x ∷ xs) ys zs h a b = rw (b, a) (cons_same _ _ _ _ (e x h.0) (by_two next all e xs _ _ h.1 refl refl))
 
 -- ---- halves that change places
 
@@ -98,52 +73,36 @@ abbrev twos : ℕ → ℕ
 twos zero = zero
 twos (suc n) = suc (suc (twos n))
 
--- the number that n words make fits their bits
-words_fit : (n : ℕ) (xs : List ℕ) → length xs ≡ n → Each1 (λ a. a < 2 ^ 64) xs → number_l (2 ^ 64) xs < (2 ^ 64) ^ n
-words_fit zero [] l h = omega arith
-words_fit (suc n) [] l h = absurd (omega arith)
-words_fit zero (x ∷ xs) l h = absurd (omega arith)
-words_fit (suc n) (x ∷ xs) l h =
-    let p : (2 ^ 64) ^ suc n ≡ 2 ^ 64 * (2 ^ 64) ^ n = pow-succ' (2 ^ 64) n in
-    let r = words_fit n xs (omega arith) h.1 in
-    let s : x < 2 ^ 64 = h.0 in
-    omega arith
-
--- so does the number that their swapped halves make
-swapped_fit : (n : ℕ) (xs : List ℕ) → length xs ≡ n → Each1 (λ a. a < 2 ^ 64) xs → number_l (2 ^ 32) (flat_map swapped xs) < (2 ^ 64) ^ n
-swapped_fit zero [] l h = omega arith
-swapped_fit (suc n) [] l h = absurd (omega arith)
-swapped_fit zero (x ∷ xs) l h = absurd (omega arith)
-swapped_fit (suc n) (x ∷ xs) l h =
-    let p : (2 ^ 64) ^ suc n ≡ 2 ^ 64 * (2 ^ 64) ^ n = pow-succ' (2 ^ 64) n in
-    let r = swapped_fit n xs (omega arith) h.1 in
-    let s : x < 2 ^ 64 = h.0 in
+-- a number that each word of 64 bits makes 2 ^ 64 times as large fits the bits of the words
+fits_words : (f : List ℕ → ℕ) → f [] ≡ 0 → ((x : ℕ) (xs : List ℕ) → x < 2 ^ 64 → f (x ∷ xs) < 2 ^ 64 + 2 ^ 64 * f xs) →
+    (xs : List ℕ) → Each1 (λ a. a < 2 ^ 64) xs → f xs < (2 ^ 64) ^ length xs
+fits_words f none more [] h = rw none (omega arith)
+fits_words f none more (x ∷ xs) h =
+    let p : (2 ^ 64) ^ length (x ∷ xs) ≡ 2 ^ 64 * (2 ^ 64) ^ length xs = pow-succ' (2 ^ 64) (length xs) in
+    let r = fits_words f none more xs h.1 in
+    let s = more x xs h.0 in
     omega arith
 
 -- the halves of the number that words make are those of the words, one after another
-halves_n : (n : ℕ) (xs : List ℕ) → length xs ≡ n → Each1 (λ a. a < 2 ^ 64) xs → digits_l (2 ^ 32) (twos n) (number_l (2 ^ 64) xs) ≡ flat_map halves xs
-halves_n zero [] l h = refl
-halves_n (suc n) [] l h = absurd (omega arith)
-halves_n zero (x ∷ xs) l h = absurd (omega arith)
-halves_n (suc n) (x ∷ xs) l h =
+halves_n : (xs : List ℕ) → Each1 (λ a. a < 2 ^ 64) xs → digits_l (2 ^ 32) (twos (length xs)) (number_l (2 ^ 64) xs) ≡ flat_map halves xs
+halves_n [] h = refl
+halves_n (x ∷ xs) h =
     let m = number_l (2 ^ 64) xs in
     let s : x < 2 ^ 64 = h.0 in
     let low : (x + 2 ^ 64 * m) % 2 ^ 32 ≡ x % 2 ^ 32 = omega arith in
     let high : (x + 2 ^ 64 * m) / 2 ^ 32 % 2 ^ 32 ≡ x / 2 ^ 32 = omega arith in
     let rest : (x + 2 ^ 64 * m) / 2 ^ 32 / 2 ^ 32 ≡ m = omega arith in
-    cons_same _ _ _ _ low (cons_same _ _ _ _ high (ap (λ v. digits_l (2 ^ 32) (twos n) v) rest ∙ halves_n n xs (omega arith) h.1))
+    cons_same _ _ _ _ low (cons_same _ _ _ _ high (ap (λ v. digits_l (2 ^ 32) (twos (length xs)) v) rest ∙ halves_n xs h.1))
 
 -- the words of the number that swapped halves make are the words turned by 32 bits
-turned_n : (n : ℕ) (xs : List ℕ) → length xs ≡ n → Each1 (λ a. a < 2 ^ 64) xs → digits_l (2 ^ 64) n (number_l (2 ^ 32) (flat_map swapped xs)) ≡ map (λ x. rotate_right w64 x 32) xs
-turned_n zero [] l h = refl
-turned_n (suc n) [] l h = absurd (omega arith)
-turned_n zero (x ∷ xs) l h = absurd (omega arith)
-turned_n (suc n) (x ∷ xs) l h =
+turned_n : (xs : List ℕ) → Each1 (λ a. a < 2 ^ 64) xs → digits_l (2 ^ 64) (length xs) (number_l (2 ^ 32) (flat_map swapped xs)) ≡ map (λ x. rotate_right w64 x 32) xs
+turned_n [] h = refl
+turned_n (x ∷ xs) h =
     let m = number_l (2 ^ 32) (flat_map swapped xs) in
     let s : x < 2 ^ 64 = h.0 in
     let low : (x / 2 ^ 32 + 2 ^ 32 * (x % 2 ^ 32 + 2 ^ 32 * m)) % 2 ^ 64 ≡ (x % 2 ^ 32) * 2 ^ 32 + x / 2 ^ 32 = omega arith in
     let rest : (x / 2 ^ 32 + 2 ^ 32 * (x % 2 ^ 32 + 2 ^ 32 * m)) / 2 ^ 64 ≡ m = omega arith in
-    cons_same _ _ _ _ (low ∙ sym (turn32 x s)) (ap (λ v. digits_l (2 ^ 64) n v) rest ∙ turned_n n xs (omega arith) h.1)
+    cons_same _ _ _ _ (low ∙ sym (turn32 x s)) (ap (λ v. digits_l (2 ^ 64) (length xs) v) rest ∙ turned_n xs h.1)
 
 abbrev swapped_places : List ℕ
 swapped_places = 1 ∷ 0 ∷ 3 ∷ 2 ∷ 5 ∷ 4 ∷ 7 ∷ 6 ∷ 9 ∷ 8 ∷ 11 ∷ 10 ∷ 13 ∷ 12 ∷ 15 ∷ 14 ∷ []
@@ -153,11 +112,12 @@ pub by32 : (xs : List ℕ) → length xs ≡ 8 → Each1 (λ a. a < 2 ^ 64) xs �
     digits_l (2 ^ 64) 8 (number_l 256 (digits_l 256 64 (number_l (2 ^ 32) (pick_l 0 (digits_l (2 ^ 32) 16 (number_l 256 (digits_l 256 64 (number_l (2 ^ 64) xs)))) swapped_places))))
     ≡ map (λ x. rotate_right w64 x 32) xs
 by32 xs l h =
-    let words : number_l 256 (digits_l 256 64 (number_l (2 ^ 64) xs)) ≡ number_l (2 ^ 64) xs = number_of_bytes 64 _ (words_fit 8 xs l h) in
+    let words : number_l 256 (digits_l 256 64 (number_l (2 ^ 64) xs)) ≡ number_l (2 ^ 64) xs = number_of_bytes 64 _ (rw l at (fits_words (number_l (2 ^ 64)) refl (λ x xs h. omega arith) xs h)) in
     let picks : pick_l 0 (flat_map halves xs) swapped_places ≡ flat_map swapped xs =
     by_elements 0 8 (λ xs. pick_l 0 (flat_map halves xs) swapped_places ≡ flat_map swapped xs) xs l refl in
     let all : pick_l 0 (digits_l (2 ^ 32) 16 (number_l 256 (digits_l 256 64 (number_l (2 ^ 64) xs)))) swapped_places ≡ flat_map swapped xs =
     ap (λ v. pick_l 0 (digits_l (2 ^ 32) 16 v) swapped_places) words
-    ∙ (ap (λ v. pick_l 0 v swapped_places) (halves_n 8 xs l h) ∙ picks) in
+    ∙ (ap (λ v. pick_l 0 v swapped_places) (rw l at (halves_n xs h)) ∙ picks) in
+    let fit = rw l at (fits_words (λ xs. number_l (2 ^ 32) (flat_map swapped xs)) refl (λ x xs h. omega arith) xs h) in
     ap (λ v. digits_l (2 ^ 64) 8 (number_l 256 (digits_l 256 64 (number_l (2 ^ 32) v)))) all
-    ∙ (ap (λ v. digits_l (2 ^ 64) 8 v) (number_of_bytes 64 _ (swapped_fit 8 xs l h)) ∙ turned_n 8 xs l h)
+    ∙ (ap (λ v. digits_l (2 ^ 64) 8 v) (number_of_bytes 64 _ fit) ∙ rw l at (turned_n xs h))

@@ -86,7 +86,7 @@ joined_pairs v l = by_elements [] 16 (λ v. vector_words v ≡ flat_map (vector_
 -- ---- the whole
 
 -- From the vectors r over the permuted rows p and the permuted columns d to the vectors o, wherever
--- rows and columns stand: each is told by its number.
+-- rows and columns stand: each is named by its number.
 pub whole : (r o : List (List ℕ)) (p d : ℕ → List ℕ) → length r ≡ 16 → Each1 Long r → length o ≡ 16 →
     ((j : ℕ) → j < 8 → p j ≡ permute_p (vector_pair r j)) →
     ((k : ℕ) → k < 8 → d k ≡ permute_p (column p k)) →

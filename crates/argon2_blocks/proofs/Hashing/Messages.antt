@@ -1,7 +1,8 @@
 -- The state of BLAKE2b before the last block of a message, and what it rests on.
 use Rattle.std.proofs.Common.{◌≡◌, ℕ, zero, suc, ◌+◌, ◌-◌, ◌*◌, ◌/◌, ◌%◌, ◌^◌, ◌≤◌, Bool, true, false, List, ◌++◌, length, take, drop, replicate, refl, sym}
 use Rattle.std.proofs.Common.{ap, ◌∙◌, arith, length-append, length-drop}
-use Rattle.std.proofs.lemmas.List.{take-append-le, drop-append-le, take-replicate, take-take, take-append-drop, drop-take, take_at, drop_at}
+use Rattle.std.proofs.lemmas.List.{take-append-le, drop-append-le, take-replicate, take_at, drop_at}
+use Rattle.std.proofs.Math.Seq.{take-add}
 use Rattle.std.specs.Prelude.{slice_range}
 use Rattle.argon2_blocks.specs.Standard.Word.{bytes_of, words_of}
 use Rattle.argon2_blocks.specs.Standard.Blake2b.{blake2b, block_length, compress_f, initial_state, last_block, message_block, message_words, state_after, working_vector}
@@ -9,18 +10,13 @@ use Rattle.argon2_blocks.proofs.Compression.Places.{by_elements}
 
 -- ---- the count is read modulo 2 ^ 128
 
--- the lower word of the count
-low_word : (n : ℕ) → n % 2 ^ 128 % 2 ^ 64 ≡ n % 2 ^ 64
-low_word n = omega arith
-
--- the upper word of the count
-high_word : (n : ℕ) → n % 2 ^ 128 / 2 ^ 64 % 2 ^ 64 ≡ n / 2 ^ 64 % 2 ^ 64
-high_word n = omega arith
-
 -- F reads the count modulo 2 ^ 128
 pub compress_f_mod : (h m : List ℕ) (n : ℕ) (is_last : Bool) → compress_f h m (n % 2 ^ 128) is_last ≡ compress_f h m n is_last
 unfolding compress_f working_vector
-compress_f_mod h m n is_last = rw (low_word n, high_word n) refl
+compress_f_mod h m n is_last =
+    let low : n % 2 ^ 128 % 2 ^ 64 ≡ n % 2 ^ 64 = omega arith in
+    let high : n % 2 ^ 128 / 2 ^ 64 % 2 ^ 64 ≡ n / 2 ^ 64 % 2 ^ 64 = omega arith in
+    rw (low, high) refl
 
 -- ---- parts of a list
 
@@ -33,12 +29,6 @@ pub part-append : (p x : List ℕ) (a : ℕ) → a + 128 ≤ length p → slice_
 part-append p x a h =
     let fits : 128 ≤ length (drop a p) = omega (arith, length-drop a p) in
     rw (part_at (p ++ x) a, part_at p a, drop-append-le a p x (omega arith)) (take-append-le 128 (drop a p) x fits)
-
--- the first bytes of a list, and some more
-pub take-take_more : (d : List ℕ) (a n : ℕ) → take a d ++ take n (drop a d) ≡ take (a + n) d
-take-take_more d a n =
-    let whole : take a (take (a + n) d) ++ drop a (take (a + n) d) ≡ take (a + n) d = take-append-drop a (take (a + n) d) in
-    rw (take-take a (a + n) d (omega arith), drop-take a n d) at whole
 
 -- ---- blocks of a message
 
@@ -78,7 +68,7 @@ message_block_last m u e =
     part_at (m ++ zeros) (128 * q)
     ∙ ap (take 128) (drop-append-le (128 * q) m zeros (omega arith))
     ∙ ap (λ (k : ℕ). take k (rest ++ zeros)) (sym room)
-    ∙ sym (take-take_more (rest ++ zeros) u (128 - u))
+    ∙ take-add u (128 - u) (rest ++ zeros)
     ∙ rw (take_at rest zeros u len, drop_at rest zeros u len, take-replicate {X = ℕ} (128 - u) 128 0 (omega arith)) refl
 
 -- ---- a message of half a block

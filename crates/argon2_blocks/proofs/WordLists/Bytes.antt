@@ -1,12 +1,13 @@
 -- Words against the bytes that they stand for.
 use Rattle.std.proofs.Common.{◌≡◌, ℕ, zero, suc, ◌+◌, ◌-◌, ◌*◌, ◌^◌, ◌<◌, ◌≤◌, List, [], ◌∷◌, ◌++◌, length, take, drop, get_or, set, map, refl, sym}
 use Rattle.std.proofs.Common.{ap, ◌∙◌, arith, length-append, length-drop, lit<}
-use Rattle.std.proofs.lemmas.List.{append-nil, take_all, take_more, take_more_set, take-take, take-append-drop, drop-take, drop-drop, length-take-le}
+use Rattle.std.proofs.lemmas.List.{append-nil, take_all, take_more, take_more_set, drop-drop, length-take-le}
 use Rattle.std.proofs.lemmas.List.{get_or-drop, get_or-take, get_or_default, same_lists}
 use Rattle.std.proofs.lemmas.List.Concat.{flat_map-append}
 use Rattle.std.proofs.lemmas.List.FromFn.{length-map-range_with_len, get_or-map-range_with_len, map-range_with_len_more}
 use Rattle.std.proofs.lemmas.Nat.{le_bytes_8, from_le_bytes-to_le_bytes_8}
 use Rattle.std.proofs.lemmas.Slice.{take-put_mid}
+use Rattle.std.proofs.Math.Seq.{take-add}
 use Rattle.std.specs.Prelude.{slice_range}
 use Rattle.std.specs.List.{range_with_len, flat_map}
 use Rattle.std.specs.Int.{w64, from_le_bytes, to_le_bytes}
@@ -119,11 +120,7 @@ map-range_with_len_suc f n =
 
 -- eight more bytes
 take_8_more : (bytes : List ℕ) (n : ℕ) → take (8 * suc n) bytes ≡ take (8 * n) bytes ++ take 8 (drop (8 * n) bytes)
-take_8_more bytes n =
-    let next : List ℕ = take (8 * n + 8) bytes in
-    let e : 8 * suc n ≡ 8 * n + 8 = omega arith in
-    let cut : take (8 * n) next ++ drop (8 * n) next ≡ next = take-append-drop (8 * n) next in
-    rw e (sym (rw (take-take (8 * n) (8 * n + 8) bytes (omega arith), drop-take (8 * n) 8 bytes) at cut))
+take_8_more bytes n = let e : 8 * suc n ≡ 8 * n + 8 = omega arith in rw e (take-add (8 * n) 8 bytes)
 
 -- the bytes of the first n words in bytes are the first bytes
 bytes_of-words_of_front : (bytes : List ℕ) (n : ℕ) → ((i : ℕ) → get_or bytes i 0 < 256) → 8 * n ≤ length bytes

@@ -158,10 +158,8 @@ out-read {slots} own lane t b same fits read out =
     slot-out t (let f : place_in t ≡ place.Out = cc in f)
 
 -- an element below the length
-slice_get_there : {X : Type 0} (xs : List X) (k : ℕ) → k < length xs → (x : X) × (slice_get xs k ≡ Some x)
-slice_get_there [] k within = absurd (omega arith)
-slice_get_there (x ∷ xs) zero within = (x, refl)
-slice_get_there (x ∷ xs) (suc k) within = slice_get_there xs k (omega arith)
+slice_get_there : (xs : List SegmentValue) (k : ℕ) → k < length xs → (x : SegmentValue) × (slice_get xs k ≡ Some x)
+slice_get_there xs k within = (get_or xs k no_segment, slice_get-get_or xs k no_segment within)
 
 -- the element behind a front
 pub slice_get-middle : {X : Type 0} (front : List X) (x : X) (rest : List X) → slice_get (front ++ x ∷ rest) (length front) ≡ Some x

@@ -16,13 +16,9 @@ least_from [] j n gone here = cc
 least_from (Waiting ∷ xs) j zero gone here = ap Some (omega arith)
 least_from (Waiting ∷ xs) j (suc n) gone here = absurd (gone 0 (omega arith) refl)
 least_from (Out ∷ xs) j zero gone here = cc
-least_from (Out ∷ xs) j (suc n) gone here =
-    let e = least_from xs (j + 1) n (λ k below. gone (suc k) (omega arith)) here in
-    e ∙ ap Some (omega arith)
+least_from (Out ∷ xs) j (suc n) gone here = least_from xs (j + 1) n (λ k below. gone (suc k) (omega arith)) here ∙ ap Some (omega arith)
 least_from (Done ∷ xs) j zero gone here = cc
-least_from (Done ∷ xs) j (suc n) gone here =
-    let e = least_from xs (j + 1) n (λ k below. gone (suc k) (omega arith)) here in
-    e ∙ ap Some (omega arith)
+least_from (Done ∷ xs) j (suc n) gone here = least_from xs (j + 1) n (λ k below. gone (suc k) (omega arith)) here ∙ ap Some (omega arith)
 
 -- where no lane waits, the search for one finds none, from whatever number it counts
 none_from : (xs : List Place) (j : ℕ) → ((k : ℕ) → slice_get xs k ≢ Some Waiting) → position_from is_waiting j xs ≡ None

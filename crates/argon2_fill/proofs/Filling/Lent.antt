@@ -12,7 +12,7 @@ use Rattle.argon2_memory.specs.Views.Places.{AreFilledBelow, Fills, FillsLent, H
 use Rattle.argon2_memory.specs.Views.Segments.{IsReady}
 use Rattle.argon2_memory.proofs.Filling.Lent.{get-lent, length-lent}
 use Rattle.argon2_memory.proofs.Filling.Places.{among-remove, others_hold, filled_further}
-use Rattle.argon2_fill.proofs.Filling.First.{begun_below, ready_first}
+use Rattle.argon2_fill.proofs.Filling.First.{ready_first}
 
 -- ---- one lane of a slice
 
@@ -87,11 +87,6 @@ lent_begun s good lane fits (a ∷ b ∷ rest) long x y ex ey =
       | inl w ↦ rw w.1 ex
       | inr w ↦ let e : column ≡ 1 = omega (arith, h, w.1) in rw e ey
     ])
-
--- four whole slices of which the first is begun are ready for pass 0
-pub lent_ready : (s : Setting) (m : List (List (List ℕ))) → ((k : ℕ) → k < 4 → length (get_or m k []) ≡ s.lanes * s.segment_length) →
-    IsReadySlice s 0 0 (lent_places s m 0) → AreFilledBelow s 0 0 (lent_places s m)
-lent_ready s m long begun = begun_below s (lent_places s m) (λ k lane h fits. length-lent s (get_or m k []) lane (long k h) fits) begun
 
 -- ---- from slice to slice
 

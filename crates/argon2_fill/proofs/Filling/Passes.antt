@@ -1,8 +1,7 @@
 -- From one slice to the next, and what the slices write.
-use Rattle.std.proofs.Common.{◌≡◌, ℕ, zero, suc, ◌+◌, ◌-◌, ◌*◌, ◌/◌, ◌%◌, ◌^◌, ◌<◌, ◌≤◌, ◌⊎◌, false, List, [], ◌∷◌, get_or, refl, arith, cond, inl, inr, sym, ◌∙◌, ap}
+use Rattle.std.proofs.Common.{◌≡◌, ℕ, zero, suc, ◌+◌, ◌-◌, ◌*◌, ◌/◌, ◌%◌, ◌^◌, ◌<◌, ◌≤◌, false, List, [], ◌∷◌, get_or, refl, arith, cond, inl, inr, sym, ◌∙◌, ap}
 use Rattle.std.specs.Prelude.{◌==◌, ◌&&◌}
-use Rattle.std.proofs.lemmas.Bool.Decides.{eqb_tells}
-use Rattle.std.proofs.lemmas.Bool.{cases_lt}
+use Rattle.std.proofs.lemmas.Bool.{cases_lt, ne_eqb}
 use Rattle.argon2_standard.specs.Standard.Setting.{Setting, lane_length, memory_blocks}
 use Rattle.argon2_memory.specs.Views.Jobs.{IsSetting}
 use Rattle.argon2_memory.specs.Laws.Schedule.{blocks_in_slice}
@@ -11,8 +10,7 @@ use Rattle.argon2_memory.specs.Views.Memories.{blocks_written}
 use Rattle.argon2_memory.specs.Standard.Kept.{MemoryValue, HasShape, block_of, segment_in, HoldsLastPass}
 use Rattle.argon2_memory.specs.Views.Places.{AreFilledBelow, HoldsSlice, Lanes, Places, last_blocks_in, places_in}
 use Rattle.argon2_memory.proofs.Filling.Slices.{slice_fits}
-use Rattle.argon2_memory.proofs.Schedules.AnyOrder.{other_eqb}
-use Rattle.argon2_memory.proofs.Schedules.SliceToSlice.{IsNext, is_next}
+use Rattle.argon2_memory.proofs.Schedules.SliceToSlice.{IsNext, is_next, neither}
 use Rattle.std.specs.List.{fold}
 use Rattle.std.proofs.lemmas.List.FromFn.{get_or-map-range_with_len, length-map-range_with_len, fill_by_all, map-range_with_len_more}
 use Rattle.std.proofs.lemmas.List.Sums.{fold-append}
@@ -47,20 +45,13 @@ next_slice s n places filled =
 dist : (p a b c : ℕ) → c ≡ a + b → p * c ≡ p * a + p * b
 dist p a b c e = rw e (omega arith)
 
--- where one of two numbers is above 0, the test that both are 0 is false
-neither : (a b : ℕ) → (0 < a ⊎ 0 < b) → ((a == 0) && (b == 0)) ≡ false
-neither a b h = elim (eqb_tells a 0) [
-  | inl w ↦ rw (w.0, other_eqb b 0 (λ e. absurd (elim h [ inl l ↦ omega (arith, l, w.1) | inr l ↦ omega (arith, l, e) ]))) refl
-  | inr w ↦ rw w.0 refl
-]
-
 -- in p lanes the first n + 1 slices write what the first n do, and the blocks of slice number n
 written_after : (p len n : ℕ) → 2 ≤ len → p * ((n + 1) * len - cond (n + 1 == 0) 0 2) ≡ p * (n * len - cond (n == 0) 0 2) + p * cond ((n / 4 == 0) &&
     (n % 4 == 0)) (len - 2) len
 written_after p len zero h = dist p (0 * len - 0) (len - 2) _ (omega arith)
 written_after p len (suc m) h =
-    let a : (suc m + 1 == 0) ≡ false = other_eqb (suc m + 1) 0 (λ e. absurd (omega (arith, e))) in
-    let b : (suc m == 0) ≡ false = other_eqb (suc m) 0 (λ e. absurd (omega (arith, e))) in
+    let a : (suc m + 1 == 0) ≡ false = ne_eqb (suc m + 1) 0 (λ e. absurd (omega (arith, e))) in
+    let b : (suc m == 0) ≡ false = ne_eqb (suc m) 0 (λ e. absurd (omega (arith, e))) in
     let c : ((suc m / 4 == 0) && (suc m % 4 == 0)) ≡ false = neither (suc m / 4) (suc m % 4) (elim (cases_lt 0
     (suc m / 4)) [ inl l ↦ inl l | inr l ↦ inr (omega (arith, l)) ]) in
     rw (a, b, c) (dist p (suc m * len - 2) len _ (let k : len ≤ suc m * len = omega arith in omega (arith, k, h)))
@@ -76,7 +67,7 @@ blocks_more s n good = written_after s.lanes s.segment_length n good.long_segmen
 -- all slices together write each block once a pass, but for the first two of each lane
 pub all_written : (s : Setting) → IsSetting s → blocks_written s (4 * s.passes) ≡ s.passes * memory_blocks s - 2 * s.lanes
 all_written s good =
-    let some : (4 * s.passes == 0) ≡ false = other_eqb (4 * s.passes) 0 (λ e. absurd (omega (arith, good.some_pass, e))) in
+    let some : (4 * s.passes == 0) ≡ false = ne_eqb (4 * s.passes) 0 (λ e. absurd (omega (arith, good.some_pass, e))) in
     let most : 2 ≤ 4 * s.passes * s.segment_length = let m = mul-le-mul_right s.segment_length good.some_pass in omega (arith, m, good.long_segments) in
     let split = dist s.lanes (4 * s.passes * s.segment_length - 2) 2 (4 * s.passes * s.segment_length) (omega (arith, most)) in
     rw some (omega (arith, split))

@@ -1,5 +1,5 @@
 -- The slices by their numbers, where another one stands in for the job's own.
-use Rattle.std.proofs.Common.{◌≡◌, ◌≢◌, ℕ, ◌-◌, ◌<◌, List, [], ◌∷◌, map, length, get_or, refl, arith, inl, inr, ap, sym, ◌∙◌}
+use Rattle.std.proofs.Common.{◌≡◌, ◌≢◌, ℕ, ◌<◌, List, [], ◌∷◌, map, length, get_or, refl, arith, inl, inr, ap, sym, ◌∙◌}
 use Rattle.std.specs.List.{remove}
 use Rattle.std.proofs.lemmas.Bool.Decides.{eqb_tells}
 use Rattle.std.proofs.lemmas.Bool.{lt-ltb, le-ltb}
@@ -38,25 +38,13 @@ module _ (j : Job) (slices : List (List SegmentValue)) (around : IsAround j slic
       (k : ℕ) × ((k < 4) × (k ≢ j.slice) × (get_or slices slice [] ≡ get_or (remove slices j.slice) (rank_among j k) []))
   is-other slice fits = elim (eqb_tells slice j.slice) [
     | inr w ↦ (slice, (fits, w.1, other-is slice fits w.1))
-    | inl w ↦ elim (eqb_tells j.slice 0) [
-      | inl z ↦ (
-        1,
-        (
-          omega arith,
-          (λ e. absurd (omega (arith, e, z.1))),
-          ap (λ n. get_or slices n []) w.1 ∙ around.stand_in ∙ ap (λ n. get_or (remove slices j.slice) n []) (rw (le-ltb 1 j.slice (omega (arith, z.1))) refl),
-        ),
-      )
-      | inr z ↦ (
-        0,
-        (
-          omega arith,
-          (λ e. absurd (omega (arith, e, z.1))),
-          ap (λ n. get_or slices n []) w.1 ∙ around.stand_in
-              ∙ ap (λ n. get_or (remove slices j.slice) n []) (rw (lt-ltb 0 j.slice (omega (arith, z.1))) refl),
-        ),
-      )
-    ]
+    | inl w ↦
+        let own = ap (λ n. get_or slices n []) w.1 ∙ around.stand_in in
+        let at : ℕ → List SegmentValue = λ n. get_or (remove slices j.slice) n [] in
+        elim (eqb_tells j.slice 0) [
+          | inl z ↦ (1, (omega arith, (λ e. absurd (omega (arith, e, z.1))), own ∙ ap at (rw (le-ltb 1 j.slice (omega (arith, z.1))) refl)))
+          | inr z ↦ (0, (omega arith, (λ e. absurd (omega (arith, e, z.1))), own ∙ ap at (rw (lt-ltb 0 j.slice (omega (arith, z.1))) refl)))
+        ]
   ]
 
   pub lanes-at : (slice : ℕ) → slice < 4 → length (get_or slices slice []) ≡ j.setting.lanes

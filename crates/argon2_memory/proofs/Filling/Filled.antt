@@ -3,7 +3,7 @@ use Rattle.std.proofs.Common.{◌≡◌, ℕ, zero, suc, ◌+◌, ◌-◌, ◌*�
 use Rattle.std.proofs.Common.{cond, inl, inr, sym, ◌∙◌, ap}
 use Rattle.std.specs.Prelude.{◌==◌, ◌&&◌, nat_lt, slice_index}
 use Rattle.std.proofs.lemmas.Bool.Decides.{eqb_tells}
-use Rattle.std.proofs.lemmas.Bool.{ltb-true, cases_lt}
+use Rattle.std.proofs.lemmas.Bool.{and_parts, ltb-true, cases_lt}
 use Rattle.std.proofs.lemmas.List.{get_or-set_same, get_or-set_other, length-set, get_or-take}
 use Rattle.std.proofs.lemmas.List.FromFn.{get_or-map-range_with_len, length-map-range_with_len, fill_by_all}
 use Rattle.std.proofs.Math.Nat.{div-add-mod, mod-lt, div-lt_iff_lt-mul}
@@ -18,7 +18,7 @@ use Rattle.argon2_memory.specs.Views.Segments.{segment_at, segment_block, IsRead
 use Rattle.argon2_memory.specs.Views.Filling.{SnapshotValue, IsSnapshot, other_blocks, block_seen, IsFilledTo}
 use Rattle.argon2_memory.specs.Views.References.{IsPicked, pick_of, reference_of}
 use Rattle.argon2_memory.proofs.Recurrence.Jobs.{start_fits, later_index}
-use Rattle.argon2_memory.proofs.Recurrence.Recurrences.{same_choice, both-true, block_at-recurrence}
+use Rattle.argon2_memory.proofs.Recurrence.Recurrences.{same_choice, block_at-recurrence}
 use Rattle.argon2_memory.proofs.Schedules.AnyOrder.{pick-lane_fits, recurrence_later, slice_of_sum}
 use Rattle.argon2_memory.proofs.Schedules.SliceToSlice.{no_skip}
 use Rattle.argon2_memory.proofs.Recurrence.References.{IsReadable, pick-readable}
@@ -148,7 +148,7 @@ module _ (v : SnapshotValue) (job : IsJob v.job) (lane index : ℕ) (lane_fits :
           rw (seen_previous, read)
           (same_choice (combines s.version && nat_lt 0 v.job.pass) _ _ _ _
           (λ h. ap (λ old. xor (compress_g (block_at s (previous s at)) (block_at s (pick s word at))) old)
-          (filled.old (v.job.pass - 1) index (let p = ltb-true 0 v.job.pass (both-true (combines s.version) _ h) in omega (arith, p)) (omega arith) index_fits))
+          (filled.old (v.job.pass - 1) index (let p = ltb-true 0 v.job.pass (and_parts (combines s.version) _ h).1 in omega (arith, p)) (omega arith) index_fits))
           (λ h. refl)
           ∙ sym (recurrence_later s (block_at s) at later_place) ∙ sym (block_at-recurrence s good at here))
 
@@ -200,12 +200,6 @@ module _ (v : SnapshotValue) (job : IsJob v.job) (lane index : ℕ) (lane_fits :
   reference_before chosen (word, e) = before_of_readable chosen.0 _ chosen.1 (reference_readable chosen word e)
 
 -- ---- begin and end
-
--- a segment has the blocks that are there before a fill
-pub first_fits : (pass slice len : ℕ) → 2 ≤ len → cond ((pass == 0) && (slice == 0)) 2 0 ≤ len
-first_fits zero zero len h = h
-first_fits zero (suc slice) len h = rw (no_skip 0 (suc slice) (inr (omega arith))) (omega arith)
-first_fits (suc pass) slice len h = rw (no_skip (suc pass) slice (inl (omega arith))) (omega arith)
 
 -- what stands before a fill
 begin_by : (j : Job) → (pass slice : ℕ) → pass ≡ j.pass → slice ≡ j.slice → IsSetting j.setting → (lane : ℕ) (blocks : List (List ℕ)) →

@@ -1,5 +1,5 @@
 -- The slices of a memory, of which one is filled beside the others.
-use Rattle.std.proofs.Common.{◌≡◌, ◌≢◌, ℕ, zero, suc, ◌+◌, ◌-◌, ◌*◌, ◌/◌, ◌%◌, ◌^◌, ◌<◌, List, [], ◌∷◌, map, length, replicate, get_or, set, refl}
+use Rattle.std.proofs.Common.{◌≡◌, ◌≢◌, ℕ, zero, suc, ◌+◌, ◌*◌, ◌/◌, ◌%◌, ◌^◌, ◌<◌, List, [], ◌∷◌, map, length, replicate, get_or, set, refl}
 use Rattle.std.proofs.Common.{arith, inl, inr, sym, ◌∙◌, ap, Vec, Global}
 use Rattle.std.proofs.lemmas.Bool.Decides.{eqb_tells}
 use Rattle.std.proofs.lemmas.Bool.{cases_lt, lt-ltb, le-ltb}
@@ -9,7 +9,7 @@ use Rattle.std.proofs.lemmas.List.FromFn.{length-map-range_with_len}
 use Rattle.std.proofs.Math.Nat.{div-lt_iff_lt-mul}
 use Rattle.std.proofs.lemmas.List.Edits.{length-remove}
 use Rattle.std.specs.List.{remove}
-use Rattle.std.proofs.lemmas.List.{map-set}
+use Rattle.std.proofs.lemmas.List.{map-set, set-set}
 use Rattle.argon2_memory.specs.declared.segment.counted.Segment.{Segment}
 use Rattle.argon2_memory.specs.Views.Memories.{segments_of, AreSlices, slice_writes, writes_in}
 use Rattle.argon2_memory.specs.Standard.Kept.{segment_in, SegmentValue, no_segment}
@@ -89,12 +89,6 @@ remove-set [] k x h = absurd (omega arith)
 remove-set (y ∷ ys) zero x h = refl
 remove-set (y ∷ ys) (suc k) x h = ap (λ l. y ∷ l) (remove-set ys k x (omega arith))
 
--- of two elements written at one place the second stays
-set-set_same : {A : Type 0} (xs : List A) (k : ℕ) (x y : A) → set (set xs k x) k y ≡ set xs k y
-set-set_same [] k x y = refl
-set-set_same (z ∷ zs) zero x y = refl
-set-set_same (z ∷ zs) (suc k) x y = ap (λ l. z ∷ l) (set-set_same zs k x y)
-
 module _ (old taken : List (Vec Segment Global)) (k : ℕ) (left : segments_of taken ≡ set (segments_of old) k []) where
   pub others-taken : k < length (segments_of old) → remove (segments_of taken) k ≡ remove (segments_of old) k
   others-taken h = ap (λ (l : List (List SegmentValue)). remove l k) left ∙ remove-set (segments_of old) k [] h
@@ -103,7 +97,7 @@ module _ (old taken : List (Vec Segment Global)) (k : ℕ) (left : segments_of t
   put_back w new e =
       map-set (λ (v : Vec Segment Global). v.items) taken k w
       ∙ ap (λ (l : List (List SegmentValue)). set l k w.items) left
-      ∙ set-set_same (segments_of old) k [] w.items
+      ∙ set-set (segments_of old) k [] w.items
       ∙ ap (λ (l : List SegmentValue). set (segments_of old) k l) e
 
 -- ---- a read and a write of one segment
@@ -119,27 +113,6 @@ module _ (p len : ℕ) (m : List (List SegmentValue)) (slices : AreSlices p len 
       h ∙ get_or_default segments lane segment no_segment (let l = ap (λ (x : List SegmentValue). length x) e in let n = slices.lanes k few in
       omega (arith, l, n))
       ∙ ap (λ (x : List SegmentValue). get_or x lane no_segment) e
-
-  module _ (segment : SegmentValue) (same : length segment.blocks ≡ len) where
-    own-slice : get_or (set m k (set (get_or m k []) lane segment)) k [] ≡ set (get_or m k []) lane segment
-    own-slice = get_or-set_same m k (set (get_or m k []) lane segment) [] (omega (arith, slices.count))
-
-    pub set_stays : AreSlices p len (set m k (set (get_or m k []) lane segment))
-    set_stays = record {
-      count = length-set m k _ ∙ slices.count;
-      lanes = λ i h. elim (eqb_tells i k) [
-        | inl w ↦ rw w.1 (ap (λ (l : List SegmentValue). length l) own-slice ∙ length-set (get_or m k []) lane segment ∙ slices.lanes k few)
-        | inr w ↦ ap (λ (l : List SegmentValue). length l) (get_or-set_other m k i _ [] w.1) ∙ slices.lanes i h
-      ];
-      blocks = λ i l h lt. elim (eqb_tells i k) [
-        | inl w ↦ rw w.1 (ap (λ (x : List SegmentValue). length (get_or x l no_segment).blocks) own-slice ∙ elim (eqb_tells l lane) [
-          | inl v ↦ rw v.1 (ap (λ (x : SegmentValue). length x.blocks) (get_or-set_same (get_or m k []) lane segment no_segment
-              (let n = slices.lanes k few in omega (arith, n))) ∙ same)
-          | inr v ↦ ap (λ (x : SegmentValue). length x.blocks) (get_or-set_other (get_or m k []) lane l segment no_segment v.1) ∙ slices.blocks k l few lt
-        ])
-        | inr w ↦ ap (λ (x : List SegmentValue). length (get_or x l no_segment).blocks) (get_or-set_other m k i _ [] w.1) ∙ slices.blocks i l h lt
-      ];
-    }
 
 -- four slices of p segments of zeros are slices of p lanes
 pub zeros_are : (p len : ℕ) → AreSlices p len (replicate 4 (replicate p (zero_segment len)))

@@ -13,21 +13,15 @@ module _ (p len : ℕ) (slices : List (List SegmentValue)) (good : AreSlices p l
   slice_is : (slice : ℕ) → slice < 4 → get_or wiped slice [] ≡ map wiped_segment (get_or slices slice [])
   slice_is slice h = get_or-map (map wiped_segment) slices slice [] [] (omega (arith, good.count))
 
-  lanes_are : (slice : ℕ) → slice < 4 → length (get_or wiped slice []) ≡ p
-  lanes_are slice h =
-      ap (λ (l : List SegmentValue). length l) (slice_is slice h) ∙ length-map (get_or slices slice []) wiped_segment ∙ good.lanes slice h
-
-  blocks_are : (slice lane : ℕ) → slice < 4 → lane < p → length (segment_in wiped slice lane).blocks ≡ len
-  blocks_are slice lane h k =
-      let n = good.lanes slice h in
-      ap (λ (l : List SegmentValue). length (get_or l lane no_segment).blocks) (slice_is slice h)
-      ∙ ap (λ (s : SegmentValue). length s.blocks) (get_or-map wiped_segment (get_or slices slice []) lane no_segment no_segment (omega (arith, n)))
-      ∙ length-replicate (length (segment_in slices slice lane).blocks) zero_block
-      ∙ good.blocks slice lane h k
-
   pub wiped_slices-are : AreSlices p len wiped
   wiped_slices-are = record {
     count = length-map slices (map wiped_segment) ∙ good.count;
-    lanes = lanes_are;
-    blocks = blocks_are;
+    lanes = λ slice h.
+        ap (λ (l : List SegmentValue). length l) (slice_is slice h) ∙ length-map (get_or slices slice []) wiped_segment ∙ good.lanes slice h;
+    blocks = λ slice lane h k.
+        let n = good.lanes slice h in
+        ap (λ (l : List SegmentValue). length (get_or l lane no_segment).blocks) (slice_is slice h)
+        ∙ ap (λ (s : SegmentValue). length s.blocks) (get_or-map wiped_segment (get_or slices slice []) lane no_segment no_segment (omega (arith, n)))
+        ∙ length-replicate (length (segment_in slices slice lane).blocks) zero_block
+        ∙ good.blocks slice lane h k;
   }

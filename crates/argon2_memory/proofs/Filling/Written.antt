@@ -1,6 +1,6 @@
 -- A block written in place, behind the blocks that it may be made of.
 use Rattle.std.proofs.Common.{◌≡◌, ℕ, zero, suc, ◌<◌, Bool, List, [], ◌∷◌, ◌++◌, length, take, drop, set, get_or, refl, ap, ◌∙◌, arith}
-use Rattle.std.proofs.lemmas.List.{get_or-take}
+use Rattle.std.proofs.lemmas.List.{get_or-drop, get_or-take, get_or_default}
 use Rattle.argon2_memory.specs.declared.segment.counted.Source.{Source}
 use Rattle.argon2_memory.specs.declared.segment.counted.Source.TheVariants.{Own, Other}
 use Rattle.argon2_standard.specs.Standard.Recurrence.{made_block}
@@ -19,12 +19,6 @@ set_behind [] index new h = absurd (omega arith)
 set_behind (x ∷ xs) zero new h = refl
 set_behind (x ∷ xs) (suc i) new h = ap (λ l. x ∷ l) (set_behind xs i new (omega arith))
 
--- the front of the part from an index on is what the whole holds at that index
-read_behind : (blocks : List (List ℕ)) (index : ℕ) (d : List ℕ) → index < length blocks → get_or (drop index blocks) 0 d ≡ get_or blocks index []
-read_behind [] index d h = absurd (omega arith)
-read_behind (x ∷ xs) zero d h = refl
-read_behind (x ∷ xs) (suc i) d h = read_behind xs i d (omega arith)
-
 -- `lent` is the caller's blocks, as a slice; `p` and `r` are the two sources' blocks, and `d` is any
 pub write_in_place : (blocks lent front back : List (List ℕ)) (index : ℕ) (prev reference : Source) (with_xor : Bool) (p r d new : List ℕ) →
     lent ≡ blocks → index < length blocks → front ≡ take index lent → back ≡ drop index lent →
@@ -34,7 +28,7 @@ pub write_in_place : (blocks lent front back : List (List ℕ)) (index : ℕ) (p
 write_in_place blocks lent front back index prev reference with_xor p r d new same fits f b before before' ps rs n =
     let f' : front ≡ take index blocks = f ∙ ap (λ l. take index l) same in
     let b' : back ≡ drop index blocks = b ∙ ap (λ l. drop index l) same in
-    let o' : get_or back 0 d ≡ get_or blocks index [] = rw b' (read_behind blocks index d fits) in
+    let o' : get_or back 0 d ≡ get_or blocks index [] = rw b' (get_or-drop index blocks 0 d ∙ ap (λ i. get_or blocks i d) (omega arith) ∙ get_or_default blocks index d [] fits) in
     let ps' : p ≡ source_block blocks prev = ps ∙ ap (λ l. source_block l prev) f' ∙ same_source blocks index prev before in
     let rs' : r ≡ source_block blocks reference = rs ∙ ap (λ l. source_block l reference) f' ∙ same_source blocks index reference before' in
     rw (n, ps', rs', o', f', b') (set_behind blocks index _ fits)

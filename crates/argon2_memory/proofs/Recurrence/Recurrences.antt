@@ -2,7 +2,7 @@
 use Rattle.std.proofs.Common.{◌≡◌, ℕ, zero, suc, ◌+◌, ◌-◌, ◌*◌, ◌<◌, ◌≤◌, ◌⊎◌, Bool, true, false, refl, arith, cond, inl, inr, sym, ◌∙◌, ap}
 use Rattle.std.specs.Prelude.{◌==◌, ◌&&◌, nat_lt}
 use Rattle.std.proofs.lemmas.Bool.Decides.{eqb_tells}
-use Rattle.std.proofs.lemmas.Bool.{ltb-true, ltb-false}
+use Rattle.std.proofs.lemmas.Bool.{and_parts, ltb-true, ltb-false}
 use Rattle.std.proofs.Math.Nat.{mul-le-mul_right}
 use Rattle.argon2_blocks.specs.Standard.Block.{xor}
 use Rattle.argon2_blocks.specs.Standard.Compression.{compress_g}
@@ -29,12 +29,6 @@ AgreeBefore s at f g = (p : Position) → IsEarlier s p at → f p ≡ g p
 -- in an earlier pass, or an earlier column of the same
 earlier_pass : (q p p' c c' : ℕ) → suc p' ≤ p → c' < q → p' * q + c' < p * q + c
 earlier_pass q p p' c c' h lt = let m = mul-le-mul_right q h in omega (arith, m)
-
--- where a conjunction is true, its second part is
-pub both-true : (a b : Bool) → (a && b) ≡ true → b ≡ true
-both-true true b h = h
-both-true false true h = refl
-both-true false false h = h
 
 -- a place outside the first two columns of pass 0 is of a later pass or a later column
 not_first : (pass column : ℕ) → ((pass == 0) && nat_lt column 2) ≡ false → 0 < pass ⊎ 1 < column
@@ -83,7 +77,7 @@ module _ (s : Setting) (at : Position) (good : IsSetting s) (here : IsPosition s
       let picked = same _ (pick-earlier (drawn_word s g at) later) in
       rw (drawn, before, picked) (same_choice (combines s.version && nat_lt 0 at.pass) _ _ _ _
       (λ h. ap (λ old. xor (compress_g (g (previous s at)) (g (pick s (drawn_word s g at) at))) old) (same _ (last_pass-earlier (ltb-true 0 at.pass
-      (both-true (combines s.version) _ h)))))
+      (and_parts (combines s.version) _ h).1))))
       (λ h. refl))
 
   same_recurrence : (f g : Blocks) → AgreeBefore s at f g → recurrence s f at ≡ recurrence s g at

@@ -1,37 +1,24 @@
 -- Each block that a block may refer to comes before it, and there is always one.
-use Rattle.std.proofs.Common.{◌≡◌, ℕ, zero, suc, ◌+◌, ◌-◌, ◌*◌, ◌<◌, ◌≤◌, ◌⊎◌, Bool, true, false, List, [], ◌∷◌, ◌++◌, map, length, take, refl, arith}
-use Rattle.std.proofs.Common.{get_or, cond, inl, inr}
-use Rattle.std.proofs.lemmas.Bool.{eqb-true}
+use Rattle.std.proofs.Common.{◌≡◌, ℕ, zero, suc, ◌+◌, ◌-◌, ◌*◌, ◌<◌, ◌≤◌, ◌⊎◌, Bool, true, false, List, [], ◌++◌, map, length, refl, arith}
+use Rattle.std.proofs.Common.{cond, inl, inr}
+use Rattle.std.proofs.lemmas.Bool.{cases_lt, eq-eqb, eqb-true}
 use Rattle.std.proofs.lemmas.List.{length-append, length-take}
+use Rattle.std.proofs.lemmas.List.Elements.{All-append, All-cons, All-nil, All-take}
 use Rattle.std.proofs.lemmas.List.FromFn.{length-map-range_with_len}
 use Rattle.std.proofs.Math.Nat.{div-add-mod, mod-lt, mul-le-mul_left, div-lt_iff_lt-mul}
 use Rattle.std.specs.Prelude.{◌==◌, ◌||◌, ◌&&◌}
 use Rattle.argon2_blocks.specs.Standard.Word.{high_half}
-use Rattle.std.specs.List.{AllByRecursion, range_with_len}
+use Rattle.std.specs.List.{All, range_with_len}
 use Rattle.argon2_standard.specs.Standard.Setting.{Setting, Position, lane_length, slice_of, index_of}
 use Rattle.argon2_memory.specs.Views.Jobs.{IsSetting, IsPosition}
 use Rattle.argon2_standard.specs.Standard.Reference.{columns_between, columns_of_last_pass, without_last, reference_set, relative_position, drawn_lane, pick}
 
 module _ (P : ℕ × ℕ → Type 0) where
-  pub all-append : (xs ys : List (ℕ × ℕ)) → AllByRecursion P xs → AllByRecursion P ys → AllByRecursion P (xs ++ ys)
-  all-append [] ys h k = k
-  all-append (x ∷ xs) ys h k = (h.0, all-append xs ys h.1 k)
-
-  pub all-take : (n : ℕ) (xs : List (ℕ × ℕ)) → AllByRecursion P xs → AllByRecursion P (take n xs)
-  all-take zero xs h = tt
-  all-take (suc n) [] h = tt
-  all-take (suc n) (x ∷ xs) h = (h.0, all-take n xs h.1)
-
-  pub all-get_or : (xs : List (ℕ × ℕ)) (k : ℕ) (d : ℕ × ℕ) → AllByRecursion P xs → k < length xs → P (get_or xs k d)
-  all-get_or [] k d h lt = absurd (omega arith)
-  all-get_or (x ∷ xs) zero d h lt = h.0
-  all-get_or (x ∷ xs) (suc k) d h lt = all-get_or xs k d h.1 (omega arith)
-
   pub all-columns_from : (pass first n : ℕ) → ((k : ℕ) → first ≤ k → k < first + n → P (pass, k))
-      → AllByRecursion P (map (λ column. (pass, column)) (range_with_len first n))
-  all-columns_from pass first zero h = tt
+      → All P (map (λ column. (pass, column)) (range_with_len first n))
+  all-columns_from pass first zero h = All-nil P
   all-columns_from pass first (suc n) h =
-      (h first (omega arith) (omega arith), all-columns_from pass (first + 1) n (λ k low high. h k (omega arith) (omega arith)))
+      All-cons P _ _ (h first (omega arith) (omega arith)) (all-columns_from pass (first + 1) n (λ k low high. h k (omega arith) (omega arith)))
 
 -- ---- which blocks a pick may read
 
@@ -43,31 +30,31 @@ IsReadable s at lane e =
     ⊎ ((e.0 ≡ at.pass) × (lane ≡ at.lane) × (e.1 < at.column)))
 
 module _ (s : Setting) (at : Position) (lane : ℕ) where
-  left-readable : (pass : ℕ) → pass ≡ at.pass → AllByRecursion (IsReadable s at lane) (columns_of_last_pass s pass (slice_of s at.column))
-  left-readable zero e = tt
+  left-readable : (pass : ℕ) → pass ≡ at.pass → All (IsReadable s at lane) (columns_of_last_pass s pass (slice_of s at.column))
+  left-readable zero e = All-nil (IsReadable s at lane)
   left-readable (suc last) e =
       all-columns_from (IsReadable s at lane) last ((slice_of s at.column + 1) * s.segment_length) _ (λ k low high. inl (e, low, omega arith))
 
-  before-readable : AllByRecursion (IsReadable s at lane) (columns_between at.pass 0 (slice_of s at.column * s.segment_length))
+  before-readable : All (IsReadable s at lane) (columns_between at.pass 0 (slice_of s at.column * s.segment_length))
   before-readable = all-columns_from (IsReadable s at lane) at.pass 0 _ (λ k low high. inr (inl (refl, omega arith)))
 
   own-readable : (own : Bool) → (own ≡ true → lane ≡ at.lane) →
-      AllByRecursion (IsReadable s at lane) (cond own (columns_between at.pass (slice_of s at.column * s.segment_length) at.column) [])
-  own-readable false h = tt
+      All (IsReadable s at lane) (cond own (columns_between at.pass (slice_of s at.column * s.segment_length) at.column) [])
+  own-readable false h = All-nil (IsReadable s at lane)
   own-readable true h = all-columns_from (IsReadable s at lane) at.pass (slice_of s at.column * s.segment_length) _ (λ k low high. inr (inr
       (refl, h refl, omega arith)))
 
-  cut-readable : (cut : Bool) (xs : List (ℕ × ℕ)) → AllByRecursion (IsReadable s at lane) xs
-      → AllByRecursion (IsReadable s at lane) (cond cut (without_last xs) xs)
-  cut-readable true xs h = all-take (IsReadable s at lane) (length xs - 1) xs h
+  cut-readable : (cut : Bool) (xs : List (ℕ × ℕ)) → All (IsReadable s at lane) xs
+      → All (IsReadable s at lane) (cond cut (without_last xs) xs)
+  cut-readable true xs h = All-take (IsReadable s at lane) (length xs - 1) xs h
   cut-readable false xs h = h
 
-  pub reference_set-readable : AllByRecursion (IsReadable s at lane) (reference_set s at lane)
+  pub reference_set-readable : All (IsReadable s at lane) (reference_set s at lane)
   unfolding reference_set
   reference_set-readable =
       cut-readable (lane == at.lane || index_of s at.column == 0) _
-      (all-append (IsReadable s at lane) _ _
-      (all-append (IsReadable s at lane) _ _ (left-readable at.pass refl) before-readable)
+      (All-append (IsReadable s at lane) _ _
+      (All-append (IsReadable s at lane) _ _ (left-readable at.pass refl) before-readable)
       (own-readable (lane == at.lane) (λ h. eqb-true lane at.lane h)))
 
 -- an element of the reference set comes before the block: it is of the last pass, or of this one in an earlier column
@@ -101,61 +88,48 @@ cut_leaves_some : (cut : Bool) (xs : List (ℕ × ℕ)) → 2 ≤ length xs → 
 cut_leaves_some true xs h = let e = length-take (length xs - 1) xs in omega (arith, e)
 cut_leaves_some false xs h = omega arith
 
--- a number is 0 or above it
-zero_or_more : (n : ℕ) → (n ≡ 0) ⊎ (0 < n)
-zero_or_more zero = inl refl
-zero_or_more (suc n) = inr (omega arith)
-
 module _ (s : Setting) (at : Position) (good : IsSetting s) (here : IsPosition s at) where
   few_slices : slice_of s at.column < 4
   few_slices = (div-lt_iff_lt-mul (omega (arith, good.long_segments))).1 (omega (arith, here.column_fits))
 
+  -- W without the own segment, and the columns of the own segment
+  abbrev elsewhere : List (ℕ × ℕ)
+  elsewhere = columns_of_last_pass s at.pass (slice_of s at.column) ++ columns_between at.pass 0 (slice_of s at.column * s.segment_length)
+
+  abbrev own_columns : List (ℕ × ℕ)
+  own_columns = columns_between at.pass (slice_of s at.column * s.segment_length) at.column
+
   -- without the own segment two stand in W, unless this is the first slice
-  two_elsewhere : (0 < at.pass ⊎ 0 < slice_of s at.column) →
-      2 ≤ length (columns_of_last_pass s at.pass (slice_of s at.column) ++ columns_between at.pass 0 (slice_of s at.column * s.segment_length))
-  two_elsewhere (inl h) =
-      let left = length-left s at.pass (slice_of s at.column) few_slices h in
+  two_elsewhere : (0 < at.pass ⊎ 0 < slice_of s at.column) → 2 ≤ length elsewhere
+  two_elsewhere h =
       let now = length-columns at.pass 0 (slice_of s at.column * s.segment_length) in
       let both = length-append (columns_of_last_pass s at.pass (slice_of s at.column)) (columns_between at.pass 0 (slice_of s at.column * s.segment_length)) in
-      omega (arith, left, now, both, good.long_segments)
-  two_elsewhere (inr h) =
-      let now = length-columns at.pass 0 (slice_of s at.column * s.segment_length) in
-      let both = length-append (columns_of_last_pass s at.pass (slice_of s at.column)) (columns_between at.pass 0 (slice_of s at.column * s.segment_length)) in
-      let more = mul-le-mul_left s.segment_length h in
-      omega (arith, now, both, more, good.long_segments)
+      elim h [
+        | inl h ↦ let left = length-left s at.pass (slice_of s at.column) few_slices h in omega (arith, left, now, both, good.long_segments)
+        | inr h ↦ let more = mul-le-mul_left s.segment_length h in omega (arith, now, both, more, good.long_segments)
+      ]
 
   -- with the own segment too
-  elsewhere-append : (ys : List (ℕ × ℕ)) → (0 < at.pass ⊎ 0 < slice_of s at.column) →
-      2 ≤ length (columns_of_last_pass s at.pass (slice_of s at.column) ++ columns_between at.pass 0 (slice_of s at.column * s.segment_length) ++ ys)
-  elsewhere-append ys h =
-      let two = two_elsewhere h in
-      let both = length-append (columns_of_last_pass s at.pass (slice_of s at.column) ++ columns_between at.pass 0
-      (slice_of s at.column * s.segment_length)) ys in
-      omega (arith, two, both)
+  elsewhere-append : (ys : List (ℕ × ℕ)) → (0 < at.pass ⊎ 0 < slice_of s at.column) → 2 ≤ length (elsewhere ++ ys)
+  elsewhere-append ys h = let two = two_elsewhere h in let both = length-append elsewhere ys in omega (arith, two, both)
 
-  -- in the first slice of all the columns_between before are all of the own segment
-  two_in_first_slice : at.pass ≡ 0 → slice_of s at.column ≡ 0 → 1 < at.column →
-      2 ≤ length (columns_of_last_pass s at.pass (slice_of s at.column)
-      ++ columns_between at.pass 0 (slice_of s at.column * s.segment_length)
-      ++ columns_between at.pass (slice_of s at.column * s.segment_length) at.column)
+  -- in the first slice of all the columns before are all of the own segment
+  two_in_first_slice : at.pass ≡ 0 → slice_of s at.column ≡ 0 → 1 < at.column → 2 ≤ length (elsewhere ++ own_columns)
   two_in_first_slice no_pass no_slice h =
       let own = length-columns at.pass (slice_of s at.column * s.segment_length) at.column in
-      let both = length-append (columns_of_last_pass s at.pass (slice_of s at.column) ++ columns_between at.pass 0
-      (slice_of s at.column * s.segment_length)) (columns_between at.pass (slice_of s at.column * s.segment_length) at.column) in
+      let both = length-append elsewhere own_columns in
       let nothing : slice_of s at.column * s.segment_length ≡ 0 = rw no_slice (omega arith) in
       omega (arith, own, both, nothing)
 
   two_references : (own : Bool) → (0 < at.pass ⊎ 1 < at.column) → (at.pass ≡ 0 → slice_of s at.column ≡ 0 → own ≡ true) →
-      2 ≤ length (columns_of_last_pass s at.pass (slice_of s at.column)
-      ++ columns_between at.pass 0 (slice_of s at.column * s.segment_length)
-      ++ cond own (columns_between at.pass (slice_of s at.column * s.segment_length) at.column) [])
+      2 ≤ length (elsewhere ++ cond own own_columns [])
   two_references own later own_first =
-      elim (zero_or_more at.pass) [
-        | inr h ↦ elsewhere-append _ (inl h)
-        | inl no_pass ↦ elim (zero_or_more (slice_of s at.column)) [
-          | inr h ↦ elsewhere-append _ (inr h)
-          | inl no_slice ↦ rw (own_first no_pass no_slice)
-              (two_in_first_slice no_pass no_slice (elim later [ inl h ↦ absurd (omega arith) | inr h ↦ h ]))
+      elim (cases_lt 0 at.pass) [
+        | inl h ↦ elsewhere-append _ (inl h)
+        | inr no_pass ↦ elim (cases_lt 0 (slice_of s at.column)) [
+          | inl h ↦ elsewhere-append _ (inr h)
+          | inr no_slice ↦ rw (own_first (omega (arith, no_pass)) (omega (arith, no_slice)))
+              (two_in_first_slice (omega (arith, no_pass)) (omega (arith, no_slice)) (elim later [ inl h ↦ absurd (omega arith) | inr h ↦ h ]))
         ]
       ]
 
@@ -176,14 +150,10 @@ cond_below : (b : Bool) {m n k : ℕ} → m < k → n < k → cond b m n < k
 cond_below true h h' = h
 cond_below false h h' = h'
 
--- a number passes the test of equality with itself
-nat_eq_same : (n : ℕ) → (n == n) ≡ true
-nat_eq_same n = grind arith
-
 module _ (s : Setting) (word : ℕ) (at : Position) where
   -- in the first slice of all the drawn lane is the own one
   pub own_lane_first : at.pass ≡ 0 → slice_of s at.column ≡ 0 → (drawn_lane s word at == at.lane) ≡ true
-  own_lane_first no_pass no_slice = rw (no_pass, no_slice) (nat_eq_same at.lane)
+  own_lane_first no_pass no_slice = rw (no_pass, no_slice) (eq-eqb at.lane at.lane refl)
 
   pub drawn_lane_fits : IsSetting s → IsPosition s at → drawn_lane s word at < s.lanes
   drawn_lane_fits good here =
@@ -195,9 +165,7 @@ pub pick-readable : (s : Setting) (word : ℕ) (at : Position) → IsSetting s �
 unfolding pick
 pick-readable s word at good here later =
     let some = some_reference s at good here (drawn_lane s word at) later (own_lane_first s word at) in
-    all-get_or (IsReadable s at (drawn_lane s word at)) (reference_set s at (drawn_lane s word at)) (relative_position (length (reference_set s at
-    (drawn_lane s word at))) word) (0, 0)
-    (reference_set-readable s at (drawn_lane s word at)) (relative_position_fits _ word some)
+    reference_set-readable s at (drawn_lane s word at) _ (0, 0) (relative_position_fits _ word some)
 
 -- the place that a word picks for a block comes before the block's own
 pub pick-before : (s : Setting) (word : ℕ) (at : Position) → IsSetting s → IsPosition s at → (0 < at.pass ⊎ 1 < at.column) →

@@ -4,7 +4,7 @@ use Rattle.std.proofs.Common.{inl, inr, sym, ◌∙◌, ap}
 use Rattle.std.specs.Prelude.{◌==◌, ◌&&◌, nat_lt}
 use Rattle.std.specs.List.{AllByRecursion, count_by, fold}
 use Rattle.std.proofs.lemmas.Bool.Decides.{eqb_tells}
-use Rattle.std.proofs.lemmas.Bool.{ltb-true, lt-ltb, le-ltb, eq-eqb}
+use Rattle.std.proofs.lemmas.Bool.{and_parts, ltb-true, lt-ltb, le-ltb, eq-eqb, ne_eqb}
 use Rattle.std.proofs.lemmas.List.Sums.{sum_by-cons}
 use Rattle.std.proofs.Math.Nat.{mul-le-mul_right, add-mul-div_right, div-eq_of_lt}
 use Rattle.argon2_blocks.specs.Standard.Block.{xor}
@@ -17,7 +17,7 @@ use Rattle.argon2_memory.specs.Laws.Matrix.{Matrix, matrix_with}
 use Rattle.argon2_memory.specs.Laws.Schedule.{Progress, blocks_in_slice, block_from, next_column, step}
 use Rattle.argon2_memory.proofs.Recurrence.References.{pick-readable, drawn_lane_fits}
 use Rattle.argon2_memory.proofs.Recurrence.Jobs.{later_index}
-use Rattle.argon2_memory.proofs.Recurrence.Recurrences.{same_choice, both-true, block_at-recurrence}
+use Rattle.argon2_memory.proofs.Recurrence.Recurrences.{same_choice, block_at-recurrence}
 
 -- the lane that a word picks is one of the setting's lanes
 pub pick-lane_fits : (s : Setting) (word : ℕ) (at : Position) → IsSetting s → IsPosition s at → (pick s word at).lane < s.lanes
@@ -35,8 +35,7 @@ pub from_reads : (s : Setting) (at : Position) (m : Matrix) (f : Blocks) →
 from_reads s at m f before picked old =
     let now = picked (drawn_word s f at) in
     rw (before, now) (same_choice (combines s.version && nat_lt 0 at.pass) _ _ _ _
-    (λ h. ap (λ block. xor (compress_g (f (previous s at)) (f (pick s (drawn_word s f at) at))) block) (old (ltb-true 0 at.pass (both-true
-    (combines s.version) _ h))))
+    (λ h. ap (λ block. xor (compress_g (f (previous s at)) (f (pick s (drawn_word s f at) at))) block) (old (ltb-true 0 at.pass (and_parts (combines s.version) _ h).1)))
     (λ h. refl))
 
 -- ---- the matrix in the middle of a slice
@@ -48,15 +47,10 @@ pub record Stands (s : Setting) (pass slice : ℕ) (m : Matrix) (done : ℕ → 
   pub last : (r lane column : ℕ) → suc r ≡ pass → lane < s.lanes → column < lane_length s →
       next_column s pass slice (done lane) ≤ column → m lane column ≡ block_at s (record { pass = r; lane = lane; column = column })
 
--- where a lane has written at most its blocks of a slice, its next index is at most the length
-front_fits : (b : Bool) (len d : ℕ) → 2 ≤ len → d ≤ cond b (len - 2) len → cond b 2 0 + d ≤ len
-front_fits true len d h k = omega arith
-front_fits false len d h k = omega arith
-
--- where a lane has blocks of a slice left to write, its next index is below the length
-front_inside : (b : Bool) (len d : ℕ) → 2 ≤ len → d < cond b (len - 2) len → cond b 2 0 + d < len
-front_inside true len d h k = omega arith
-front_inside false len d h k = omega arith
+-- the blocks that a slice skips at its front, and those that it writes, are a segment
+pub front_whole : (b : Bool) (len : ℕ) → 2 ≤ len → cond b 2 0 + cond b (len - 2) len ≡ len
+front_whole true len h = omega arith
+front_whole false len h = omega arith
 
 -- the next place that a lane writes is of a later pass or behind the first two columns
 later_front : (len pass slice d : ℕ) → 2 ≤ len → 0 < pass ⊎ 1 < slice * len + cond ((pass == 0) && (slice == 0)) 2 0 + d
@@ -94,7 +88,7 @@ module _ (s : Setting) (good : IsSetting s) (pass slice : ℕ) (few : slice < 4)
   slices_fit = let few' : slice + 1 ≤ 4 = omega arith in mul-le-mul_right s.segment_length few'
 
   inside : cond ((pass == 0) && (slice == 0)) 2 0 + done l < s.segment_length
-  inside = front_inside ((pass == 0) && (slice == 0)) s.segment_length (done l) good.long_segments room
+  inside = let whole = front_whole ((pass == 0) && (slice == 0)) s.segment_length good.long_segments in omega (arith, whole, room)
 
   pub same_slice : slice_of s c ≡ slice
   same_slice =
@@ -119,10 +113,10 @@ module _ (s : Setting) (good : IsSetting s) (pass slice : ℕ) (few : slice < 4)
       let start : slice_of s c * s.segment_length ≡ slice * s.segment_length = ap (λ z. z * s.segment_length) same_slice in
       let lane_fits = pick-lane_fits s word at good here in
       let most = bounded (pick s word at).lane lane_fits in
-      let reach = front_fits ((pass == 0) && (slice == 0)) s.segment_length (done (pick s word at).lane) good.long_segments most in
+      let whole = front_whole ((pass == 0) && (slice == 0)) s.segment_length good.long_segments in
       elim (pick-readable s word at good here later) [
         | inl w ↦ stands.last (pick s word at).pass (pick s word at).lane (pick s word at).column w.0 lane_fits w.2
-            (omega (arith, w.1, reach, start))
+            (omega (arith, w.1, most, whole, start))
         | inr v ↦ elim v [
           | inl w ↦ stands.now (pick s word at).pass (pick s word at).lane (pick s word at).column w.0 lane_fits
               (let k = slices_fit in omega (arith, w.1, start, k)) (omega (arith, w.1, start))
@@ -160,24 +154,16 @@ module _ (s : Setting) (good : IsSetting s) (pass slice : ℕ) (few : slice < 4)
 
 -- ---- a whole slice
 
--- equal numbers pass the test of equality
-same_eqb : (x y : ℕ) → x ≡ y → (x == y) ≡ true
-same_eqb x y e = eq-eqb x y e
-
--- numbers that differ fail the test of equality
-pub other_eqb : (x y : ℕ) → (x ≡ y → ⊥) → (x == y) ≡ false
-other_eqb x y ne = elim (eqb_tells x y) [ inl w ↦ absurd (ne w.1) | inr w ↦ w.0 ]
-
 -- an entry moves one of what its lane has left to write
 count_moves : (x lane d n blocks : ℕ) → d + (cond (x == lane) 1 0 + n) ≡ blocks → cond (lane == x) (d + 1) d + n ≡ blocks
 count_moves x lane d n blocks h = elim (eqb_tells lane x) [
-  | inl w ↦ rw w.0 (let k = rw (same_eqb x lane (sym w.1)) at h in omega (arith, k))
-  | inr w ↦ rw w.0 (let k = rw (other_eqb x lane (λ e. w.1 (sym e))) at h in omega (arith, k))
+  | inl w ↦ rw w.0 (let k = rw (eq-eqb x lane (sym w.1)) at h in omega (arith, k))
+  | inr w ↦ rw w.0 (let k = rw (ne_eqb x lane (λ e. w.1 (sym e))) at h in omega (arith, k))
 ]
 
 -- a lane with an entry still to come has blocks left to write
 pub count_room : (x d n blocks : ℕ) → d + (cond (x == x) 1 0 + n) ≡ blocks → d < blocks
-count_room x d n blocks h = let k = rw (same_eqb x x refl) at h in omega (arith, k)
+count_room x d n blocks h = let k = rw (eq-eqb x x refl) at h in omega (arith, k)
 
 module _ (s : Setting) (good : IsSetting s) (pass slice : ℕ) (few : slice < 4) where
   -- what some entries make of a matrix, where the rest is still to come

@@ -1,8 +1,9 @@
 -- Every order of the writes gives the same matrix: from slice to slice, to the end of the last pass.
-use Rattle.std.proofs.Common.{◌≡◌, ℕ, zero, suc, ◌+◌, ◌-◌, ◌*◌, ◌/◌, ◌%◌, ◌<◌, ◌≤◌, ◌⊎◌, Bool, true, false, List, [], refl, arith, cond}
+use Rattle.std.proofs.Common.{◌≡◌, ℕ, zero, suc, ◌+◌, ◌-◌, ◌*◌, ◌/◌, ◌%◌, ◌<◌, ◌≤◌, ◌⊎◌, false, List, [], refl, arith, cond}
 use Rattle.std.proofs.Common.{inl, inr, sym, ◌∙◌, ap}
 use Rattle.std.specs.Prelude.{◌==◌, ◌&&◌}
 use Rattle.std.proofs.lemmas.Bool.Decides.{eqb_tells}
+use Rattle.std.proofs.lemmas.Bool.{ne_eqb}
 use Rattle.std.proofs.lemmas.List.{append-nil}
 use Rattle.argon2_standard.specs.Standard.Setting.{Setting}
 use Rattle.argon2_memory.specs.Views.Jobs.{IsSetting}
@@ -11,22 +12,20 @@ use Rattle.argon2_memory.specs.Laws.Matrix.{Matrix, IsBegun}
 use Rattle.argon2_memory.specs.Laws.Schedule.{IsSchedule, blocks_in_slice, next_column, after_slice, after_slices}
 use Rattle.argon2_memory.specs.Laws.AnyOrder.{EveryOrderAgrees}
 use Rattle.argon2_memory.proofs.Recurrence.Recurrences.{block_at-recurrence}
-use Rattle.argon2_memory.proofs.Schedules.AnyOrder.{Stands, other_eqb, run-stands, recurrence_first}
+use Rattle.argon2_memory.proofs.Schedules.AnyOrder.{Stands, front_whole, run-stands, recurrence_first}
 
 -- ---- from slice to slice
 
--- where a lane has written all its blocks of a slice, its next index is the length
-front_done : (b : Bool) (len d : ℕ) → 2 ≤ len → d ≡ cond b (len - 2) len → cond b 2 0 + d ≡ len
-front_done true len d h k = omega arith
-front_done false len d h k = omega arith
+-- where one of two numbers is above 0, the test that both are 0 is false
+pub neither : (a b : ℕ) → (0 < a ⊎ 0 < b) → ((a == 0) && (b == 0)) ≡ false
+neither a b h = elim (eqb_tells a 0) [
+  | inl w ↦ rw (w.0, ne_eqb b 0 (λ e. absurd (elim h [ inl l ↦ omega (arith, l, w.1) | inr l ↦ omega (arith, l, e) ]))) refl
+  | inr w ↦ rw w.0 refl
+]
 
 -- a slice that is not the first of pass 0 skips no blocks at its front
 pub no_skip : (pass slice : ℕ) → (0 < pass ⊎ 0 < slice) → ◌≡◌ {A = ℕ} (cond ((pass == 0) && (slice == 0)) 2 0) 0
-no_skip pass slice (inl h) = rw (other_eqb pass 0 (λ e. absurd (omega arith))) refl
-no_skip pass slice (inr h) = elim (eqb_tells pass 0) [
-  | inl w ↦ rw (w.0, other_eqb slice 0 (λ e. absurd (omega arith))) refl
-  | inr w ↦ rw w.0 refl
-]
+no_skip pass slice h = rw (neither pass slice h) refl
 
 -- the next slice, of the same pass or the next
 abbrev pub IsNext : ℕ → ℕ → ℕ → ℕ → Type 0
@@ -45,8 +44,8 @@ module _ (s : Setting) (good : IsSetting s) (pass slice pass' slice' : ℕ) (m :
     (all_done : (lane : ℕ) → lane < s.lanes → done lane ≡ blocks_in_slice s pass slice) where
   front : (lane : ℕ) → lane < s.lanes → next_column s pass slice (done lane) ≡ slice * s.segment_length + s.segment_length
   front lane h =
-      let e = front_done ((pass == 0) && (slice == 0)) s.segment_length (done lane) good.long_segments (all_done lane h) in
-      omega (arith, e)
+      let whole = front_whole ((pass == 0) && (slice == 0)) s.segment_length good.long_segments in
+      omega (arith, whole, all_done lane h)
 
   pub next-stands : IsNext pass slice pass' slice' → Stands s pass' slice' m (λ lane. 0)
   next-stands (inl w) =

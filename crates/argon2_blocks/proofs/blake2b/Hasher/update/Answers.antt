@@ -1,6 +1,6 @@
-use Rattle.std.proofs.Common.{◌≡◌, ℕ, List, ◌+◌, ◌++◌, take, drop, ap, ◌∙◌, arith}
+use Rattle.std.proofs.Common.{◌≡◌, ℕ, List, ◌+◌, ◌++◌, take, drop, ap, sym, ◌∙◌, arith}
 use Rattle.std.proofs.lemmas.List.{append-nil, append_assoc, take_all, take_rest}
-use Rattle.argon2_blocks.proofs.Hashing.Messages.{take-take_more}
+use Rattle.std.proofs.Math.Seq.{take-add}
 use Rattle.argon2_blocks.proofs.blake2b.Hasher.update.Goals as goal
 
 pub loop-start-init : goal.loop-start-init
@@ -15,7 +15,7 @@ loop-start-preserved c = (
       let n = c.fill_buffer-start.result in
       let taken = rw take_rest at (c.fill_buffer-start.ensures.taken nn (m ++ take a bytes) (c.loop-start.invariant.1 nn m held)) in
       let same : (m ++ take a bytes) ++ take n (drop a bytes) ≡ m ++ take (a + n) bytes =
-      append_assoc m (take a bytes) (take n (drop a bytes)) ∙ ap (λ (l : List ℕ). m ++ l) (take-take_more bytes a n) in
+      append_assoc m (take a bytes) (take n (drop a bytes)) ∙ ap (λ (l : List ℕ). m ++ l) (sym (take-add a n bytes)) in
       rw (← same) taken,
 )
 

@@ -1,22 +1,16 @@
-use Rattle.std.proofs.Common.{◌≡◌, ◌+◌, ℕ, zero, suc, Bool, true, false, rules, arith, refl, ap, sym, ◌∙◌}
-use Rattle.std.specs.Prelude.{◌&&◌}
+use Rattle.std.proofs.Common.{◌≡◌, ◌+◌, ℕ, zero, suc, Bool, true, rules, arith, refl, ap, sym, ◌∙◌}
 use Rattle.std.specs.List.{list_all, range_with_len}
 use Rattle.std.proofs.lemmas.Iterator.{YieldsList-from_range}
 use Rattle.std.proofs.lemmas.Iterator.Search.{all_from_yields_List}
 use Rattle.argon2_fill.specs.Views.Permits.{PermitsAll}
-use Rattle.argon2_memory.proofs.Recurrence.Recurrences.{both-true}
+use Rattle.std.proofs.lemmas.Bool.{and_parts}
 use Rattle.argon2_fill.proofs.workers.crew.all_permitted.Goals as goal
-
--- where a conjunction is true, its first part is
-first-true : (a b : Bool) → (a && b) ≡ true → a ≡ true
-first-true true b e = refl
-first-true false b e = e
 
 -- a test that each number of a stretch passes
 permits_all : (p : ℕ → Bool) (a n : ℕ) → list_all p (range_with_len a n) ≡ true → PermitsAll p a n
 permits_all p a zero e k h = absurd (omega arith)
-permits_all p a (suc n) e zero h = ap p (omega arith) ∙ first-true (p a) (list_all p (range_with_len (a + 1) n)) e
-permits_all p a (suc n) e (suc k) h = ap p (omega arith) ∙ permits_all p (a + 1) n (both-true (p a) (list_all p (range_with_len (a + 1) n)) e) k (omega arith)
+permits_all p a (suc n) e zero h = ap p (omega arith) ∙ (and_parts (p a) (list_all p (range_with_len (a + 1) n)) e).0
+permits_all p a (suc n) e (suc k) h = ap p (omega arith) ∙ permits_all p (a + 1) n (and_parts (p a) (list_all p (range_with_len (a + 1) n)) e).1 k (omega arith)
 
 -- where each number of a stretch is permitted, the test of the whole stretch is true
 list_all-permitted : (p : ℕ → Bool) (a n : ℕ) → PermitsAll p a n → list_all p (range_with_len a n) ≡ true

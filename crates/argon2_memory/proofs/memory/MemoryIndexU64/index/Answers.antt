@@ -14,6 +14,3 @@ block-requires-clause-lane_fits c =
       | inr w ↦ omega (arith, w.1)
     ] in
     (div-lt_iff_lt-mul some).1 few
-
-pub returns : goal.returns
-returns c = rw (c.from-length.ensures, c.lane_length.ensures.value) at c.block.ensures

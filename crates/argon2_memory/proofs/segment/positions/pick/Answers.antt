@@ -1,20 +1,8 @@
 use Rattle.std.proofs.Common.{ℕ, Bool, sym, ◌∙◌, ap}
 use Rattle.argon2_memory.specs.Views.References.{reference_set_column, reference_set_size}
 use Rattle.argon2_standard.specs.Standard.Reference.{relative_position}
-use Rattle.argon2_memory.proofs.Recurrence.ReferenceSets.{some-picked, pick-is}
+use Rattle.argon2_memory.proofs.Recurrence.ReferenceSets.{pick-is}
 use Rattle.argon2_memory.proofs.segment.positions.pick.Goals as goal
-
-pub reference_set_size-size-requires-clause-some : goal.reference_set_size-size-requires-clause-some
-reference_set_size-size-requires-clause-some c =
-    let q = c.requires in let d = c.drawn_lane-chosen in
-    rw d.ensures.own (some-picked c.args.job.now d.ensures.job c.args.lane c.args.index c.args.word q.lane_fits q.index_fits q.later d.result.0
-    (d.ensures.value c.args.index q.index_fits))
-
-pub relative_position-position-requires : goal.relative_position-position-requires
-relative_position-position-requires c =
-    let q = c.requires in let d = c.drawn_lane-chosen in
-    rw (c.reference_set_size-size.ensures.value, d.ensures.own) (some-picked c.args.job.now d.ensures.job c.args.lane c.args.index c.args.word q.lane_fits
-    q.index_fits q.later d.result.0 (d.ensures.value c.args.index q.index_fits))
 
 pub returns : goal.returns
 returns c =
