@@ -76,6 +76,7 @@ pub struct Limits {
 /// `proved_argon2_options` of the header. The threads are the call's own.
 #[repr(C)]
 pub struct Options {
+    // options, by .ci/pages/presets
     size: usize,
     threads: u32,
     memory: *mut c_void,
@@ -85,6 +86,7 @@ pub struct Options {
     limits: *const Limits,
     tell: Option<extern "C" fn(*mut c_void, u64, u64) -> c_int>,
     arg: *mut c_void,
+    // end
 }
 
 /// What the caller provides: a memory, without which the call allocates one, and a progress
@@ -98,6 +100,21 @@ pub struct Lent<'lent, 'a> {
 const MOST_FOR_A_TEXT: u32 = 16;
 
 impl Options {
+    /// The fields that C leaves out of an initializer.
+    const NONE: Options = Options {
+        // no options, by .ci/pages/presets
+        size: 0,
+        threads: 0,
+        memory: null_mut(),
+        memory_len: 0,
+        run: null(),
+        pool: null_mut(),
+        limits: null(),
+        tell: None,
+        arg: null_mut(),
+        // end
+    };
+
     /// Options of so many threads. They point to what the caller provides, which has to outlive
     /// them.
     fn by(threads: u32, lent: Lent<'_, '_>) -> Options {
@@ -107,11 +124,9 @@ impl Options {
             threads,
             memory,
             memory_len,
-            run: null(),
-            pool: null_mut(),
-            limits: null(),
             tell: lent.telling.as_ref().map(|_| telling::told as _),
             arg: lent.telling.map_or(null_mut(), |it| (it as *mut Telling<'_>).cast()),
+            ..Options::NONE
         }
     }
 }

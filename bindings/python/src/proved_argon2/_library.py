@@ -66,6 +66,7 @@ class Options(ctypes.Structure):
     """`proved_argon2_options` of the header. The call starts its own threads."""
 
     _fields_ = [
+        # options, by .ci/pages/presets
         ("size", ctypes.c_size_t),
         ("threads", ctypes.c_uint32),
         ("memory", ctypes.c_void_p),
@@ -75,6 +76,7 @@ class Options(ctypes.Structure):
         ("limits", ctypes.POINTER(NumberLimits)),
         ("tell", _Tell),
         ("arg", ctypes.c_void_p),
+        # end
     ]
 
 
