@@ -60,16 +60,6 @@ pub check_fault : (encoded : Bor (List ℕ)) (input : Option (List ℕ)) (passwo
 check_fault encoded input password unverified.TooCostly is h = is_too_costly_text encoded password h
 check_fault encoded input password (unverified.Refused refusal) is h = inr (password, is, h)
 
--- and why no hash was made is one of the command that makes it
-pub new_fault : (config : Config) (salt : List ℕ) (input : Option (List ℕ)) (password : List ℕ) (fault : Fault) → IsShortPassword input password
-    → NewFails config salt password fault → MayFail (New config salt) input fault
-new_fault config salt input password TooCostly is h = h
-new_fault config salt input password (Refused refusal) is h = inr (password, is, h)
-new_fault config salt input password Usage is h = absurd h
-new_fault config salt input password Input is h = absurd h
-new_fault config salt input password Output is h = absurd h
-new_fault config salt input password OutputShort is h = absurd h
-
 -- words that ask for too much are those of the command
 pub is_costly : (program : Program) (words : List (List ℕ)) (input : Option (List ℕ)) (command : Command) (fault : Fault)
     → IsCommand program words command → MayFail command input fault → fault ≡ TooCostly → AreTooCostly program words

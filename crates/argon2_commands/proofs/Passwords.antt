@@ -145,20 +145,3 @@ piece_fits bytes buf piece count room most within of_buf taken same left =
     let of_piece = min-le_left room (length piece) in
     let is = same ∙ length-take room piece in
     rw (length-append bytes (take count buf)) (omega (arith, within, of_buf, sym taken, is, of_piece, left, room_left))
-
--- so many bytes were read, and they are the first of all
-pub all_room : (known now : Option (List ℕ)) (bytes : List ℕ) (most : ℕ) → Consumes known now bytes → length bytes ≡ most
-    → IfSome known (λ all. bytes ≡ take most all)
-all_room None now bytes most gone full = tt
-all_room (Some all) None bytes most gone full = absurd gone
-all_room (Some all) (Some rest) bytes most gone full =
-    sym (ap (take most) gone ∙ take-append-le most bytes rest (omega (arith, full)) ∙ take_all most bytes (omega (arith, full)))
-
--- the input ended before that, and they are all
-pub all_given : (known now : Option (List ℕ)) (bytes : List ℕ) (most : ℕ) → Consumes known now bytes → IsAtEnd now → length bytes ≤ most
-    → IfSome known (λ all. bytes ≡ take most all)
-all_given None now bytes most gone end within = tt
-all_given (Some all) None bytes most gone end within = absurd gone
-all_given (Some all) (Some rest) bytes most gone end within =
-    let same : all ≡ bytes = gone ∙ ap (λ r. bytes ++ r) end ∙ append-nil bytes in
-    rw same (sym (take_all most bytes within))

@@ -50,8 +50,3 @@ pub at_accepted : {A : Type 0} (refusal : Option Error) (P : Type 0) (value : A)
     MatchOption refusal P (λ (e : Error). let r : Result A Error = Ok value in r ≡ Err e) → P
 at_accepted None P value h = h
 at_accepted (Some e) P value h = absurd (cc)
-
--- a want of memory is a shortage, whether workers may be wanting or not
-pub shortage : (workers : Bool) (e : Error) → e ≡ OutOfMemory → IsResourceError workers e
-shortage true e memory = inl memory
-shortage false e memory = memory

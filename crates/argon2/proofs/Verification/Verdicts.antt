@@ -58,14 +58,6 @@ pub tag_of-hash_length : (pwd salt : List ℕ) (config : Config) (n len : ℕ)
 unfolding tag_of setting_of prehash_of
 tag_of-hash_length pwd salt config n len = refl
 
--- where an accepted call gives this tag, and the two were compared
-pub compared : (x : Context) (hash tag : List ℕ) (workers same : Bool) → length hash ≡ x.config.hash_length →
-    tag ≡ tag_of x.pwd.now x.salt.now x.config x.config.hash_length → (IsTrue same ↔ (tag ≡ hash)) →
-    IsVerdict x.pwd.now x.salt.now hash x.config workers (Ok same)
-compared x hash tag workers same long given equal =
-    let none = none_is (refusal_of x.config (length x.pwd.now) (length x.salt.now) x.config.hash_length) x.accepted in
-    rw (long, none) ((λ t. sym (equal.0 t) ∙ given), (λ h. equal.1 (given ∙ sym h)))
-
 -- the field for the length of a hash does not count for its verdict
 pub verdict_of_length : (pwd salt hash : List ℕ) (config : Config) (workers : Bool) (answer : Result Bool Error) →
     IsVerdict pwd salt hash (record config { hash_length = length hash }) workers answer → IsVerdict pwd salt hash config workers answer
