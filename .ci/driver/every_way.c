@@ -3,10 +3,10 @@
  * stands what is here: it chooses what happens, and watches what the driver does. Each choice is made in all its ways,
  * depth first.
  *
- *     every_way LANES THREADS PASSES EARLY    prints how many runs there were, or the first fault with its choices
+ *     every_way LANES THREADS PASSES SWITCHES    prints how many runs there were, or the first fault with its choices
  *
- * Threads are run one at a time: whenever all have met, those before the caller's and behind it are chosen, and EARLY is
- * how often one is before it at most. */
+ * Threads are run one at a time. Before each part, wait and progress, and behind each wake, another may go on: SWITCHES
+ * is how often at most. Where one cannot go on the caller's does, or else the first that can. */
 #define _GNU_SOURCE
 #define PROVED_ARGON2_NULL_H /* (the driver's calls are those here) */
 #define PROVED_ARGON2_PASSWORD_H
@@ -19,13 +19,14 @@
 #include <string.h>
 #include <ucontext.h>
 
-enum { MOST_CHOICES = 512, MOST_THREADS = 3, MOST_TAKEN = 4, TAG = 4, ERROR_BEFORE = 77, KIB = 1024, KINDS = 32 };
+enum { MOST_CHOICES = 512, MOST_THREADS = 3, MOST_TAKEN = 4, TAG = 4, ERROR_BEFORE = 77, KIB = 1024, KINDS = 64 };
+enum { LONG = 4 * KIB }; /* blocks of a lane in a slice, which only its own thread takes */
 
 /* ---- what is asked */
 
 static struct {
-    uint32_t lanes, threads, passes, early, segment;
-    bool is_large, is_lent, is_verdict, is_told, has_pool;
+    uint32_t lanes, threads, passes, switches, segment;
+    bool is_large, is_lent, is_verdict, is_told, has_pool, is_long;
 } asked;
 
 /* ---- choices */
@@ -59,8 +60,9 @@ static bool has_another_run(void)
 static void must(bool holds, const char *what)
 {
     if (!holds) {
-        printf("fault: %s;%s%s%s%s%s, at", what, asked.is_large ? " large" : "", asked.is_lent ? " lent" : "",
-            asked.is_verdict ? " verdict" : "", asked.is_told ? " told" : "", asked.has_pool ? " pool" : "");
+        printf("fault: %s;%s%s%s%s%s%s, at", what, asked.is_large ? " large" : "", asked.is_lent ? " lent" : "",
+            asked.is_verdict ? " verdict" : "", asked.is_told ? " told" : "", asked.has_pool ? " pool" : "",
+            asked.is_long ? " long" : "");
         for (size_t i = 0; i < depth; i++) {
             printf(" %u", choices[i].way);
         }
@@ -72,7 +74,7 @@ static void must(bool holds, const char *what)
 /* ---- what a run has come to */
 
 static proved_argon2_job job;
-static _Alignas(64) block arena[4096 + 8]; /* for the blocks, of which the first of each segment is written */
+static _Alignas(64) block arena[4 * MOST_THREADS * LONG]; /* of which the first of each segment is written */
 
 enum kind { LINES, PAGES, BYTES, WORKERS };
 
@@ -81,8 +83,8 @@ static struct run {
     uint32_t begun, filled; /* lanes, a bit for each */
     uint64_t stage, told;   /* slices that are filled, or are being filled, and those that were told */
     bool is_finished, is_dirty, is_forked, is_kept, is_pool_wrong;
-    uint32_t early; /* how often a thread went on before the caller's */
-    size_t there;   /* bytes that were populated */
+    uint32_t switches; /* how often another thread went on than had to */
+    size_t there;      /* bytes that were populated */
     struct {
         void *at;
         size_t len;
@@ -122,6 +124,7 @@ static bool fails(uint32_t code)
 static struct thread {
     ucontext_t context;
     void *fake;
+    uint32_t woken, waited; /* how often */
     enum { READY, WAITING, DONE } state;
     _Alignas(16) char stack[1 << 16];
 } threads[MOST_THREADS];
@@ -131,8 +134,8 @@ struct team {
 };
 
 static team one_team;
-static bool is_team;
-static uint32_t current, order[MOST_THREADS], phase;
+static bool is_team, is_joining;
+static uint32_t current;
 static void (*member_runs)(void *arg, team *own, uint32_t number);
 static void *member_arg;
 
@@ -153,39 +156,23 @@ static void switch_to(uint32_t next)
     __sanitizer_finish_switch_fiber(before->fake, NULL, NULL);
 }
 
-/* The first in order that can go on. */
-static uint32_t next_ready(void)
+/* Goes on with this thread or, where it cannot, and as often as SWITCHES says, with another. */
+static void go_on(void)
 {
+    uint32_t ready[MOST_THREADS], count = 0;
+    if (!is_team || run.is_forked) {
+        return;
+    }
     for (uint32_t i = 0; i <= one_team.members; i++) {
-        if (threads[order[i]].state == READY) {
-            return order[i];
+        const uint32_t next = i == 0 ? current : i - (i <= current);
+        if (threads[next].state == READY) {
+            ready[count++] = next;
         }
     }
-    must(false, "some thread can go on");
-    return 0;
-}
-
-static bool is_early(void)
-{
-    const bool is = run.early < asked.early && choose(2) == 1;
-    run.early += is;
-    return is;
-}
-
-/* All can go on: some before the caller's, and the others behind it. Where all but the caller's have nothing to do than
- * to meet again, they are on one side. */
-static void release(void)
-{
-    const bool have_work = phase++ % 2 == 1;
-    uint32_t at = 0, late = 0, behind[MOST_THREADS];
-    const bool are_early = !have_work && is_early();
-    for (uint32_t i = 1; i <= one_team.members; i++) {
-        *((have_work ? is_early() : are_early) ? &order[at++] : &behind[late++]) = i;
-        threads[i].state = READY;
-    }
-    threads[0].state = READY;
-    order[at++] = 0;
-    memcpy(order + at, behind, late * sizeof *behind);
+    must(count > 0, "some thread can go on");
+    const unsigned way = count > 1 && run.switches < asked.switches ? choose(count) : 0;
+    run.switches += way != 0;
+    switch_to(ready[way]);
 }
 
 static void run_member(void)
@@ -194,7 +181,8 @@ static void run_member(void)
         NULL, bottom_of_caller == NULL ? &bottom_of_caller : NULL, size_of_caller == 0 ? &size_of_caller : NULL);
     member_runs(member_arg, &one_team, current);
     threads[current].state = DONE;
-    switch_to(next_ready());
+    threads[0].state = is_joining ? READY : threads[0].state;
+    go_on();
 }
 
 static void begin_member(uint32_t number)
@@ -204,6 +192,8 @@ static void begin_member(uint32_t number)
     getcontext(&it->context);
     it->context.uc_stack = (stack_t){.ss_sp = it->stack, .ss_size = sizeof it->stack};
     makecontext(&it->context, run_member, 0);
+    it->state = READY;
+    it->woken = it->waited = 0;
 }
 
 team *start_team(uint32_t count, void (*runs)(void *arg, team *own, uint32_t number), void *arg)
@@ -217,12 +207,13 @@ team *start_team(uint32_t count, void (*runs)(void *arg, team *own, uint32_t num
     one_team.members = granted;
     member_runs = runs;
     member_arg = arg;
-    phase = 0;
+    is_joining = false;
+    threads[0].woken = threads[0].waited = 0;
+    threads[0].state = READY;
     for (uint32_t i = 1; i <= granted; i++) {
         begin_member(i);
     }
-    release();
-    switch_to(next_ready());
+    go_on();
     return &one_team;
 }
 
@@ -231,41 +222,52 @@ uint32_t members(const team *own)
     return own == NULL || run.is_forked ? 0 : own->members;
 }
 
-void meet(team *own)
+void wake(team *own, uint32_t number)
 {
+    must(is_team && own == &one_team && !run.is_forked && number <= own->members, "a thread of the team is woken");
+    threads[number].woken++;
+    threads[number].state = threads[number].state == WAITING ? READY : threads[number].state;
+    go_on();
+}
+
+void await(team *own, uint32_t number)
+{
+    struct thread *const self = &threads[number];
     if (own == NULL || run.is_forked) {
         return;
     }
-    bool are_all_here = true;
-    threads[current].state = WAITING;
-    for (uint32_t i = 0; i <= own->members; i++) {
-        are_all_here = are_all_here && threads[i].state == WAITING;
+    must(number == current, "a thread waits itself");
+    go_on();
+    while (self->woken == self->waited) {
+        self->state = WAITING;
+        go_on();
     }
-    if (are_all_here) {
-        release();
-    }
-    switch_to(next_ready());
+    self->waited++;
+}
+
+/* All are woken for each step and at the end. */
+static void look_at_member(const struct thread *it)
+{
+    must(it->state == DONE, "all threads are joined");
+    must(run.code != PROVED_ARGON2_OK || it->woken == 4 * asked.passes + 2, "a thread is woken for each step");
 }
 
 void end_team(team *own)
 {
-    bool are_done = true;
     must(own == NULL || is_team, "a team ends once");
     must(current == 0, "the caller's thread ends it");
-    is_team = false;
-    if (own == NULL || run.is_forked) {
-        return;
-    }
-    threads[0].state = WAITING; /* for each of them */
-    for (uint32_t i = 1; i <= own->members; i++) {
-        while (threads[i].state != DONE) {
-            must(threads[i].state == READY, "a thread that is joined ends");
-            threads[0].state = READY;
-            switch_to(i);
+    if (own != NULL && !run.is_forked) {
+        is_joining = true;
+        must(threads[0].woken == threads[0].waited, "the caller has waited for each part that another took");
+        for (uint32_t i = 1; i <= own->members; i++) {
+            while (threads[i].state != DONE) {
+                threads[0].state = WAITING;
+                go_on();
+            }
+            look_at_member(&threads[i]);
         }
-        are_done = are_done && threads[i].state == DONE;
     }
-    must(are_done, "all threads are joined");
+    is_team = false;
 }
 
 /* ---- the rest of the system */
@@ -331,6 +333,7 @@ void unmap_pages(void *pages, size_t bytes)
 bool populate_pages(void *pages, size_t bytes)
 {
     const size_t from = (size_t)((char *)pages - (char *)arena);
+    go_on();
     must(!asked.is_lent && asked.is_large && bytes != 0 && from + bytes <= arena_len(), "pages of the call's own");
     run.there += bytes;
     return !fails(PROVED_ARGON2_OUT_OF_MEMORY);
@@ -396,6 +399,7 @@ static void look_at_lane(uint32_t *lanes, uint32_t lane, uint32_t slice, block *
 
 uint32_t proved_argon2_job_begin(const proved_argon2_job *it, uint32_t lane, block *own, size_t own_len)
 {
+    go_on();
     if (run.code != PROVED_ARGON2_OK) {
         return PROVED_ARGON2_OK; /* (what other threads do behind a failure is nobody's) */
     }
@@ -410,6 +414,7 @@ uint32_t proved_argon2_job_fill(const proved_argon2_job *it, uint32_t pass, uint
     block *own, size_t own_len)
 {
     const size_t len = slice_len();
+    go_on();
     if (run.code != PROVED_ARGON2_OK) {
         return PROVED_ARGON2_OK;
     }
@@ -491,6 +496,7 @@ static int tell(void *arg, uint64_t done, uint64_t all)
         "each slice is told once");
     must(run.filled == all_lanes() && run.stage == done && current == 0, "it is filled then");
     errno = 5;
+    go_on();
     if (fails(PROVED_ARGON2_STOPPED)) {
         return -1;
     }
@@ -578,7 +584,8 @@ static uint64_t run_all(void)
     return runs;
 }
 
-/* A kind of call: large or not, over lent memory or its own, a verdict or a hash, told or not, by a pool or not. */
+/* A kind of call: large or not, over lent memory or its own, a verdict or a hash, told or not, by a pool or not, and by
+ * threads in long parts or not. */
 static uint64_t run_kind(unsigned kind)
 {
     asked.is_large = kind & 1;
@@ -586,7 +593,11 @@ static uint64_t run_kind(unsigned kind)
     asked.is_verdict = kind >> 2 & 1;
     asked.is_told = kind >> 3 & 1;
     asked.has_pool = kind >> 4 & 1;
-    asked.segment = asked.is_large ? (KIB + asked.lanes - 1) / asked.lanes : 2;
+    asked.is_long = kind >> 5 & 1;
+    if (asked.is_long && (!asked.is_large || asked.has_pool || asked.lanes == 1 || asked.threads == 1)) {
+        return 0;
+    }
+    asked.segment = asked.is_long ? LONG : asked.is_large ? (KIB + asked.lanes - 1) / asked.lanes : 2;
     job = (proved_argon2_job){{1}, PROVED_ARGON2_ID, 0x13, asked.lanes, asked.segment, asked.passes, TAG};
     return run_all();
 }
@@ -600,7 +611,7 @@ int main(int count, char **words)
     asked.lanes = (uint32_t)atoi(words[1]);
     asked.threads = (uint32_t)atoi(words[2]);
     asked.passes = (uint32_t)atoi(words[3]);
-    asked.early = (uint32_t)atoi(words[4]);
+    asked.switches = (uint32_t)atoi(words[4]);
     for (unsigned kind = 0; kind < KINDS; kind++) {
         runs += run_kind(kind);
     }
