@@ -27,7 +27,7 @@ class Carried:
         """Where code and constants are, each from where the first of its kind begins: one behind the other."""
         ends, self.sections, self.offsets = {True: 0, False: 0}, {}, {}
         for index, it in enumerate(self.elf.iter_sections()):
-            if it['sh_flags'] & SH_FLAGS.SHF_ALLOC and it['sh_size']:
+            if it['sh_flags'] & SH_FLAGS.SHF_ALLOC:
                 kind, align = self.is_code(it), it['sh_addralign']
                 self.sections[index], self.offsets[index] = it, -(-ends[kind] // align) * align
                 ends[kind] = self.offsets[index] + it['sh_size']
