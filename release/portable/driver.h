@@ -45,7 +45,7 @@ typedef struct call {
     uint32_t tasks;        /* how many workers there are */
     team *team;            /* the call's own threads, for all workers from 1 on that were granted one */
     uint64_t step;         /* step 0 writes the first blocks, and step n + 1 fills slice number n, over all passes */
-    bool is_over;          /* there is no step any more */
+    atomic_bool is_over;   /* there is no step any more */
     atomic_bool is_astray; /* a task was run that is not there, or once too often */
 } call;
 

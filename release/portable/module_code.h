@@ -3,9 +3,19 @@
 
 #define MODULE_STACK 24848 /* bytes that the deepest call takes */
 
-static const u8 module_data[1320] = {
+static const u8 module_data[1536] = {
     97, 114, 103, 111, 110, 50, 100, 97, 114, 103, 111, 110, 50, 105, 97, 114, 103, 111, 110, 50,
-    105, 100, 112, 61, 49, 54, 49, 57, 65, 114, 103, 111, 110, 50, 100, 65, 114, 103, 111, 110,
+    105, 100, 48, 48, 48, 49, 48, 50, 48, 51, 48, 52, 48, 53, 48, 54, 48, 55, 48, 56,
+    48, 57, 49, 48, 49, 49, 49, 50, 49, 51, 49, 52, 49, 53, 49, 54, 49, 55, 49, 56,
+    49, 57, 50, 48, 50, 49, 50, 50, 50, 51, 50, 52, 50, 53, 50, 54, 50, 55, 50, 56,
+    50, 57, 51, 48, 51, 49, 51, 50, 51, 51, 51, 52, 51, 53, 51, 54, 51, 55, 51, 56,
+    51, 57, 52, 48, 52, 49, 52, 50, 52, 51, 52, 52, 52, 53, 52, 54, 52, 55, 52, 56,
+    52, 57, 53, 48, 53, 49, 53, 50, 53, 51, 53, 52, 53, 53, 53, 54, 53, 55, 53, 56,
+    53, 57, 54, 48, 54, 49, 54, 50, 54, 51, 54, 52, 54, 53, 54, 54, 54, 55, 54, 56,
+    54, 57, 55, 48, 55, 49, 55, 50, 55, 51, 55, 52, 55, 53, 55, 54, 55, 55, 55, 56,
+    55, 57, 56, 48, 56, 49, 56, 50, 56, 51, 56, 52, 56, 53, 56, 54, 56, 55, 56, 56,
+    56, 57, 57, 48, 57, 49, 57, 50, 57, 51, 57, 52, 57, 53, 57, 54, 57, 55, 57, 56,
+    57, 57, 112, 61, 49, 54, 49, 57, 65, 114, 103, 111, 110, 50, 100, 65, 114, 103, 111, 110,
     50, 105, 65, 114, 103, 111, 110, 50, 105, 100, 36, 118, 61, 36, 109, 61, 44, 116, 61, 44,
     112, 61, 84, 104, 101, 32, 112, 97, 115, 115, 119, 111, 114, 100, 32, 100, 111, 101, 115, 32,
     110, 111, 116, 32, 109, 97, 116, 99, 104, 84, 104, 101, 32, 98, 117, 102, 102, 101, 114, 32,
@@ -17,65 +27,66 @@ static const u8 module_data[1320] = {
     115, 32, 109, 97, 100, 101, 32, 119, 105, 116, 104, 32, 111, 116, 104, 101, 114, 32, 115, 101,
     116, 116, 105, 110, 103, 115, 84, 104, 101, 32, 101, 110, 99, 111, 100, 101, 100, 32, 104, 97,
     115, 104, 32, 105, 115, 32, 97, 98, 111, 118, 101, 32, 116, 104, 101, 32, 108, 105, 109, 105,
-    116, 115, 84, 104, 101, 32, 106, 111, 98, 32, 105, 115, 32, 110, 111, 110, 101, 84, 104, 101,
-    32, 106, 111, 98, 32, 104, 97, 115, 32, 110, 111, 32, 115, 117, 99, 104, 32, 112, 97, 115,
-    115, 44, 32, 115, 108, 105, 99, 101, 32, 111, 114, 32, 108, 97, 110, 101, 84, 104, 101, 114,
-    101, 32, 97, 114, 101, 32, 116, 111, 111, 32, 109, 97, 110, 121, 32, 111, 114, 32, 116, 111,
-    111, 32, 102, 101, 119, 32, 98, 108, 111, 99, 107, 115, 79, 117, 116, 112, 117, 116, 32, 105,
-    115, 32, 116, 111, 111, 32, 115, 104, 111, 114, 116, 79, 117, 116, 112, 117, 116, 32, 105, 115,
-    32, 116, 111, 111, 32, 108, 111, 110, 103, 80, 97, 115, 115, 119, 111, 114, 100, 32, 105, 115,
-    32, 116, 111, 111, 32, 115, 104, 111, 114, 116, 80, 97, 115, 115, 119, 111, 114, 100, 32, 105,
-    115, 32, 116, 111, 111, 32, 108, 111, 110, 103, 83, 97, 108, 116, 32, 105, 115, 32, 116, 111,
-    111, 32, 115, 104, 111, 114, 116, 83, 97, 108, 116, 32, 105, 115, 32, 116, 111, 111, 32, 108,
-    111, 110, 103, 65, 115, 115, 111, 99, 105, 97, 116, 101, 100, 32, 100, 97, 116, 97, 32, 105,
-    115, 32, 116, 111, 111, 32, 115, 104, 111, 114, 116, 65, 115, 115, 111, 99, 105, 97, 116, 101,
-    100, 32, 100, 97, 116, 97, 32, 105, 115, 32, 116, 111, 111, 32, 108, 111, 110, 103, 83, 101,
-    99, 114, 101, 116, 32, 105, 115, 32, 116, 111, 111, 32, 115, 104, 111, 114, 116, 83, 101, 99,
-    114, 101, 116, 32, 105, 115, 32, 116, 111, 111, 32, 108, 111, 110, 103, 84, 105, 109, 101, 32,
-    99, 111, 115, 116, 32, 105, 115, 32, 116, 111, 111, 32, 115, 109, 97, 108, 108, 84, 105, 109,
-    101, 32, 99, 111, 115, 116, 32, 105, 115, 32, 116, 111, 111, 32, 108, 97, 114, 103, 101, 77,
-    101, 109, 111, 114, 121, 32, 99, 111, 115, 116, 32, 105, 115, 32, 116, 111, 111, 32, 115, 109,
-    97, 108, 108, 77, 101, 109, 111, 114, 121, 32, 99, 111, 115, 116, 32, 105, 115, 32, 116, 111,
-    111, 32, 108, 97, 114, 103, 101, 84, 111, 111, 32, 102, 101, 119, 32, 108, 97, 110, 101, 115,
-    84, 111, 111, 32, 109, 97, 110, 121, 32, 108, 97, 110, 101, 115, 84, 104, 101, 114, 101, 32,
-    105, 115, 32, 110, 111, 32, 115, 117, 99, 104, 32, 116, 121, 112, 101, 32, 111, 102, 32, 65,
-    114, 103, 111, 110, 50, 84, 104, 101, 114, 101, 32, 105, 115, 32, 110, 111, 32, 115, 117, 99,
-    104, 32, 118, 101, 114, 115, 105, 111, 110, 32, 111, 102, 32, 65, 114, 103, 111, 110, 50, 68,
-    101, 99, 111, 100, 105, 110, 103, 32, 102, 97, 105, 108, 101, 100, 79, 117, 116, 32, 111, 102,
-    32, 109, 101, 109, 111, 114, 121, 65, 32, 119, 111, 114, 107, 101, 114, 32, 119, 97, 115, 32,
-    114, 101, 102, 117, 115, 101, 100, 0, 0, 0, 0, 0, 7, 0, 0, 0, 0, 0, 0, 0,
-    7, 0, 0, 0, 0, 0, 0, 0, 8, 0, 0, 0, 0, 0, 0, 0, 0, 0, 0, 0,
-    0, 0, 0, 0, 7, 0, 0, 0, 0, 0, 0, 0, 14, 0, 0, 0, 0, 0, 0, 0,
-    27, 0, 0, 0, 0, 0, 0, 0, 31, 0, 0, 0, 0, 0, 0, 0, 29, 0, 0, 0,
-    0, 0, 0, 0, 32, 0, 0, 0, 0, 0, 0, 0, 45, 0, 0, 0, 0, 0, 0, 0,
-    36, 0, 0, 0, 0, 0, 0, 0, 15, 0, 0, 0, 0, 0, 0, 0, 39, 0, 0, 0,
-    0, 0, 0, 0, 36, 0, 0, 0, 0, 0, 0, 0, 62, 0, 0, 0, 0, 0, 0, 0,
-    89, 0, 0, 0, 0, 0, 0, 0, 120, 0, 0, 0, 0, 0, 0, 0, 149, 0, 0, 0,
-    0, 0, 0, 0, 181, 0, 0, 0, 0, 0, 0, 0, 226, 0, 0, 0, 0, 0, 0, 0,
-    6, 1, 0, 0, 0, 0, 0, 0, 21, 1, 0, 0, 0, 0, 0, 0, 60, 1, 0, 0,
+    116, 115, 84, 104, 101, 32, 106, 111, 98, 32, 105, 115, 32, 111, 102, 32, 110, 111, 32, 97,
+    99, 99, 101, 112, 116, 101, 100, 32, 99, 97, 108, 108, 84, 104, 101, 32, 106, 111, 98, 32,
+    104, 97, 115, 32, 110, 111, 32, 115, 117, 99, 104, 32, 112, 97, 115, 115, 44, 32, 115, 108,
+    105, 99, 101, 32, 111, 114, 32, 108, 97, 110, 101, 84, 104, 101, 114, 101, 32, 97, 114, 101,
+    32, 116, 111, 111, 32, 109, 97, 110, 121, 32, 111, 114, 32, 116, 111, 111, 32, 102, 101, 119,
+    32, 98, 108, 111, 99, 107, 115, 79, 117, 116, 112, 117, 116, 32, 105, 115, 32, 116, 111, 111,
+    32, 115, 104, 111, 114, 116, 79, 117, 116, 112, 117, 116, 32, 105, 115, 32, 116, 111, 111, 32,
+    108, 111, 110, 103, 80, 97, 115, 115, 119, 111, 114, 100, 32, 105, 115, 32, 116, 111, 111, 32,
+    115, 104, 111, 114, 116, 80, 97, 115, 115, 119, 111, 114, 100, 32, 105, 115, 32, 116, 111, 111,
+    32, 108, 111, 110, 103, 83, 97, 108, 116, 32, 105, 115, 32, 116, 111, 111, 32, 115, 104, 111,
+    114, 116, 83, 97, 108, 116, 32, 105, 115, 32, 116, 111, 111, 32, 108, 111, 110, 103, 65, 115,
+    115, 111, 99, 105, 97, 116, 101, 100, 32, 100, 97, 116, 97, 32, 105, 115, 32, 116, 111, 111,
+    32, 115, 104, 111, 114, 116, 65, 115, 115, 111, 99, 105, 97, 116, 101, 100, 32, 100, 97, 116,
+    97, 32, 105, 115, 32, 116, 111, 111, 32, 108, 111, 110, 103, 83, 101, 99, 114, 101, 116, 32,
+    105, 115, 32, 116, 111, 111, 32, 115, 104, 111, 114, 116, 83, 101, 99, 114, 101, 116, 32, 105,
+    115, 32, 116, 111, 111, 32, 108, 111, 110, 103, 84, 105, 109, 101, 32, 99, 111, 115, 116, 32,
+    105, 115, 32, 116, 111, 111, 32, 115, 109, 97, 108, 108, 84, 105, 109, 101, 32, 99, 111, 115,
+    116, 32, 105, 115, 32, 116, 111, 111, 32, 108, 97, 114, 103, 101, 77, 101, 109, 111, 114, 121,
+    32, 99, 111, 115, 116, 32, 105, 115, 32, 116, 111, 111, 32, 115, 109, 97, 108, 108, 77, 101,
+    109, 111, 114, 121, 32, 99, 111, 115, 116, 32, 105, 115, 32, 116, 111, 111, 32, 108, 97, 114,
+    103, 101, 84, 111, 111, 32, 102, 101, 119, 32, 108, 97, 110, 101, 115, 84, 111, 111, 32, 109,
+    97, 110, 121, 32, 108, 97, 110, 101, 115, 84, 104, 101, 114, 101, 32, 105, 115, 32, 110, 111,
+    32, 115, 117, 99, 104, 32, 116, 121, 112, 101, 32, 111, 102, 32, 65, 114, 103, 111, 110, 50,
+    84, 104, 101, 114, 101, 32, 105, 115, 32, 110, 111, 32, 115, 117, 99, 104, 32, 118, 101, 114,
+    115, 105, 111, 110, 32, 111, 102, 32, 65, 114, 103, 111, 110, 50, 68, 101, 99, 111, 100, 105,
+    110, 103, 32, 102, 97, 105, 108, 101, 100, 79, 117, 116, 32, 111, 102, 32, 109, 101, 109, 111,
+    114, 121, 65, 32, 119, 111, 114, 107, 101, 114, 32, 119, 97, 115, 32, 114, 101, 102, 117, 115,
+    101, 100, 0, 0, 0, 0, 0, 0, 7, 0, 0, 0, 0, 0, 0, 0, 7, 0, 0, 0,
+    0, 0, 0, 0, 8, 0, 0, 0, 0, 0, 0, 0, 0, 0, 0, 0, 0, 0, 0, 0,
+    7, 0, 0, 0, 0, 0, 0, 0, 14, 0, 0, 0, 0, 0, 0, 0, 27, 0, 0, 0,
+    0, 0, 0, 0, 31, 0, 0, 0, 0, 0, 0, 0, 29, 0, 0, 0, 0, 0, 0, 0,
+    32, 0, 0, 0, 0, 0, 0, 0, 45, 0, 0, 0, 0, 0, 0, 0, 36, 0, 0, 0,
+    0, 0, 0, 0, 30, 0, 0, 0, 0, 0, 0, 0, 39, 0, 0, 0, 0, 0, 0, 0,
+    36, 0, 0, 0, 0, 0, 0, 0, 6, 1, 0, 0, 0, 0, 0, 0, 33, 1, 0, 0,
+    0, 0, 0, 0, 64, 1, 0, 0, 0, 0, 0, 0, 93, 1, 0, 0, 0, 0, 0, 0,
+    125, 1, 0, 0, 0, 0, 0, 0, 170, 1, 0, 0, 0, 0, 0, 0, 206, 1, 0, 0,
+    0, 0, 0, 0, 236, 1, 0, 0, 0, 0, 0, 0, 19, 2, 0, 0, 0, 0, 0, 0,
+    19, 0, 0, 0, 0, 0, 0, 0, 18, 0, 0, 0, 0, 0, 0, 0, 21, 0, 0, 0,
+    0, 0, 0, 0, 20, 0, 0, 0, 0, 0, 0, 0, 17, 0, 0, 0, 0, 0, 0, 0,
+    16, 0, 0, 0, 0, 0, 0, 0, 28, 0, 0, 0, 0, 0, 0, 0, 27, 0, 0, 0,
     0, 0, 0, 0, 19, 0, 0, 0, 0, 0, 0, 0, 18, 0, 0, 0, 0, 0, 0, 0,
-    21, 0, 0, 0, 0, 0, 0, 0, 20, 0, 0, 0, 0, 0, 0, 0, 17, 0, 0, 0,
-    0, 0, 0, 0, 16, 0, 0, 0, 0, 0, 0, 0, 28, 0, 0, 0, 0, 0, 0, 0,
-    27, 0, 0, 0, 0, 0, 0, 0, 19, 0, 0, 0, 0, 0, 0, 0, 18, 0, 0, 0,
-    0, 0, 0, 0, 22, 0, 0, 0, 0, 0, 0, 0, 22, 0, 0, 0, 0, 0, 0, 0,
-    24, 0, 0, 0, 0, 0, 0, 0, 24, 0, 0, 0, 0, 0, 0, 0, 13, 0, 0, 0,
-    0, 0, 0, 0, 14, 0, 0, 0, 0, 0, 0, 0, 31, 0, 0, 0, 0, 0, 0, 0,
-    34, 0, 0, 0, 0, 0, 0, 0, 15, 0, 0, 0, 0, 0, 0, 0, 13, 0, 0, 0,
-    0, 0, 0, 0, 20, 0, 0, 0, 0, 0, 0, 0, 96, 1, 0, 0, 0, 0, 0, 0,
-    115, 1, 0, 0, 0, 0, 0, 0, 133, 1, 0, 0, 0, 0, 0, 0, 154, 1, 0, 0,
-    0, 0, 0, 0, 174, 1, 0, 0, 0, 0, 0, 0, 191, 1, 0, 0, 0, 0, 0, 0,
-    207, 1, 0, 0, 0, 0, 0, 0, 235, 1, 0, 0, 0, 0, 0, 0, 6, 2, 0, 0,
-    0, 0, 0, 0, 25, 2, 0, 0, 0, 0, 0, 0, 43, 2, 0, 0, 0, 0, 0, 0,
-    65, 2, 0, 0, 0, 0, 0, 0, 87, 2, 0, 0, 0, 0, 0, 0, 111, 2, 0, 0,
-    0, 0, 0, 0, 135, 2, 0, 0, 0, 0, 0, 0, 148, 2, 0, 0, 0, 0, 0, 0,
-    162, 2, 0, 0, 0, 0, 0, 0, 193, 2, 0, 0, 0, 0, 0, 0, 227, 2, 0, 0,
-    0, 0, 0, 0, 242, 2, 0, 0, 0, 0, 0, 0, 255, 2, 0, 0, 0, 0, 0, 0,
+    22, 0, 0, 0, 0, 0, 0, 0, 22, 0, 0, 0, 0, 0, 0, 0, 24, 0, 0, 0,
+    0, 0, 0, 0, 24, 0, 0, 0, 0, 0, 0, 0, 13, 0, 0, 0, 0, 0, 0, 0,
+    14, 0, 0, 0, 0, 0, 0, 0, 31, 0, 0, 0, 0, 0, 0, 0, 34, 0, 0, 0,
+    0, 0, 0, 0, 15, 0, 0, 0, 0, 0, 0, 0, 13, 0, 0, 0, 0, 0, 0, 0,
+    20, 0, 0, 0, 0, 0, 0, 0, 55, 2, 0, 0, 0, 0, 0, 0, 74, 2, 0, 0,
+    0, 0, 0, 0, 92, 2, 0, 0, 0, 0, 0, 0, 113, 2, 0, 0, 0, 0, 0, 0,
+    133, 2, 0, 0, 0, 0, 0, 0, 150, 2, 0, 0, 0, 0, 0, 0, 166, 2, 0, 0,
+    0, 0, 0, 0, 194, 2, 0, 0, 0, 0, 0, 0, 221, 2, 0, 0, 0, 0, 0, 0,
+    240, 2, 0, 0, 0, 0, 0, 0, 2, 3, 0, 0, 0, 0, 0, 0, 24, 3, 0, 0,
+    0, 0, 0, 0, 46, 3, 0, 0, 0, 0, 0, 0, 70, 3, 0, 0, 0, 0, 0, 0,
+    94, 3, 0, 0, 0, 0, 0, 0, 107, 3, 0, 0, 0, 0, 0, 0, 121, 3, 0, 0,
+    0, 0, 0, 0, 152, 3, 0, 0, 0, 0, 0, 0, 186, 3, 0, 0, 0, 0, 0, 0,
+    201, 3, 0, 0, 0, 0, 0, 0, 214, 3, 0, 0, 0, 0, 0, 0,
 };
 
 /* where an address is among them, from their beginning */
 static const u16 module_addresses[33] = {
-    816, 824, 832, 912, 920, 928, 936, 944, 952, 960, 968, 976, 1152, 1160, 1168, 1176, 1184, 1192, 1200, 1208,
-    1216, 1224, 1232, 1240, 1248, 1256, 1264, 1272, 1280, 1288, 1296, 1304, 1312,
+    1032, 1040, 1048, 1128, 1136, 1144, 1152, 1160, 1168, 1176, 1184, 1192, 1368, 1376, 1384, 1392, 1400, 1408, 1416, 1424,
+    1432, 1440, 1448, 1456, 1464, 1472, 1480, 1488, 1496, 1504, 1512, 1520, 1528,
 };
 
 typedef struct Z_proved_instance_t {
@@ -108,6 +119,7 @@ static void w2c_argon2_c__steps__fill(Z_proved_instance_t*, u64, u64, u32, u32, 
 static void w2c_argon2_c__steps__finish(Z_proved_instance_t*, u64, u64, u64, u64, u64, u64);
 static void w2c_argon2_c__over__hash_job(Z_proved_instance_t*, u64, u64, u64, u64, u64, u64);
 static void w2c_argon2_c__jobs__make(Z_proved_instance_t*, u64, u64, u64, u64, u64, u64, u64, u64, u64, u64, u64);
+static void w2c_itoa__Buffer__format____a27d2209050c8f1b_(Z_proved_instance_t*, u64, u64, u32);
 static void w2c_argon2_c__stored_text__head_of(Z_proved_instance_t*, u64, u64, u64);
 static u64 w2c_core__slice__words__skip_far____52f9edcae2f82f51_(Z_proved_instance_t*, u64, u64, u64);
 static void w2c_argon2_text__encoding__reading__piece(Z_proved_instance_t*, u64, u64, u64, u64, u64, u32);
@@ -120,7 +132,6 @@ static void w2c_argon2_text__encoding__items__read_hash(Z_proved_instance_t*, u6
 static void w2c_argon2_c__steps__verify(Z_proved_instance_t*, u64, u64, u64, u64, u64, u64, u64, u64);
 static void w2c_argon2_c__over__verify(Z_proved_instance_t*, u64, u64, u64, u64, u64, u64, u64, u64, u64, u64, u64, u64, u64, u64, u64, u64);
 static void w2c_argon2_c__over__verify_job(Z_proved_instance_t*, u64, u64, u64, u64, u64, u64, u64, u64);
-static u64 w2c_argon2_text__encoding__placing__put_number(Z_proved_instance_t*, u64, u64, u32);
 static u32 w2c_proved_argon2_check(Z_proved_instance_t*, u64, u64, u64, u64, u64);
 static u32 w2c_rattle__export_proved_argon2_check(Z_proved_instance_t*, u64, u64, u64, u64, u64);
 static void w2c_proved_argon2_default_limits(Z_proved_instance_t*, u64);
@@ -22873,6 +22884,207 @@ static void w2c_argon2_c__jobs__make(Z_proved_instance_t* instance, u64 w2c_p0, 
   FUNC_EPILOGUE;
 }
 
+static void w2c_itoa__Buffer__format____a27d2209050c8f1b_(Z_proved_instance_t* instance, u64 w2c_p0, u64 w2c_p1, u32 w2c_p2) {
+  u32 w2c_l7 = 0;
+  u64 w2c_l3 = 0, w2c_l4 = 0, w2c_l5 = 0, w2c_l6 = 0;
+  FUNC_PROLOGUE;
+  u32 w2c_i0, w2c_i1, w2c_i2, w2c_i3;
+  u64 w2c_j0, w2c_j1, w2c_j2, w2c_j3;
+  w2c_j0 = instance->w2c___stack_pointer;
+  w2c_j1 = 16ull;
+  w2c_i0 = (u64)((s64)w2c_j0 < (s64)w2c_j1);
+  if (w2c_i0) {goto w2c_B0;}
+  w2c_i0 = w2c_p2;
+  w2c_j0 = (u64)(w2c_i0);
+  w2c_l3 = w2c_j0;
+  w2c_j0 = 40ull;
+  w2c_l4 = w2c_j0;
+  w2c_i0 = w2c_p2;
+  w2c_i1 = 10000u;
+  w2c_i0 = w2c_i0 < w2c_i1;
+  if (w2c_i0) {goto w2c_B1;}
+  w2c_j0 = 40ull;
+  w2c_l4 = w2c_j0;
+  w2c_L2: 
+    w2c_j0 = w2c_p1;
+    w2c_j1 = w2c_l4;
+    w2c_j0 += w2c_j1;
+    w2c_l5 = w2c_j0;
+    w2c_j1 = 18446744073709551612ull;
+    w2c_j0 += w2c_j1;
+    w2c_j1 = w2c_l3;
+    w2c_l6 = w2c_j1;
+    w2c_j2 = w2c_l6;
+    w2c_j3 = 10000ull;
+    w2c_j2 = DIV_U(w2c_j2, w2c_j3);
+    w2c_l3 = w2c_j2;
+    w2c_j3 = 10000ull;
+    w2c_j2 *= w2c_j3;
+    w2c_j1 -= w2c_j2;
+    w2c_i1 = (u32)(w2c_j1);
+    w2c_p2 = w2c_i1;
+    w2c_i2 = 65535u;
+    w2c_i1 &= w2c_i2;
+    w2c_i2 = 100u;
+    w2c_i1 = DIV_U(w2c_i1, w2c_i2);
+    w2c_l7 = w2c_i1;
+    w2c_j1 = (u64)(w2c_i1);
+    w2c_j2 = 1ull;
+    w2c_j1 <<= (w2c_j2 & 63);
+    w2c_j2 = instance->w2c_data;
+    w2c_j3 = 22ull;
+    w2c_j2 += w2c_j3;
+    w2c_i1 = (*Z_memoryZ_i32_load16_u)(instance->Z_memory_instance, w2c_j1, w2c_j2);
+    w2c_j2 = 0ull;
+    (*Z_memoryZ_i32_store16)(instance->Z_memory_instance, w2c_j0, w2c_i1, w2c_j2);
+    w2c_j0 = w2c_l5;
+    w2c_j1 = 18446744073709551614ull;
+    w2c_j0 += w2c_j1;
+    w2c_i1 = w2c_p2;
+    w2c_i2 = w2c_l7;
+    w2c_i3 = 100u;
+    w2c_i2 *= w2c_i3;
+    w2c_i1 -= w2c_i2;
+    w2c_j1 = (u64)(w2c_i1);
+    w2c_j2 = 65535ull;
+    w2c_j1 &= w2c_j2;
+    w2c_j2 = 1ull;
+    w2c_j1 <<= (w2c_j2 & 63);
+    w2c_j2 = instance->w2c_data;
+    w2c_j3 = 22ull;
+    w2c_j2 += w2c_j3;
+    w2c_i1 = (*Z_memoryZ_i32_load16_u)(instance->Z_memory_instance, w2c_j1, w2c_j2);
+    w2c_j2 = 0ull;
+    (*Z_memoryZ_i32_store16)(instance->Z_memory_instance, w2c_j0, w2c_i1, w2c_j2);
+    w2c_j0 = w2c_l4;
+    w2c_j1 = 18446744073709551612ull;
+    w2c_j0 += w2c_j1;
+    w2c_l4 = w2c_j0;
+    w2c_j0 = w2c_l6;
+    w2c_j1 = 99999999ull;
+    w2c_i0 = w2c_j0 > w2c_j1;
+    if (w2c_i0) {goto w2c_L2;}
+  w2c_B1:;
+  w2c_j0 = w2c_l3;
+  w2c_j1 = 99ull;
+  w2c_i0 = w2c_j0 > w2c_j1;
+  if (w2c_i0) {goto w2c_B4;}
+  w2c_j0 = w2c_l3;
+  w2c_j1 = 9ull;
+  w2c_i0 = w2c_j0 > w2c_j1;
+  if (w2c_i0) {goto w2c_B5;}
+  w2c_j0 = w2c_p1;
+  w2c_j1 = w2c_l4;
+  w2c_j2 = 18446744073709551615ull;
+  w2c_j1 += w2c_j2;
+  w2c_l4 = w2c_j1;
+  w2c_j0 += w2c_j1;
+  w2c_j1 = w2c_l3;
+  w2c_i1 = (u32)(w2c_j1);
+  w2c_i2 = 48u;
+  w2c_i1 |= w2c_i2;
+  w2c_j2 = 0ull;
+  (*Z_memoryZ_i32_store8)(instance->Z_memory_instance, w2c_j0, w2c_i1, w2c_j2);
+  goto w2c_B3;
+  w2c_B5:;
+  w2c_j0 = w2c_p1;
+  w2c_j1 = w2c_l4;
+  w2c_j2 = 18446744073709551614ull;
+  w2c_j1 += w2c_j2;
+  w2c_l4 = w2c_j1;
+  w2c_j0 += w2c_j1;
+  w2c_j1 = w2c_l3;
+  w2c_j2 = 1ull;
+  w2c_j1 <<= (w2c_j2 & 63);
+  w2c_j2 = instance->w2c_data;
+  w2c_j3 = 22ull;
+  w2c_j2 += w2c_j3;
+  w2c_i1 = (*Z_memoryZ_i32_load16_u)(instance->Z_memory_instance, w2c_j1, w2c_j2);
+  w2c_j2 = 0ull;
+  (*Z_memoryZ_i32_store16)(instance->Z_memory_instance, w2c_j0, w2c_i1, w2c_j2);
+  goto w2c_B3;
+  w2c_B4:;
+  w2c_j0 = w2c_p1;
+  w2c_j1 = w2c_l4;
+  w2c_j0 += w2c_j1;
+  w2c_j1 = 18446744073709551614ull;
+  w2c_j0 += w2c_j1;
+  w2c_j1 = w2c_l3;
+  w2c_i1 = (u32)(w2c_j1);
+  w2c_p2 = w2c_i1;
+  w2c_i2 = w2c_p2;
+  w2c_i3 = 65535u;
+  w2c_i2 &= w2c_i3;
+  w2c_i3 = 100u;
+  w2c_i2 = DIV_U(w2c_i2, w2c_i3);
+  w2c_p2 = w2c_i2;
+  w2c_i3 = 100u;
+  w2c_i2 *= w2c_i3;
+  w2c_i1 -= w2c_i2;
+  w2c_j1 = (u64)(w2c_i1);
+  w2c_j2 = 65535ull;
+  w2c_j1 &= w2c_j2;
+  w2c_j2 = 1ull;
+  w2c_j1 <<= (w2c_j2 & 63);
+  w2c_j2 = instance->w2c_data;
+  w2c_j3 = 22ull;
+  w2c_j2 += w2c_j3;
+  w2c_i1 = (*Z_memoryZ_i32_load16_u)(instance->Z_memory_instance, w2c_j1, w2c_j2);
+  w2c_j2 = 0ull;
+  (*Z_memoryZ_i32_store16)(instance->Z_memory_instance, w2c_j0, w2c_i1, w2c_j2);
+  w2c_j0 = w2c_l3;
+  w2c_j1 = 999ull;
+  w2c_i0 = w2c_j0 > w2c_j1;
+  if (w2c_i0) {goto w2c_B6;}
+  w2c_j0 = w2c_p1;
+  w2c_j1 = w2c_l4;
+  w2c_j2 = 18446744073709551613ull;
+  w2c_j1 += w2c_j2;
+  w2c_l4 = w2c_j1;
+  w2c_j0 += w2c_j1;
+  w2c_i1 = w2c_p2;
+  w2c_i2 = 48u;
+  w2c_i1 |= w2c_i2;
+  w2c_j2 = 0ull;
+  (*Z_memoryZ_i32_store8)(instance->Z_memory_instance, w2c_j0, w2c_i1, w2c_j2);
+  goto w2c_B3;
+  w2c_B6:;
+  w2c_j0 = w2c_p1;
+  w2c_j1 = w2c_l4;
+  w2c_j2 = 18446744073709551612ull;
+  w2c_j1 += w2c_j2;
+  w2c_l4 = w2c_j1;
+  w2c_j0 += w2c_j1;
+  w2c_i1 = w2c_p2;
+  w2c_j1 = (u64)(w2c_i1);
+  w2c_j2 = 1ull;
+  w2c_j1 <<= (w2c_j2 & 63);
+  w2c_j2 = instance->w2c_data;
+  w2c_j3 = 22ull;
+  w2c_j2 += w2c_j3;
+  w2c_i1 = (*Z_memoryZ_i32_load16_u)(instance->Z_memory_instance, w2c_j1, w2c_j2);
+  w2c_j2 = 0ull;
+  (*Z_memoryZ_i32_store16)(instance->Z_memory_instance, w2c_j0, w2c_i1, w2c_j2);
+  w2c_B3:;
+  w2c_j0 = w2c_p0;
+  w2c_j1 = 40ull;
+  w2c_j2 = w2c_l4;
+  w2c_j1 -= w2c_j2;
+  w2c_j2 = 8ull;
+  (*Z_memoryZ_i64_store)(instance->Z_memory_instance, w2c_j0, w2c_j1, w2c_j2);
+  w2c_j0 = w2c_p0;
+  w2c_j1 = w2c_p1;
+  w2c_j2 = w2c_l4;
+  w2c_j1 += w2c_j2;
+  w2c_j2 = 0ull;
+  (*Z_memoryZ_i64_store)(instance->Z_memory_instance, w2c_j0, w2c_j1, w2c_j2);
+  goto w2c_Bfunc;
+  w2c_B0:;
+  UNREACHABLE;
+  w2c_Bfunc:;
+  FUNC_EPILOGUE;
+}
+
 static void w2c_argon2_c__stored_text__head_of(Z_proved_instance_t* instance, u64 w2c_p0, u64 w2c_p1, u64 w2c_p2) {
   u32 w2c_l6 = 0, w2c_l11 = 0, w2c_l12 = 0, w2c_l13 = 0, w2c_l14 = 0, w2c_l15 = 0, w2c_l24 = 0;
   u64 w2c_l3 = 0, w2c_l4 = 0, w2c_l5 = 0, w2c_l7 = 0, w2c_l8 = 0, w2c_l9 = 0, w2c_l10 = 0, w2c_l16 = 0, 
@@ -23776,7 +23988,7 @@ static void w2c_argon2_c__stored_text__head_of(Z_proved_instance_t* instance, u6
   w2c_j1 = w2c_l7;
   w2c_j2 = w2c_l8;
   w2c_j3 = instance->w2c_data;
-  w2c_j4 = 22ull;
+  w2c_j4 = 222ull;
   w2c_j3 += w2c_j4;
   w2c_j4 = 2ull;
   w2c_i5 = 36u;
@@ -23839,7 +24051,7 @@ static void w2c_argon2_c__stored_text__head_of(Z_proved_instance_t* instance, u6
   w2c_j0 = w2c_l17;
   w2c_j1 = w2c_p1;
   w2c_j2 = instance->w2c_data;
-  w2c_j3 = 24ull;
+  w2c_j3 = 224ull;
   w2c_j2 += w2c_j3;
   w2c_j3 = 2ull;
   w2c_i0 = w2c_core__cmp__bytes__equal(instance, w2c_j0, w2c_j1, w2c_j2, w2c_j3);
@@ -23849,7 +24061,7 @@ static void w2c_argon2_c__stored_text__head_of(Z_proved_instance_t* instance, u6
   w2c_j0 = w2c_l17;
   w2c_j1 = w2c_p1;
   w2c_j2 = instance->w2c_data;
-  w2c_j3 = 26ull;
+  w2c_j3 = 226ull;
   w2c_j2 += w2c_j3;
   w2c_j3 = 2ull;
   w2c_i0 = w2c_core__cmp__bytes__equal(instance, w2c_j0, w2c_j1, w2c_j2, w2c_j3);
@@ -23867,7 +24079,7 @@ static void w2c_argon2_c__stored_text__head_of(Z_proved_instance_t* instance, u6
   w2c_j0 = w2c_l9;
   w2c_j1 = w2c_l3;
   w2c_j2 = instance->w2c_data;
-  w2c_j3 = 28ull;
+  w2c_j3 = 228ull;
   w2c_j2 += w2c_j3;
   w2c_j3 = 7ull;
   w2c_i0 = w2c_core__cmp__bytes__equal(instance, w2c_j0, w2c_j1, w2c_j2, w2c_j3);
@@ -23885,7 +24097,7 @@ static void w2c_argon2_c__stored_text__head_of(Z_proved_instance_t* instance, u6
   w2c_j0 = w2c_l9;
   w2c_j1 = w2c_l3;
   w2c_j2 = instance->w2c_data;
-  w2c_j3 = 35ull;
+  w2c_j3 = 235ull;
   w2c_j2 += w2c_j3;
   w2c_j3 = 7ull;
   w2c_i0 = w2c_core__cmp__bytes__equal(instance, w2c_j0, w2c_j1, w2c_j2, w2c_j3);
@@ -23903,7 +24115,7 @@ static void w2c_argon2_c__stored_text__head_of(Z_proved_instance_t* instance, u6
   w2c_j0 = w2c_l9;
   w2c_j1 = w2c_l3;
   w2c_j2 = instance->w2c_data;
-  w2c_j3 = 42ull;
+  w2c_j3 = 242ull;
   w2c_j2 += w2c_j3;
   w2c_j3 = 8ull;
   w2c_i0 = w2c_core__cmp__bytes__equal(instance, w2c_j0, w2c_j1, w2c_j2, w2c_j3);
@@ -30036,64 +30248,6 @@ static void w2c_argon2_c__over__verify_job(Z_proved_instance_t* instance, u64 w2
   FUNC_EPILOGUE;
 }
 
-static u64 w2c_argon2_text__encoding__placing__put_number(Z_proved_instance_t* instance, u64 w2c_p0, u64 w2c_p1, u32 w2c_p2) {
-  u32 w2c_l4 = 0, w2c_l5 = 0;
-  u64 w2c_l3 = 0;
-  FUNC_PROLOGUE;
-  u32 w2c_i0, w2c_i1, w2c_i2, w2c_i3;
-  u64 w2c_j0, w2c_j1, w2c_j2;
-  w2c_j0 = instance->w2c___stack_pointer;
-  w2c_l3 = w2c_j0;
-  w2c_j1 = 16ull;
-  w2c_i0 = (u64)((s64)w2c_j0 < (s64)w2c_j1);
-  if (w2c_i0) {goto w2c_B0;}
-  w2c_i0 = w2c_p2;
-  w2c_i1 = w2c_p2;
-  w2c_i2 = 10u;
-  w2c_i1 = DIV_U(w2c_i1, w2c_i2);
-  w2c_l4 = w2c_i1;
-  w2c_i2 = 10u;
-  w2c_i1 *= w2c_i2;
-  w2c_i0 -= w2c_i1;
-  w2c_i1 = 48u;
-  w2c_i0 |= w2c_i1;
-  w2c_l5 = w2c_i0;
-  w2c_i0 = w2c_p2;
-  w2c_i1 = 10u;
-  w2c_i0 = w2c_i0 >= w2c_i1;
-  if (w2c_i0) {goto w2c_B2;}
-  w2c_j0 = w2c_p0;
-  w2c_j1 = w2c_p1;
-  w2c_j0 += w2c_j1;
-  w2c_i1 = w2c_l5;
-  w2c_j2 = 0ull;
-  (*Z_memoryZ_i32_store8)(instance->Z_memory_instance, w2c_j0, w2c_i1, w2c_j2);
-  goto w2c_B1;
-  w2c_B2:;
-  w2c_j0 = w2c_p0;
-  w2c_j1 = w2c_p0;
-  w2c_j2 = w2c_p1;
-  w2c_i3 = w2c_l4;
-  w2c_j1 = w2c_argon2_text__encoding__placing__put_number(instance, w2c_j1, w2c_j2, w2c_i3);
-  w2c_p1 = w2c_j1;
-  w2c_j0 += w2c_j1;
-  w2c_i1 = w2c_l5;
-  w2c_j2 = 0ull;
-  (*Z_memoryZ_i32_store8)(instance->Z_memory_instance, w2c_j0, w2c_i1, w2c_j2);
-  w2c_B1:;
-  w2c_j0 = w2c_l3;
-  instance->w2c___stack_pointer = w2c_j0;
-  w2c_j0 = w2c_p1;
-  w2c_j1 = 1ull;
-  w2c_j0 += w2c_j1;
-  goto w2c_Bfunc;
-  w2c_B0:;
-  UNREACHABLE;
-  w2c_Bfunc:;
-  FUNC_EPILOGUE;
-  return w2c_j0;
-}
-
 static u32 w2c_proved_argon2_check(Z_proved_instance_t* instance, u64 w2c_p0, u64 w2c_p1, u64 w2c_p2, u64 w2c_p3, u64 w2c_p4) {
   u32 w2c_l5 = 0;
   FUNC_PROLOGUE;
@@ -31815,24 +31969,30 @@ static u64 w2c_proved_argon2_encoded_len(Z_proved_instance_t* instance, u64 w2c_
 }
 
 static u64 w2c_rattle__export_proved_argon2_encoded_len(Z_proved_instance_t* instance, u64 w2c_p0, u32 w2c_p1) {
-  u32 w2c_l3 = 0, w2c_l4 = 0, w2c_l5 = 0, w2c_l6 = 0, w2c_l8 = 0, w2c_l9 = 0, w2c_l10 = 0;
-  u64 w2c_l2 = 0, w2c_l7 = 0;
+  u32 w2c_l4 = 0, w2c_l5 = 0, w2c_l6 = 0, w2c_l7 = 0;
+  u64 w2c_l2 = 0, w2c_l3 = 0;
   FUNC_PROLOGUE;
-  u32 w2c_i0, w2c_i1, w2c_i2, w2c_i3;
-  u64 w2c_j0, w2c_j1, w2c_j2;
+  u32 w2c_i0, w2c_i1, w2c_i2, w2c_i3, w2c_i4, w2c_i5;
+  u64 w2c_j0, w2c_j1, w2c_j2, w2c_j3, w2c_j4;
   w2c_j0 = instance->w2c___stack_pointer;
+  w2c_j1 = 96ull;
+  w2c_j0 -= w2c_j1;
+  w2c_l2 = w2c_j0;
+  instance->w2c___stack_pointer = w2c_j0;
+  w2c_j0 = w2c_l2;
+  w2c_l2 = w2c_j0;
   w2c_j1 = 16ull;
   w2c_i0 = (u64)((s64)w2c_j0 < (s64)w2c_j1);
-  if (w2c_i0) {goto w2c_B0;}
+  if (w2c_i0) {goto w2c_B2;}
   w2c_j0 = 0ull;
-  w2c_l2 = w2c_j0;
+  w2c_l3 = w2c_j0;
   w2c_j0 = w2c_p0;
   w2c_j1 = 0ull;
   w2c_i0 = (*Z_memoryZ_i32_load)(instance->Z_memory_instance, w2c_j0, w2c_j1);
-  w2c_l3 = w2c_i0;
+  w2c_l4 = w2c_i0;
   w2c_i1 = 2u;
   w2c_i0 = w2c_i0 > w2c_i1;
-  if (w2c_i0) {goto w2c_B1;}
+  if (w2c_i0) {goto w2c_B0;}
   w2c_j0 = w2c_p0;
   w2c_j1 = 4ull;
   w2c_j0 += w2c_j1;
@@ -31841,179 +32001,133 @@ static u64 w2c_rattle__export_proved_argon2_encoded_len(Z_proved_instance_t* ins
   w2c_i1 = 4294967280u;
   w2c_i0 += w2c_i1;
   switch (w2c_i0) {
-    case 0: goto w2c_B2;
-    case 1: goto w2c_B1;
-    case 2: goto w2c_B1;
-    case 3: goto w2c_B2;
-    default: goto w2c_B1;
+    case 0: goto w2c_B1;
+    case 1: goto w2c_B0;
+    case 2: goto w2c_B0;
+    case 3: goto w2c_B1;
+    default: goto w2c_B0;
   }
   w2c_B2:;
-  w2c_j0 = w2c_p0;
-  w2c_j1 = 12ull;
-  w2c_j0 += w2c_j1;
-  w2c_j1 = 0ull;
-  w2c_i0 = (*Z_memoryZ_i32_load)(instance->Z_memory_instance, w2c_j0, w2c_j1);
-  w2c_l4 = w2c_i0;
-  w2c_j0 = w2c_p0;
-  w2c_j1 = 16ull;
-  w2c_j0 += w2c_j1;
-  w2c_j1 = 0ull;
-  w2c_i0 = (*Z_memoryZ_i32_load)(instance->Z_memory_instance, w2c_j0, w2c_j1);
-  w2c_l5 = w2c_i0;
+  UNREACHABLE;
+  w2c_B1:;
   w2c_j0 = w2c_p0;
   w2c_j1 = 20ull;
   w2c_j0 += w2c_j1;
   w2c_j1 = 0ull;
   w2c_i0 = (*Z_memoryZ_i32_load)(instance->Z_memory_instance, w2c_j0, w2c_j1);
-  w2c_l6 = w2c_i0;
-  w2c_j0 = 1ull;
-  w2c_l2 = w2c_j0;
-  w2c_j0 = 1ull;
-  w2c_l7 = w2c_j0;
+  w2c_l5 = w2c_i0;
   w2c_j0 = w2c_p0;
-  w2c_j1 = 8ull;
+  w2c_j1 = 16ull;
   w2c_j0 += w2c_j1;
   w2c_j1 = 0ull;
   w2c_i0 = (*Z_memoryZ_i32_load)(instance->Z_memory_instance, w2c_j0, w2c_j1);
-  w2c_l8 = w2c_i0;
-  w2c_i1 = 10u;
-  w2c_i0 = w2c_i0 < w2c_i1;
-  if (w2c_i0) {goto w2c_B3;}
-  w2c_i0 = 1u;
-  w2c_l9 = w2c_i0;
-  w2c_L4: 
-    w2c_i0 = w2c_l9;
-    w2c_i1 = 1u;
-    w2c_i0 += w2c_i1;
-    w2c_l9 = w2c_i0;
-    w2c_i0 = w2c_l8;
-    w2c_i1 = 99u;
-    w2c_i0 = w2c_i0 > w2c_i1;
-    w2c_l10 = w2c_i0;
-    w2c_i0 = w2c_l8;
-    w2c_i1 = 10u;
-    w2c_i0 = DIV_U(w2c_i0, w2c_i1);
-    w2c_l8 = w2c_i0;
-    w2c_i0 = w2c_l10;
-    if (w2c_i0) {goto w2c_L4;}
-  w2c_i0 = w2c_l9;
-  w2c_j0 = (u64)(w2c_i0);
-  w2c_l7 = w2c_j0;
-  w2c_B3:;
-  w2c_i0 = w2c_l4;
-  w2c_i1 = 10u;
-  w2c_i0 = w2c_i0 < w2c_i1;
-  if (w2c_i0) {goto w2c_B5;}
-  w2c_i0 = 1u;
-  w2c_l8 = w2c_i0;
-  w2c_L6: 
-    w2c_i0 = w2c_l8;
-    w2c_i1 = 1u;
-    w2c_i0 += w2c_i1;
-    w2c_l8 = w2c_i0;
-    w2c_i0 = w2c_l4;
-    w2c_i1 = 99u;
-    w2c_i0 = w2c_i0 > w2c_i1;
-    w2c_l9 = w2c_i0;
-    w2c_i0 = w2c_l4;
-    w2c_i1 = 10u;
-    w2c_i0 = DIV_U(w2c_i0, w2c_i1);
-    w2c_l4 = w2c_i0;
-    w2c_i0 = w2c_l9;
-    if (w2c_i0) {goto w2c_L6;}
-  w2c_i0 = w2c_l8;
-  w2c_j0 = (u64)(w2c_i0);
-  w2c_l2 = w2c_j0;
-  w2c_B5:;
-  w2c_j0 = 1ull;
-  w2c_p0 = w2c_j0;
-  w2c_i0 = w2c_l5;
-  w2c_i1 = 10u;
-  w2c_i0 = w2c_i0 < w2c_i1;
-  if (w2c_i0) {goto w2c_B7;}
-  w2c_i0 = 1u;
-  w2c_l4 = w2c_i0;
-  w2c_L8: 
-    w2c_i0 = w2c_l4;
-    w2c_i1 = 1u;
-    w2c_i0 += w2c_i1;
-    w2c_l4 = w2c_i0;
-    w2c_i0 = w2c_l5;
-    w2c_i1 = 99u;
-    w2c_i0 = w2c_i0 > w2c_i1;
-    w2c_l8 = w2c_i0;
-    w2c_i0 = w2c_l5;
-    w2c_i1 = 10u;
-    w2c_i0 = DIV_U(w2c_i0, w2c_i1);
-    w2c_l5 = w2c_i0;
-    w2c_i0 = w2c_l8;
-    if (w2c_i0) {goto w2c_L8;}
-  w2c_i0 = w2c_l4;
-  w2c_j0 = (u64)(w2c_i0);
-  w2c_p0 = w2c_j0;
-  w2c_B7:;
-  w2c_j0 = 25ull;
-  w2c_j1 = 24ull;
-  w2c_i2 = w2c_l3;
-  w2c_i3 = 2u;
-  w2c_i2 = w2c_i2 == w2c_i3;
-  w2c_j0 = w2c_i2 ? w2c_j0 : w2c_j1;
-  w2c_i1 = w2c_p1;
-  w2c_i2 = w2c_p1;
-  w2c_i3 = 3u;
-  w2c_i2 = DIV_U(w2c_i2, w2c_i3);
-  w2c_l4 = w2c_i2;
-  w2c_i3 = 3u;
-  w2c_i2 *= w2c_i3;
-  w2c_i1 -= w2c_i2;
-  w2c_i2 = 2u;
-  w2c_i1 <<= (w2c_i2 & 31);
-  w2c_i2 = 2u;
-  w2c_i1 |= w2c_i2;
-  w2c_i2 = 254u;
-  w2c_i1 &= w2c_i2;
-  w2c_i2 = 3u;
-  w2c_i1 = DIV_U(w2c_i1, w2c_i2);
-  w2c_j1 = (u64)(w2c_i1);
+  w2c_l6 = w2c_i0;
+  w2c_j0 = w2c_p0;
+  w2c_j1 = 12ull;
   w2c_j0 += w2c_j1;
-  w2c_i1 = w2c_l6;
-  w2c_i2 = 3u;
-  w2c_i1 = DIV_U(w2c_i1, w2c_i2);
-  w2c_l5 = w2c_i1;
-  w2c_i2 = w2c_l4;
-  w2c_i1 += w2c_i2;
-  w2c_j1 = (u64)(w2c_i1);
-  w2c_j2 = 2ull;
-  w2c_j1 <<= (w2c_j2 & 63);
-  w2c_j0 += w2c_j1;
-  w2c_i1 = w2c_l6;
-  w2c_i2 = w2c_l5;
-  w2c_i3 = 3u;
-  w2c_i2 *= w2c_i3;
-  w2c_i1 -= w2c_i2;
-  w2c_i2 = 2u;
-  w2c_i1 <<= (w2c_i2 & 31);
-  w2c_i2 = 2u;
-  w2c_i1 |= w2c_i2;
-  w2c_i2 = 254u;
-  w2c_i1 &= w2c_i2;
-  w2c_i2 = 3u;
-  w2c_i1 = DIV_U(w2c_i1, w2c_i2);
-  w2c_j1 = (u64)(w2c_i1);
-  w2c_j0 += w2c_j1;
-  w2c_j1 = w2c_l7;
+  w2c_j1 = 0ull;
+  w2c_i0 = (*Z_memoryZ_i32_load)(instance->Z_memory_instance, w2c_j0, w2c_j1);
+  w2c_l7 = w2c_i0;
+  w2c_j0 = w2c_l2;
+  w2c_j1 = 40ull;
   w2c_j0 += w2c_j1;
   w2c_j1 = w2c_l2;
-  w2c_j0 += w2c_j1;
-  w2c_j1 = w2c_p0;
-  w2c_j0 += w2c_j1;
-  w2c_l2 = w2c_j0;
-  w2c_B1:;
+  w2c_j2 = 56ull;
+  w2c_j1 += w2c_j2;
+  w2c_j2 = w2c_p0;
+  w2c_j3 = 8ull;
+  w2c_j2 += w2c_j3;
+  w2c_j3 = 0ull;
+  w2c_i2 = (*Z_memoryZ_i32_load)(instance->Z_memory_instance, w2c_j2, w2c_j3);
+  w2c_itoa__Buffer__format____a27d2209050c8f1b_(instance, w2c_j0, w2c_j1, w2c_i2);
   w2c_j0 = w2c_l2;
-  goto w2c_Bfunc;
+  w2c_j1 = 48ull;
+  w2c_j0 = (*Z_memoryZ_i64_load32_u)(instance->Z_memory_instance, w2c_j0, w2c_j1);
+  w2c_p0 = w2c_j0;
+  w2c_j0 = w2c_l2;
+  w2c_j1 = 24ull;
+  w2c_j0 += w2c_j1;
+  w2c_j1 = w2c_l2;
+  w2c_j2 = 56ull;
+  w2c_j1 += w2c_j2;
+  w2c_i2 = w2c_l7;
+  w2c_itoa__Buffer__format____a27d2209050c8f1b_(instance, w2c_j0, w2c_j1, w2c_i2);
+  w2c_j0 = w2c_l2;
+  w2c_j1 = 32ull;
+  w2c_j0 = (*Z_memoryZ_i64_load32_u)(instance->Z_memory_instance, w2c_j0, w2c_j1);
+  w2c_l3 = w2c_j0;
+  w2c_j0 = w2c_l2;
+  w2c_j1 = 8ull;
+  w2c_j0 += w2c_j1;
+  w2c_j1 = w2c_l2;
+  w2c_j2 = 56ull;
+  w2c_j1 += w2c_j2;
+  w2c_i2 = w2c_l6;
+  w2c_itoa__Buffer__format____a27d2209050c8f1b_(instance, w2c_j0, w2c_j1, w2c_i2);
+  w2c_j0 = w2c_l3;
+  w2c_j1 = w2c_p0;
+  w2c_j2 = 25ull;
+  w2c_j3 = 24ull;
+  w2c_i4 = w2c_l4;
+  w2c_i5 = 2u;
+  w2c_i4 = w2c_i4 == w2c_i5;
+  w2c_j2 = w2c_i4 ? w2c_j2 : w2c_j3;
+  w2c_i3 = w2c_p1;
+  w2c_i4 = w2c_p1;
+  w2c_i5 = 3u;
+  w2c_i4 = DIV_U(w2c_i4, w2c_i5);
+  w2c_l4 = w2c_i4;
+  w2c_i5 = 3u;
+  w2c_i4 *= w2c_i5;
+  w2c_i3 -= w2c_i4;
+  w2c_i4 = 2u;
+  w2c_i3 <<= (w2c_i4 & 31);
+  w2c_i4 = 2u;
+  w2c_i3 |= w2c_i4;
+  w2c_i4 = 254u;
+  w2c_i3 &= w2c_i4;
+  w2c_i4 = 3u;
+  w2c_i3 = DIV_U(w2c_i3, w2c_i4);
+  w2c_j3 = (u64)(w2c_i3);
+  w2c_j2 += w2c_j3;
+  w2c_i3 = w2c_l5;
+  w2c_i4 = 3u;
+  w2c_i3 = DIV_U(w2c_i3, w2c_i4);
+  w2c_p1 = w2c_i3;
+  w2c_i4 = w2c_l4;
+  w2c_i3 += w2c_i4;
+  w2c_j3 = (u64)(w2c_i3);
+  w2c_j4 = 2ull;
+  w2c_j3 <<= (w2c_j4 & 63);
+  w2c_j2 += w2c_j3;
+  w2c_i3 = w2c_l5;
+  w2c_i4 = w2c_p1;
+  w2c_i5 = 3u;
+  w2c_i4 *= w2c_i5;
+  w2c_i3 -= w2c_i4;
+  w2c_i4 = 2u;
+  w2c_i3 <<= (w2c_i4 & 31);
+  w2c_i4 = 2u;
+  w2c_i3 |= w2c_i4;
+  w2c_i4 = 254u;
+  w2c_i3 &= w2c_i4;
+  w2c_i4 = 3u;
+  w2c_i3 = DIV_U(w2c_i3, w2c_i4);
+  w2c_j3 = (u64)(w2c_i3);
+  w2c_j2 += w2c_j3;
+  w2c_j1 += w2c_j2;
+  w2c_j0 += w2c_j1;
+  w2c_j1 = w2c_l2;
+  w2c_j2 = 16ull;
+  w2c_j1 = (*Z_memoryZ_i64_load32_u)(instance->Z_memory_instance, w2c_j1, w2c_j2);
+  w2c_j0 += w2c_j1;
+  w2c_l3 = w2c_j0;
   w2c_B0:;
-  UNREACHABLE;
-  w2c_Bfunc:;
+  w2c_j0 = w2c_l2;
+  w2c_j1 = 96ull;
+  w2c_j0 += w2c_j1;
+  instance->w2c___stack_pointer = w2c_j0;
+  w2c_j0 = w2c_l3;
   FUNC_EPILOGUE;
   return w2c_j0;
 }
@@ -34139,12 +34253,12 @@ static u32 w2c_rattle__export_proved_argon2_encode(Z_proved_instance_t* instance
       w2c_l17 = 0, w2c_l18 = 0, w2c_l19 = 0;
   u64 w2c_l7 = 0, w2c_l15 = 0, w2c_l20 = 0, w2c_l21 = 0, w2c_l22 = 0, w2c_l23 = 0, w2c_l24 = 0, w2c_l25 = 0, 
       w2c_l26 = 0, w2c_l27 = 0, w2c_l28 = 0, w2c_l29 = 0, w2c_l30 = 0, w2c_l31 = 0, w2c_l32 = 0, w2c_l33 = 0, 
-      w2c_l34 = 0;
+      w2c_l34 = 0, w2c_l35 = 0, w2c_l36 = 0;
   FUNC_PROLOGUE;
-  u32 w2c_i0, w2c_i1, w2c_i2, w2c_i3, w2c_i4, w2c_i5;
+  u32 w2c_i0, w2c_i1, w2c_i2, w2c_i3, w2c_i4, w2c_i5, w2c_i6;
   u64 w2c_j0, w2c_j1, w2c_j2, w2c_j3, w2c_j4, w2c_j5, w2c_j6;
   w2c_j0 = instance->w2c___stack_pointer;
-  w2c_j1 = 336ull;
+  w2c_j1 = 448ull;
   w2c_j0 -= w2c_j1;
   w2c_l7 = w2c_j0;
   instance->w2c___stack_pointer = w2c_j0;
@@ -34263,152 +34377,98 @@ static u32 w2c_rattle__export_proved_argon2_encode(Z_proved_instance_t* instance
   w2c_j1 = (u64)(w2c_i1);
   w2c_i0 = w2c_j0 != w2c_j1;
   if (w2c_i0) {goto w2c_B1;}
-  w2c_j0 = 1ull;
+  w2c_j0 = w2c_l7;
+  w2c_j1 = 104ull;
+  w2c_j0 += w2c_j1;
+  w2c_j1 = w2c_l7;
+  w2c_j2 = 120ull;
+  w2c_j1 += w2c_j2;
+  w2c_i2 = w2c_l12;
+  w2c_itoa__Buffer__format____a27d2209050c8f1b_(instance, w2c_j0, w2c_j1, w2c_i2);
+  w2c_j0 = w2c_l7;
+  w2c_j1 = 112ull;
+  w2c_j0 = (*Z_memoryZ_i64_load32_u)(instance->Z_memory_instance, w2c_j0, w2c_j1);
   w2c_p2 = w2c_j0;
-  w2c_j0 = 1ull;
+  w2c_j0 = w2c_l7;
+  w2c_j1 = 88ull;
+  w2c_j0 += w2c_j1;
+  w2c_j1 = w2c_l7;
+  w2c_j2 = 120ull;
+  w2c_j1 += w2c_j2;
+  w2c_i2 = w2c_l13;
+  w2c_itoa__Buffer__format____a27d2209050c8f1b_(instance, w2c_j0, w2c_j1, w2c_i2);
+  w2c_j0 = w2c_l7;
+  w2c_j1 = 96ull;
+  w2c_j0 = (*Z_memoryZ_i64_load32_u)(instance->Z_memory_instance, w2c_j0, w2c_j1);
   w2c_l15 = w2c_j0;
-  w2c_i0 = w2c_l12;
-  w2c_i1 = 10u;
-  w2c_i0 = w2c_i0 < w2c_i1;
-  if (w2c_i0) {goto w2c_B11;}
-  w2c_i0 = 1u;
-  w2c_l16 = w2c_i0;
-  w2c_i0 = w2c_l12;
-  w2c_l17 = w2c_i0;
-  w2c_L12: 
-    w2c_i0 = w2c_l16;
-    w2c_i1 = 1u;
-    w2c_i0 += w2c_i1;
-    w2c_l16 = w2c_i0;
-    w2c_i0 = w2c_l17;
-    w2c_i1 = 99u;
-    w2c_i0 = w2c_i0 > w2c_i1;
-    w2c_l18 = w2c_i0;
-    w2c_i0 = w2c_l17;
-    w2c_i1 = 10u;
-    w2c_i0 = DIV_U(w2c_i0, w2c_i1);
-    w2c_l17 = w2c_i0;
-    w2c_i0 = w2c_l18;
-    if (w2c_i0) {goto w2c_L12;}
-  w2c_i0 = w2c_l16;
-  w2c_j0 = (u64)(w2c_i0);
-  w2c_l15 = w2c_j0;
-  w2c_B11:;
-  w2c_i0 = w2c_l13;
-  w2c_i1 = 10u;
-  w2c_i0 = w2c_i0 < w2c_i1;
-  if (w2c_i0) {goto w2c_B13;}
-  w2c_i0 = 1u;
-  w2c_l16 = w2c_i0;
-  w2c_i0 = w2c_l13;
-  w2c_l17 = w2c_i0;
-  w2c_L14: 
-    w2c_i0 = w2c_l16;
-    w2c_i1 = 1u;
-    w2c_i0 += w2c_i1;
-    w2c_l16 = w2c_i0;
-    w2c_i0 = w2c_l17;
-    w2c_i1 = 99u;
-    w2c_i0 = w2c_i0 > w2c_i1;
-    w2c_l18 = w2c_i0;
-    w2c_i0 = w2c_l17;
-    w2c_i1 = 10u;
-    w2c_i0 = DIV_U(w2c_i0, w2c_i1);
-    w2c_l17 = w2c_i0;
-    w2c_i0 = w2c_l18;
-    if (w2c_i0) {goto w2c_L14;}
-  w2c_i0 = w2c_l16;
-  w2c_j0 = (u64)(w2c_i0);
-  w2c_p2 = w2c_j0;
-  w2c_B13:;
-  w2c_j0 = w2c_p1;
-  w2c_i0 = (u32)(w2c_j0);
-  w2c_l19 = w2c_i0;
-  w2c_j0 = 1ull;
-  w2c_p1 = w2c_j0;
-  w2c_i0 = w2c_l11;
-  w2c_i1 = 10u;
-  w2c_i0 = w2c_i0 < w2c_i1;
-  if (w2c_i0) {goto w2c_B15;}
-  w2c_i0 = 1u;
-  w2c_l16 = w2c_i0;
-  w2c_i0 = w2c_l11;
-  w2c_l17 = w2c_i0;
-  w2c_L16: 
-    w2c_i0 = w2c_l16;
-    w2c_i1 = 1u;
-    w2c_i0 += w2c_i1;
-    w2c_l16 = w2c_i0;
-    w2c_i0 = w2c_l17;
-    w2c_i1 = 99u;
-    w2c_i0 = w2c_i0 > w2c_i1;
-    w2c_l18 = w2c_i0;
-    w2c_i0 = w2c_l17;
-    w2c_i1 = 10u;
-    w2c_i0 = DIV_U(w2c_i0, w2c_i1);
-    w2c_l17 = w2c_i0;
-    w2c_i0 = w2c_l18;
-    if (w2c_i0) {goto w2c_L16;}
-  w2c_i0 = w2c_l16;
-  w2c_j0 = (u64)(w2c_i0);
-  w2c_p1 = w2c_j0;
-  w2c_B15:;
+  w2c_j0 = w2c_l7;
+  w2c_j1 = 72ull;
+  w2c_j0 += w2c_j1;
+  w2c_j1 = w2c_l7;
+  w2c_j2 = 120ull;
+  w2c_j1 += w2c_j2;
+  w2c_i2 = w2c_l11;
+  w2c_itoa__Buffer__format____a27d2209050c8f1b_(instance, w2c_j0, w2c_j1, w2c_i2);
   w2c_j0 = w2c_p6;
-  w2c_j1 = 25ull;
-  w2c_j2 = 24ull;
-  w2c_i3 = w2c_l8;
-  w2c_i4 = 2u;
-  w2c_i3 = w2c_i3 == w2c_i4;
-  w2c_j1 = w2c_i3 ? w2c_j1 : w2c_j2;
-  w2c_i2 = w2c_l19;
-  w2c_i3 = w2c_l19;
-  w2c_i4 = 3u;
-  w2c_i3 = DIV_U(w2c_i3, w2c_i4);
-  w2c_l17 = w2c_i3;
-  w2c_i4 = 3u;
-  w2c_i3 *= w2c_i4;
-  w2c_i2 -= w2c_i3;
-  w2c_l18 = w2c_i2;
-  w2c_i3 = 2u;
-  w2c_i2 <<= (w2c_i3 & 31);
-  w2c_i3 = 2u;
-  w2c_i2 |= w2c_i3;
-  w2c_i3 = 254u;
-  w2c_i2 &= w2c_i3;
-  w2c_i3 = 3u;
-  w2c_i2 = DIV_U(w2c_i2, w2c_i3);
-  w2c_j2 = (u64)(w2c_i2);
-  w2c_j1 += w2c_j2;
-  w2c_i2 = w2c_l14;
-  w2c_i3 = 3u;
-  w2c_i2 = DIV_U(w2c_i2, w2c_i3);
-  w2c_l16 = w2c_i2;
-  w2c_i3 = w2c_l17;
-  w2c_i2 += w2c_i3;
-  w2c_j2 = (u64)(w2c_i2);
-  w2c_j3 = 2ull;
-  w2c_j2 <<= (w2c_j3 & 63);
-  w2c_j1 += w2c_j2;
-  w2c_i2 = w2c_l14;
-  w2c_i3 = w2c_l16;
-  w2c_i4 = 3u;
-  w2c_i3 *= w2c_i4;
-  w2c_i2 -= w2c_i3;
-  w2c_i3 = 2u;
-  w2c_i2 <<= (w2c_i3 & 31);
-  w2c_i3 = 2u;
-  w2c_i2 |= w2c_i3;
-  w2c_i3 = 254u;
-  w2c_i2 &= w2c_i3;
-  w2c_i3 = 3u;
-  w2c_i2 = DIV_U(w2c_i2, w2c_i3);
-  w2c_j2 = (u64)(w2c_i2);
-  w2c_j1 += w2c_j2;
-  w2c_j2 = w2c_l15;
-  w2c_j1 += w2c_j2;
+  w2c_j1 = w2c_l15;
   w2c_j2 = w2c_p2;
+  w2c_j3 = 25ull;
+  w2c_j4 = 24ull;
+  w2c_i5 = w2c_l8;
+  w2c_i6 = 2u;
+  w2c_i5 = w2c_i5 == w2c_i6;
+  w2c_j3 = w2c_i5 ? w2c_j3 : w2c_j4;
+  w2c_j4 = w2c_p1;
+  w2c_i4 = (u32)(w2c_j4);
+  w2c_l16 = w2c_i4;
+  w2c_i5 = w2c_l16;
+  w2c_i6 = 3u;
+  w2c_i5 = DIV_U(w2c_i5, w2c_i6);
+  w2c_l17 = w2c_i5;
+  w2c_i6 = 3u;
+  w2c_i5 *= w2c_i6;
+  w2c_i4 -= w2c_i5;
+  w2c_l18 = w2c_i4;
+  w2c_i5 = 2u;
+  w2c_i4 <<= (w2c_i5 & 31);
+  w2c_i5 = 2u;
+  w2c_i4 |= w2c_i5;
+  w2c_i5 = 254u;
+  w2c_i4 &= w2c_i5;
+  w2c_i5 = 3u;
+  w2c_i4 = DIV_U(w2c_i4, w2c_i5);
+  w2c_j4 = (u64)(w2c_i4);
+  w2c_j3 += w2c_j4;
+  w2c_i4 = w2c_l14;
+  w2c_i5 = 3u;
+  w2c_i4 = DIV_U(w2c_i4, w2c_i5);
+  w2c_l19 = w2c_i4;
+  w2c_i5 = w2c_l17;
+  w2c_i4 += w2c_i5;
+  w2c_j4 = (u64)(w2c_i4);
+  w2c_j5 = 2ull;
+  w2c_j4 <<= (w2c_j5 & 63);
+  w2c_j3 += w2c_j4;
+  w2c_i4 = w2c_l14;
+  w2c_i5 = w2c_l19;
+  w2c_i6 = 3u;
+  w2c_i5 *= w2c_i6;
+  w2c_i4 -= w2c_i5;
+  w2c_i5 = 2u;
+  w2c_i4 <<= (w2c_i5 & 31);
+  w2c_i5 = 2u;
+  w2c_i4 |= w2c_i5;
+  w2c_i5 = 254u;
+  w2c_i4 &= w2c_i5;
+  w2c_i5 = 3u;
+  w2c_i4 = DIV_U(w2c_i4, w2c_i5);
+  w2c_j4 = (u64)(w2c_i4);
+  w2c_j3 += w2c_j4;
+  w2c_j2 += w2c_j3;
   w2c_j1 += w2c_j2;
-  w2c_j2 = w2c_p1;
+  w2c_j2 = w2c_l7;
+  w2c_j3 = 80ull;
+  w2c_j2 = (*Z_memoryZ_i64_load32_u)(instance->Z_memory_instance, w2c_j2, w2c_j3);
   w2c_j1 += w2c_j2;
   w2c_l20 = w2c_j1;
   w2c_i0 = w2c_j0 <= w2c_j1;
@@ -34435,19 +34495,19 @@ static u32 w2c_rattle__export_proved_argon2_encode(Z_proved_instance_t* instance
   w2c_j1 <<= (w2c_j2 & 63);
   w2c_p2 = w2c_j1;
   w2c_j2 = instance->w2c_data;
-  w2c_j3 = 816ull;
+  w2c_j3 = 1032ull;
   w2c_j2 += w2c_j3;
   w2c_j1 = (*Z_memoryZ_i64_load)(instance->Z_memory_instance, w2c_j1, w2c_j2);
   w2c_l23 = w2c_j1;
   w2c_j0 -= w2c_j1;
   w2c_j1 = w2c_p2;
   w2c_j2 = instance->w2c_data;
-  w2c_j3 = 792ull;
+  w2c_j3 = 1008ull;
   w2c_j2 += w2c_j3;
   w2c_j1 = (*Z_memoryZ_i64_load)(instance->Z_memory_instance, w2c_j1, w2c_j2);
   w2c_l24 = w2c_j1;
   w2c_i0 = w2c_j0 >= w2c_j1;
-  if (w2c_i0) {goto w2c_B18;}
+  if (w2c_i0) {goto w2c_B12;}
   w2c_j0 = w2c_l24;
   w2c_j1 = 18446744073709551612ull;
   w2c_j0 &= w2c_j1;
@@ -34458,7 +34518,7 @@ static u32 w2c_rattle__export_proved_argon2_encode(Z_proved_instance_t* instance
   w2c_l26 = w2c_j0;
   w2c_j0 = 0ull;
   w2c_p2 = w2c_j0;
-  w2c_L19: 
+  w2c_L13: 
     w2c_j0 = w2c_l22;
     w2c_j1 = w2c_p2;
     w2c_j0 += w2c_j1;
@@ -34509,11 +34569,11 @@ static u32 w2c_rattle__export_proved_argon2_encode(Z_proved_instance_t* instance
     w2c_j1 += w2c_j2;
     w2c_p2 = w2c_j1;
     w2c_i0 = w2c_j0 != w2c_j1;
-    if (w2c_i0) {goto w2c_L19;}
+    if (w2c_i0) {goto w2c_L13;}
   w2c_i0 = w2c_l8;
   w2c_i1 = 2u;
   w2c_i0 = w2c_i0 == w2c_i1;
-  if (w2c_i0) {goto w2c_B17;}
+  if (w2c_i0) {goto w2c_B11;}
   w2c_j0 = w2c_l23;
   w2c_j1 = w2c_p2;
   w2c_j0 += w2c_j1;
@@ -34524,7 +34584,7 @@ static u32 w2c_rattle__export_proved_argon2_encode(Z_proved_instance_t* instance
   w2c_j1 = 1ull;
   w2c_j0 += w2c_j1;
   w2c_p2 = w2c_j0;
-  w2c_L20: 
+  w2c_L14: 
     w2c_j0 = w2c_p2;
     w2c_j1 = w2c_p1;
     w2c_j2 = 0ull;
@@ -34545,17 +34605,17 @@ static u32 w2c_rattle__export_proved_argon2_encode(Z_proved_instance_t* instance
     w2c_l26 = w2c_j0;
     w2c_j1 = 0ull;
     w2c_i0 = w2c_j0 != w2c_j1;
-    if (w2c_i0) {goto w2c_L20;}
-    goto w2c_B17;
-  w2c_B18:;
+    if (w2c_i0) {goto w2c_L14;}
+    goto w2c_B11;
+  w2c_B12:;
   w2c_j0 = w2c_l24;
   w2c_i0 = !(w2c_j0);
-  if (w2c_i0) {goto w2c_B17;}
+  if (w2c_i0) {goto w2c_B11;}
   w2c_j0 = w2c_p1;
   w2c_j1 = w2c_l23;
   w2c_j2 = w2c_l24;
   (*Z_memoryZ_copy)(instance->Z_memory_instance, w2c_j0, w2c_j1, w2c_j2);
-  w2c_B17:;
+  w2c_B11:;
   w2c_j0 = w2c_l22;
   w2c_j1 = w2c_l24;
   w2c_j0 += w2c_j1;
@@ -34564,12 +34624,12 @@ static u32 w2c_rattle__export_proved_argon2_encode(Z_proved_instance_t* instance
   w2c_j0 += w2c_j1;
   w2c_p2 = w2c_j0;
   w2c_j1 = instance->w2c_data;
-  w2c_j2 = 50ull;
+  w2c_j2 = 250ull;
   w2c_j1 += w2c_j2;
   w2c_j0 -= w2c_j1;
   w2c_j1 = 2ull;
   w2c_i0 = w2c_j0 > w2c_j1;
-  if (w2c_i0) {goto w2c_B22;}
+  if (w2c_i0) {goto w2c_B16;}
   w2c_j0 = w2c_p1;
   w2c_j1 = 3ull;
   w2c_j0 += w2c_j1;
@@ -34580,12 +34640,12 @@ static u32 w2c_rattle__export_proved_argon2_encode(Z_proved_instance_t* instance
   w2c_i1 = 30244u;
   w2c_j2 = 0ull;
   (*Z_memoryZ_i32_store16)(instance->Z_memory_instance, w2c_j0, w2c_i1, w2c_j2);
-  goto w2c_B21;
-  w2c_B22:;
+  goto w2c_B15;
+  w2c_B16:;
   w2c_j0 = w2c_p2;
   w2c_j1 = 0ull;
   w2c_j2 = instance->w2c_data;
-  w2c_j3 = 52ull;
+  w2c_j3 = 252ull;
   w2c_j2 += w2c_j3;
   w2c_i1 = (*Z_memoryZ_i32_load8_u)(instance->Z_memory_instance, w2c_j1, w2c_j2);
   w2c_j2 = 2ull;
@@ -34593,29 +34653,196 @@ static u32 w2c_rattle__export_proved_argon2_encode(Z_proved_instance_t* instance
   w2c_j0 = w2c_p2;
   w2c_j1 = 0ull;
   w2c_j2 = instance->w2c_data;
-  w2c_j3 = 50ull;
+  w2c_j3 = 250ull;
   w2c_j2 += w2c_j3;
   w2c_i1 = (*Z_memoryZ_i32_load16_u)(instance->Z_memory_instance, w2c_j1, w2c_j2);
   w2c_j2 = 0ull;
   (*Z_memoryZ_i32_store16)(instance->Z_memory_instance, w2c_j0, w2c_i1, w2c_j2);
-  w2c_B21:;
+  w2c_B15:;
+  w2c_j0 = 0ull;
+  w2c_p1 = w2c_j0;
+  w2c_j0 = w2c_l7;
+  w2c_j1 = 0ull;
+  w2c_j2 = 152ull;
+  (*Z_memoryZ_i64_store)(instance->Z_memory_instance, w2c_j0, w2c_j1, w2c_j2);
+  w2c_j0 = w2c_l7;
+  w2c_j1 = 0ull;
+  w2c_j2 = 144ull;
+  (*Z_memoryZ_i64_store)(instance->Z_memory_instance, w2c_j0, w2c_j1, w2c_j2);
+  w2c_j0 = w2c_l7;
+  w2c_j1 = 0ull;
+  w2c_j2 = 136ull;
+  (*Z_memoryZ_i64_store)(instance->Z_memory_instance, w2c_j0, w2c_j1, w2c_j2);
+  w2c_j0 = w2c_l7;
+  w2c_j1 = 0ull;
+  w2c_j2 = 128ull;
+  (*Z_memoryZ_i64_store)(instance->Z_memory_instance, w2c_j0, w2c_j1, w2c_j2);
+  w2c_j0 = w2c_l7;
+  w2c_j1 = 0ull;
+  w2c_j2 = 120ull;
+  (*Z_memoryZ_i64_store)(instance->Z_memory_instance, w2c_j0, w2c_j1, w2c_j2);
+  w2c_j0 = w2c_l7;
+  w2c_j1 = 56ull;
+  w2c_j0 += w2c_j1;
+  w2c_j1 = w2c_l7;
+  w2c_j2 = 120ull;
+  w2c_j1 += w2c_j2;
+  w2c_i2 = w2c_l10;
+  w2c_itoa__Buffer__format____a27d2209050c8f1b_(instance, w2c_j0, w2c_j1, w2c_i2);
   w2c_j0 = w2c_l22;
-  w2c_j1 = w2c_l22;
+  w2c_j1 = w2c_l24;
+  w2c_j2 = 4ull;
+  w2c_j1 += w2c_j2;
+  w2c_l27 = w2c_j1;
+  w2c_j0 += w2c_j1;
+  w2c_p2 = w2c_j0;
+  w2c_j1 = w2c_l7;
+  w2c_j2 = 56ull;
+  w2c_j1 = (*Z_memoryZ_i64_load)(instance->Z_memory_instance, w2c_j1, w2c_j2);
+  w2c_l25 = w2c_j1;
+  w2c_j0 -= w2c_j1;
+  w2c_j1 = w2c_l7;
+  w2c_j2 = 64ull;
+  w2c_j1 = (*Z_memoryZ_i64_load)(instance->Z_memory_instance, w2c_j1, w2c_j2);
+  w2c_l28 = w2c_j1;
+  w2c_i0 = w2c_j0 >= w2c_j1;
+  if (w2c_i0) {goto w2c_B18;}
+  w2c_j0 = w2c_l28;
+  w2c_j1 = 3ull;
+  w2c_j0 &= w2c_j1;
+  w2c_l23 = w2c_j0;
+  w2c_j0 = w2c_l28;
+  w2c_j1 = 4ull;
+  w2c_i0 = w2c_j0 < w2c_j1;
+  if (w2c_i0) {goto w2c_B19;}
+  w2c_j0 = w2c_l28;
+  w2c_j1 = 18446744073709551612ull;
+  w2c_j0 &= w2c_j1;
+  w2c_l26 = w2c_j0;
+  w2c_j0 = w2c_p5;
+  w2c_j1 = w2c_l21;
   w2c_j2 = w2c_l24;
-  w2c_j3 = 4ull;
-  w2c_j2 += w2c_j3;
-  w2c_i3 = w2c_l10;
-  w2c_j1 = w2c_argon2_text__encoding__placing__put_number(instance, w2c_j1, w2c_j2, w2c_i3);
-  w2c_p1 = w2c_j1;
+  w2c_j1 += w2c_j2;
+  w2c_j0 += w2c_j1;
+  w2c_l29 = w2c_j0;
+  w2c_j0 = 0ull;
+  w2c_p1 = w2c_j0;
+  w2c_L20: 
+    w2c_j0 = w2c_l29;
+    w2c_j1 = w2c_p1;
+    w2c_j0 += w2c_j1;
+    w2c_p2 = w2c_j0;
+    w2c_j1 = 4ull;
+    w2c_j0 += w2c_j1;
+    w2c_j1 = w2c_l25;
+    w2c_j2 = w2c_p1;
+    w2c_j1 += w2c_j2;
+    w2c_l15 = w2c_j1;
+    w2c_j2 = 0ull;
+    w2c_i1 = (*Z_memoryZ_i32_load8_u)(instance->Z_memory_instance, w2c_j1, w2c_j2);
+    w2c_j2 = 0ull;
+    (*Z_memoryZ_i32_store8)(instance->Z_memory_instance, w2c_j0, w2c_i1, w2c_j2);
+    w2c_j0 = w2c_p2;
+    w2c_j1 = 5ull;
+    w2c_j0 += w2c_j1;
+    w2c_j1 = w2c_l15;
+    w2c_j2 = 1ull;
+    w2c_j1 += w2c_j2;
+    w2c_j2 = 0ull;
+    w2c_i1 = (*Z_memoryZ_i32_load8_u)(instance->Z_memory_instance, w2c_j1, w2c_j2);
+    w2c_j2 = 0ull;
+    (*Z_memoryZ_i32_store8)(instance->Z_memory_instance, w2c_j0, w2c_i1, w2c_j2);
+    w2c_j0 = w2c_p2;
+    w2c_j1 = 6ull;
+    w2c_j0 += w2c_j1;
+    w2c_j1 = w2c_l15;
+    w2c_j2 = 2ull;
+    w2c_j1 += w2c_j2;
+    w2c_j2 = 0ull;
+    w2c_i1 = (*Z_memoryZ_i32_load8_u)(instance->Z_memory_instance, w2c_j1, w2c_j2);
+    w2c_j2 = 0ull;
+    (*Z_memoryZ_i32_store8)(instance->Z_memory_instance, w2c_j0, w2c_i1, w2c_j2);
+    w2c_j0 = w2c_p2;
+    w2c_j1 = 7ull;
+    w2c_j0 += w2c_j1;
+    w2c_j1 = w2c_l15;
+    w2c_j2 = 3ull;
+    w2c_j1 += w2c_j2;
+    w2c_j2 = 0ull;
+    w2c_i1 = (*Z_memoryZ_i32_load8_u)(instance->Z_memory_instance, w2c_j1, w2c_j2);
+    w2c_j2 = 0ull;
+    (*Z_memoryZ_i32_store8)(instance->Z_memory_instance, w2c_j0, w2c_i1, w2c_j2);
+    w2c_j0 = w2c_l26;
+    w2c_j1 = w2c_p1;
+    w2c_j2 = 4ull;
+    w2c_j1 += w2c_j2;
+    w2c_p1 = w2c_j1;
+    w2c_i0 = w2c_j0 != w2c_j1;
+    if (w2c_i0) {goto w2c_L20;}
+  w2c_j0 = w2c_l23;
+  w2c_i0 = !(w2c_j0);
+  if (w2c_i0) {goto w2c_B17;}
+  w2c_B19:;
+  w2c_j0 = w2c_l25;
+  w2c_j1 = w2c_p1;
+  w2c_j0 += w2c_j1;
+  w2c_p2 = w2c_j0;
+  w2c_j0 = w2c_l21;
+  w2c_j1 = w2c_p1;
+  w2c_j0 += w2c_j1;
+  w2c_j1 = w2c_l24;
+  w2c_j0 += w2c_j1;
+  w2c_j1 = w2c_p5;
+  w2c_j0 += w2c_j1;
+  w2c_j1 = 4ull;
+  w2c_j0 += w2c_j1;
+  w2c_p1 = w2c_j0;
+  w2c_L21: 
+    w2c_j0 = w2c_p1;
+    w2c_j1 = w2c_p2;
+    w2c_j2 = 0ull;
+    w2c_i1 = (*Z_memoryZ_i32_load8_u)(instance->Z_memory_instance, w2c_j1, w2c_j2);
+    w2c_j2 = 0ull;
+    (*Z_memoryZ_i32_store8)(instance->Z_memory_instance, w2c_j0, w2c_i1, w2c_j2);
+    w2c_j0 = w2c_p1;
+    w2c_j1 = 1ull;
+    w2c_j0 += w2c_j1;
+    w2c_p1 = w2c_j0;
+    w2c_j0 = w2c_p2;
+    w2c_j1 = 1ull;
+    w2c_j0 += w2c_j1;
+    w2c_p2 = w2c_j0;
+    w2c_j0 = w2c_l23;
+    w2c_j1 = 18446744073709551615ull;
+    w2c_j0 += w2c_j1;
+    w2c_l23 = w2c_j0;
+    w2c_j1 = 0ull;
+    w2c_i0 = w2c_j0 != w2c_j1;
+    if (w2c_i0) {goto w2c_L21;}
+    goto w2c_B17;
+  w2c_B18:;
+  w2c_j0 = w2c_l28;
+  w2c_i0 = !(w2c_j0);
+  if (w2c_i0) {goto w2c_B17;}
+  w2c_j0 = w2c_p2;
+  w2c_j1 = w2c_l25;
+  w2c_j2 = w2c_l28;
+  (*Z_memoryZ_copy)(instance->Z_memory_instance, w2c_j0, w2c_j1, w2c_j2);
+  w2c_B17:;
+  w2c_j0 = w2c_l22;
+  w2c_j1 = w2c_l28;
+  w2c_j2 = w2c_l27;
+  w2c_j1 += w2c_j2;
+  w2c_l15 = w2c_j1;
   w2c_j0 += w2c_j1;
   w2c_p2 = w2c_j0;
   w2c_j1 = instance->w2c_data;
-  w2c_j2 = 53ull;
+  w2c_j2 = 253ull;
   w2c_j1 += w2c_j2;
   w2c_j0 -= w2c_j1;
   w2c_j1 = 2ull;
   w2c_i0 = w2c_j0 > w2c_j1;
-  if (w2c_i0) {goto w2c_B24;}
+  if (w2c_i0) {goto w2c_B23;}
   w2c_j0 = w2c_p2;
   w2c_i1 = 61u;
   w2c_j2 = 2ull;
@@ -34624,12 +34851,12 @@ static u32 w2c_rattle__export_proved_argon2_encode(Z_proved_instance_t* instance
   w2c_i1 = 27940u;
   w2c_j2 = 0ull;
   (*Z_memoryZ_i32_store16)(instance->Z_memory_instance, w2c_j0, w2c_i1, w2c_j2);
-  goto w2c_B23;
-  w2c_B24:;
+  goto w2c_B22;
+  w2c_B23:;
   w2c_j0 = w2c_p2;
   w2c_j1 = 0ull;
   w2c_j2 = instance->w2c_data;
-  w2c_j3 = 55ull;
+  w2c_j3 = 255ull;
   w2c_j2 += w2c_j3;
   w2c_i1 = (*Z_memoryZ_i32_load8_u)(instance->Z_memory_instance, w2c_j1, w2c_j2);
   w2c_j2 = 2ull;
@@ -34637,29 +34864,200 @@ static u32 w2c_rattle__export_proved_argon2_encode(Z_proved_instance_t* instance
   w2c_j0 = w2c_p2;
   w2c_j1 = 0ull;
   w2c_j2 = instance->w2c_data;
-  w2c_j3 = 53ull;
+  w2c_j3 = 253ull;
   w2c_j2 += w2c_j3;
   w2c_i1 = (*Z_memoryZ_i32_load16_u)(instance->Z_memory_instance, w2c_j1, w2c_j2);
   w2c_j2 = 0ull;
   (*Z_memoryZ_i32_store16)(instance->Z_memory_instance, w2c_j0, w2c_i1, w2c_j2);
-  w2c_B23:;
+  w2c_B22:;
+  w2c_j0 = 0ull;
+  w2c_p1 = w2c_j0;
+  w2c_j0 = w2c_l7;
+  w2c_j1 = 0ull;
+  w2c_j2 = 152ull;
+  (*Z_memoryZ_i64_store)(instance->Z_memory_instance, w2c_j0, w2c_j1, w2c_j2);
+  w2c_j0 = w2c_l7;
+  w2c_j1 = 0ull;
+  w2c_j2 = 144ull;
+  (*Z_memoryZ_i64_store)(instance->Z_memory_instance, w2c_j0, w2c_j1, w2c_j2);
+  w2c_j0 = w2c_l7;
+  w2c_j1 = 0ull;
+  w2c_j2 = 136ull;
+  (*Z_memoryZ_i64_store)(instance->Z_memory_instance, w2c_j0, w2c_j1, w2c_j2);
+  w2c_j0 = w2c_l7;
+  w2c_j1 = 0ull;
+  w2c_j2 = 128ull;
+  (*Z_memoryZ_i64_store)(instance->Z_memory_instance, w2c_j0, w2c_j1, w2c_j2);
+  w2c_j0 = w2c_l7;
+  w2c_j1 = 0ull;
+  w2c_j2 = 120ull;
+  (*Z_memoryZ_i64_store)(instance->Z_memory_instance, w2c_j0, w2c_j1, w2c_j2);
+  w2c_j0 = w2c_l7;
+  w2c_j1 = 40ull;
+  w2c_j0 += w2c_j1;
+  w2c_j1 = w2c_l7;
+  w2c_j2 = 120ull;
+  w2c_j1 += w2c_j2;
+  w2c_i2 = w2c_l12;
+  w2c_itoa__Buffer__format____a27d2209050c8f1b_(instance, w2c_j0, w2c_j1, w2c_i2);
   w2c_j0 = w2c_l22;
-  w2c_j1 = w2c_l22;
-  w2c_j2 = w2c_p1;
-  w2c_j3 = 3ull;
-  w2c_j2 += w2c_j3;
-  w2c_i3 = w2c_l12;
-  w2c_j1 = w2c_argon2_text__encoding__placing__put_number(instance, w2c_j1, w2c_j2, w2c_i3);
-  w2c_p1 = w2c_j1;
+  w2c_j1 = w2c_l15;
+  w2c_j2 = 3ull;
+  w2c_j1 += w2c_j2;
+  w2c_l30 = w2c_j1;
+  w2c_j0 += w2c_j1;
+  w2c_p2 = w2c_j0;
+  w2c_j1 = w2c_l7;
+  w2c_j2 = 40ull;
+  w2c_j1 = (*Z_memoryZ_i64_load)(instance->Z_memory_instance, w2c_j1, w2c_j2);
+  w2c_l25 = w2c_j1;
+  w2c_j0 -= w2c_j1;
+  w2c_j1 = w2c_l7;
+  w2c_j2 = 48ull;
+  w2c_j1 = (*Z_memoryZ_i64_load)(instance->Z_memory_instance, w2c_j1, w2c_j2);
+  w2c_l27 = w2c_j1;
+  w2c_i0 = w2c_j0 >= w2c_j1;
+  if (w2c_i0) {goto w2c_B25;}
+  w2c_j0 = w2c_l27;
+  w2c_j1 = 3ull;
+  w2c_j0 &= w2c_j1;
+  w2c_l23 = w2c_j0;
+  w2c_j0 = w2c_l27;
+  w2c_j1 = 4ull;
+  w2c_i0 = w2c_j0 < w2c_j1;
+  if (w2c_i0) {goto w2c_B26;}
+  w2c_j0 = w2c_l27;
+  w2c_j1 = 18446744073709551612ull;
+  w2c_j0 &= w2c_j1;
+  w2c_l26 = w2c_j0;
+  w2c_j0 = w2c_p5;
+  w2c_j1 = w2c_l28;
+  w2c_j2 = w2c_l21;
+  w2c_j1 += w2c_j2;
+  w2c_j2 = w2c_l24;
+  w2c_j1 += w2c_j2;
+  w2c_j0 += w2c_j1;
+  w2c_l29 = w2c_j0;
+  w2c_j0 = 0ull;
+  w2c_p1 = w2c_j0;
+  w2c_L27: 
+    w2c_j0 = w2c_l29;
+    w2c_j1 = w2c_p1;
+    w2c_j0 += w2c_j1;
+    w2c_p2 = w2c_j0;
+    w2c_j1 = 7ull;
+    w2c_j0 += w2c_j1;
+    w2c_j1 = w2c_l25;
+    w2c_j2 = w2c_p1;
+    w2c_j1 += w2c_j2;
+    w2c_l15 = w2c_j1;
+    w2c_j2 = 0ull;
+    w2c_i1 = (*Z_memoryZ_i32_load8_u)(instance->Z_memory_instance, w2c_j1, w2c_j2);
+    w2c_j2 = 0ull;
+    (*Z_memoryZ_i32_store8)(instance->Z_memory_instance, w2c_j0, w2c_i1, w2c_j2);
+    w2c_j0 = w2c_p2;
+    w2c_j1 = 8ull;
+    w2c_j0 += w2c_j1;
+    w2c_j1 = w2c_l15;
+    w2c_j2 = 1ull;
+    w2c_j1 += w2c_j2;
+    w2c_j2 = 0ull;
+    w2c_i1 = (*Z_memoryZ_i32_load8_u)(instance->Z_memory_instance, w2c_j1, w2c_j2);
+    w2c_j2 = 0ull;
+    (*Z_memoryZ_i32_store8)(instance->Z_memory_instance, w2c_j0, w2c_i1, w2c_j2);
+    w2c_j0 = w2c_p2;
+    w2c_j1 = 9ull;
+    w2c_j0 += w2c_j1;
+    w2c_j1 = w2c_l15;
+    w2c_j2 = 2ull;
+    w2c_j1 += w2c_j2;
+    w2c_j2 = 0ull;
+    w2c_i1 = (*Z_memoryZ_i32_load8_u)(instance->Z_memory_instance, w2c_j1, w2c_j2);
+    w2c_j2 = 0ull;
+    (*Z_memoryZ_i32_store8)(instance->Z_memory_instance, w2c_j0, w2c_i1, w2c_j2);
+    w2c_j0 = w2c_p2;
+    w2c_j1 = 10ull;
+    w2c_j0 += w2c_j1;
+    w2c_j1 = w2c_l15;
+    w2c_j2 = 3ull;
+    w2c_j1 += w2c_j2;
+    w2c_j2 = 0ull;
+    w2c_i1 = (*Z_memoryZ_i32_load8_u)(instance->Z_memory_instance, w2c_j1, w2c_j2);
+    w2c_j2 = 0ull;
+    (*Z_memoryZ_i32_store8)(instance->Z_memory_instance, w2c_j0, w2c_i1, w2c_j2);
+    w2c_j0 = w2c_l26;
+    w2c_j1 = w2c_p1;
+    w2c_j2 = 4ull;
+    w2c_j1 += w2c_j2;
+    w2c_p1 = w2c_j1;
+    w2c_i0 = w2c_j0 != w2c_j1;
+    if (w2c_i0) {goto w2c_L27;}
+  w2c_j0 = w2c_l23;
+  w2c_i0 = !(w2c_j0);
+  if (w2c_i0) {goto w2c_B24;}
+  w2c_B26:;
+  w2c_j0 = w2c_l25;
+  w2c_j1 = w2c_p1;
+  w2c_j0 += w2c_j1;
+  w2c_p2 = w2c_j0;
+  w2c_j0 = w2c_l28;
+  w2c_j1 = w2c_l21;
+  w2c_j0 += w2c_j1;
+  w2c_j1 = w2c_p1;
+  w2c_j0 += w2c_j1;
+  w2c_j1 = w2c_l24;
+  w2c_j0 += w2c_j1;
+  w2c_j1 = w2c_p5;
+  w2c_j0 += w2c_j1;
+  w2c_j1 = 7ull;
+  w2c_j0 += w2c_j1;
+  w2c_p1 = w2c_j0;
+  w2c_L28: 
+    w2c_j0 = w2c_p1;
+    w2c_j1 = w2c_p2;
+    w2c_j2 = 0ull;
+    w2c_i1 = (*Z_memoryZ_i32_load8_u)(instance->Z_memory_instance, w2c_j1, w2c_j2);
+    w2c_j2 = 0ull;
+    (*Z_memoryZ_i32_store8)(instance->Z_memory_instance, w2c_j0, w2c_i1, w2c_j2);
+    w2c_j0 = w2c_p1;
+    w2c_j1 = 1ull;
+    w2c_j0 += w2c_j1;
+    w2c_p1 = w2c_j0;
+    w2c_j0 = w2c_p2;
+    w2c_j1 = 1ull;
+    w2c_j0 += w2c_j1;
+    w2c_p2 = w2c_j0;
+    w2c_j0 = w2c_l23;
+    w2c_j1 = 18446744073709551615ull;
+    w2c_j0 += w2c_j1;
+    w2c_l23 = w2c_j0;
+    w2c_j1 = 0ull;
+    w2c_i0 = w2c_j0 != w2c_j1;
+    if (w2c_i0) {goto w2c_L28;}
+    goto w2c_B24;
+  w2c_B25:;
+  w2c_j0 = w2c_l27;
+  w2c_i0 = !(w2c_j0);
+  if (w2c_i0) {goto w2c_B24;}
+  w2c_j0 = w2c_p2;
+  w2c_j1 = w2c_l25;
+  w2c_j2 = w2c_l27;
+  (*Z_memoryZ_copy)(instance->Z_memory_instance, w2c_j0, w2c_j1, w2c_j2);
+  w2c_B24:;
+  w2c_j0 = w2c_l22;
+  w2c_j1 = w2c_l27;
+  w2c_j2 = w2c_l30;
+  w2c_j1 += w2c_j2;
+  w2c_l15 = w2c_j1;
   w2c_j0 += w2c_j1;
   w2c_p2 = w2c_j0;
   w2c_j1 = instance->w2c_data;
-  w2c_j2 = 56ull;
+  w2c_j2 = 256ull;
   w2c_j1 += w2c_j2;
   w2c_j0 -= w2c_j1;
   w2c_j1 = 2ull;
   w2c_i0 = w2c_j0 > w2c_j1;
-  if (w2c_i0) {goto w2c_B26;}
+  if (w2c_i0) {goto w2c_B30;}
   w2c_j0 = w2c_p2;
   w2c_i1 = 61u;
   w2c_j2 = 2ull;
@@ -34668,12 +35066,12 @@ static u32 w2c_rattle__export_proved_argon2_encode(Z_proved_instance_t* instance
   w2c_i1 = 29740u;
   w2c_j2 = 0ull;
   (*Z_memoryZ_i32_store16)(instance->Z_memory_instance, w2c_j0, w2c_i1, w2c_j2);
-  goto w2c_B25;
-  w2c_B26:;
+  goto w2c_B29;
+  w2c_B30:;
   w2c_j0 = w2c_p2;
   w2c_j1 = 0ull;
   w2c_j2 = instance->w2c_data;
-  w2c_j3 = 58ull;
+  w2c_j3 = 258ull;
   w2c_j2 += w2c_j3;
   w2c_i1 = (*Z_memoryZ_i32_load8_u)(instance->Z_memory_instance, w2c_j1, w2c_j2);
   w2c_j2 = 2ull;
@@ -34681,29 +35079,204 @@ static u32 w2c_rattle__export_proved_argon2_encode(Z_proved_instance_t* instance
   w2c_j0 = w2c_p2;
   w2c_j1 = 0ull;
   w2c_j2 = instance->w2c_data;
-  w2c_j3 = 56ull;
+  w2c_j3 = 256ull;
   w2c_j2 += w2c_j3;
   w2c_i1 = (*Z_memoryZ_i32_load16_u)(instance->Z_memory_instance, w2c_j1, w2c_j2);
   w2c_j2 = 0ull;
   (*Z_memoryZ_i32_store16)(instance->Z_memory_instance, w2c_j0, w2c_i1, w2c_j2);
-  w2c_B25:;
+  w2c_B29:;
+  w2c_j0 = 0ull;
+  w2c_p1 = w2c_j0;
+  w2c_j0 = w2c_l7;
+  w2c_j1 = 0ull;
+  w2c_j2 = 152ull;
+  (*Z_memoryZ_i64_store)(instance->Z_memory_instance, w2c_j0, w2c_j1, w2c_j2);
+  w2c_j0 = w2c_l7;
+  w2c_j1 = 0ull;
+  w2c_j2 = 144ull;
+  (*Z_memoryZ_i64_store)(instance->Z_memory_instance, w2c_j0, w2c_j1, w2c_j2);
+  w2c_j0 = w2c_l7;
+  w2c_j1 = 0ull;
+  w2c_j2 = 136ull;
+  (*Z_memoryZ_i64_store)(instance->Z_memory_instance, w2c_j0, w2c_j1, w2c_j2);
+  w2c_j0 = w2c_l7;
+  w2c_j1 = 0ull;
+  w2c_j2 = 128ull;
+  (*Z_memoryZ_i64_store)(instance->Z_memory_instance, w2c_j0, w2c_j1, w2c_j2);
+  w2c_j0 = w2c_l7;
+  w2c_j1 = 0ull;
+  w2c_j2 = 120ull;
+  (*Z_memoryZ_i64_store)(instance->Z_memory_instance, w2c_j0, w2c_j1, w2c_j2);
+  w2c_j0 = w2c_l7;
+  w2c_j1 = 24ull;
+  w2c_j0 += w2c_j1;
+  w2c_j1 = w2c_l7;
+  w2c_j2 = 120ull;
+  w2c_j1 += w2c_j2;
+  w2c_i2 = w2c_l13;
+  w2c_itoa__Buffer__format____a27d2209050c8f1b_(instance, w2c_j0, w2c_j1, w2c_i2);
   w2c_j0 = w2c_l22;
-  w2c_j1 = w2c_l22;
-  w2c_j2 = w2c_p1;
-  w2c_j3 = 3ull;
-  w2c_j2 += w2c_j3;
-  w2c_i3 = w2c_l13;
-  w2c_j1 = w2c_argon2_text__encoding__placing__put_number(instance, w2c_j1, w2c_j2, w2c_i3);
-  w2c_p1 = w2c_j1;
+  w2c_j1 = w2c_l15;
+  w2c_j2 = 3ull;
+  w2c_j1 += w2c_j2;
+  w2c_l31 = w2c_j1;
+  w2c_j0 += w2c_j1;
+  w2c_p2 = w2c_j0;
+  w2c_j1 = w2c_l7;
+  w2c_j2 = 24ull;
+  w2c_j1 = (*Z_memoryZ_i64_load)(instance->Z_memory_instance, w2c_j1, w2c_j2);
+  w2c_l25 = w2c_j1;
+  w2c_j0 -= w2c_j1;
+  w2c_j1 = w2c_l7;
+  w2c_j2 = 32ull;
+  w2c_j1 = (*Z_memoryZ_i64_load)(instance->Z_memory_instance, w2c_j1, w2c_j2);
+  w2c_l30 = w2c_j1;
+  w2c_i0 = w2c_j0 >= w2c_j1;
+  if (w2c_i0) {goto w2c_B32;}
+  w2c_j0 = w2c_l30;
+  w2c_j1 = 3ull;
+  w2c_j0 &= w2c_j1;
+  w2c_l23 = w2c_j0;
+  w2c_j0 = w2c_l30;
+  w2c_j1 = 4ull;
+  w2c_i0 = w2c_j0 < w2c_j1;
+  if (w2c_i0) {goto w2c_B33;}
+  w2c_j0 = w2c_l30;
+  w2c_j1 = 18446744073709551612ull;
+  w2c_j0 &= w2c_j1;
+  w2c_l26 = w2c_j0;
+  w2c_j0 = w2c_p5;
+  w2c_j1 = w2c_l27;
+  w2c_j2 = w2c_l28;
+  w2c_j1 += w2c_j2;
+  w2c_j2 = w2c_l21;
+  w2c_j1 += w2c_j2;
+  w2c_j2 = w2c_l24;
+  w2c_j1 += w2c_j2;
+  w2c_j0 += w2c_j1;
+  w2c_l29 = w2c_j0;
+  w2c_j0 = 0ull;
+  w2c_p1 = w2c_j0;
+  w2c_L34: 
+    w2c_j0 = w2c_l29;
+    w2c_j1 = w2c_p1;
+    w2c_j0 += w2c_j1;
+    w2c_p2 = w2c_j0;
+    w2c_j1 = 10ull;
+    w2c_j0 += w2c_j1;
+    w2c_j1 = w2c_l25;
+    w2c_j2 = w2c_p1;
+    w2c_j1 += w2c_j2;
+    w2c_l15 = w2c_j1;
+    w2c_j2 = 0ull;
+    w2c_i1 = (*Z_memoryZ_i32_load8_u)(instance->Z_memory_instance, w2c_j1, w2c_j2);
+    w2c_j2 = 0ull;
+    (*Z_memoryZ_i32_store8)(instance->Z_memory_instance, w2c_j0, w2c_i1, w2c_j2);
+    w2c_j0 = w2c_p2;
+    w2c_j1 = 11ull;
+    w2c_j0 += w2c_j1;
+    w2c_j1 = w2c_l15;
+    w2c_j2 = 1ull;
+    w2c_j1 += w2c_j2;
+    w2c_j2 = 0ull;
+    w2c_i1 = (*Z_memoryZ_i32_load8_u)(instance->Z_memory_instance, w2c_j1, w2c_j2);
+    w2c_j2 = 0ull;
+    (*Z_memoryZ_i32_store8)(instance->Z_memory_instance, w2c_j0, w2c_i1, w2c_j2);
+    w2c_j0 = w2c_p2;
+    w2c_j1 = 12ull;
+    w2c_j0 += w2c_j1;
+    w2c_j1 = w2c_l15;
+    w2c_j2 = 2ull;
+    w2c_j1 += w2c_j2;
+    w2c_j2 = 0ull;
+    w2c_i1 = (*Z_memoryZ_i32_load8_u)(instance->Z_memory_instance, w2c_j1, w2c_j2);
+    w2c_j2 = 0ull;
+    (*Z_memoryZ_i32_store8)(instance->Z_memory_instance, w2c_j0, w2c_i1, w2c_j2);
+    w2c_j0 = w2c_p2;
+    w2c_j1 = 13ull;
+    w2c_j0 += w2c_j1;
+    w2c_j1 = w2c_l15;
+    w2c_j2 = 3ull;
+    w2c_j1 += w2c_j2;
+    w2c_j2 = 0ull;
+    w2c_i1 = (*Z_memoryZ_i32_load8_u)(instance->Z_memory_instance, w2c_j1, w2c_j2);
+    w2c_j2 = 0ull;
+    (*Z_memoryZ_i32_store8)(instance->Z_memory_instance, w2c_j0, w2c_i1, w2c_j2);
+    w2c_j0 = w2c_l26;
+    w2c_j1 = w2c_p1;
+    w2c_j2 = 4ull;
+    w2c_j1 += w2c_j2;
+    w2c_p1 = w2c_j1;
+    w2c_i0 = w2c_j0 != w2c_j1;
+    if (w2c_i0) {goto w2c_L34;}
+  w2c_j0 = w2c_l23;
+  w2c_i0 = !(w2c_j0);
+  if (w2c_i0) {goto w2c_B31;}
+  w2c_B33:;
+  w2c_j0 = w2c_l25;
+  w2c_j1 = w2c_p1;
+  w2c_j0 += w2c_j1;
+  w2c_p2 = w2c_j0;
+  w2c_j0 = w2c_l27;
+  w2c_j1 = w2c_l28;
+  w2c_j0 += w2c_j1;
+  w2c_j1 = w2c_l21;
+  w2c_j0 += w2c_j1;
+  w2c_j1 = w2c_p1;
+  w2c_j0 += w2c_j1;
+  w2c_j1 = w2c_l24;
+  w2c_j0 += w2c_j1;
+  w2c_j1 = w2c_p5;
+  w2c_j0 += w2c_j1;
+  w2c_j1 = 10ull;
+  w2c_j0 += w2c_j1;
+  w2c_p1 = w2c_j0;
+  w2c_L35: 
+    w2c_j0 = w2c_p1;
+    w2c_j1 = w2c_p2;
+    w2c_j2 = 0ull;
+    w2c_i1 = (*Z_memoryZ_i32_load8_u)(instance->Z_memory_instance, w2c_j1, w2c_j2);
+    w2c_j2 = 0ull;
+    (*Z_memoryZ_i32_store8)(instance->Z_memory_instance, w2c_j0, w2c_i1, w2c_j2);
+    w2c_j0 = w2c_p1;
+    w2c_j1 = 1ull;
+    w2c_j0 += w2c_j1;
+    w2c_p1 = w2c_j0;
+    w2c_j0 = w2c_p2;
+    w2c_j1 = 1ull;
+    w2c_j0 += w2c_j1;
+    w2c_p2 = w2c_j0;
+    w2c_j0 = w2c_l23;
+    w2c_j1 = 18446744073709551615ull;
+    w2c_j0 += w2c_j1;
+    w2c_l23 = w2c_j0;
+    w2c_j1 = 0ull;
+    w2c_i0 = w2c_j0 != w2c_j1;
+    if (w2c_i0) {goto w2c_L35;}
+    goto w2c_B31;
+  w2c_B32:;
+  w2c_j0 = w2c_l30;
+  w2c_i0 = !(w2c_j0);
+  if (w2c_i0) {goto w2c_B31;}
+  w2c_j0 = w2c_p2;
+  w2c_j1 = w2c_l25;
+  w2c_j2 = w2c_l30;
+  (*Z_memoryZ_copy)(instance->Z_memory_instance, w2c_j0, w2c_j1, w2c_j2);
+  w2c_B31:;
+  w2c_j0 = w2c_l22;
+  w2c_j1 = w2c_l30;
+  w2c_j2 = w2c_l31;
+  w2c_j1 += w2c_j2;
+  w2c_l15 = w2c_j1;
   w2c_j0 += w2c_j1;
   w2c_p2 = w2c_j0;
   w2c_j1 = instance->w2c_data;
-  w2c_j2 = 59ull;
+  w2c_j2 = 259ull;
   w2c_j1 += w2c_j2;
   w2c_j0 -= w2c_j1;
   w2c_j1 = 2ull;
   w2c_i0 = w2c_j0 > w2c_j1;
-  if (w2c_i0) {goto w2c_B28;}
+  if (w2c_i0) {goto w2c_B37;}
   w2c_j0 = w2c_p2;
   w2c_i1 = 61u;
   w2c_j2 = 2ull;
@@ -34712,12 +35285,12 @@ static u32 w2c_rattle__export_proved_argon2_encode(Z_proved_instance_t* instance
   w2c_i1 = 28716u;
   w2c_j2 = 0ull;
   (*Z_memoryZ_i32_store16)(instance->Z_memory_instance, w2c_j0, w2c_i1, w2c_j2);
-  goto w2c_B27;
-  w2c_B28:;
+  goto w2c_B36;
+  w2c_B37:;
   w2c_j0 = w2c_p2;
   w2c_j1 = 0ull;
   w2c_j2 = instance->w2c_data;
-  w2c_j3 = 61ull;
+  w2c_j3 = 261ull;
   w2c_j2 += w2c_j3;
   w2c_i1 = (*Z_memoryZ_i32_load8_u)(instance->Z_memory_instance, w2c_j1, w2c_j2);
   w2c_j2 = 2ull;
@@ -34725,19 +35298,198 @@ static u32 w2c_rattle__export_proved_argon2_encode(Z_proved_instance_t* instance
   w2c_j0 = w2c_p2;
   w2c_j1 = 0ull;
   w2c_j2 = instance->w2c_data;
-  w2c_j3 = 59ull;
+  w2c_j3 = 259ull;
   w2c_j2 += w2c_j3;
   w2c_i1 = (*Z_memoryZ_i32_load16_u)(instance->Z_memory_instance, w2c_j1, w2c_j2);
   w2c_j2 = 0ull;
   (*Z_memoryZ_i32_store16)(instance->Z_memory_instance, w2c_j0, w2c_i1, w2c_j2);
-  w2c_B27:;
+  w2c_B36:;
+  w2c_j0 = 0ull;
+  w2c_p1 = w2c_j0;
+  w2c_j0 = w2c_l7;
+  w2c_j1 = 0ull;
+  w2c_j2 = 152ull;
+  (*Z_memoryZ_i64_store)(instance->Z_memory_instance, w2c_j0, w2c_j1, w2c_j2);
+  w2c_j0 = w2c_l7;
+  w2c_j1 = 0ull;
+  w2c_j2 = 144ull;
+  (*Z_memoryZ_i64_store)(instance->Z_memory_instance, w2c_j0, w2c_j1, w2c_j2);
+  w2c_j0 = w2c_l7;
+  w2c_j1 = 0ull;
+  w2c_j2 = 136ull;
+  (*Z_memoryZ_i64_store)(instance->Z_memory_instance, w2c_j0, w2c_j1, w2c_j2);
+  w2c_j0 = w2c_l7;
+  w2c_j1 = 0ull;
+  w2c_j2 = 128ull;
+  (*Z_memoryZ_i64_store)(instance->Z_memory_instance, w2c_j0, w2c_j1, w2c_j2);
+  w2c_j0 = w2c_l7;
+  w2c_j1 = 0ull;
+  w2c_j2 = 120ull;
+  (*Z_memoryZ_i64_store)(instance->Z_memory_instance, w2c_j0, w2c_j1, w2c_j2);
+  w2c_j0 = w2c_l7;
+  w2c_j1 = 8ull;
+  w2c_j0 += w2c_j1;
+  w2c_j1 = w2c_l7;
+  w2c_j2 = 120ull;
+  w2c_j1 += w2c_j2;
+  w2c_i2 = w2c_l11;
+  w2c_itoa__Buffer__format____a27d2209050c8f1b_(instance, w2c_j0, w2c_j1, w2c_i2);
   w2c_j0 = w2c_l22;
-  w2c_j1 = w2c_l22;
-  w2c_j2 = w2c_p1;
-  w2c_j3 = 3ull;
-  w2c_j2 += w2c_j3;
-  w2c_i3 = w2c_l11;
-  w2c_j1 = w2c_argon2_text__encoding__placing__put_number(instance, w2c_j1, w2c_j2, w2c_i3);
+  w2c_j1 = w2c_l15;
+  w2c_j2 = 3ull;
+  w2c_j1 += w2c_j2;
+  w2c_l32 = w2c_j1;
+  w2c_j0 += w2c_j1;
+  w2c_p2 = w2c_j0;
+  w2c_j1 = w2c_l7;
+  w2c_j2 = 8ull;
+  w2c_j1 = (*Z_memoryZ_i64_load)(instance->Z_memory_instance, w2c_j1, w2c_j2);
+  w2c_l25 = w2c_j1;
+  w2c_j0 -= w2c_j1;
+  w2c_j1 = w2c_l7;
+  w2c_j2 = 16ull;
+  w2c_j1 = (*Z_memoryZ_i64_load)(instance->Z_memory_instance, w2c_j1, w2c_j2);
+  w2c_l31 = w2c_j1;
+  w2c_i0 = w2c_j0 >= w2c_j1;
+  if (w2c_i0) {goto w2c_B39;}
+  w2c_j0 = w2c_l31;
+  w2c_j1 = 3ull;
+  w2c_j0 &= w2c_j1;
+  w2c_l23 = w2c_j0;
+  w2c_j0 = w2c_l31;
+  w2c_j1 = 4ull;
+  w2c_i0 = w2c_j0 < w2c_j1;
+  if (w2c_i0) {goto w2c_B40;}
+  w2c_j0 = w2c_l31;
+  w2c_j1 = 18446744073709551612ull;
+  w2c_j0 &= w2c_j1;
+  w2c_l26 = w2c_j0;
+  w2c_j0 = w2c_p5;
+  w2c_j1 = w2c_l30;
+  w2c_j2 = w2c_l27;
+  w2c_j1 += w2c_j2;
+  w2c_j2 = w2c_l28;
+  w2c_j1 += w2c_j2;
+  w2c_j2 = w2c_l21;
+  w2c_j1 += w2c_j2;
+  w2c_j2 = w2c_l24;
+  w2c_j1 += w2c_j2;
+  w2c_j0 += w2c_j1;
+  w2c_l29 = w2c_j0;
+  w2c_j0 = 0ull;
+  w2c_p1 = w2c_j0;
+  w2c_L41: 
+    w2c_j0 = w2c_l29;
+    w2c_j1 = w2c_p1;
+    w2c_j0 += w2c_j1;
+    w2c_p2 = w2c_j0;
+    w2c_j1 = 13ull;
+    w2c_j0 += w2c_j1;
+    w2c_j1 = w2c_l25;
+    w2c_j2 = w2c_p1;
+    w2c_j1 += w2c_j2;
+    w2c_l15 = w2c_j1;
+    w2c_j2 = 0ull;
+    w2c_i1 = (*Z_memoryZ_i32_load8_u)(instance->Z_memory_instance, w2c_j1, w2c_j2);
+    w2c_j2 = 0ull;
+    (*Z_memoryZ_i32_store8)(instance->Z_memory_instance, w2c_j0, w2c_i1, w2c_j2);
+    w2c_j0 = w2c_p2;
+    w2c_j1 = 14ull;
+    w2c_j0 += w2c_j1;
+    w2c_j1 = w2c_l15;
+    w2c_j2 = 1ull;
+    w2c_j1 += w2c_j2;
+    w2c_j2 = 0ull;
+    w2c_i1 = (*Z_memoryZ_i32_load8_u)(instance->Z_memory_instance, w2c_j1, w2c_j2);
+    w2c_j2 = 0ull;
+    (*Z_memoryZ_i32_store8)(instance->Z_memory_instance, w2c_j0, w2c_i1, w2c_j2);
+    w2c_j0 = w2c_p2;
+    w2c_j1 = 15ull;
+    w2c_j0 += w2c_j1;
+    w2c_j1 = w2c_l15;
+    w2c_j2 = 2ull;
+    w2c_j1 += w2c_j2;
+    w2c_j2 = 0ull;
+    w2c_i1 = (*Z_memoryZ_i32_load8_u)(instance->Z_memory_instance, w2c_j1, w2c_j2);
+    w2c_j2 = 0ull;
+    (*Z_memoryZ_i32_store8)(instance->Z_memory_instance, w2c_j0, w2c_i1, w2c_j2);
+    w2c_j0 = w2c_p2;
+    w2c_j1 = 16ull;
+    w2c_j0 += w2c_j1;
+    w2c_j1 = w2c_l15;
+    w2c_j2 = 3ull;
+    w2c_j1 += w2c_j2;
+    w2c_j2 = 0ull;
+    w2c_i1 = (*Z_memoryZ_i32_load8_u)(instance->Z_memory_instance, w2c_j1, w2c_j2);
+    w2c_j2 = 0ull;
+    (*Z_memoryZ_i32_store8)(instance->Z_memory_instance, w2c_j0, w2c_i1, w2c_j2);
+    w2c_j0 = w2c_l26;
+    w2c_j1 = w2c_p1;
+    w2c_j2 = 4ull;
+    w2c_j1 += w2c_j2;
+    w2c_p1 = w2c_j1;
+    w2c_i0 = w2c_j0 != w2c_j1;
+    if (w2c_i0) {goto w2c_L41;}
+  w2c_j0 = w2c_l23;
+  w2c_i0 = !(w2c_j0);
+  if (w2c_i0) {goto w2c_B38;}
+  w2c_B40:;
+  w2c_j0 = w2c_l25;
+  w2c_j1 = w2c_p1;
+  w2c_j0 += w2c_j1;
+  w2c_p2 = w2c_j0;
+  w2c_j0 = w2c_l30;
+  w2c_j1 = w2c_l27;
+  w2c_j0 += w2c_j1;
+  w2c_j1 = w2c_l28;
+  w2c_j0 += w2c_j1;
+  w2c_j1 = w2c_l21;
+  w2c_j0 += w2c_j1;
+  w2c_j1 = w2c_p1;
+  w2c_j0 += w2c_j1;
+  w2c_j1 = w2c_l24;
+  w2c_j0 += w2c_j1;
+  w2c_j1 = w2c_p5;
+  w2c_j0 += w2c_j1;
+  w2c_j1 = 13ull;
+  w2c_j0 += w2c_j1;
+  w2c_p1 = w2c_j0;
+  w2c_L42: 
+    w2c_j0 = w2c_p1;
+    w2c_j1 = w2c_p2;
+    w2c_j2 = 0ull;
+    w2c_i1 = (*Z_memoryZ_i32_load8_u)(instance->Z_memory_instance, w2c_j1, w2c_j2);
+    w2c_j2 = 0ull;
+    (*Z_memoryZ_i32_store8)(instance->Z_memory_instance, w2c_j0, w2c_i1, w2c_j2);
+    w2c_j0 = w2c_p1;
+    w2c_j1 = 1ull;
+    w2c_j0 += w2c_j1;
+    w2c_p1 = w2c_j0;
+    w2c_j0 = w2c_p2;
+    w2c_j1 = 1ull;
+    w2c_j0 += w2c_j1;
+    w2c_p2 = w2c_j0;
+    w2c_j0 = w2c_l23;
+    w2c_j1 = 18446744073709551615ull;
+    w2c_j0 += w2c_j1;
+    w2c_l23 = w2c_j0;
+    w2c_j1 = 0ull;
+    w2c_i0 = w2c_j0 != w2c_j1;
+    if (w2c_i0) {goto w2c_L42;}
+    goto w2c_B38;
+  w2c_B39:;
+  w2c_j0 = w2c_l31;
+  w2c_i0 = !(w2c_j0);
+  if (w2c_i0) {goto w2c_B38;}
+  w2c_j0 = w2c_p2;
+  w2c_j1 = w2c_l25;
+  w2c_j2 = w2c_l31;
+  (*Z_memoryZ_copy)(instance->Z_memory_instance, w2c_j0, w2c_j1, w2c_j2);
+  w2c_B38:;
+  w2c_j0 = w2c_l22;
+  w2c_j1 = w2c_l31;
+  w2c_j2 = w2c_l32;
+  w2c_j1 += w2c_j2;
   w2c_p2 = w2c_j1;
   w2c_j0 += w2c_j1;
   w2c_i1 = 36u;
@@ -34745,70 +35497,70 @@ static u32 w2c_rattle__export_proved_argon2_encode(Z_proved_instance_t* instance
   (*Z_memoryZ_i32_store8)(instance->Z_memory_instance, w2c_j0, w2c_i1, w2c_j2);
   w2c_j0 = w2c_l7;
   w2c_j1 = 3398873257388422452ull;
-  w2c_j2 = 64ull;
+  w2c_j2 = 176ull;
   (*Z_memoryZ_i64_store)(instance->Z_memory_instance, w2c_j0, w2c_j1, w2c_j2);
   w2c_j0 = w2c_l7;
   w2c_j1 = 3689065129052829815ull;
-  w2c_j2 = 56ull;
+  w2c_j2 = 168ull;
   (*Z_memoryZ_i64_store)(instance->Z_memory_instance, w2c_j0, w2c_j1, w2c_j2);
   w2c_j0 = w2c_l7;
   w2c_j1 = 8535856707940741231ull;
-  w2c_j2 = 48ull;
+  w2c_j2 = 160ull;
   (*Z_memoryZ_i64_store)(instance->Z_memory_instance, w2c_j0, w2c_j1, w2c_j2);
   w2c_j0 = w2c_l7;
   w2c_j1 = 7957135325236127847ull;
-  w2c_j2 = 40ull;
+  w2c_j2 = 152ull;
   (*Z_memoryZ_i64_store)(instance->Z_memory_instance, w2c_j0, w2c_j1, w2c_j2);
   w2c_j0 = w2c_l7;
   w2c_j1 = 7378413942531512921ull;
-  w2c_j2 = 32ull;
+  w2c_j2 = 144ull;
   (*Z_memoryZ_i64_store)(instance->Z_memory_instance, w2c_j0, w2c_j1, w2c_j2);
   w2c_j0 = w2c_l7;
   w2c_j1 = 6365651522798441041ull;
-  w2c_j2 = 24ull;
+  w2c_j2 = 136ull;
   (*Z_memoryZ_i64_store)(instance->Z_memory_instance, w2c_j0, w2c_j1, w2c_j2);
   w2c_j0 = w2c_l7;
   w2c_j1 = 5786930140093827657ull;
-  w2c_j2 = 16ull;
+  w2c_j2 = 128ull;
   (*Z_memoryZ_i64_store)(instance->Z_memory_instance, w2c_j0, w2c_j1, w2c_j2);
   w2c_j0 = w2c_l7;
   w2c_j1 = 5208208757389214273ull;
-  w2c_j2 = 8ull;
+  w2c_j2 = 120ull;
   (*Z_memoryZ_i64_store)(instance->Z_memory_instance, w2c_j0, w2c_j1, w2c_j2);
   w2c_j0 = w2c_l20;
   w2c_j1 = w2c_p2;
   w2c_j2 = 1ull;
   w2c_j1 += w2c_j2;
-  w2c_l27 = w2c_j1;
+  w2c_l33 = w2c_j1;
   w2c_j0 -= w2c_j1;
-  w2c_p1 = w2c_j0;
+  w2c_p2 = w2c_j0;
   w2c_i0 = w2c_l17;
   w2c_j0 = (u64)(w2c_i0);
-  w2c_l28 = w2c_j0;
+  w2c_l32 = w2c_j0;
   w2c_j1 = 2ull;
   w2c_j0 <<= (w2c_j1 & 63);
+  w2c_l34 = w2c_j0;
   w2c_l29 = w2c_j0;
-  w2c_l24 = w2c_j0;
   w2c_i0 = w2c_l18;
   switch (w2c_i0) {
-    case 0: goto w2c_B29;
-    case 1: goto w2c_B31;
-    default: goto w2c_B30;
+    case 0: goto w2c_B43;
+    case 1: goto w2c_B45;
+    default: goto w2c_B44;
   }
-  w2c_B31:;
-  w2c_j0 = w2c_l29;
+  w2c_B45:;
+  w2c_j0 = w2c_l34;
   w2c_j1 = 2ull;
   w2c_j0 |= w2c_j1;
-  w2c_l24 = w2c_j0;
-  goto w2c_B29;
-  w2c_B30:;
-  w2c_j0 = w2c_l29;
+  w2c_l29 = w2c_j0;
+  goto w2c_B43;
+  w2c_B44:;
+  w2c_j0 = w2c_l34;
   w2c_j1 = 3ull;
   w2c_j0 |= w2c_j1;
-  w2c_l24 = w2c_j0;
-  w2c_B29:;
-  w2c_j0 = w2c_p1;
-  w2c_j1 = w2c_l24;
+  w2c_l29 = w2c_j0;
+  w2c_B43:;
+  w2c_j0 = w2c_p2;
+  w2c_j1 = w2c_l29;
   w2c_i0 = w2c_j0 < w2c_j1;
   if (w2c_i0) {goto w2c_B0;}
   w2c_j0 = w2c_p3;
@@ -34822,16 +35574,24 @@ static u32 w2c_rattle__export_proved_argon2_encode(Z_proved_instance_t* instance
   w2c_j0 = w2c_l22;
   w2c_j1 = w2c_l20;
   w2c_j0 += w2c_j1;
-  w2c_l30 = w2c_j0;
+  w2c_l35 = w2c_j0;
   w2c_j0 = w2c_l22;
-  w2c_j1 = w2c_l27;
+  w2c_j1 = w2c_l33;
   w2c_j0 += w2c_j1;
-  w2c_l31 = w2c_j0;
+  w2c_l36 = w2c_j0;
   w2c_j0 = w2c_p5;
-  w2c_j1 = w2c_l21;
-  w2c_j2 = w2c_p2;
+  w2c_j1 = w2c_l31;
+  w2c_j2 = w2c_l30;
   w2c_j1 += w2c_j2;
-  w2c_l32 = w2c_j1;
+  w2c_j2 = w2c_l27;
+  w2c_j1 += w2c_j2;
+  w2c_j2 = w2c_l28;
+  w2c_j1 += w2c_j2;
+  w2c_j2 = w2c_l21;
+  w2c_j1 += w2c_j2;
+  w2c_l27 = w2c_j1;
+  w2c_j2 = w2c_l24;
+  w2c_j1 += w2c_j2;
   w2c_j0 += w2c_j1;
   w2c_p2 = w2c_j0;
   w2c_j0 = w2c_p0;
@@ -34840,24 +35600,24 @@ static u32 w2c_rattle__export_proved_argon2_encode(Z_proved_instance_t* instance
   w2c_j3 = w2c_p0;
   w2c_i3 = !(w2c_j3);
   w2c_j1 = w2c_i3 ? w2c_j1 : w2c_j2;
-  w2c_l33 = w2c_j1;
+  w2c_l31 = w2c_j1;
   w2c_j0 += w2c_j1;
-  w2c_l34 = w2c_j0;
+  w2c_l30 = w2c_j0;
   w2c_p3 = w2c_j0;
-  w2c_i0 = w2c_l19;
+  w2c_i0 = w2c_l16;
   w2c_i1 = 4294967294u;
   w2c_i0 += w2c_i1;
   w2c_i1 = 6u;
   w2c_i0 = DIV_U(w2c_i0, w2c_i1);
   w2c_j0 = (u64)(w2c_i0);
-  w2c_l21 = w2c_j0;
+  w2c_l28 = w2c_j0;
   w2c_l23 = w2c_j0;
-  w2c_L32: 
+  w2c_L46: 
     w2c_j0 = w2c_p2;
-    w2c_j1 = 1ull;
+    w2c_j1 = 14ull;
     w2c_j0 += w2c_j1;
     w2c_j1 = w2c_l7;
-    w2c_j2 = 8ull;
+    w2c_j2 = 120ull;
     w2c_j1 += w2c_j2;
     w2c_j2 = w2c_p3;
     w2c_j3 = 0ull;
@@ -34874,10 +35634,10 @@ static u32 w2c_rattle__export_proved_argon2_encode(Z_proved_instance_t* instance
     w2c_j2 = 0ull;
     (*Z_memoryZ_i32_store8)(instance->Z_memory_instance, w2c_j0, w2c_i1, w2c_j2);
     w2c_j0 = w2c_p2;
-    w2c_j1 = 4ull;
+    w2c_j1 = 17ull;
     w2c_j0 += w2c_j1;
     w2c_j1 = w2c_l7;
-    w2c_j2 = 8ull;
+    w2c_j2 = 120ull;
     w2c_j1 += w2c_j2;
     w2c_j2 = w2c_p1;
     w2c_j3 = 16ull;
@@ -34890,10 +35650,10 @@ static u32 w2c_rattle__export_proved_argon2_encode(Z_proved_instance_t* instance
     w2c_j2 = 0ull;
     (*Z_memoryZ_i32_store8)(instance->Z_memory_instance, w2c_j0, w2c_i1, w2c_j2);
     w2c_j0 = w2c_p2;
-    w2c_j1 = 5ull;
+    w2c_j1 = 18ull;
     w2c_j0 += w2c_j1;
     w2c_j1 = w2c_l7;
-    w2c_j2 = 8ull;
+    w2c_j2 = 120ull;
     w2c_j1 += w2c_j2;
     w2c_j2 = w2c_p1;
     w2c_j3 = 4278190080ull;
@@ -34909,10 +35669,10 @@ static u32 w2c_rattle__export_proved_argon2_encode(Z_proved_instance_t* instance
     w2c_j2 = 0ull;
     (*Z_memoryZ_i32_store8)(instance->Z_memory_instance, w2c_j0, w2c_i1, w2c_j2);
     w2c_j0 = w2c_p2;
-    w2c_j1 = 2ull;
+    w2c_j1 = 15ull;
     w2c_j0 += w2c_j1;
     w2c_j1 = w2c_l7;
-    w2c_j2 = 8ull;
+    w2c_j2 = 120ull;
     w2c_j1 += w2c_j2;
     w2c_j2 = w2c_l25;
     w2c_j3 = w2c_p1;
@@ -34932,10 +35692,10 @@ static u32 w2c_rattle__export_proved_argon2_encode(Z_proved_instance_t* instance
     w2c_j2 = 0ull;
     (*Z_memoryZ_i32_store8)(instance->Z_memory_instance, w2c_j0, w2c_i1, w2c_j2);
     w2c_j0 = w2c_p2;
-    w2c_j1 = 3ull;
+    w2c_j1 = 16ull;
     w2c_j0 += w2c_j1;
     w2c_j1 = w2c_l7;
-    w2c_j2 = 8ull;
+    w2c_j2 = 120ull;
     w2c_j1 += w2c_j2;
     w2c_j2 = w2c_l25;
     w2c_j3 = w2c_p1;
@@ -34957,10 +35717,10 @@ static u32 w2c_rattle__export_proved_argon2_encode(Z_proved_instance_t* instance
     w2c_j2 = 0ull;
     (*Z_memoryZ_i32_store8)(instance->Z_memory_instance, w2c_j0, w2c_i1, w2c_j2);
     w2c_j0 = w2c_p2;
-    w2c_j1 = 6ull;
+    w2c_j1 = 19ull;
     w2c_j0 += w2c_j1;
     w2c_j1 = w2c_l7;
-    w2c_j2 = 8ull;
+    w2c_j2 = 120ull;
     w2c_j1 += w2c_j2;
     w2c_j2 = w2c_l25;
     w2c_j3 = w2c_p1;
@@ -34996,10 +35756,10 @@ static u32 w2c_rattle__export_proved_argon2_encode(Z_proved_instance_t* instance
     w2c_j2 = 0ull;
     (*Z_memoryZ_i32_store8)(instance->Z_memory_instance, w2c_j0, w2c_i1, w2c_j2);
     w2c_j0 = w2c_p2;
-    w2c_j1 = 7ull;
+    w2c_j1 = 20ull;
     w2c_j0 += w2c_j1;
     w2c_j1 = w2c_l7;
-    w2c_j2 = 8ull;
+    w2c_j2 = 120ull;
     w2c_j1 += w2c_j2;
     w2c_j2 = w2c_p1;
     w2c_j3 = 22ull;
@@ -35012,11 +35772,10 @@ static u32 w2c_rattle__export_proved_argon2_encode(Z_proved_instance_t* instance
     w2c_j2 = 0ull;
     (*Z_memoryZ_i32_store8)(instance->Z_memory_instance, w2c_j0, w2c_i1, w2c_j2);
     w2c_j0 = w2c_p2;
-    w2c_j1 = 8ull;
+    w2c_j1 = 21ull;
     w2c_j0 += w2c_j1;
-    w2c_p2 = w2c_j0;
     w2c_j1 = w2c_l7;
-    w2c_j2 = 8ull;
+    w2c_j2 = 120ull;
     w2c_j1 += w2c_j2;
     w2c_j2 = w2c_p1;
     w2c_j3 = 16ull;
@@ -35032,49 +35791,53 @@ static u32 w2c_rattle__export_proved_argon2_encode(Z_proved_instance_t* instance
     w2c_j1 = 6ull;
     w2c_j0 += w2c_j1;
     w2c_p3 = w2c_j0;
+    w2c_j0 = w2c_p2;
+    w2c_j1 = 8ull;
+    w2c_j0 += w2c_j1;
+    w2c_p2 = w2c_j0;
     w2c_j0 = w2c_l23;
     w2c_j1 = 18446744073709551615ull;
     w2c_j0 += w2c_j1;
     w2c_l23 = w2c_j0;
     w2c_j1 = 0ull;
     w2c_i0 = w2c_j0 != w2c_j1;
-    if (w2c_i0) {goto w2c_L32;}
-  w2c_j0 = w2c_l28;
-  w2c_j1 = w2c_l21;
+    if (w2c_i0) {goto w2c_L46;}
+  w2c_j0 = w2c_l32;
+  w2c_j1 = w2c_l28;
   w2c_j2 = 1ull;
   w2c_j1 <<= (w2c_j2 & 63);
   w2c_p2 = w2c_j1;
   w2c_i0 = w2c_j0 <= w2c_j1;
-  if (w2c_i0) {goto w2c_B33;}
-  w2c_j0 = w2c_l28;
+  if (w2c_i0) {goto w2c_B47;}
+  w2c_j0 = w2c_l32;
   w2c_j1 = w2c_p2;
   w2c_j0 -= w2c_j1;
   w2c_p3 = w2c_j0;
-  w2c_j0 = w2c_l31;
-  w2c_j1 = w2c_l21;
+  w2c_j0 = w2c_l36;
+  w2c_j1 = w2c_l28;
   w2c_j2 = 3ull;
   w2c_j1 <<= (w2c_j2 & 63);
   w2c_j0 += w2c_j1;
   w2c_p1 = w2c_j0;
   w2c_j0 = w2c_p0;
-  w2c_j1 = w2c_l33;
-  w2c_j2 = w2c_l21;
+  w2c_j1 = w2c_l31;
+  w2c_j2 = w2c_l28;
   w2c_j3 = 6ull;
   w2c_j2 *= w2c_j3;
   w2c_j1 += w2c_j2;
   w2c_j0 += w2c_j1;
   w2c_p2 = w2c_j0;
-  w2c_L34: 
+  w2c_L48: 
     w2c_j0 = w2c_p1;
     w2c_j1 = w2c_l7;
-    w2c_j2 = 332ull;
+    w2c_j2 = 444ull;
     w2c_j1 += w2c_j2;
     w2c_j0 -= w2c_j1;
     w2c_j1 = 3ull;
     w2c_i0 = w2c_j0 > w2c_j1;
     w2c_j0 = w2c_p1;
     w2c_j1 = w2c_l7;
-    w2c_j2 = 8ull;
+    w2c_j2 = 120ull;
     w2c_j1 += w2c_j2;
     w2c_j2 = w2c_p2;
     w2c_j3 = 0ull;
@@ -35100,7 +35863,7 @@ static u32 w2c_rattle__export_proved_argon2_encode(Z_proved_instance_t* instance
     w2c_i2 = 8u;
     w2c_i1 <<= (w2c_i2 & 31);
     w2c_j2 = w2c_l7;
-    w2c_j3 = 8ull;
+    w2c_j3 = 120ull;
     w2c_j2 += w2c_j3;
     w2c_i3 = w2c_l9;
     w2c_i4 = 2u;
@@ -35111,7 +35874,7 @@ static u32 w2c_rattle__export_proved_argon2_encode(Z_proved_instance_t* instance
     w2c_i2 = (*Z_memoryZ_i32_load8_u)(instance->Z_memory_instance, w2c_j2, w2c_j3);
     w2c_i1 |= w2c_i2;
     w2c_j2 = w2c_l7;
-    w2c_j3 = 8ull;
+    w2c_j3 = 120ull;
     w2c_j2 += w2c_j3;
     w2c_i3 = w2c_l8;
     w2c_i4 = 2u;
@@ -35135,7 +35898,7 @@ static u32 w2c_rattle__export_proved_argon2_encode(Z_proved_instance_t* instance
     w2c_i2 <<= (w2c_i3 & 31);
     w2c_i1 |= w2c_i2;
     w2c_j2 = w2c_l7;
-    w2c_j3 = 8ull;
+    w2c_j3 = 120ull;
     w2c_j2 += w2c_j3;
     w2c_i3 = w2c_l9;
     w2c_i4 = 63u;
@@ -35163,9 +35926,9 @@ static u32 w2c_rattle__export_proved_argon2_encode(Z_proved_instance_t* instance
     w2c_p3 = w2c_j0;
     w2c_j1 = 0ull;
     w2c_i0 = w2c_j0 != w2c_j1;
-    if (w2c_i0) {goto w2c_L34;}
-  w2c_B33:;
-  w2c_j0 = w2c_l28;
+    if (w2c_i0) {goto w2c_L48;}
+  w2c_B47:;
+  w2c_j0 = w2c_l32;
   w2c_j1 = 3ull;
   w2c_j0 *= w2c_j1;
   w2c_p2 = w2c_j0;
@@ -35173,18 +35936,18 @@ static u32 w2c_rattle__export_proved_argon2_encode(Z_proved_instance_t* instance
   w2c_i1 = 4294967295u;
   w2c_i0 += w2c_i1;
   switch (w2c_i0) {
-    case 0: goto w2c_B37;
-    case 1: goto w2c_B36;
-    default: goto w2c_B35;
+    case 0: goto w2c_B51;
+    case 1: goto w2c_B50;
+    default: goto w2c_B49;
   }
-  w2c_B37:;
-  w2c_j0 = w2c_l31;
-  w2c_j1 = w2c_l29;
+  w2c_B51:;
+  w2c_j0 = w2c_l36;
+  w2c_j1 = w2c_l34;
   w2c_j0 += w2c_j1;
   w2c_j1 = w2c_l7;
-  w2c_j2 = 8ull;
+  w2c_j2 = 120ull;
   w2c_j1 += w2c_j2;
-  w2c_j2 = w2c_l34;
+  w2c_j2 = w2c_l30;
   w2c_j3 = w2c_p2;
   w2c_j2 += w2c_j3;
   w2c_j3 = 0ull;
@@ -35201,7 +35964,7 @@ static u32 w2c_rattle__export_proved_argon2_encode(Z_proved_instance_t* instance
   w2c_i2 = 8u;
   w2c_i1 <<= (w2c_i2 & 31);
   w2c_j2 = w2c_l7;
-  w2c_j3 = 8ull;
+  w2c_j3 = 120ull;
   w2c_j2 += w2c_j3;
   w2c_i3 = w2c_l9;
   w2c_i4 = 2u;
@@ -35213,9 +35976,9 @@ static u32 w2c_rattle__export_proved_argon2_encode(Z_proved_instance_t* instance
   w2c_i1 |= w2c_i2;
   w2c_j2 = 0ull;
   (*Z_memoryZ_i32_store16)(instance->Z_memory_instance, w2c_j0, w2c_i1, w2c_j2);
-  goto w2c_B35;
-  w2c_B36:;
-  w2c_j0 = w2c_l34;
+  goto w2c_B49;
+  w2c_B50:;
+  w2c_j0 = w2c_l30;
   w2c_j1 = w2c_p2;
   w2c_j0 += w2c_j1;
   w2c_p1 = w2c_j0;
@@ -35224,12 +35987,12 @@ static u32 w2c_rattle__export_proved_argon2_encode(Z_proved_instance_t* instance
   w2c_j1 = 0ull;
   w2c_i0 = (*Z_memoryZ_i32_load8_u)(instance->Z_memory_instance, w2c_j0, w2c_j1);
   w2c_l9 = w2c_i0;
-  w2c_j0 = w2c_l31;
-  w2c_j1 = w2c_l29;
+  w2c_j0 = w2c_l36;
+  w2c_j1 = w2c_l34;
   w2c_j0 += w2c_j1;
   w2c_p2 = w2c_j0;
   w2c_j1 = w2c_l7;
-  w2c_j2 = 8ull;
+  w2c_j2 = 120ull;
   w2c_j1 += w2c_j2;
   w2c_j2 = w2c_p1;
   w2c_j3 = 0ull;
@@ -35245,7 +36008,7 @@ static u32 w2c_rattle__export_proved_argon2_encode(Z_proved_instance_t* instance
   (*Z_memoryZ_i32_store8)(instance->Z_memory_instance, w2c_j0, w2c_i1, w2c_j2);
   w2c_j0 = w2c_p2;
   w2c_j1 = w2c_l7;
-  w2c_j2 = 8ull;
+  w2c_j2 = 120ull;
   w2c_j1 += w2c_j2;
   w2c_i2 = w2c_l9;
   w2c_i3 = 2u;
@@ -35260,7 +36023,7 @@ static u32 w2c_rattle__export_proved_argon2_encode(Z_proved_instance_t* instance
   (*Z_memoryZ_i32_store8)(instance->Z_memory_instance, w2c_j0, w2c_i1, w2c_j2);
   w2c_j0 = w2c_p2;
   w2c_j1 = w2c_l7;
-  w2c_j2 = 8ull;
+  w2c_j2 = 120ull;
   w2c_j1 += w2c_j2;
   w2c_i2 = w2c_l8;
   w2c_i3 = 4u;
@@ -35277,24 +36040,26 @@ static u32 w2c_rattle__export_proved_argon2_encode(Z_proved_instance_t* instance
   w2c_i1 = (*Z_memoryZ_i32_load8_u)(instance->Z_memory_instance, w2c_j1, w2c_j2);
   w2c_j2 = 1ull;
   (*Z_memoryZ_i32_store8)(instance->Z_memory_instance, w2c_j0, w2c_i1, w2c_j2);
-  w2c_B35:;
+  w2c_B49:;
   w2c_j0 = w2c_l22;
-  w2c_j1 = w2c_l24;
-  w2c_j2 = w2c_l27;
+  w2c_j1 = w2c_l29;
+  w2c_j2 = w2c_l33;
   w2c_j1 += w2c_j2;
   w2c_j0 += w2c_j1;
   w2c_i1 = 36u;
   w2c_j2 = 0ull;
   (*Z_memoryZ_i32_store8)(instance->Z_memory_instance, w2c_j0, w2c_i1, w2c_j2);
   w2c_j0 = w2c_p5;
-  w2c_j1 = w2c_l32;
+  w2c_j1 = w2c_l27;
+  w2c_j2 = w2c_l29;
+  w2c_j1 += w2c_j2;
   w2c_j2 = w2c_l24;
   w2c_j1 += w2c_j2;
   w2c_j0 += w2c_j1;
   w2c_p1 = w2c_j0;
-  w2c_L38: 
+  w2c_L52: 
     w2c_j0 = w2c_p1;
-    w2c_j1 = 2ull;
+    w2c_j1 = 15ull;
     w2c_j0 += w2c_j1;
     w2c_j1 = w2c_l15;
     w2c_p2 = w2c_j1;
@@ -35506,21 +36271,21 @@ static u32 w2c_rattle__export_proved_argon2_encode(Z_proved_instance_t* instance
     w2c_p4 = w2c_j0;
     w2c_j1 = 2ull;
     w2c_i0 = w2c_j0 > w2c_j1;
-    if (w2c_i0) {goto w2c_L38;}
+    if (w2c_i0) {goto w2c_L52;}
   w2c_j0 = w2c_p4;
   w2c_j1 = 1ull;
   w2c_i0 = w2c_j0 > w2c_j1;
-  if (w2c_i0) {goto w2c_B40;}
+  if (w2c_i0) {goto w2c_B54;}
   w2c_j0 = w2c_p4;
   w2c_i0 = (u32)(w2c_j0);
   switch (w2c_i0) {
-    case 0: goto w2c_B39;
-    case 1: goto w2c_B41;
-    default: goto w2c_B39;
+    case 0: goto w2c_B53;
+    case 1: goto w2c_B55;
+    default: goto w2c_B53;
   }
-  w2c_B41:;
+  w2c_B55:;
   w2c_j0 = w2c_p1;
-  w2c_j1 = 2ull;
+  w2c_j1 = 15ull;
   w2c_j0 += w2c_j1;
   w2c_j1 = w2c_p2;
   w2c_j2 = 3ull;
@@ -35588,8 +36353,8 @@ static u32 w2c_rattle__export_proved_argon2_encode(Z_proved_instance_t* instance
   w2c_i1 |= w2c_i2;
   w2c_j2 = 0ull;
   (*Z_memoryZ_i32_store16)(instance->Z_memory_instance, w2c_j0, w2c_i1, w2c_j2);
-  goto w2c_B39;
-  w2c_B40:;
+  goto w2c_B53;
+  w2c_B54:;
   w2c_j0 = w2c_p2;
   w2c_j1 = 3ull;
   w2c_j0 += w2c_j1;
@@ -35597,7 +36362,7 @@ static u32 w2c_rattle__export_proved_argon2_encode(Z_proved_instance_t* instance
   w2c_i0 = (*Z_memoryZ_i32_load8_u)(instance->Z_memory_instance, w2c_j0, w2c_j1);
   w2c_l8 = w2c_i0;
   w2c_j0 = w2c_p1;
-  w2c_j1 = 4ull;
+  w2c_j1 = 17ull;
   w2c_j0 += w2c_j1;
   w2c_j1 = w2c_p2;
   w2c_j2 = 4ull;
@@ -35631,7 +36396,7 @@ static u32 w2c_rattle__export_proved_argon2_encode(Z_proved_instance_t* instance
   w2c_j2 = 0ull;
   (*Z_memoryZ_i32_store8)(instance->Z_memory_instance, w2c_j0, w2c_i1, w2c_j2);
   w2c_j0 = w2c_p1;
-  w2c_j1 = 2ull;
+  w2c_j1 = 15ull;
   w2c_j0 += w2c_j1;
   w2c_i1 = w2c_l8;
   w2c_i2 = 2u;
@@ -35674,7 +36439,7 @@ static u32 w2c_rattle__export_proved_argon2_encode(Z_proved_instance_t* instance
   w2c_j2 = 0ull;
   (*Z_memoryZ_i32_store8)(instance->Z_memory_instance, w2c_j0, w2c_i1, w2c_j2);
   w2c_j0 = w2c_p1;
-  w2c_j1 = 3ull;
+  w2c_j1 = 16ull;
   w2c_j0 += w2c_j1;
   w2c_i1 = w2c_l8;
   w2c_i2 = 4u;
@@ -35722,7 +36487,7 @@ static u32 w2c_rattle__export_proved_argon2_encode(Z_proved_instance_t* instance
   w2c_i1 += w2c_i2;
   w2c_j2 = 0ull;
   (*Z_memoryZ_i32_store8)(instance->Z_memory_instance, w2c_j0, w2c_i1, w2c_j2);
-  w2c_B39:;
+  w2c_B53:;
   w2c_j0 = w2c_p6;
   w2c_j1 = w2c_l20;
   w2c_j2 = 18446744073709551615ull;
@@ -35731,17 +36496,17 @@ static u32 w2c_rattle__export_proved_argon2_encode(Z_proved_instance_t* instance
   w2c_p2 = w2c_j0;
   w2c_i0 = !(w2c_j0);
   w2c_l9 = w2c_i0;
-  if (w2c_i0) {goto w2c_B42;}
+  if (w2c_i0) {goto w2c_B56;}
   w2c_i0 = w2c_l9;
-  if (w2c_i0) {goto w2c_B42;}
-  w2c_j0 = w2c_l30;
+  if (w2c_i0) {goto w2c_B56;}
+  w2c_j0 = w2c_l35;
   w2c_i1 = 0u;
   w2c_j2 = w2c_p2;
   (*Z_memoryZ_fill)(instance->Z_memory_instance, w2c_j0, w2c_i1, w2c_j2);
-  w2c_B42:;
+  w2c_B56:;
   w2c_i0 = 0u;
   w2c_l9 = w2c_i0;
-  w2c_j0 = w2c_l30;
+  w2c_j0 = w2c_l35;
   w2c_j1 = w2c_p2;
   w2c_j0 += w2c_j1;
   w2c_i1 = 0u;
@@ -35749,7 +36514,7 @@ static u32 w2c_rattle__export_proved_argon2_encode(Z_proved_instance_t* instance
   (*Z_memoryZ_i32_store8)(instance->Z_memory_instance, w2c_j0, w2c_i1, w2c_j2);
   w2c_B1:;
   w2c_j0 = w2c_l7;
-  w2c_j1 = 336ull;
+  w2c_j1 = 448ull;
   w2c_j0 += w2c_j1;
   instance->w2c___stack_pointer = w2c_j0;
   w2c_i0 = w2c_l9;
@@ -35816,13 +36581,13 @@ static u32 w2c_rattle__export_proved_argon2_message(Z_proved_instance_t* instanc
   w2c_j0 <<= (w2c_j1 & 63);
   w2c_l4 = w2c_j0;
   w2c_j1 = instance->w2c_data;
-  w2c_j2 = 912ull;
+  w2c_j2 = 1128ull;
   w2c_j1 += w2c_j2;
   w2c_j0 += w2c_j1;
   w2c_l5 = w2c_j0;
   w2c_j0 = w2c_l4;
   w2c_j1 = instance->w2c_data;
-  w2c_j2 = 840ull;
+  w2c_j2 = 1056ull;
   w2c_j1 += w2c_j2;
   w2c_j0 += w2c_j1;
   w2c_l4 = w2c_j0;
@@ -35834,13 +36599,13 @@ static u32 w2c_rattle__export_proved_argon2_message(Z_proved_instance_t* instanc
   w2c_j0 <<= (w2c_j1 & 63);
   w2c_l4 = w2c_j0;
   w2c_j1 = instance->w2c_data;
-  w2c_j2 = 1152ull;
+  w2c_j2 = 1368ull;
   w2c_j1 += w2c_j2;
   w2c_j0 += w2c_j1;
   w2c_l5 = w2c_j0;
   w2c_j0 = w2c_l4;
   w2c_j1 = instance->w2c_data;
-  w2c_j2 = 984ull;
+  w2c_j2 = 1200ull;
   w2c_j1 += w2c_j2;
   w2c_j0 += w2c_j1;
   w2c_l4 = w2c_j0;

@@ -19,7 +19,7 @@ typedef struct caller {
     int error, cancel;
 } caller;
 
-/* Threads that meet each other and the one that started them. Where there is none, a null pointer stands for them. */
+/* Threads, and the one that started them, whose number is 0. Where there is none, a null pointer stands for them. */
 typedef struct team team;
 
 /* (their names in an archive, beside a program's own) */
@@ -34,7 +34,8 @@ typedef struct team team;
 #define overwrite proved_driver_overwrite
 #define start_team proved_driver_start_team
 #define members proved_driver_members
-#define meet proved_driver_meet
+#define wake proved_driver_wake
+#define await proved_driver_await
 #define end_team proved_driver_end_team
 #pragma GCC visibility push(hidden)
 
@@ -68,8 +69,11 @@ team *start_team(uint32_t threads, void (*run)(void *arg, team *own, uint32_t nu
 /* How many threads there are: none in a child that was forked meanwhile. */
 uint32_t members(const team *own);
 
-/* Waits until each thread of a team, and the one that started it, has called this. */
-void meet(team *own);
+/* Wakes a thread of a team: ends one wait of it, or one that is yet to come. */
+void wake(team *own, uint32_t number);
+
+/* Waits until this thread, which has this number, is woken. */
+void await(team *own, uint32_t number);
 
 /* Waits until all threads have returned, and frees the team. */
 void end_team(team *own);

@@ -79,9 +79,16 @@ uint32_t members(const team *own)
     return 0;
 }
 
-void meet(team *own)
+void wake(team *own, uint32_t number)
 {
     (void)own;
+    (void)number;
+}
+
+void await(team *own, uint32_t number)
+{
+    (void)own;
+    (void)number;
 }
 
 void end_team(team *own)

@@ -6,6 +6,7 @@
 #include <errno.h>
 #include <link.h>
 #include <pthread.h>
+#include <semaphore.h>
 #include <signal.h>
 #include <stdlib.h>
 #include <string.h>
@@ -85,25 +86,21 @@ void overwrite(void *bytes, size_t len)
 typedef struct member {
     team *own;
     pthread_t thread;
+    sem_t woken;
 } member;
 
 struct team {
-    pthread_mutex_t gate; /* locked until it is known how many threads there are to meet */
-    pthread_barrier_t place;
     pid_t process;
     uint32_t threads; /* beside the caller's */
     void (*run)(void *arg, team *own, uint32_t number);
     void *arg;
-    member members[];
+    member members[]; /* the caller's thread first */
 };
 
 static void *run_member(void *arg)
 {
     member *const self = arg;
-    team *const own = self->own;
-    pthread_mutex_lock(&own->gate);
-    pthread_mutex_unlock(&own->gate);
-    own->run(own->arg, own, (uint32_t)(self - own->members) + 1);
+    self->own->run(self->own->arg, self->own, (uint32_t)(self - self->own->members));
     return NULL;
 }
 
@@ -129,8 +126,9 @@ static void start_members(team *own, uint32_t threads)
     pthread_attr_init(&small);
     pthread_attr_setstacksize(&small, stack);
     pthread_sigmask(SIG_SETMASK, &all, &before);
-    for (member *next = own->members; own->threads < threads; own->threads++, next++) {
+    for (member *next = own->members + 1; own->threads < threads; own->threads++, next++) {
         next->own = own;
+        sem_init(&next->woken, 0, 0);
         if (pthread_create(&next->thread, &small, run_member, next) != 0) {
             break;
         }
@@ -141,18 +139,15 @@ static void start_members(team *own, uint32_t threads)
 
 team *start_team(uint32_t threads, void (*run)(void *arg, team *own, uint32_t number), void *arg)
 {
-    team *const own = calloc(1, sizeof *own + threads * sizeof *own->members);
+    team *const own = calloc(1, sizeof *own + (threads + 1) * sizeof *own->members);
     if (own == NULL) {
         return NULL;
     }
     own->process = getpid();
     own->run = run;
     own->arg = arg;
-    pthread_mutex_init(&own->gate, NULL);
-    pthread_mutex_lock(&own->gate);
+    sem_init(&own->members[0].woken, 0, 0);
     start_members(own, threads);
-    pthread_barrier_init(&own->place, NULL, own->threads + 1);
-    pthread_mutex_unlock(&own->gate);
     return own;
 }
 
@@ -167,22 +162,27 @@ uint32_t members(const team *own)
     return is_here(own) ? own->threads : 0;
 }
 
-void meet(team *own)
+void wake(team *own, uint32_t number)
 {
-    if (is_here(own)) {
-        pthread_barrier_wait(&own->place);
+    sem_post(&own->members[number].woken);
+}
+
+void await(team *own, uint32_t number)
+{
+    while (is_here(own) && sem_wait(&own->members[number].woken) != 0) {
+        /* (a signal's handler ran) */
     }
 }
 
 void end_team(team *own)
 {
     const uint32_t threads = members(own);
-    for (uint32_t i = 0; i < threads; i++) {
+    for (uint32_t i = 1; i <= threads; i++) {
         pthread_join(own->members[i].thread, NULL);
+        sem_destroy(&own->members[i].woken);
     }
     if (is_here(own)) {
-        pthread_barrier_destroy(&own->place);
-        pthread_mutex_destroy(&own->gate);
+        sem_destroy(&own->members[0].woken);
     }
     free(own);
 }

@@ -70,32 +70,30 @@ void overwrite(void *bytes, size_t len)
 typedef struct member {
     team *own;
     HANDLE thread;
+    CONDITION_VARIABLE is_woken;
+    uint64_t wakes; /* how often it was woken and has not waited yet */
 } member;
 
 struct team {
-    SRWLOCK lock; /* taken until it is known how many threads there are to meet */
-    CONDITION_VARIABLE met;
-    uint64_t meeting;       /* the number of the next one */
-    uint32_t here, threads; /* how many threads are there already, and how many there are beside the caller's */
+    SRWLOCK lock;     /* of all wakes */
+    uint32_t threads; /* beside the caller's */
     void (*run)(void *arg, team *own, uint32_t number);
     void *arg;
-    member members[];
+    member members[]; /* the caller's thread first */
 };
 
 static unsigned __stdcall run_member(void *arg)
 {
     member *const self = arg;
-    team *const own = self->own;
-    AcquireSRWLockExclusive(&own->lock);
-    ReleaseSRWLockExclusive(&own->lock);
-    own->run(own->arg, own, (uint32_t)(self - own->members) + 1);
+    self->own->run(self->own->arg, self->own, (uint32_t)(self - self->own->members));
     return 0;
 }
 
 static void start_members(team *own, uint32_t threads)
 {
-    for (member *next = own->members; own->threads < threads; own->threads++, next++) {
+    for (member *next = own->members + 1; own->threads < threads; own->threads++, next++) {
         next->own = own;
+        InitializeConditionVariable(&next->is_woken);
         next->thread = (HANDLE)_beginthreadex(NULL, STACK, run_member, next, STACK_SIZE_PARAM_IS_A_RESERVATION, NULL);
         if (next->thread == NULL) {
             break;
@@ -105,21 +103,15 @@ static void start_members(team *own, uint32_t threads)
 
 team *start_team(uint32_t threads, void (*run)(void *arg, team *own, uint32_t number), void *arg)
 {
-    team *const own = calloc(1, sizeof *own + threads * sizeof *own->members);
+    team *const own = calloc(1, sizeof *own + (threads + 1) * sizeof *own->members);
     if (own == NULL) {
         return NULL;
     }
     own->run = run;
     own->arg = arg;
     InitializeSRWLock(&own->lock);
-    InitializeConditionVariable(&own->met);
-    AcquireSRWLockExclusive(&own->lock);
+    InitializeConditionVariable(&own->members[0].is_woken);
     start_members(own, threads);
-    ReleaseSRWLockExclusive(&own->lock);
-    if (own->threads == 0) {
-        free(own);
-        return NULL;
-    }
     return own;
 }
 
@@ -128,28 +120,29 @@ uint32_t members(const team *own)
     return own == NULL ? 0 : own->threads;
 }
 
-void meet(team *own)
+void wake(team *own, uint32_t number)
 {
-    if (own == NULL) {
-        return;
-    }
     AcquireSRWLockExclusive(&own->lock);
-    const uint64_t meeting = own->meeting;
-    if (own->here++ == own->threads) {
-        own->here = 0;
-        own->meeting++;
-        WakeAllConditionVariable(&own->met);
+    own->members[number].wakes++;
+    ReleaseSRWLockExclusive(&own->lock);
+    WakeConditionVariable(&own->members[number].is_woken);
+}
+
+void await(team *own, uint32_t number)
+{
+    member *const self = &own->members[number];
+    AcquireSRWLockExclusive(&own->lock);
+    while (self->wakes == 0) {
+        SleepConditionVariableSRW(&self->is_woken, &own->lock, INFINITE, 0);
     }
-    while (meeting == own->meeting) {
-        SleepConditionVariableSRW(&own->met, &own->lock, INFINITE, 0);
-    }
+    self->wakes--;
     ReleaseSRWLockExclusive(&own->lock);
 }
 
 void end_team(team *own)
 {
     const uint32_t threads = members(own);
-    for (uint32_t i = 0; i < threads; i++) {
+    for (uint32_t i = 1; i <= threads; i++) {
         WaitForSingleObject(own->members[i].thread, INFINITE);
         CloseHandle(own->members[i].thread);
     }

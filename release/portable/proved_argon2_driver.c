@@ -6,6 +6,7 @@
 
 #define HUGE_PAGE ((size_t)2 << 20)
 #define WORK_FOR_THREADS (2 * HUGE_PAGE) /* bytes of blocks that are written */
+#define SHORT_PART 2048                  /* blocks: less work than a thread does before it is displaced */
 #define MOST_OPTIONS 4096                /* bytes: no version has more */
 #define STACK_BELOW 16384                /* bytes: a call needs two thirds */
 
@@ -97,51 +98,88 @@ static uint32_t populate(const call *it, uint32_t number)
         : PROVED_ARGON2_OUT_OF_MEMORY;
 }
 
+/* Claims a worker's part of a step: one thread does, once. */
+static bool claim(call *it, uint64_t step, uint32_t number)
+{
+    uint64_t before = 2 * step;
+    return atomic_compare_exchange_strong(&it->workers[number].state, &before, before + 1);
+}
+
 /* Has a worker take a step for each of its lanes. (What its thread calls next may be bound late: then the loader saves
  * the registers.) */
-CLEARS_REGISTERS static void take_step(void *arg, uint32_t number)
+CLEARS_REGISTERS static void take_step(call *it, uint64_t step, uint32_t number)
 {
-    call *const it = arg;
-    uint64_t before = 2 * it->step;
-    if (number >= it->tasks || !atomic_compare_exchange_strong(&it->workers[number].state, &before, before + 1)) {
-        it->is_astray = 1;
-        return;
-    }
-    const uint32_t slice = it->step == 0 ? 0 : (uint32_t)((it->step - 1) % 4), length = it->job.segment_length;
+    const uint32_t slice = step == 0 ? 0 : (uint32_t)((step - 1) % 4), length = it->job.segment_length;
     const block *const first = it->blocks + (slice == 0 ? 1 : 0) * it->slice;
     const block *const second = it->blocks + (slice <= 1 ? 2 : 1) * it->slice;
     const block *const third = it->blocks + (slice <= 2 ? 3 : 2) * it->slice;
-    uint32_t code = it->step == 0 ? populate(it, number) : PROVED_ARGON2_OK;
+    uint32_t code = step == 0 ? populate(it, number) : PROVED_ARGON2_OK;
     for (uint64_t lane = number; lane < it->job.lanes && code == PROVED_ARGON2_OK; lane += it->tasks) {
         block *const own = it->blocks + slice * it->slice + lane * length;
-        code = it->step == 0 ? proved_argon2_job_begin(&it->job, (uint32_t)lane, own, length)
-                             : proved_argon2_job_fill(&it->job, (uint32_t)((it->step - 1) / 4), slice, (uint32_t)lane,
-                                 first, it->slice, second, it->slice, third, it->slice, own, length);
+        code = step == 0 ? proved_argon2_job_begin(&it->job, (uint32_t)lane, own, length)
+                         : proved_argon2_job_fill(&it->job, (uint32_t)((step - 1) / 4), slice, (uint32_t)lane, first,
+                             it->slice, second, it->slice, third, it->slice, own, length);
     }
     it->workers[number].code = code;
-    it->workers[number].state = 2 * it->step + 2;
+    it->workers[number].state = 2 * step + 2;
 }
 
-/* A thread of the team takes each step with the caller's, until there is none any more. */
+/* A pool's task. */
+static void run_task(void *arg, uint32_t number)
+{
+    call *const it = arg;
+    if (number < it->tasks && claim(it, it->step, number)) {
+        take_step(it, it->step, number);
+    } else {
+        it->is_astray = 1;
+    }
+}
+
+/* Takes a step for some workers, this one and those before it, and returns for how many. Where parts are short it takes
+ * all that nobody has claimed, since their threads may come late. (A long part's comes before another is through.) */
+static uint32_t take_parts(call *it, uint64_t step, uint32_t number, uint32_t own)
+{
+    const uint32_t most = it->slice <= (size_t)SHORT_PART * it->tasks ? it->tasks : own;
+    uint32_t taken = 0;
+    for (uint32_t i = 0; i < most; i++) {
+        const uint32_t next = (number + it->tasks - i) % it->tasks;
+        if (claim(it, step, next)) {
+            take_step(it, step, next);
+            taken++;
+        }
+    }
+    return taken;
+}
+
+/* A thread of the team is woken for each step. It counts them itself: of one to which it comes late nothing is left. */
 static void follow(void *arg, team *own, uint32_t number)
 {
     call *const it = arg;
-    for (meet(own); !it->is_over; meet(own)) {
-        take_step(it, number);
-        meet(own);
+    await(own, number);
+    for (uint64_t step = 0; !it->is_over; step++) {
+        for (uint32_t taken = take_parts(it, step, number, 1); taken > 0; taken--) {
+            wake(own, 0);
+        }
+        await(own, number);
     }
 }
 
-/* The call's own threads: the caller's takes worker 0, and those whose thread was denied. */
+static void wake_team(call *it)
+{
+    const uint32_t threads = members(it->team);
+    for (uint32_t i = 1; i <= threads; i++) {
+        wake(it->team, i);
+    }
+}
+
+/* By the call's own threads: the caller's takes worker 0 and the last ones, whose thread was denied, and waits for the
+ * parts that others took. */
 static void run_team(call *it)
 {
-    const uint32_t beside = members(it->team);
-    meet(it->team);
-    take_step(it, 0);
-    for (uint32_t i = beside + 1; i < it->tasks; i++) {
-        take_step(it, i);
+    wake_team(it);
+    for (uint32_t done = take_parts(it, it->step, 0, it->tasks - members(it->team)); done < it->tasks; done++) {
+        await(it->team, 0);
     }
-    meet(it->team);
 }
 
 /* Has each worker take a step once, and reports how many slices are filled. */
@@ -152,7 +190,7 @@ static uint32_t run_step(call *it, uint64_t slices)
     if (with->run == NULL) {
         run_team(it);
     } else {
-        is_refused = with->run(with->pool, it->tasks, take_step, it) != 0;
+        is_refused = with->run(with->pool, it->tasks, run_task, it) != 0;
     }
     uint32_t code = is_refused || it->is_astray ? PROVED_ARGON2_WORKER_REFUSED : PROVED_ARGON2_OK;
     for (uint32_t i = 0; i < it->tasks && code == PROVED_ARGON2_OK; i++) {
@@ -175,7 +213,7 @@ static uint32_t fill(call *it)
         code = run_step(it, slices);
     }
     it->is_over = true;
-    meet(it->team);
+    wake_team(it);
     end_team(it->team);
     free(it->workers);
     return code;
@@ -200,7 +238,7 @@ static uint32_t compute_over(call *it, const uint8_t *hash, uint8_t *tag)
 }
 
 /* How many threads a call takes of as many as it may have: over less memory, or in less work, others than its own take
- * longer to start and to meet than they save (docs/DECISIONS.md). A pool is asked for as many tasks as it may be. */
+ * longer to start and to wake than they save (docs/DECISIONS.md). A pool is asked for as many tasks as it may be. */
 static uint32_t tasks_of(const call *it, size_t bytes)
 {
     const uint32_t most = it->with.threads < it->job.lanes ? it->with.threads : it->job.lanes;

@@ -378,7 +378,7 @@ const char *proved_argon2_message(uint32_t number)
     case 66: return "The encoded hash is not UTF-8";
     case 68: return "The encoded hash was made with other settings";
     case 69: return "The encoded hash is above the limits";
-    case 70: return "The job is none";
+    case 70: return "The job is of no accepted call";
     case 71: return "The job has no such pass, slice or lane";
     case 72: return "There are too many or too few blocks";
     case PROVED_ARGON2_NULL_POINTER: return "A pointer is null";

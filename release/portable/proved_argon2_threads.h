@@ -36,17 +36,29 @@ typedef int proved_argon2_tell(void *arg, uint64_t done, uint64_t all);
 
 /* How a call computes. A field that is left out of an initializer is 0, and then the call chooses. */
 typedef struct proved_argon2_options {
-    size_t size;       /* sizeof(proved_argon2_options), so that later fields may be added: more than the library
-                        * knows is taken if it is zero, and else PROVED_ARGON2_WRONG_LENGTH, as for a size of 0 */
-    uint32_t threads;  /* the most at once, at most one a lane, and 16 for an encoded hash; 0 is 1. A hash for which
-                             * others do not pay has the caller's alone */
-    void *memory;      /* caller-provided, at a multiple of 8, and best of 64; or null. It is cleared at the end */
-    size_t memory_len; /* its bytes: fewer than the settings need return PROVED_ARGON2_OUT_OF_MEMORY */
-    proved_argon2_run *run;             /* runs the tasks of a slice, threads of them or one a lane; or null */
-    void *pool;                         /* what run is passed */
-    const proved_argon2_limits *limits; /* of an encoded hash, PROVED_ARGON2_TOO_COSTLY above them; or null */
-    proved_argon2_tell *tell;           /* the progress callback, which can stop the call; or null */
-    void *arg;                          /* what tell is passed */
+    /* sizeof(proved_argon2_options), set by PROVED_ARGON2_OPTIONS. Longer options, of a later version, are taken if
+     * what they have more is zero. Otherwise, and for a size of 0, the call returns PROVED_ARGON2_WRONG_LENGTH. */
+    size_t size;
+    /* the maximum number of threads, capped at the number of lanes, and at 16 when verifying an encoded hash. 0 or 1:
+     * the calling thread only. A small hash has the calling thread only, too. */
+    uint32_t threads;
+    /* a buffer for the blocks, or null. It starts at a multiple of 8 (else PROVED_ARGON2_MISALIGNED), best of 64. The
+     * call clears it before it returns. */
+    void *memory;
+    /* the bytes of the buffer: fewer than the settings need return PROVED_ARGON2_OUT_OF_MEMORY */
+    size_t memory_len;
+    /* the caller's thread pool, or null: runs each slice's tasks. If it omits or repeats a task, or runs one that does
+     * not exist, the call returns PROVED_ARGON2_WORKER_REFUSED. */
+    proved_argon2_run *run;
+    /* what run is passed */
+    void *pool;
+    /* the limits of an encoded hash, or null: a string above one of them is PROVED_ARGON2_TOO_COSTLY */
+    const proved_argon2_limits *limits;
+    /* a function, or null: it is called after each slice, in the calling thread, with the number of slices filled and
+     * of all slices. If it returns another number than 0, the call returns PROVED_ARGON2_STOPPED. */
+    proved_argon2_tell *tell;
+    /* what tell is passed */
+    void *arg;
 } proved_argon2_options;
 
 /* clang-format off */
