@@ -31,3 +31,7 @@ assert.deepEqual(await logIn('somebody', 'password', '$argon2id$', secret), [nul
 assert.ok(seen.true > 0 && seen.false > 0 && seen.null > 1, JSON.stringify(seen));
 const grown = process.resourceUsage().maxRSS - before;
 assert.ok(grown <= MOST_KIB, `${grown} of ${MOST_KIB} KiB`);
+// Without random bytes nothing is hashed, and a right password still matches.
+globalThis.crypto.getRandomValues = () => { throw new Error('refused'); };
+assert.deepEqual(await logIn('somebody', 'password', older, secret), [true, older]);
+assert.deepEqual(await logIn('somebody', 'Password', older, secret), [false, older]);

@@ -34,6 +34,10 @@ def logs_in(seed, end):
             wrong.append((password, stored, verdict, renewed))
 
 
+def refuse(hasher, password):
+    raise HashingError("refused")
+
+
 logging.disable()
 threads = [threading.Thread(target=logs_in, args=(seed, time.monotonic() + SECONDS)) for seed in range(THREADS)]
 for thread in threads:
@@ -44,3 +48,6 @@ grown = resource.getrusage(resource.RUSAGE_SELF).ru_maxrss - before
 assert not wrong, wrong[0]
 assert all(seen.values()), seen
 assert 0 < grown < 2 * KIB + 32768, grown
+PasswordHasher.hash = refuse
+assert log_in("somebody", "password", older) == (True, older)  # noqa: F821
+assert log_in("somebody", "Password", older) == (False, older)  # noqa: F821
