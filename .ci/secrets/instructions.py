@@ -12,7 +12,7 @@ X86 = re.compile(
     r'v?p((add|sub)[bdwq]|and|xor|or|mul(udq|ld)|maddwd|(max|min)ud|cmp(eq|gt)[bdq]|s[rl][la]v?[dwq]|shuf[bd]'
     r'|shuf[lh]w|alignr|erm[dq]|unpck[lh](bw|wd|dq|qdq)|ack[us]s(dw|wb)|blend[dw]|broadcast[bdq]'
     r'|(ext|ins)r[bdwq]|mov[sz]x[a-z]+|test)'
-    r'|v?mov[adhlpqsuz]+|mov([zs][bw]|ab|[bw]|be)?[lqsw]*|v?movmskpd|vpmaskmovd|xchg|v?xorp[ds]'
+    r'|v?mov[adhlpqsuz]+|mov([zs][bw]|ab|[bw]|be)?[lqsw]*|v?movmskpd|vpmaskmovd|xchg|v?(xor|shuf)p[ds]'
     r'|vzeroupper|vbroadcasti128|v(insert|extract)i128|push|pop|lea|tzcnt'
     r'|(i?mul|mulx)[lq]?|(add|adc|sub|sbb|inc|dec|xor|or|and|not|neg|shl|shr|sar|shld|ror|rol|rorx'
     r'|bswap|cmp|test)[bwlq]?'
