@@ -120,7 +120,7 @@ def runs():
             if int(time) > 10 or int(memory) > 2097152 or int(lanes) > 16 or int(memory) * int(time) > 4194304:
                 yield f"tool {password} {words}", f'5 "" "{ABOVE}"'
                 continue
-            yield f"tool {password} {words}", told(variant, version, memory, time, lanes, salt, answer)
+            yield f"tool {password} {words}", outcome(variant, version, memory, time, lanes, salt, answer)
 
 
 def is_text(salt):
@@ -130,11 +130,11 @@ def is_text(salt):
         return False
 
 
-def told(variant, version, memory, time, lanes, salt, answer):
+def outcome(variant, version, memory, time, lanes, salt, answer):
     """What comes of a run that hashes: status, output and error stream."""
     if answer.startswith("ERR "):
         return f'2 "" "{answer[4:]}\\n"'
-    items = "$".join(base64.b64encode(bytes.fromhex(it)).decode().rstrip("=") for it in (salt, answer))
+    items = "$".join(base64.b64encode(bytes.fromhex(digits)).decode().rstrip("=") for digits in (salt, answer))
     return f'0 "{answer}\\n${variant}$v={version}$m={memory},t={time},p={lanes}${items}\\n" ""'
 
 

@@ -1,2 +1,2 @@
 pub mod Verification
-pub mod TextLaws
+pub mod TextTheorems

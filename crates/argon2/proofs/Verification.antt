@@ -1,5 +1,5 @@
 -- Tags, verdicts and encoded hashes.
 pub mod Verdicts
-pub mod StoredTexts
+pub mod StoredHashes
 pub mod Memories
 pub mod HashBytes

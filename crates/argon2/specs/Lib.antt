@@ -1,3 +1,3 @@
 pub mod Standard
 pub mod Views
-pub mod Laws
+pub mod Theorems

@@ -1,6 +1,6 @@
 //! How a call ends that allocated its own buffer.
 
-use argon2_fill::stack::wipe_stack;
+use argon2_fill::stack_wiping::wipe_stack;
 use argon2_memory::memory::{Memory, take_slices};
 
 /// Ends a call that allocated its own buffer: frees the blocks as they are, since overwriting them

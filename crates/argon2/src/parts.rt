@@ -12,7 +12,7 @@ pub mod context {
 /// The matrix of blocks, and its segments.
 pub mod memory {
     pub use crate::ending::release;
-    pub use argon2_fill::stack::wipe_stack;
+    pub use argon2_fill::stack_wiping::wipe_stack;
     pub use argon2_memory::memory::Memory;
     pub use argon2_memory::segment::{Segment, Source};
 }

@@ -2,12 +2,12 @@
 
 ghost use Rattle.std.specs.Prelude.{◌≡◌, ℕ, List, IfOk, IsNone, false, length};
 ghost use Rattle.argon2_standard.specs.Standard.Outcome.{IsOutcome};
-ghost use Rattle.argon2_standard.specs.Standard.SettingsTable.{refusal_of};
+ghost use Rattle.argon2_standard.specs.Standard.SettingsTable.{table_error};
 ghost use Rattle.argon2_standard.specs.declared.config.Config.{Config};
 ghost use Rattle.argon2_standard.specs.Standard.Grammar.{IsItem, Spells, SpellsNothing};
 ghost use Rattle.argon2_standard.specs.Standard.Text.{Spelled};
 ghost use Rattle.argon2_text.specs.Views.Texts.{IsSpelledBy, IsSpellingOf, numbers_of, spelled_by, spelled_with};
-ghost use Rattle.argon2.specs.Views.StoredTexts.{IsAccepted, IsAccepting, IsConfigOf, IsStoredConfig};
+ghost use Rattle.argon2.specs.Views.StoredHashes.{IsAccepted, IsAccepting, IsConfigOf, IsStoredConfig};
 
 use argon2_blocks::common::MAX_HASH_LENGTH;
 use argon2_standard::config::Config;
@@ -47,7 +47,7 @@ pub fn accepted_spelling<'a>(
     ensures unspelled { SpellsNothing encoded.now → result ≡ Err Error.DecodingFail }
     ensures spelled { (d : Spelled) (config : Config) → Spells encoded.now d
         → IsStoredConfig d secret.now ad.now config
-        → IsAccepting (refusal_of config pwd_len (length d.salt) (length d.hash))
+        → IsAccepting (table_error config pwd_len (length d.salt) (length d.hash))
         (λ head. IsSpelledBy encoded.now head d.salt d.hash) result }
     ensures spelling { IfOk result (IsSpellingOf encoded.now) }
     ensures accepted { IfOk result (λ head. (salt hash : List ℕ) → IsItem head.salt.now salt
@@ -73,7 +73,7 @@ pub fn accepted_text(
     ensures unspelled { SpellsNothing encoded.now → result ≡ Err Error.DecodingFail }
     ensures spelled { (d : Spelled) (config : Config) → Spells encoded.now d
         → IsStoredConfig d secret.now ad.now config
-        → IsOutcome (refusal_of config pwd_len (length d.salt) (length d.hash)) false
+        → IsOutcome (table_error config pwd_len (length d.salt) (length d.hash)) false
         (λ stored. spelled_by stored ≡ d) result }
     ensures accepted { IfOk result (λ stored. IsAccepted
         (spelled_by stored) pwd_len secret.now ad.now) }
@@ -87,7 +87,7 @@ pub fn refusal(head: &Head<'_>, pwd_len: u64, secret: &[u8], ad: &[u8]) -> Optio
     ensures { (config : Config) (salt hash : List ℕ) → IsItem head.now.salt.now salt
         → IsItem head.now.hash.now hash
         → IsStoredConfig (spelled_with head.now salt hash) secret.now ad.now config
-        → result ≡ refusal_of config pwd_len (length salt) (length hash) }
+        → result ≡ table_error config pwd_len (length salt) (length hash) }
 {
     let numbers = head.numbers();
     let config = config_of_numbers(&numbers, secret, ad);
@@ -129,7 +129,7 @@ pub fn config_of_numbers<'a>(numbers: &Numbers, secret: &'a [u8], ad: &'a [u8]) 
 
 /// The context that an accepted hash is verified with, by its own configuration.
 pub fn stored_context<'a>(stored: &'a Decoded, config: &'a Config<'a>, pwd: &'a [u8]) -> Context<'a>
-    requires { IsNone (refusal_of config.now (length pwd.now)
+    requires { IsNone (table_error config.now (length pwd.now)
         (length stored.now.salt.items) config.now.hash_length) }
     ensures config { result.config ≡ config.entry.now }
     ensures pwd { result.pwd.now ≡ pwd.entry.now }

@@ -1,10 +1,10 @@
 //! Theorems about the definitions: each is a clause of a call without arguments, which does nothing when
 //! it runs.
 
-ghost use Rattle.argon2_memory.specs.Laws.AnyOrder.{EveryOrderAgrees, NoEntryReadsOthers, PicksHoldTheirBlocks};
-ghost use Rattle.argon2.specs.Laws.Definitions.{IsOnlySolution, LengthIsTheHash, MeetsRecurrence, OwnTagVerifies, TagForgetsMode};
-ghost use Rattle.argon2.specs.Laws.KnownAnswers.{DrawsWord, FirstPass, FirstPassFirstIndex, FirstPassOtherLane, FirstSlice, LaterPass, LaterPassFirstIndex, LaterPassLastSlice, LaterPassOtherLane, PicksEnds};
-ghost use Rattle.argon2.specs.Laws.Texts.{HashedTextVerifies, HeadHasItems, IsJoinedItems, SpellsExample, SpellsOne, SpellsOwnValue, WritesExample};
+ghost use Rattle.argon2_memory.specs.Theorems.AnyOrder.{EveryOrderAgrees, NoEntryReadsOthers, PicksHoldTheirBlocks};
+ghost use Rattle.argon2.specs.Theorems.Definitions.{IsOnlySolution, LengthIsTheHash, MeetsRecurrence, OwnTagVerifies, TagForgetsMode};
+ghost use Rattle.argon2.specs.Theorems.KnownAnswers.{DrawsWord, FirstPass, FirstPassFirstIndex, FirstPassOtherLane, FirstSlice, LaterPass, LaterPassFirstIndex, LaterPassLastSlice, LaterPassOtherLane, PicksEnds};
+ghost use Rattle.argon2.specs.Theorems.Texts.{HashedTextVerifies, HeadHasItems, IsJoinedItems, SpellsExample, SpellsOne, SpellsOwnValue, WritesExample};
 
 /// The blocks that the contracts speak of meet the recurrence at every place (RFC 9106, 3.2), and
 /// nothing else does.

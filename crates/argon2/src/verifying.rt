@@ -2,7 +2,7 @@
 
 ghost use Rattle.std.specs.Prelude.{◌≡◌, ◌↔◌, IfErr, IfOk, IsTrue, None, OnErr, OnOk, Some, false, length};
 ghost use Rattle.argon2_standard.specs.Standard.ThreadModes.{may_lack_workers};
-ghost use Rattle.argon2_standard.specs.Standard.SettingsTable.{refusal_of};
+ghost use Rattle.argon2_standard.specs.Standard.SettingsTable.{table_error};
 ghost use Rattle.argon2_memory.specs.Views.Jobs.{setting_of_context};
 ghost use Rattle.argon2_memory.specs.Standard.Kept.{HoldsFill, IsLeft};
 ghost use Rattle.argon2.specs.Standard.Leaves.{LeavesMemory};
@@ -59,20 +59,20 @@ fn is_hash(mut tag: Vec<u8>, hash: &[u8]) -> bool
 
 /// The context of a hash of this hash's own length, whatever `config.hash_length` is. The length is
 /// checked in 64 bits, since cut to 32 a longer hash could pass.
-#[tactic(auto, unfolding(argon2_standard::specs::Standard::SettingsTable::refusal_of))]
+#[tactic(auto, unfolding(argon2_standard::specs::Standard::SettingsTable::table_error))]
 pub fn context_of_hash<'a>(
     config: Config<'a>,
     pwd: &'a [u8],
     salt: &'a [u8],
     hash: &[u8],
 ) -> Result<Context<'a>>
-    ensures accepted { IfOk result (λ c. refusal_of config.entry (length pwd.entry.now)
+    ensures accepted { IfOk result (λ c. table_error config.entry (length pwd.entry.now)
         (length salt.entry.now) (length hash.now) ≡ None) }
     ensures config { IfOk result (λ c. c.config
         ≡ record config.entry { hash_length = length hash.now }) }
     ensures inputs { IfOk result (λ c. (c.pwd.now ≡ pwd.entry.now)
         × (c.salt.now ≡ salt.entry.now)) }
-    ensures refused { IfErr result (λ e. refusal_of config.entry (length pwd.entry.now)
+    ensures refused { IfErr result (λ e. table_error config.entry (length pwd.entry.now)
         (length salt.entry.now) (length hash.now) ≡ Some e) }
 {
     let hash_len = hash.len() as u64;

@@ -1,6 +1,6 @@
 //! Theorems on the definitions that contracts cite.
 
-ghost use Rattle.argon2_blocks.specs.Laws.KnownAnswers.{CompressesOneBit, CompressesZeros, HashesAbc, HashesNothing, HashesTo100Bytes, HashesTo16Bytes, HashesTwoBlocks};
+ghost use Rattle.argon2_blocks.specs.Theorems.KnownAnswers.{CompressesOneBit, CompressesZeros, HashesAbc, HashesNothing, HashesTo100Bytes, HashesTo16Bytes, HashesTwoBlocks};
 
 /// The definitions agree with other programs: BLAKE2b of `abc` (RFC 7693, appendix A), of the empty
 /// message and of two blocks, H' of a short and of a long length (RFC 9106, 3.3), and the

@@ -2,12 +2,12 @@
 use Rattle.std.proofs.Common.{◌≡◌, ℕ, List, Option, None, Some, Ok, Err, refl, sym, ap, ◌∙◌, Bor}
 use Rattle.argon2_standard.specs.declared.config.Config.{Config}
 use Rattle.argon2_standard.specs.declared.error.Error.{Error}
-use Rattle.argon2_standard.specs.Standard.SettingsTable.{refusal_of}
+use Rattle.argon2_standard.specs.Standard.SettingsTable.{table_error}
 use Rattle.argon2_standard.specs.Standard.Decoded.{Agrees}
 use Rattle.argon2_standard.specs.Standard.Text.{Spelled}
 use Rattle.argon2_standard.specs.declared.variant.Variant.{Variant}
 use Rattle.argon2_standard.specs.declared.version.Version.{Version}
-use Rattle.argon2.proofs.Verification.StoredTexts.{refusal_of-same}
+use Rattle.argon2.proofs.Verification.StoredHashes.{table_error-same}
 use Rattle.argon2_c.specs.Settings.{config_at, config_of, config_with, variant_of, version_of}
 use Rattle.argon2_c.specs.declared.settings.Settings.{Settings}
 
@@ -46,11 +46,11 @@ module _ (settings : Settings) (s a secret ad : Bor (List ℕ)) where
       rw same (refl, refl)
 
   -- the table looks at their bytes' lengths alone
-  pub same_refusal : (config : Config) (pwd salt hash : ℕ) → Ok config ≡ config_of settings s a → s.now ≡ secret.now → a.now ≡ ad.now
-      → refusal_of (with_inputs config secret ad) pwd salt hash ≡ refusal_of config pwd salt hash
-  same_refusal config pwd salt hash is same_secret same_ad =
+  pub same_error : (config : Config) (pwd salt hash : ℕ) → Ok config ≡ config_of settings s a → s.now ≡ secret.now → a.now ≡ ad.now
+      → table_error (with_inputs config secret ad) pwd salt hash ≡ table_error config pwd salt hash
+  same_error config pwd salt hash is same_secret same_ad =
       let own = own_at_numbers (variant_of settings.variant) (version_of settings.version) config is in
-      refusal_of-same (with_inputs config secret ad) config pwd salt hash refl refl refl
+      table_error-same (with_inputs config secret ad) config pwd salt hash refl refl refl
       (sym same_secret ∙ ap (λ (x : Bor (List ℕ)). x.now) (sym own.0)) (sym same_ad ∙ ap (λ (x : Bor (List ℕ)). x.now) (sym own.1))
 
 -- a comparison does not look at them
@@ -65,11 +65,4 @@ agrees_with d config secret ad h = record {
 }
 
 pub agrees_without : (d : Spelled) (config : Config) (secret ad : Bor (List ℕ)) → Agrees d (with_inputs config secret ad) → Agrees d config
-agrees_without d config secret ad h = record {
-  variant = h.variant;
-  version = h.version;
-  mem_cost = h.mem_cost;
-  time_cost = h.time_cost;
-  lanes = h.lanes;
-  hash_length = h.hash_length;
-}
+agrees_without d config secret ad h = agrees_with d (with_inputs config secret ad) config.secret config.ad h

@@ -1,6 +1,6 @@
 -- The setting of a job's numbers.
-use Rattle.std.proofs.Common.{◌≡◌, ℕ, ◌*◌, ◌^◌, ◌<◌, ◌≤◌, Bool, false, true, List, length, Option, None, Some, refl, arith, inl, inr}
-use Rattle.std.specs.Prelude.{◌==◌, ◌||◌, nat_lt, IsNone}
+use Rattle.std.proofs.Common.{◌≡◌, ℕ, ◌*◌, ◌^◌, ◌<◌, ◌≤◌, Bool, false, true, List, length, None, Some, refl, arith, inl, inr}
+use Rattle.std.specs.Prelude.{◌==◌, ◌||◌, nat_lt}
 use Rattle.std.proofs.Math.Nat.{mul-div-le}
 use Rattle.std.proofs.lemmas.Bool.{le-ltb, ltb-false, ne_eqb}
 use Rattle.std.proofs.lemmas.Bool.Decides.{eqb_tells}
@@ -8,13 +8,13 @@ use Rattle.argon2_standard.specs.declared.config.Config.{Config}
 use Rattle.argon2_memory.specs.Views.Jobs.{IsSetting}
 use Rattle.argon2_standard.specs.Standard.Prehash.{hashed_inputs, prehash_of, setting_of}
 use Rattle.argon2_standard.specs.Standard.Setting.{Setting}
-use Rattle.argon2_standard.specs.Standard.SettingsTable.{max_lanes, refusal_of}
+use Rattle.argon2_standard.specs.Standard.SettingsTable.{max_lanes, table_error}
 use Rattle.argon2_standard.proofs.Settings.Accepted.{accepted, long_segment}
 use Rattle.argon2_standard.proofs.Settings.HashLengths.{length-blake2b}
 use Rattle.argon2_standard.specs.declared.variant.Variant.{Variant}
 use Rattle.argon2_standard.specs.declared.version.Version.{Version}
 use Rattle.argon2_c.specs.Jobs.{is_out_of_bounds, max_blocks_in_slice, job_of, setting_at, setting_of_job, setting_with}
-use Rattle.argon2_c.specs.declared.jobs.LentJob.{LentJob}
+use Rattle.argon2_c.specs.declared.jobs.CallerJob.{CallerJob}
 use Rattle.argon2_c.proofs.Numbers.{variant_of-number, version_of-number}
 
 -- the numbers of a setting are those of no other
@@ -32,19 +32,15 @@ recovered s len good long =
     rw (variant, version, none, many, short, much, passes, tag) refl
 
 -- the table's row on a short hash
-pub accepted_hash : (config : Config) (p s h : ℕ) → refusal_of config p s h ≡ None → 4 ≤ h
+pub accepted_hash : (config : Config) (p s h : ℕ) → table_error config p s h ≡ None → 4 ≤ h
 accepted_hash config p s h none = (accepted config p s h (rw none refl)).hash_suffices
 
--- an option that equals None holds nothing
-none_holds : {A : Type 0} {o : Option A} → o ≡ None → IsNone o
-none_holds e = rw e refl
-
 -- the setting of an accepted call, whose costs fit 32 bits
-pub setting_that_fits : (pwd salt : List ℕ) (config : Config) (len : ℕ) → refusal_of config (length pwd) (length salt) len ≡ None
+pub setting_that_fits : (pwd salt : List ℕ) (config : Config) (len : ℕ) → table_error config (length pwd) (length salt) len ≡ None
     → config.time_cost < 2 ^ 32 → config.mem_cost < 2 ^ 32 → IsSetting (setting_of pwd salt config len)
 unfolding setting_of prehash_of
 setting_that_fits pwd salt config len none few little =
-    let a = accepted config (length pwd) (length salt) len (none_holds none) in
+    let a = accepted config (length pwd) (length salt) len (rw none refl) in
     let m = mul-div-le config.mem_cost (4 * config.lanes) in
     record {
       prehash_length = length-blake2b 64 (hashed_inputs pwd salt config len) (omega arith);
@@ -66,7 +62,7 @@ some : (n : ℕ) → (n == 0) ≡ false → 0 < n
 some n h = elim (eqb_tells n 0) [ inl w ↦ absurd (cc (w.0)) | inr w ↦ omega (arith, w.1) ]
 
 -- numbers within their bounds are those of a setting
-pub bounded : (job : LentJob) (v : Variant) (w : Version) → length job.prehash ≡ 64 → job.passes < 2 ^ 32 → is_out_of_bounds job ≡ false
+pub bounded : (job : CallerJob) (v : Variant) (w : Version) → length job.prehash ≡ 64 → job.passes < 2 ^ 32 → is_out_of_bounds job ≡ false
     → IsSetting (setting_with job v w)
 bounded job v w prehash few h =
     let a = neither _ _ h in
@@ -86,5 +82,5 @@ bounded job v w prehash few h =
     }
 
 -- and leave that setting
-pub kept : (job : LentJob) (v : Variant) (w : Version) → is_out_of_bounds job ≡ false → setting_at job (Some v) (Some w) ≡ Some (setting_with job v w)
+pub kept : (job : CallerJob) (v : Variant) (w : Version) → is_out_of_bounds job ≡ false → setting_at job (Some v) (Some w) ≡ Some (setting_with job v w)
 kept job v w h = rw h refl

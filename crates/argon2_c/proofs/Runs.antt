@@ -8,71 +8,59 @@ use Rattle.argon2_memory.specs.Views.Jobs.{IsSetting}
 use Rattle.argon2_standard.specs.Standard.Prehash.{setting_of}
 use Rattle.argon2_standard.specs.Standard.Setting.{Setting, memory_blocks}
 use Rattle.argon2_standard.specs.Standard.Tag.{last_blocks, tag_from, tag_of}
-use Rattle.argon2_memory.specs.Views.Places.{FillsLent, HoldsSlice, lent_blocks, lent_places}
+use Rattle.argon2_memory.specs.Views.Places.{FillsAmong, HoldsSlice, blocks_of_lane, places_of_slices}
 use Rattle.argon2_memory.specs.Views.Segments.{IsReady}
-use Rattle.argon2_memory.proofs.Filling.Lent.{length-lent}
-use Rattle.argon2_fill.specs.Laws.Lanes.{IsRunOfLanes, numbered}
-use Rattle.argon2_fill.proofs.Filling.Lent.{fills_among}
+use Rattle.argon2_memory.proofs.Filling.CallerBlocks.{length-blocks_of_lane}
+use Rattle.argon2_fill.specs.Theorems.Lanes.{IsRunOfLanes, numbered}
+use Rattle.argon2_fill.proofs.Filling.CallerBlocks.{fills_among}
 use Rattle.argon2_fill.proofs.Filling.Passes.{run_agrees}
 use Rattle.argon2_c.specs.Answers.{Tells}
 use Rattle.argon2_c.specs.Jobs.{job_of, setting_of_job}
-use Rattle.argon2_c.specs.Steps.{BeginsAt, FillsAt, Finishes, FinishesAt, IsPlace, IsTagOf, Verifies, VerifiesAt}
-use Rattle.argon2_c.specs.Over.{HashesJob, JudgesJob, Lent}
+use Rattle.argon2_c.specs.Steps.{AreBlocks, BeginsAt, FillsAt, Finishes, FinishesAt, IsPlace, IsTagOf, Verifies, VerifiesAt}
+use Rattle.argon2_c.specs.CallerBlocks.{HashesJob, JudgesJob, BlocksAndTag}
 use Rattle.argon2_c.specs.Runs.{IsMade, IsRun, slice_at}
-use Rattle.argon2_c.specs.declared.refusal.Refusal.{Refusal}
-use Rattle.argon2_c.specs.declared.refusal.Refusal.TheVariants.{Mismatch, WrongLength, WrongBlocks}
+use Rattle.argon2_c.specs.declared.errors.CallError.{CallError}
+use Rattle.argon2_c.specs.declared.errors.CallError.TheVariants.{Mismatch, WrongLength, WrongBlocks}
 use Rattle.argon2_c.proofs.JobNumbers.{accepted_hash, recovered, setting_that_fits}
 
 -- ---- what 0 says of a step
 
+-- two numbers are equal or not
+decide : {A : Type 0} (one other : ℕ) → ((one ≡ other → ⊥) → A) → (one ≡ other → A) → A
+decide one other differ same = elim (eqb_tells one other) [ inl w ↦ same w.1 | inr w ↦ differ w.1 ]
+
 begun : (s : Setting) (lane : ℕ) (old new : List (List ℕ)) → lane < s.lanes → BeginsAt s lane old new (Ok tt) → IsReady s 0 0 lane new
-begun s lane old new fits h = elim (eqb_tells (length old) s.segment_length) [
-  | inl w ↦ (h.begun fits w.1).1
-  | inr w ↦ absurd (let e = (h.wrong_blocks fits w.1).0 in cc)
-]
+begun s lane old new fits h =
+    decide (length old) s.segment_length (λ no. absurd (let e = (h.wrong_blocks fits no).0 in cc)) (λ one. (h.begun fits one).1)
 
 module _ (s : Setting) (pass slice lane : ℕ) (first second third old new : List (List ℕ)) (place : IsPlace s pass slice lane)
     (h : FillsAt s pass slice lane first second third old new (Ok tt)) where
   abbrev long : ℕ
   long = s.lanes * s.segment_length
 
-  filled : FillsLent (record { setting = s; pass = pass; slice = slice }) lane (first ∷ second ∷ third ∷ []) old new
-  filled = elim (eqb_tells (length first) long) [
-    | inr w ↦ absurd (let e = (h.wrong_blocks place (λ b. w.1 b.first)).0 in cc)
-    | inl one ↦ elim (eqb_tells (length second) long) [
-      | inr w ↦ absurd (let e = (h.wrong_blocks place (λ b. w.1 b.second)).0 in cc)
-      | inl two ↦ elim (eqb_tells (length third) long) [
-        | inr w ↦ absurd (let e = (h.wrong_blocks place (λ b. w.1 b.third)).0 in cc)
-        | inl three ↦ elim (eqb_tells (length old) s.segment_length) [
-          | inr w ↦ absurd (let e = (h.wrong_blocks place (λ b. w.1 b.own)).0 in cc)
-          | inl four ↦ (h.filled place (record { first = one.1; second = two.1; third = three.1; own = four.1 })).1
-        ]
-      ]
-    ]
-  ]
+  wrong : {A : Type 0} → (AreBlocks s first second third old → ⊥) → A
+  wrong other = absurd (let e = (h.wrong_blocks place other).0 in cc)
+
+  filled : FillsAmong (record { setting = s; pass = pass; slice = slice }) lane (first ∷ second ∷ third ∷ []) old new
+  filled =
+      decide (length first) long (λ no. wrong (λ b. no b.first)) (λ one.
+      decide (length second) long (λ no. wrong (λ b. no b.second)) (λ two.
+      decide (length third) long (λ no. wrong (λ b. no b.third)) (λ three.
+      decide (length old) s.segment_length (λ no. wrong (λ b. no b.own)) (λ four.
+      (h.filled place (record { first = one; second = two; third = three; own = four })).1))))
 
 finished : (s : Setting) (len : ℕ) (last : List (List ℕ)) (old new : List ℕ) → FinishesAt s len last old new (Ok tt) → IsTagOf s last len new
-finished s len last old new h = elim (eqb_tells (length last) (s.lanes * s.segment_length)) [
-  | inr w ↦ absurd (let e = (h.wrong_blocks w.1).0 in cc)
-  | inl one ↦ elim (eqb_tells (length old) len) [
-    | inr w ↦ absurd (let e = (h.wrong_length one.1 w.1).0 in cc)
-    | inl two ↦ (h.finished one.1 two.1).1
-  ]
-]
+finished s len last old new h =
+    decide (length last) (s.lanes * s.segment_length) (λ no. absurd (let e = (h.wrong_blocks no).0 in cc)) (λ one.
+    decide (length old) len (λ no. absurd (let e = (h.wrong_length one no).0 in cc)) (λ two. (h.finished one two).1))
 
-verified : (s : Setting) (len : ℕ) (last : List (List ℕ)) (hash old new : List ℕ) (answer : Result (Unit {0}) Refusal)
+verified : (s : Setting) (len : ℕ) (last : List (List ℕ)) (hash old new : List ℕ) (answer : Result (Unit {0}) CallError)
     → (answer ≡ Err WrongBlocks → ⊥) → (answer ≡ Err WrongLength → ⊥) → VerifiesAt s len last hash old new answer
     → Tells (hash ≡ new) answer × IsTagOf s last len new
-verified s len last hash old new answer blocks lengths h = elim (eqb_tells (length last) (s.lanes * s.segment_length)) [
-  | inr w ↦ absurd (blocks (h.wrong_blocks w.1).0)
-  | inl one ↦ elim (eqb_tells (length hash) len) [
-    | inr w ↦ absurd (lengths (h.wrong_length one.1 (λ both. w.1 both.0)).0)
-    | inl two ↦ elim (eqb_tells (length old) len) [
-      | inr w ↦ absurd (lengths (h.wrong_length one.1 (λ both. w.1 both.1)).0)
-      | inl three ↦ h.verified one.1 two.1 three.1
-    ]
-  ]
-]
+verified s len last hash old new answer blocks lengths h =
+    decide (length last) (s.lanes * s.segment_length) (λ no. absurd (blocks (h.wrong_blocks no).0)) (λ one.
+    decide (length hash) len (λ no. absurd (lengths (h.wrong_length one (λ both. no both.0)).0)) (λ two.
+    decide (length old) len (λ no. absurd (lengths (h.wrong_length one (λ both. no both.1)).0)) (λ three. h.verified one two three)))
 
 -- ---- the run
 
@@ -85,29 +73,19 @@ three_of (a ∷ b ∷ c ∷ []) e = refl
 three_of (a ∷ b ∷ c ∷ d ∷ rest) e = absurd (omega (arith, e))
 
 -- what one call wrote, where it answered 0
-hashed : (s : Setting) (len : ℕ) (old new : Lent) → HashesJob (Some s) len old new (Ok tt) → new.tag ≡ tag_from (last_blocks s) len
-hashed s len old new h = elim (eqb_tells (length old.blocks) (memory_blocks s)) [
-  | inr w ↦ absurd (let e = (h.wrong_blocks w.1).0 in cc)
-  | inl one ↦ elim (eqb_tells (length old.tag) len) [
-    | inr w ↦ absurd (let e = (h.wrong_length one.1 w.1).0 in cc)
-    | inl two ↦ (h.hashed one.1 two.1).1
-  ]
-]
+hashed : (s : Setting) (len : ℕ) (old new : BlocksAndTag) → HashesJob (Some s) len old new (Ok tt) → new.tag ≡ tag_from (last_blocks s) len
+hashed s len old new h =
+    decide (length old.blocks) (memory_blocks s) (λ no. absurd (let e = (h.wrong_blocks no).0 in cc)) (λ one.
+    decide (length old.tag) len (λ no. absurd (let e = (h.wrong_length one no).0 in cc)) (λ two. (h.hashed one two).1))
 
 -- and what it judged, where it did
-judged : (s : Setting) (len : ℕ) (hash : List ℕ) (old new : Lent) (answer : Result (Unit {0}) Refusal)
+judged : (s : Setting) (len : ℕ) (hash : List ℕ) (old new : BlocksAndTag) (answer : Result (Unit {0}) CallError)
     → (answer ≡ Err WrongBlocks → ⊥) → (answer ≡ Err WrongLength → ⊥) → JudgesJob (Some s) len hash old new answer
     → Tells (hash ≡ tag_from (last_blocks s) len) answer
-judged s len hash old new answer blocks lengths h = elim (eqb_tells (length old.blocks) (memory_blocks s)) [
-  | inr w ↦ absurd (blocks (h.wrong_blocks w.1).0)
-  | inl one ↦ elim (eqb_tells (length hash) len) [
-    | inr w ↦ absurd (lengths (h.wrong_length one.1 (λ both. w.1 both.0)).0)
-    | inl two ↦ elim (eqb_tells (length old.tag) len) [
-      | inr w ↦ absurd (lengths (h.wrong_length one.1 (λ both. w.1 both.1)).0)
-      | inl three ↦ (h.judged one.1 two.1 three.1).0
-    ]
-  ]
-]
+judged s len hash old new answer blocks lengths h =
+    decide (length old.blocks) (memory_blocks s) (λ no. absurd (blocks (h.wrong_blocks no).0)) (λ one.
+    decide (length hash) len (λ no. absurd (lengths (h.wrong_length one (λ both. no both.0)).0)) (λ two.
+    decide (length old.tag) len (λ no. absurd (lengths (h.wrong_length one (λ both. no both.1)).0)) (λ three. (h.judged one two three).0)))
 
 module _ (pwd salt : List ℕ) (config : Config) (len : ℕ) where
   abbrev its : Setting
@@ -122,16 +100,16 @@ module _ (pwd salt : List ℕ) (config : Config) (len : ℕ) where
 
     -- ---- one call
 
-    pub called_tag : (old new : Lent) → HashesJob (setting_of_job (job_of its len)) len old new (Ok tt) → new.tag ≡ tag_of pwd salt config len
+    pub called_tag : (old new : BlocksAndTag) → HashesJob (setting_of_job (job_of its len)) len old new (Ok tt) → new.tag ≡ tag_of pwd salt config len
     unfolding tag_of
     called_tag old new h = hashed its len old new (rw is at h)
 
-    pub called_match : (hash : List ℕ) (old new : Lent) → JudgesJob (setting_of_job (job_of its len)) len hash old new (Ok tt)
+    pub called_match : (hash : List ℕ) (old new : BlocksAndTag) → JudgesJob (setting_of_job (job_of its len)) len hash old new (Ok tt)
         → hash ≡ tag_of pwd salt config len
     unfolding tag_of
     called_match hash old new h = judged its len hash old new (Ok tt) (λ e. absurd (cc)) (λ e. absurd (cc)) (rw is at h)
 
-    pub called_mismatch : (hash : List ℕ) (old new : Lent) → JudgesJob (setting_of_job (job_of its len)) len hash old new (Err Mismatch)
+    pub called_mismatch : (hash : List ℕ) (old new : BlocksAndTag) → JudgesJob (setting_of_job (job_of its len)) len hash old new (Err Mismatch)
         → hash ≡ tag_of pwd salt config len → ⊥
     unfolding tag_of
     called_mismatch hash old new h = judged its len hash old new (Err Mismatch) (λ e. absurd (cc)) (λ e. absurd (cc)) (rw is at h)
@@ -145,22 +123,22 @@ module _ (pwd salt : List ℕ) (config : Config) (len : ℕ) where
           let four = run.four n in let few : n % 4 < length (slices n) = omega (arith, four) in
           let l = length-remove (slices n) (n % 4) few in three_of (remove (slices n) (n % 4)) (omega (arith, l, four))
 
-      run_of_lanes : IsRunOfLanes its (λ n. lent_places its (slices n))
+      run_of_lanes : IsRunOfLanes its (λ n. places_of_slices its (slices n))
       run_of_lanes = record {
         setting = good;
-        long = λ k lane h fits. length-lent its (slice_at (slices 0) k) lane (run.long k h) fits;
+        long = λ k lane h fits. length-blocks_of_lane its (slice_at (slices 0) k) lane (run.long k h) fits;
         begun = λ lane fits. let step = run.begun lane fits in begun its lane step.0 _ fits (rw is at step.1);
-        others = λ n k lane few ne. ap (λ (l : List (List ℕ)). lent_blocks its l lane) (run.others n k few ne);
+        others = λ n k lane few ne. ap (λ (l : List (List ℕ)). blocks_of_lane its l lane) (run.others n k few ne);
         filled = λ n lane few fits.
             let place : IsPlace its (n / 4) (n % 4) lane = record { pass_fits = omega (arith, few); slice_fits = omega arith; lane_fits = fits } in
             let four = run.four n in
             fills_among (numbered its n) (slices n) (omega (arith, four)) lane
-            (lent_blocks its (slice_at (slices n) (n % 4)) lane) (lent_blocks its (slice_at (slices (suc n)) (n % 4)) lane)
+            (blocks_of_lane its (slice_at (slices n) (n % 4)) lane) (blocks_of_lane its (slice_at (slices (suc n)) (n % 4)) lane)
             (rw (beside n) at (filled its (n / 4) (n % 4) lane _ _ _ _ _ place (rw is at (run.filled n lane few fits))));
       }
 
-      holds : HoldsSlice its (its.passes - 1) 3 (lent_places its (slices (4 * its.passes)) 3)
-      holds = run_agrees its (λ n. lent_places its (slices n)) run_of_lanes 3 (omega arith)
+      holds : HoldsSlice its (its.passes - 1) 3 (places_of_slices its (slices (4 * its.passes)) 3)
+      holds = run_agrees its (λ n. places_of_slices its (slices n)) run_of_lanes 3 (omega arith)
 
       tag_by : (new : List ℕ) → IsTagOf its (slice_at (slices (4 * its.passes)) 3) len new → new ≡ tag_of pwd salt config len
       unfolding tag_of

@@ -8,41 +8,41 @@ use Rattle.argon2_standard.specs.Standard.Grammar.{Spells, SpellsNothing}
 use Rattle.argon2_standard.specs.Standard.Text.{Spelled, spelled_of, text_of}
 use Rattle.argon2_c.specs.Buffer.{WritesText}
 use Rattle.argon2_c.specs.ErrorTable.{message_of, number_of}
-use Rattle.argon2_c.specs.Refusal.{IsNoNumber}
-use Rattle.argon2_c.specs.declared.refusal.Refusal.{Refusal}
-use Rattle.argon2_c.specs.declared.refusal.Refusal.TheVariants.{Library, Mismatch, NotUtf8, UnknownNumber, WrongLength}
+use Rattle.argon2_c.specs.ErrorNumbers.{IsNoNumber}
+use Rattle.argon2_c.specs.declared.errors.CallError.{CallError}
+use Rattle.argon2_c.specs.declared.errors.CallError.TheVariants.{Library, Mismatch, NotUtf8, UnknownNumber, WrongLength}
 
 -- ---- errors
 
 -- the library's error with all as it was, where there is one; else what is done
-abbrev pub OrRefused : {A : Type 0} → Option Error → A → A → Result (Unit {0}) Refusal → Type 0 → Type 0
-OrRefused (Some e) old new answer Done = (answer ≡ Err (Library e)) × (new ≡ old)
-OrRefused None old new answer Done = Done
+abbrev pub OrError : {A : Type 0} → Option Error → A → A → Result (Unit {0}) CallError → Type 0 → Type 0
+OrError (Some e) old new answer Done = (answer ≡ Err (Library e)) × (new ≡ old)
+OrError None old new answer Done = Done
 
 -- a string that is not UTF-8 or decodes to nothing is rejected with all as it was; else what is done with what it decodes to
-pub record OfText {A : Type 0} (text : List ℕ) (old new : A) (answer : Result (Unit {0}) Refusal) (Done : Spelled → Type 0) : Type 0 where
+pub record OfText {A : Type 0} (text : List ℕ) (old new : A) (answer : Result (Unit {0}) CallError) (Done : Spelled → Type 0) : Type 0 where
   pub not_utf8 : (IsUtf8 text → ⊥) → (answer ≡ Err NotUtf8) × (new ≡ old)
   pub unspelled : IsUtf8 text → SpellsNothing text → (answer ≡ Err (Library DecodingFail)) × (new ≡ old)
   pub spelled : IsUtf8 text → (d : Spelled) → Spells text d → Done d
 
 -- what is made, where the buffers have the lengths for it; else they are as they were
-pub record WritesWhere {A : Type 0} (Fit : Type 0) (made old new : A) (answer : Result (Unit {0}) Refusal) : Type 0 where
+pub record WritesWhere {A : Type 0} (Fit : Type 0) (made old new : A) (answer : Result (Unit {0}) CallError) : Type 0 where
   pub wrong_length : (Fit → ⊥) → (answer ≡ Err WrongLength) × (new ≡ old)
   pub written : Fit → (answer ≡ Ok tt) × (new ≡ made)
 
 -- ---- verdicts
 
 -- a verdict as one answer: Ok where there is a match
-abbrev pub judgement_of : Result Bool Refusal → Result (Unit {0}) Refusal
+abbrev pub judgement_of : Result Bool CallError → Result (Unit {0}) CallError
 judgement_of (Ok true) = Ok tt
 judgement_of (Ok false) = Err Mismatch
-judgement_of (Err refusal) = Err refusal
+judgement_of (Err error) = Err error
 
 -- Ok where Same holds and Mismatch where it does not
-abbrev pub Tells : Type 0 → Result (Unit {0}) Refusal → Type 0
+abbrev pub Tells : Type 0 → Result (Unit {0}) CallError → Type 0
 Tells Same (Ok _) = Same
 Tells Same (Err Mismatch) = Same → ⊥
-Tells Same (Err refusal) = ⊥
+Tells Same (Err error) = ⊥
 
 -- ---- lengths
 
@@ -55,6 +55,6 @@ IsTextLength (Ok config) salt_len len = (salt hash : List ℕ) → length salt �
 -- ---- messages
 
 -- the message of the error with this number; a number that no error has is rejected
-pub record WritesMessage (number : ℕ) (old new : List ℕ) (answer : Result (Unit {0}) Refusal) : Type 0 where
-  pub known : (refusal : Refusal) → number_of refusal ≡ number → WritesText (message_of refusal) old new answer
+pub record WritesMessage (number : ℕ) (old new : List ℕ) (answer : Result (Unit {0}) CallError) : Type 0 where
+  pub known : (error : CallError) → number_of error ≡ number → WritesText (message_of error) old new answer
   pub unknown : IsNoNumber number → (answer ≡ Err UnknownNumber) × (new ≡ old)

@@ -1,11 +1,11 @@
 -- The code's own table: the numbers and the messages of the errors. A caller of C compares a number with the header,
--- and no definition beside `code_of` and `WritesMessage` looks into the table.
+-- and no definition beside `code_of`, `IsNoNumber` and `WritesMessage` looks into the table.
 use Rattle.std.specs.Prelude.{ℕ, List, codes}
 use Rattle.argon2_standard.specs.declared.error.Error.{Error}
 use Rattle.argon2_standard.specs.declared.error.Error.TheVariants as error
 use Rattle.argon2_standard.specs.Views.Messages.{message_of as library_message}
-use Rattle.argon2_c.specs.declared.refusal.Refusal.{Refusal}
-use Rattle.argon2_c.specs.declared.refusal.Refusal.TheVariants as refusal
+use Rattle.argon2_c.specs.declared.errors.CallError.{CallError}
+use Rattle.argon2_c.specs.declared.errors.CallError.TheVariants as call
 
 -- the numbers of the library's errors, from 1 in their order
 abbrev pub library_number : Error → ℕ
@@ -35,33 +35,33 @@ library_number error.WorkerRefused = 21
 -- end
 
 -- those, and from 64 on the numbers of the errors of the C calls alone
-abbrev pub number_of : Refusal → ℕ
-number_of (refusal.Library e) = library_number e
+abbrev pub number_of : CallError → ℕ
+number_of (call.Library e) = library_number e
 -- errors of C, by .ci/pages/presets
-number_of refusal.Mismatch = 64
-number_of refusal.WrongLength = 65
-number_of refusal.NotUtf8 = 66
-number_of refusal.UnknownNumber = 67
-number_of refusal.NeedsRehash = 68
-number_of refusal.TooCostly = 69
-number_of refusal.NoJob = 70
-number_of refusal.NoPlace = 71
-number_of refusal.WrongBlocks = 72
+number_of call.Mismatch = 64
+number_of call.WrongLength = 65
+number_of call.NotUtf8 = 66
+number_of call.UnknownNumber = 67
+number_of call.NeedsRehash = 68
+number_of call.TooCostly = 69
+number_of call.NoJob = 70
+number_of call.NoPlace = 71
+number_of call.WrongBlocks = 72
 
 -- end
 
 -- the messages
-abbrev pub message_of : Refusal → List ℕ
-message_of (refusal.Library e) = library_message e
+abbrev pub message_of : CallError → List ℕ
+message_of (call.Library e) = library_message e
 -- messages of C, by .ci/pages/presets
-message_of refusal.Mismatch = codes "The password does not match"
-message_of refusal.WrongLength = codes "The buffer has the wrong length"
-message_of refusal.NotUtf8 = codes "The encoded hash is not UTF-8"
-message_of refusal.UnknownNumber = codes "There is no error of this number"
-message_of refusal.NeedsRehash = codes "The encoded hash was made with other settings"
-message_of refusal.TooCostly = codes "The encoded hash is above the limits"
-message_of refusal.NoJob = codes "The job is of no accepted call"
-message_of refusal.NoPlace = codes "The job has no such pass, slice or lane"
-message_of refusal.WrongBlocks = codes "There are too many or too few blocks"
+message_of call.Mismatch = codes "The password does not match"
+message_of call.WrongLength = codes "The buffer has the wrong length"
+message_of call.NotUtf8 = codes "The encoded hash is not UTF-8"
+message_of call.UnknownNumber = codes "There is no error of this number"
+message_of call.NeedsRehash = codes "The encoded hash was made with other settings"
+message_of call.TooCostly = codes "The encoded hash is above the limits"
+message_of call.NoJob = codes "The job is of no accepted call"
+message_of call.NoPlace = codes "The job has no such pass, slice or lane"
+message_of call.WrongBlocks = codes "There are too many or too few blocks"
 
 -- end

@@ -4,13 +4,13 @@ use Rattle.argon2_standard.specs.declared.error.Error.TheVariants.{DecodingFail}
 use Rattle.argon2_standard.specs.Standard.Grammar.{SpellsNothing}
 use Rattle.argon2_text.specs.Views.Texts.{IsSpellingOf}
 use Rattle.argon2_text.specs.declared.encoding.reading.Head.{Head}
-use Rattle.argon2_c.specs.declared.refusal.Refusal.{Refusal}
-use Rattle.argon2_c.specs.declared.refusal.Refusal.TheVariants.{Library, NotUtf8}
+use Rattle.argon2_c.specs.declared.errors.CallError.{CallError}
+use Rattle.argon2_c.specs.declared.errors.CallError.TheVariants.{Library, NotUtf8}
 
 -- the string decodes to a value with this head
 abbrev pub HasHead : List ℕ → Head → Type 0
 HasHead text h = IsUtf8 text × IsSpellingOf text h
 
 -- why the string has no head
-abbrev pub HasNone : List ℕ → Refusal → Type 0
-HasNone text refusal = ((refusal ≡ NotUtf8) × (IsUtf8 text → ⊥)) ⊎ ((refusal ≡ Library DecodingFail) × IsUtf8 text × SpellsNothing text)
+abbrev pub HasNone : List ℕ → CallError → Type 0
+HasNone text error = ((error ≡ NotUtf8) × (IsUtf8 text → ⊥)) ⊎ ((error ≡ Library DecodingFail) × IsUtf8 text × SpellsNothing text)

@@ -1,5 +1,5 @@
 pub mod ErrorTable
-pub mod Refusal
+pub mod ErrorNumbers
 pub mod Settings
 pub mod Recommended
 pub mod Buffer
@@ -9,6 +9,6 @@ pub mod Checks
 pub mod Heads
 pub mod Jobs
 pub mod Steps
-pub mod Over
+pub mod CallerBlocks
 pub mod Runs
 pub mod Limits

@@ -11,8 +11,8 @@ use Rattle.argon2_standard.specs.Standard.Version.{version_number}
 use Rattle.argon2.specs.declared.limits.Limits.{Limits as LibraryLimits}
 use Rattle.argon2_c.specs.Answers.{OfText, WritesWhere}
 use Rattle.argon2_c.specs.declared.reading.Stored.{Stored}
-use Rattle.argon2_c.specs.declared.refusal.Refusal.{Refusal}
-use Rattle.argon2_c.specs.declared.refusal.Refusal.TheVariants.{Library, NeedsRehash, TooCostly}
+use Rattle.argon2_c.specs.declared.errors.CallError.{CallError}
+use Rattle.argon2_c.specs.declared.errors.CallError.TheVariants.{Library, NeedsRehash, TooCostly}
 
 -- ---- the numbers
 
@@ -35,15 +35,15 @@ stored_of d = record {
 }
 
 -- the numbers of what the string decodes to
-abbrev pub ReadsText : List ℕ → Stored → Stored → Result (Unit {0}) Refusal → Type 0
+abbrev pub ReadsText : List ℕ → Stored → Stored → Result (Unit {0}) CallError → Type 0
 ReadsText text old new answer = OfText text old new answer (λ d. (answer ≡ Ok tt) × (new ≡ stored_of d))
 
 -- the same, or too costly with the old numbers
-abbrev pub ReadsWithin : Bool → Stored → Stored → Stored → Result (Unit {0}) Refusal → Type 0
+abbrev pub ReadsWithin : Bool → Stored → Stored → Stored → Result (Unit {0}) CallError → Type 0
 ReadsWithin true spelled old new answer = (answer ≡ Err TooCostly) × (new ≡ old)
 ReadsWithin false spelled old new answer = (answer ≡ Ok tt) × (new ≡ spelled)
 
-abbrev pub ReadsTextWithin : LibraryLimits → List ℕ → Stored → Stored → Result (Unit {0}) Refusal → Type 0
+abbrev pub ReadsTextWithin : LibraryLimits → List ℕ → Stored → Stored → Result (Unit {0}) CallError → Type 0
 ReadsTextWithin limits text old new answer = OfText text old new answer (λ d. ReadsWithin (is_too_costly limits d) (stored_of d) old new answer)
 
 -- ---- the salt and the hash
@@ -60,18 +60,18 @@ AreLengths items buffers = (length buffers.salt ≡ length items.salt) × (lengt
 abbrev pub items_of : Spelled → Items
 items_of d = record { salt = d.salt; hash = d.hash }
 
-abbrev pub ReadsBytes : List ℕ → Items → Items → Result (Unit {0}) Refusal → Type 0
+abbrev pub ReadsBytes : List ℕ → Items → Items → Result (Unit {0}) CallError → Type 0
 ReadsBytes text old new answer = OfText text old new answer (λ d. WritesWhere (AreLengths (items_of d) old) (items_of d) old new answer)
 
 -- ---- comparing
 
 -- Ok where Same holds and NeedsRehash where it does not
-abbrev pub Compares : Type 0 → Result (Unit {0}) Refusal → Type 0
+abbrev pub Compares : Type 0 → Result (Unit {0}) CallError → Type 0
 Compares Same (Ok _) = Same
 Compares Same (Err NeedsRehash) = Same → ⊥
-Compares Same (Err refusal) = ⊥
+Compares Same (Err error) = ⊥
 
 -- the error of the settings' numbers comes first
-abbrev pub ComparesSettings : Result Config Error → List ℕ → Result (Unit {0}) Refusal → Type 0
+abbrev pub ComparesSettings : Result Config Error → List ℕ → Result (Unit {0}) CallError → Type 0
 ComparesSettings (Err e) text answer = answer ≡ Err (Library e)
 ComparesSettings (Ok config) text answer = OfText text (tt {0}) (tt {0}) answer (λ d. Compares (Agrees d config) answer)

@@ -4,33 +4,33 @@ use Rattle.std.specs.Prelude.{◌≡◌, ◌≢◌, ℕ, suc, ◌*◌, ◌/◌, 
 use Rattle.std.specs.List.{remove}
 use Rattle.argon2_standard.specs.declared.config.Config.{Config}
 use Rattle.argon2_standard.specs.Standard.Prehash.{setting_of}
-use Rattle.argon2_standard.specs.Standard.SettingsTable.{refusal_of}
+use Rattle.argon2_standard.specs.Standard.SettingsTable.{table_error}
 use Rattle.argon2_standard.specs.Standard.Tag.{tag_of}
 use Rattle.argon2_c.specs.Jobs.{job_of, setting_of_job}
 use Rattle.argon2_c.specs.Steps.{Begins, Fills, Finishes, Verifies}
-use Rattle.argon2_c.specs.Over.{HashesJob, JudgesJob, Lent}
-use Rattle.argon2_c.specs.declared.jobs.LentJob.{LentJob}
-use Rattle.argon2_c.specs.declared.refusal.Refusal.TheVariants.{Mismatch}
+use Rattle.argon2_c.specs.CallerBlocks.{HashesJob, JudgesJob, BlocksAndTag}
+use Rattle.argon2_c.specs.declared.jobs.CallerJob.{CallerJob}
+use Rattle.argon2_c.specs.declared.errors.CallError.TheVariants.{Mismatch}
 
 -- a slice among several
 abbrev pub slice_at : List (List (List ℕ)) → ℕ → List (List ℕ)
 slice_at slices k = slice_index_or slices k []
 
 -- the segment of a lane in a slice, which lies lane after lane
-abbrev pub segment_of : LentJob → List (List ℕ) → ℕ → List (List ℕ)
+abbrev pub segment_of : CallerJob → List (List ℕ) → ℕ → List (List ℕ)
 segment_of job slice lane = take job.segment_length (drop (lane * job.segment_length) slice)
 
 -- the job of accepted settings, for a tag of len bytes
-pub record IsMade (pwd salt : List ℕ) (config : Config) (len : ℕ) (job : LentJob) : Type 0 where
+pub record IsMade (pwd salt : List ℕ) (config : Config) (len : ℕ) (job : CallerJob) : Type 0 where
   pub few_passes : config.time_cost < 2 ^ 32
   pub little_memory : config.mem_cost < 2 ^ 32
-  pub accepted : refusal_of config (length pwd) (length salt) len ≡ None
+  pub accepted : table_error config (length pwd) (length salt) len ≡ None
   pub made : job ≡ job_of (setting_of pwd salt config len) len
 
 -- the four slices before slice number n, counted over all passes, for each n; and that each step answered 0. A
 -- lane's step is told by its own segment and the three other slices, which no step writes meanwhile: so the order
 -- of a slice's lanes is not said
-pub record IsRun (job : LentJob) (slices : ℕ → List (List (List ℕ))) : Type 0 where
+pub record IsRun (job : CallerJob) (slices : ℕ → List (List (List ℕ))) : Type 0 where
   pub four : (n : ℕ) → length (slices n) ≡ 4
   pub long : (k : ℕ) → k < 4 → length (slice_at (slices 0) k) ≡ job.lanes * job.segment_length
   pub begun : (lane : ℕ) → lane < job.lanes
@@ -42,14 +42,14 @@ pub record IsRun (job : LentJob) (slices : ℕ → List (List (List ℕ))) : Typ
 
 -- what is finished then is the tag
 abbrev pub EveryRunGivesTheTag : Type 0
-EveryRunGivesTheTag = (pwd salt : List ℕ) (config : Config) (len : ℕ) (job : LentJob) (slices : ℕ → List (List (List ℕ)))
+EveryRunGivesTheTag = (pwd salt : List ℕ) (config : Config) (len : ℕ) (job : CallerJob) (slices : ℕ → List (List (List ℕ)))
     → IsMade pwd salt config len job → IsRun job slices
     → (old new : List ℕ) → Finishes (setting_of_job job) job.hash_length (slice_at (slices (4 * job.passes)) 3) old new (Ok tt)
     → new ≡ tag_of pwd salt config len
 
 -- and what is verified is whether a hash is the tag
 abbrev pub EveryRunGivesTheVerdict : Type 0
-EveryRunGivesTheVerdict = (pwd salt : List ℕ) (config : Config) (len : ℕ) (job : LentJob) (slices : ℕ → List (List (List ℕ)))
+EveryRunGivesTheVerdict = (pwd salt : List ℕ) (config : Config) (len : ℕ) (job : CallerJob) (slices : ℕ → List (List (List ℕ)))
     → IsMade pwd salt config len job → IsRun job slices
     → (hash old new : List ℕ) → let end = slice_at (slices (4 * job.passes)) 3 in
     (Verifies (setting_of_job job) job.hash_length end hash old new (Ok tt) → hash ≡ tag_of pwd salt config len)
@@ -57,12 +57,12 @@ EveryRunGivesTheVerdict = (pwd salt : List ℕ) (config : Config) (len : ℕ) (j
 
 -- the call that takes all steps in one order gives the same tag
 abbrev pub OneCallGivesTheTag : Type 0
-OneCallGivesTheTag = (pwd salt : List ℕ) (config : Config) (len : ℕ) (job : LentJob) → IsMade pwd salt config len job
-    → (old new : Lent) → HashesJob (setting_of_job job) job.hash_length old new (Ok tt) → new.tag ≡ tag_of pwd salt config len
+OneCallGivesTheTag = (pwd salt : List ℕ) (config : Config) (len : ℕ) (job : CallerJob) → IsMade pwd salt config len job
+    → (old new : BlocksAndTag) → HashesJob (setting_of_job job) job.hash_length old new (Ok tt) → new.tag ≡ tag_of pwd salt config len
 
 -- and the same verdict
 abbrev pub OneCallGivesTheVerdict : Type 0
-OneCallGivesTheVerdict = (pwd salt : List ℕ) (config : Config) (len : ℕ) (job : LentJob) → IsMade pwd salt config len job
-    → (hash : List ℕ) (old new : Lent)
+OneCallGivesTheVerdict = (pwd salt : List ℕ) (config : Config) (len : ℕ) (job : CallerJob) → IsMade pwd salt config len job
+    → (hash : List ℕ) (old new : BlocksAndTag)
     → (JudgesJob (setting_of_job job) job.hash_length hash old new (Ok tt) → hash ≡ tag_of pwd salt config len)
     × (JudgesJob (setting_of_job job) job.hash_length hash old new (Err Mismatch) → hash ≡ tag_of pwd salt config len → ⊥)

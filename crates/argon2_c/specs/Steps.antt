@@ -3,11 +3,11 @@
 use Rattle.std.specs.Prelude.{◌≡◌, ℕ, ◌-◌, ◌*◌, ◌<◌, List, [], ◌∷◌, length, Option, Some, None, Result, Ok, Err}
 use Rattle.argon2_standard.specs.Standard.Setting.{Setting}
 use Rattle.argon2_standard.specs.Standard.Tag.{last_blocks, tag_from}
-use Rattle.argon2_memory.specs.Views.Places.{FillsLent, HoldsSlice, lent_blocks}
+use Rattle.argon2_memory.specs.Views.Places.{FillsAmong, HoldsSlice, blocks_of_lane}
 use Rattle.argon2_memory.specs.Views.Segments.{IsReady}
 use Rattle.argon2_c.specs.Answers.{Tells}
-use Rattle.argon2_c.specs.declared.refusal.Refusal.{Refusal}
-use Rattle.argon2_c.specs.declared.refusal.Refusal.TheVariants.{WrongLength, NoJob, NoPlace, WrongBlocks}
+use Rattle.argon2_c.specs.declared.errors.CallError.{CallError}
+use Rattle.argon2_c.specs.declared.errors.CallError.TheVariants.{WrongLength, NoJob, NoPlace, WrongBlocks}
 
 -- ---- filling
 
@@ -29,24 +29,24 @@ pub record AreBlocks (s : Setting) (one two three segment : List (List ℕ)) : T
   pub own : length segment ≡ s.segment_length
 
 -- a lane's segment of slice 0 with its first two blocks
-pub record BeginsAt (s : Setting) (lane : ℕ) (old new : List (List ℕ)) (answer : Result (Unit {0}) Refusal) : Type 0 where
+pub record BeginsAt (s : Setting) (lane : ℕ) (old new : List (List ℕ)) (answer : Result (Unit {0}) CallError) : Type 0 where
   pub no_place : (lane < s.lanes → ⊥) → (answer ≡ Err NoPlace) × (new ≡ old)
   pub wrong_blocks : lane < s.lanes → (length old ≡ s.segment_length → ⊥) → (answer ≡ Err WrongBlocks) × (new ≡ old)
   pub begun : lane < s.lanes → length old ≡ s.segment_length → (answer ≡ Ok tt) × IsReady s 0 0 lane new
 
-abbrev pub Begins : Option Setting → ℕ → List (List ℕ) → List (List ℕ) → Result (Unit {0}) Refusal → Type 0
+abbrev pub Begins : Option Setting → ℕ → List (List ℕ) → List (List ℕ) → Result (Unit {0}) CallError → Type 0
 Begins None lane old new answer = (answer ≡ Err NoJob) × (new ≡ old)
 Begins (Some s) lane old new answer = BeginsAt s lane old new answer
 
 -- a lane's segment of a slice after a pass, beside the other three slices in rising order
-pub record FillsAt (s : Setting) (pass slice lane : ℕ) (first second third old new : List (List ℕ)) (answer : Result (Unit {0}) Refusal) : Type 0 where
+pub record FillsAt (s : Setting) (pass slice lane : ℕ) (first second third old new : List (List ℕ)) (answer : Result (Unit {0}) CallError) : Type 0 where
   pub no_place : (IsPlace s pass slice lane → ⊥) → (answer ≡ Err NoPlace) × (new ≡ old)
   pub wrong_blocks : IsPlace s pass slice lane → (AreBlocks s first second third old → ⊥) → (answer ≡ Err WrongBlocks) × (new ≡ old)
   pub filled : IsPlace s pass slice lane → AreBlocks s first second third old → (answer ≡ Ok tt)
-      × FillsLent (record { setting = s; pass = pass; slice = slice }) lane (first ∷ second ∷ third ∷ []) old new
+      × FillsAmong (record { setting = s; pass = pass; slice = slice }) lane (first ∷ second ∷ third ∷ []) old new
 
 abbrev pub Fills : Option Setting → ℕ → ℕ → ℕ → List (List ℕ) → List (List ℕ) → List (List ℕ) → List (List ℕ) → List (List ℕ)
-    → Result (Unit {0}) Refusal → Type 0
+    → Result (Unit {0}) CallError → Type 0
 Fills None pass slice lane first second third old new answer = (answer ≡ Err NoJob) × (new ≡ old)
 Fills (Some s) pass slice lane first second third old new answer = FillsAt s pass slice lane first second third old new answer
 
@@ -54,24 +54,24 @@ Fills (Some s) pass slice lane first second third old new answer = FillsAt s pas
 
 -- the tag, where slice 3 holds the blocks of the last pass
 abbrev pub IsTagOf : Setting → List (List ℕ) → ℕ → List ℕ → Type 0
-IsTagOf s last len tag = HoldsSlice s (s.passes - 1) 3 (lent_blocks s last) → tag ≡ tag_from (last_blocks s) len
+IsTagOf s last len tag = HoldsSlice s (s.passes - 1) 3 (blocks_of_lane s last) → tag ≡ tag_from (last_blocks s) len
 
 -- the tag, in a buffer of just its length
-pub record FinishesAt (s : Setting) (len : ℕ) (last : List (List ℕ)) (old new : List ℕ) (answer : Result (Unit {0}) Refusal) : Type 0 where
+pub record FinishesAt (s : Setting) (len : ℕ) (last : List (List ℕ)) (old new : List ℕ) (answer : Result (Unit {0}) CallError) : Type 0 where
   pub wrong_blocks : (IsSlice s last → ⊥) → (answer ≡ Err WrongBlocks) × (new ≡ old)
   pub wrong_length : IsSlice s last → (length old ≡ len → ⊥) → (answer ≡ Err WrongLength) × (new ≡ old)
   pub finished : IsSlice s last → length old ≡ len → (answer ≡ Ok tt) × IsTagOf s last len new
 
-abbrev pub Finishes : Option Setting → ℕ → List (List ℕ) → List ℕ → List ℕ → Result (Unit {0}) Refusal → Type 0
+abbrev pub Finishes : Option Setting → ℕ → List (List ℕ) → List ℕ → List ℕ → Result (Unit {0}) CallError → Type 0
 Finishes None len last old new answer = (answer ≡ Err NoJob) × (new ≡ old)
 Finishes (Some s) len last old new answer = FinishesAt s len last old new answer
 
 -- whether a hash is the tag, which is in a buffer of its length then
-pub record VerifiesAt (s : Setting) (len : ℕ) (last : List (List ℕ)) (hash old new : List ℕ) (answer : Result (Unit {0}) Refusal) : Type 0 where
+pub record VerifiesAt (s : Setting) (len : ℕ) (last : List (List ℕ)) (hash old new : List ℕ) (answer : Result (Unit {0}) CallError) : Type 0 where
   pub wrong_blocks : (IsSlice s last → ⊥) → (answer ≡ Err WrongBlocks) × (new ≡ old)
   pub wrong_length : IsSlice s last → ((length hash ≡ len) × (length old ≡ len) → ⊥) → (answer ≡ Err WrongLength) × (new ≡ old)
   pub verified : IsSlice s last → length hash ≡ len → length old ≡ len → Tells (hash ≡ new) answer × IsTagOf s last len new
 
-abbrev pub Verifies : Option Setting → ℕ → List (List ℕ) → List ℕ → List ℕ → List ℕ → Result (Unit {0}) Refusal → Type 0
+abbrev pub Verifies : Option Setting → ℕ → List (List ℕ) → List ℕ → List ℕ → List ℕ → Result (Unit {0}) CallError → Type 0
 Verifies None len last hash old new answer = (answer ≡ Err NoJob) × (new ≡ old)
 Verifies (Some s) len last hash old new answer = VerifiesAt s len last hash old new answer

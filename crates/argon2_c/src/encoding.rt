@@ -8,8 +8,8 @@ ghost use Rattle.argon2_c.specs.Buffer.{padded};
 ghost use Rattle.argon2_c.specs.Jobs.{WritesTagText};
 ghost use Rattle.argon2_c.specs.Settings.{config_of};
 
-use crate::refusal::Refusal;
-use crate::settings::{Settings, refused, text_len};
+use crate::errors::CallError;
+use crate::settings::{Settings, settings_error, text_len};
 use argon2::Config;
 use argon2_text::encoding::write_encoded;
 
@@ -17,14 +17,19 @@ use argon2_text::encoding::write_encoded;
 /// numbers of variant and version are checked first, then the settings table. Then a tag of another
 /// length than the settings' is `WrongLength`, and so is a buffer without room for the encoded hash
 /// and one zero. On an error the buffer is unchanged.
-pub fn encode(salt: &[u8], settings: &Settings, tag: &[u8], text: &mut [u8]) -> Result<(), Refusal>
+pub fn encode(
+    salt: &[u8],
+    settings: &Settings,
+    tag: &[u8],
+    text: &mut [u8],
+) -> Result<(), CallError>
     ensures { (secret ad : Bor (List ℕ)) → secret.now ≡ [] → ad.now ≡ []
         → WritesTagText (config_of settings.now secret ad) salt.now tag.now text.old text.new
         result }
 {
     let config = settings.config(&[], &[])?;
-    match refused(&config, salt.len() as u64) {
-        Some(error) => Err(Refusal::Library(error)),
+    match settings_error(&config, salt.len() as u64) {
+        Some(error) => Err(CallError::Library(error)),
         None => write_tag_text(&config, salt, tag, text),
     }
 }
@@ -35,19 +40,19 @@ fn write_tag_text(
     salt: &[u8],
     tag: &[u8],
     text: &mut [u8],
-) -> Result<(), Refusal>
+) -> Result<(), CallError>
     requires { length salt.now < 2 ^ 32 }
     ensures { let written = text_of (spelled_of config.now salt.now tag.now) in
         WritesWhere ((length tag.now ≡ config.now.hash_length) × (length written < length text.old))
         (padded (length text.old) written) text.old text.new result }
 {
     if tag.len() != config.hash_length as usize {
-        return Err(Refusal::WrongLength);
+        return Err(CallError::WrongLength);
     }
     let len = text_len(config, salt.len() as u32);
     // `<=`, since a zero has to fit behind the string.
     if text.len() as u64 <= len {
-        return Err(Refusal::WrongLength);
+        return Err(CallError::WrongLength);
     }
     let (written, rest) = text.split_at_mut(len as usize);
     write_encoded(config, salt, tag, written);

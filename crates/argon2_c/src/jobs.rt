@@ -10,12 +10,12 @@ ghost use Rattle.argon2_text.specs.Views.Texts.{spelled_with};
 ghost use Rattle.argon2_c.specs.Checks.{ChecksJob};
 ghost use Rattle.argon2_c.specs.Jobs.{MakesJob, MakesStoredJob, WritesStoredJob, is_out_of_bounds, job_of, setting_at, setting_of_job};
 ghost use Rattle.argon2_c.specs.Settings.{config_of, version_of};
-ghost use Rattle.argon2_c.specs.declared.refusal.Refusal.TheVariants.{NoJob};
+ghost use Rattle.argon2_c.specs.declared.errors.CallError.TheVariants.{NoJob};
 
+use crate::encoded_hash::head_of;
+use crate::errors::CallError;
 use crate::reading::read_items;
-use crate::refusal::Refusal;
 use crate::settings::Settings;
-use crate::stored_text::head_of;
 use argon2::parts::common::{MAX_LANES, MIN_HASH_LENGTH, MIN_TIME};
 use argon2::parts::context::{Context, Job};
 use argon2::parts::encoding::Head;
@@ -31,7 +31,7 @@ const MAX_BLOCKS_IN_SLICE: u64 = 0x3FFF_FFFF;
 /// it, so each step checks the numbers anew.
 #[repr(C)]
 #[derive(Clone, Copy, Debug)]
-pub struct LentJob {
+pub struct CallerJob {
     /// H0, the hash of all inputs (RFC 9106, 3.2, step 1).
     pub prehash: [u8; 64],
 
@@ -54,12 +54,12 @@ pub struct LentJob {
     pub hash_length: u32,
 }
 
-impl LentJob {
+impl CallerJob {
     /// The job of an accepted call.
-    fn of(context: &Context<'_>) -> LentJob
+    fn of(context: &Context<'_>) -> CallerJob
         ensures { let c = context.now in result ≡ job_of (setting_of_context c) c.config.hash_length }
     {
-        LentJob {
+        CallerJob {
             prehash: prehash_of_context(context),
             variant: context.config.variant.as_u32(),
             version: context.config.version.as_u32(),
@@ -84,14 +84,14 @@ impl LentJob {
     }
 
     /// The library's job with a variant and a version, at its first slice.
-    fn job_with(&self, variant: Variant, version: Version) -> Result<Job, Refusal>
+    fn job_with(&self, variant: Variant, version: Version) -> Result<Job, CallError>
         ensures { MatchResult result
             (λ job. setting_at self.now (Some variant) (Some version) ≡ Some job.setting)
-            (λ refusal. (refusal ≡ NoJob)
+            (λ error. (error ≡ NoJob)
             × (setting_at self.now (Some variant) (Some version) ≡ None)) }
     {
         if self.is_out_of_bounds() {
-            return Err(Refusal::NoJob);
+            return Err(CallError::NoJob);
         }
         Ok(job_of_setting(
             &self.prehash,
@@ -104,38 +104,38 @@ impl LentJob {
     }
 
     /// The library's job with a variant, at its first slice.
-    fn job_of_variant(&self, variant: Variant) -> Result<Job, Refusal>
+    fn job_of_variant(&self, variant: Variant) -> Result<Job, CallError>
         ensures { MatchResult result
             (λ job. setting_at self.now (Some variant) (version_of self.now.version)
             ≡ Some job.setting)
-            (λ refusal. (refusal ≡ NoJob)
+            (λ error. (error ≡ NoJob)
             × (setting_at self.now (Some variant) (version_of self.now.version) ≡ None)) }
     {
         match Version::from_u32(self.version) {
             Ok(version) => self.job_with(variant, version),
-            Err(_) => Err(Refusal::NoJob),
+            Err(_) => Err(CallError::NoJob),
         }
     }
 
     /// Whether an accepted call has a job of these numbers; if none has, `NoJob`.
-    pub fn check(&self) -> Result<(), Refusal>
+    pub fn check(&self) -> Result<(), CallError>
         ensures { ChecksJob (setting_of_job self.now) result }
     {
         match self.job() {
             Ok(_) => Ok(()),
-            Err(refusal) => Err(refusal),
+            Err(error) => Err(error),
         }
     }
 
     /// The library's job of these numbers, at its first slice. Numbers of no job are `NoJob`.
-    pub fn job(&self) -> Result<Job, Refusal>
+    pub fn job(&self) -> Result<Job, CallError>
         ensures { MatchResult result
             (λ job. setting_of_job self.now ≡ Some job.setting)
-            (λ refusal. (refusal ≡ NoJob) × (setting_of_job self.now ≡ None)) }
+            (λ error. (error ≡ NoJob) × (setting_of_job self.now ≡ None)) }
     {
         match Variant::from_u32(self.variant) {
             Ok(variant) => self.job_of_variant(variant),
-            Err(_) => Err(Refusal::NoJob),
+            Err(_) => Err(CallError::NoJob),
         }
     }
 }
@@ -149,19 +149,15 @@ pub fn make(
     secret: &[u8],
     ad: &[u8],
     settings: &Settings,
-    job: &mut LentJob,
-) -> Result<(), Refusal>
+    job: &mut CallerJob,
+) -> Result<(), CallError>
     ensures { MakesJob (config_of settings.now secret.entry ad.entry) pwd.now salt.now
         job.old job.new result }
 {
     let config = settings.config(secret, ad)?;
-    match Context::new(config, pwd, salt) {
-        Ok(context) => {
-            *job = LentJob::of(&context);
-            Ok(())
-        }
-        Err(error) => Err(Refusal::Library(error)),
-    }
+    let context = Context::new(config, pwd, salt)?;
+    *job = CallerJob::of(&context);
+    Ok(())
 }
 
 /// Writes the job that an encoded hash is verified by, and its salt and its hash, to buffers of
@@ -173,18 +169,16 @@ pub fn make_stored(
     pwd: &[u8],
     secret: &[u8],
     ad: &[u8],
-    job: &mut LentJob,
+    job: &mut CallerJob,
     salt: &mut [u8],
     hash: &mut [u8],
-) -> Result<(), Refusal>
+) -> Result<(), CallError>
     ensures { MakesStoredJob text.now pwd.now secret.entry ad.entry
         (record { job = job.old; items = record { salt = salt.old; hash = hash.old } })
         (record { job = job.new; items = record { salt = salt.new; hash = hash.new } }) result }
 {
-    match head_of(text) {
-        Ok(head) => make_of_head(&head, pwd, secret, ad, job, salt, hash),
-        Err(refusal) => Err(refusal),
-    }
+    let head = head_of(text)?;
+    make_of_head(&head, pwd, secret, ad, job, salt, hash)
 }
 
 /// Writes the job that an encoded hash with this head is verified by, and its salt and its hash.
@@ -193,10 +187,10 @@ fn make_of_head(
     pwd: &[u8],
     secret: &[u8],
     ad: &[u8],
-    job: &mut LentJob,
+    job: &mut CallerJob,
     salt: &mut [u8],
     hash: &mut [u8],
-) -> Result<(), Refusal>
+) -> Result<(), CallError>
     requires salt_item { IsSomeItem head.now.salt.now }
     requires hash_item { IsSomeItem head.now.hash.now }
     ensures { (s h : List ℕ) → IsItem head.now.salt.now s
@@ -206,11 +200,11 @@ fn make_of_head(
         (record { job = job.new; items = record { salt = salt.new; hash = hash.new } }) result }
 {
     if let Some(error) = refusal(head, pwd.len() as u64, secret, ad) {
-        return Err(Refusal::Library(error));
+        return Err(CallError::Library(error));
     }
     // Nothing is written before all is checked, so that an error changes nothing.
     read_items(head, salt, hash)?;
     let config = config_of_numbers(&head.numbers(), secret, ad);
-    *job = LentJob::of(&accepted_context(config, pwd, salt));
+    *job = CallerJob::of(&accepted_context(config, pwd, salt));
     Ok(())
 }

@@ -11,34 +11,34 @@ ghost use Rattle.std.specs.Borrow.{Bor};
 ghost use Rattle.argon2_c.specs.Answers.{IsTextLength, WritesMessage};
 ghost use Rattle.argon2_c.specs.Checks.{Checks, ChecksText};
 ghost use Rattle.argon2_c.specs.Limits.{limits_of};
-ghost use Rattle.argon2_c.specs.Over.{HashesOver, JudgesOver, memory_len_of};
+ghost use Rattle.argon2_c.specs.CallerBlocks.{HashesOver, JudgesOver, memory_len_of};
 ghost use Rattle.argon2_c.specs.Reading.{ComparesSettings, ReadsBytes, ReadsText, ReadsTextWithin};
-ghost use Rattle.argon2_c.specs.Refusal.{IsCodeOf};
+ghost use Rattle.argon2_c.specs.ErrorNumbers.{IsCodeOf};
 ghost use Rattle.argon2_c.specs.Settings.{config_of};
 
 mod buffer;
+mod caller_blocks;
+mod encoded_hash;
 mod encoding;
 mod ending;
+mod errors;
+mod job_calls;
 mod jobs;
-mod lending;
 mod limits;
-mod over;
 mod reading;
 mod recommended;
-mod refusal;
 mod settings;
 mod steps;
-mod stored_text;
 
 use argon2::parts::block::Block;
 use ending::cleared;
-pub use jobs::LentJob;
-pub use lending::{
+pub use job_calls::{
     any_order_of_steps, proved_argon2_encode, proved_argon2_job_begin, proved_argon2_job_check,
     proved_argon2_job_fill, proved_argon2_job_finish, proved_argon2_job_hash_over,
     proved_argon2_job_make, proved_argon2_job_read, proved_argon2_job_verify,
     proved_argon2_job_verify_over,
 };
+pub use jobs::CallerJob;
 pub use limits::{Limits, proved_argon2_default_limits};
 pub use reading::Stored;
 // presets, by .ci/pages/presets
@@ -47,7 +47,7 @@ pub use recommended::{
     proved_argon2_owasp5, proved_argon2_rfc9106, proved_argon2_rfc9106_low_mem,
 };
 // end
-use refusal::{code_of, code_of_verdict};
+use errors::{code_of, code_of_verdict};
 pub use settings::Settings;
 
 /// Writes the tag of a password (RFC 9106, 3.2) to `out`, which has `settings.hash_length` bytes,
@@ -67,7 +67,7 @@ pub extern "C" fn proved_argon2_hash_over(
         (record { blocks = blocks.old; tag = out.old })
         (record { blocks = blocks.new; tag = out.new })) result }
 {
-    cleared(code_of(&over::hash(pwd, salt, secret, ad, settings, blocks, out)))
+    cleared(code_of(&caller_blocks::hash(pwd, salt, secret, ad, settings, blocks, out)))
 }
 
 /// Returns 0 only where `hash` is the tag of a password, and 64 only where it is not;
@@ -87,7 +87,9 @@ pub extern "C" fn proved_argon2_verify_over(
         hash.now (record { blocks = blocks.old; tag = tag.old })
         (record { blocks = blocks.new; tag = tag.new })) result }
 {
-    cleared(code_of_verdict(&over::verify(pwd, salt, secret, ad, settings, blocks, hash, tag)))
+    cleared(code_of_verdict(&caller_blocks::verify(
+        pwd, salt, secret, ad, settings, blocks, hash, tag,
+    )))
 }
 
 /// Decodes an encoded hash to `stored`, and verifies nothing. On an error `stored` is unchanged.

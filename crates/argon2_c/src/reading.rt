@@ -3,7 +3,7 @@
 ghost use Rattle.std.specs.Prelude.{◌≡◌, ℕ, List, OnOk, length};
 ghost use Rattle.std.specs.Borrow.{Bor};
 ghost use Rattle.argon2_standard.specs.Standard.Grammar.{IsItem};
-ghost use Rattle.argon2_standard.specs.Standard.SettingsTable.{refusal_of};
+ghost use Rattle.argon2_standard.specs.Standard.SettingsTable.{table_error};
 ghost use Rattle.argon2_standard.specs.Standard.Decoded.{decoded_config};
 ghost use Rattle.argon2_standard.specs.Standard.Text.{Spelled};
 ghost use Rattle.argon2_standard.specs.declared.config.Config.{Config};
@@ -11,17 +11,17 @@ ghost use Rattle.argon2_text.specs.Views.Texts.{numbers_of};
 ghost use Rattle.argon2_text.specs.Views.Faults.{IsSomeItem};
 ghost use Rattle.argon2_c.specs.Answers.{WritesWhere};
 ghost use Rattle.argon2.specs.Standard.Limits.{is_too_costly};
-ghost use Rattle.argon2_c.specs.Checks.{ChecksText, refusal_within};
+ghost use Rattle.argon2_c.specs.Checks.{ChecksText, error_within};
 ghost use Rattle.argon2_c.specs.Limits.{limits_of};
 ghost use Rattle.argon2_c.specs.Reading.{AreLengths, ComparesSettings, Items, ReadsBytes, ReadsText, ReadsTextWithin, held, stored_of};
 ghost use Rattle.argon2_c.specs.Settings.{config_of};
 
+use crate::encoded_hash::head_of;
+use crate::errors::CallError;
 use crate::limits::Limits;
-use crate::refusal::Refusal;
 use crate::settings::Settings;
-use crate::stored_text::head_of;
 use argon2::parts::stored::{Numbers, agrees, config_of_numbers, is_above};
-use argon2_standard::context::refusal_of_lengths;
+use argon2_standard::context::error_of_lengths;
 use argon2_text::encoding::{Head, item_len, read_hash, read_salt};
 
 /// What an encoded hash decodes to, in numbers.
@@ -64,34 +64,26 @@ fn held_len(len: u64) -> u32
 
 /// Decodes an encoded hash. A string that is not UTF-8 is `NotUtf8`, one that decodes to no hash is
 /// `DecodingFail`. On an error `stored` is unchanged.
-pub fn read(text: &[u8], stored: &mut Stored) -> Result<(), Refusal>
+pub fn read(text: &[u8], stored: &mut Stored) -> Result<(), CallError>
     ensures { ReadsText text.now stored.old stored.new result }
 {
-    match head_of(text) {
-        Ok(head) => {
-            *stored = Stored::of(&head.numbers());
-            Ok(())
-        }
-        Err(refusal) => Err(refusal),
-    }
+    let head = head_of(text)?;
+    *stored = Stored::of(&head.numbers());
+    Ok(())
 }
 
 /// Decodes an encoded hash that is within the limits; any other is `TooCostly`. The errors of
 /// `read` come first.
-pub fn read_within(text: &[u8], limits: &Limits, stored: &mut Stored) -> Result<(), Refusal>
+pub fn read_within(text: &[u8], limits: &Limits, stored: &mut Stored) -> Result<(), CallError>
     ensures { ReadsTextWithin (limits_of limits.now) text.now stored.old stored.new result }
 {
-    match head_of(text) {
-        Ok(head) => {
-            let numbers = head.numbers();
-            if is_above(&numbers, &limits.of_library()) {
-                return Err(Refusal::TooCostly);
-            }
-            *stored = Stored::of(&numbers);
-            Ok(())
-        }
-        Err(refusal) => Err(refusal),
+    let head = head_of(text)?;
+    let numbers = head.numbers();
+    if is_above(&numbers, &limits.of_library()) {
+        return Err(CallError::TooCostly);
     }
+    *stored = Stored::of(&numbers);
+    Ok(())
 }
 
 /// Decodes an encoded hash that is within the limits, and whose settings are accepted for inputs of
@@ -103,65 +95,59 @@ pub fn check_encoded(
     secret_len: u64,
     ad_len: u64,
     stored: &mut Stored,
-) -> Result<(), Refusal>
+) -> Result<(), CallError>
     ensures { ChecksText (limits_of limits.now) pwd_len secret_len ad_len text.now stored.old
         stored.new result }
 {
-    match head_of(text) {
-        Ok(head) => {
-            let numbers = head.numbers();
-            match refusal_for(&numbers, limits, pwd_len, secret_len, ad_len) {
-                Some(refusal) => Err(refusal),
-                None => {
-                    *stored = Stored::of(&numbers);
-                    Ok(())
-                }
-            }
+    let head = head_of(text)?;
+    let numbers = head.numbers();
+    match error_for(&numbers, limits, pwd_len, secret_len, ad_len) {
+        Some(error) => Err(error),
+        None => {
+            *stored = Stored::of(&numbers);
+            Ok(())
         }
-        Err(refusal) => Err(refusal),
     }
 }
 
 /// Why an encoded hash of these numbers is not verified within the limits, for inputs of these
 /// lengths.
-fn refusal_for(
+fn error_for(
     numbers: &Numbers,
     limits: &Limits,
     pwd_len: u64,
     secret_len: u64,
     ad_len: u64,
-) -> Option<Refusal>
+) -> Option<CallError>
     ensures { (d : Spelled) (secret ad : Bor (List ℕ)) → numbers.now ≡ numbers_of d
         → length secret.now ≡ secret_len → length ad.now ≡ ad_len
-        → result ≡ refusal_within (is_too_costly (limits_of limits.now) d) (refusal_of
+        → result ≡ error_within (is_too_costly (limits_of limits.now) d) (table_error
         (decoded_config d secret ad) pwd_len (length d.salt) (length d.hash)) }
 {
     let most = limits.of_library();
     if is_above(numbers, &most) {
-        return Some(Refusal::TooCostly);
+        return Some(CallError::TooCostly);
     }
     let config = config_of_numbers(numbers, &[], &[]);
     // The length of the hash is checked apart, in 64 bits.
     let (salt_len, hash_len) = (numbers.salt_len, numbers.hash_len);
-    refusal_of_lengths(&config, pwd_len, salt_len, secret_len, ad_len, hash_len).map(
-        Refusal::Library,
+    error_of_lengths(&config, pwd_len, salt_len, secret_len, ad_len, hash_len).map(
+        CallError::Library,
     )
 }
 
 /// Writes the salt and the hash of an encoded hash to buffers of their lengths. The errors of
 /// `read` come first; another length of a buffer is `WrongLength`. On an error both are unchanged.
-pub fn read_bytes(text: &[u8], salt: &mut [u8], hash: &mut [u8]) -> Result<(), Refusal>
+pub fn read_bytes(text: &[u8], salt: &mut [u8], hash: &mut [u8]) -> Result<(), CallError>
     ensures { ReadsBytes text.now (record { salt = salt.old; hash = hash.old })
         (record { salt = salt.new; hash = hash.new }) result }
 {
-    match head_of(text) {
-        Ok(head) => read_items(&head, salt, hash),
-        Err(refusal) => Err(refusal),
-    }
+    let head = head_of(text)?;
+    read_items(&head, salt, hash)
 }
 
 /// Writes the salt and the hash of an encoded hash with this head to buffers of their lengths.
-pub fn read_items(head: &Head<'_>, salt: &mut [u8], hash: &mut [u8]) -> Result<(), Refusal>
+pub fn read_items(head: &Head<'_>, salt: &mut [u8], hash: &mut [u8]) -> Result<(), CallError>
     requires salt_item { IsSomeItem head.now.salt.now }
     requires hash_item { IsSomeItem head.now.hash.now }
     ensures items { OnOk result (IsItem head.now.salt.now salt.new
@@ -173,7 +159,7 @@ pub fn read_items(head: &Head<'_>, salt: &mut [u8], hash: &mut [u8]) -> Result<(
         result }
 {
     if salt.len() as u64 != item_len(head.salt) || hash.len() as u64 != item_len(head.hash) {
-        return Err(Refusal::WrongLength);
+        return Err(CallError::WrongLength);
     }
     read_salt(head.salt, salt);
     read_hash(head.hash, hash);
@@ -182,19 +168,15 @@ pub fn read_items(head: &Head<'_>, salt: &mut [u8], hash: &mut [u8]) -> Result<(
 
 /// Whether an encoded hash was made with these settings: `Ok` if it was, `NeedsRehash` if not. The
 /// numbers of variant and version are checked first; then come the errors of `read`.
-pub fn needs_rehash(text: &[u8], settings: &Settings) -> Result<(), Refusal>
+pub fn needs_rehash(text: &[u8], settings: &Settings) -> Result<(), CallError>
     ensures { (secret ad : Bor (List ℕ))
         → ComparesSettings (config_of settings.now secret ad) text.now result }
 {
     let config = settings.config(&[], &[])?;
-    match head_of(text) {
-        Ok(head) => {
-            if agrees(&head.numbers(), &config) {
-                Ok(())
-            } else {
-                Err(Refusal::NeedsRehash)
-            }
-        }
-        Err(refusal) => Err(refusal),
+    let head = head_of(text)?;
+    if agrees(&head.numbers(), &config) {
+        Ok(())
+    } else {
+        Err(CallError::NeedsRehash)
     }
 }

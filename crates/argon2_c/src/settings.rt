@@ -2,17 +2,17 @@
 
 ghost use Rattle.std.specs.Prelude.{◌≡◌, ℕ, List, [], Ok, length};
 ghost use Rattle.std.specs.Borrow.{Bor};
-ghost use Rattle.argon2_standard.specs.Standard.SettingsTable.{refusal_of};
+ghost use Rattle.argon2_standard.specs.Standard.SettingsTable.{table_error};
 ghost use Rattle.argon2_c.specs.Answers.{IsTextLength};
 ghost use Rattle.argon2_c.specs.Checks.{Checks};
-ghost use Rattle.argon2_c.specs.Over.{memory_len_of};
+ghost use Rattle.argon2_c.specs.CallerBlocks.{memory_len_of};
 ghost use Rattle.argon2_c.specs.Settings.{config_of};
 
-use crate::refusal::Refusal;
+use crate::errors::CallError;
 use argon2::parts::common::{MIN_SALT_LENGTH, SYNC_POINTS};
 use argon2::parts::context::first_refusal;
 use argon2::{Config, Error, ThreadMode, Variant, Version};
-use argon2_standard::context::refusal_of_lengths;
+use argon2_standard::context::error_of_lengths;
 
 /// The settings of a hash: all that a tag depends on except the password, the salt, the secret and
 /// the associated data.
@@ -68,15 +68,15 @@ impl Settings {
         salt_len: u64,
         secret_len: u64,
         ad_len: u64,
-    ) -> Result<(), Refusal>
+    ) -> Result<(), CallError>
         ensures { (secret ad : Bor (List ℕ)) → length secret.now ≡ secret_len
             → length ad.now ≡ ad_len
             → Checks (config_of self.now secret ad) pwd_len salt_len result }
     {
         let config = self.config(&[], &[])?;
         let hash_len = u64::from(self.hash_length);
-        match refusal_of_lengths(&config, pwd_len, salt_len, secret_len, ad_len, hash_len) {
-            Some(error) => Err(Refusal::Library(error)),
+        match error_of_lengths(&config, pwd_len, salt_len, secret_len, ad_len, hash_len) {
+            Some(error) => Err(CallError::Library(error)),
             None => Ok(()),
         }
     }
@@ -110,7 +110,7 @@ impl Settings {
 fn memory_len(config: &Config<'_>) -> u64
     ensures { result ≡ memory_len_of (Ok config.now) }
 {
-    match refused(config, u64::from(MIN_SALT_LENGTH)) {
+    match settings_error(config, u64::from(MIN_SALT_LENGTH)) {
         Some(_) => 0,
         None => {
             let segments = SYNC_POINTS * config.lanes;
@@ -121,8 +121,8 @@ fn memory_len(config: &Config<'_>) -> u64
 
 /// The first parameter error for a salt of this length and a hash of the settings' own. An empty
 /// password stands for any, since none is too short.
-pub fn refused(config: &Config<'_>, salt_len: u64) -> Option<Error>
-    ensures { result ≡ refusal_of config.now 0 salt_len config.now.hash_length }
+pub fn settings_error(config: &Config<'_>, salt_len: u64) -> Option<Error>
+    ensures { result ≡ table_error config.now 0 salt_len config.now.hash_length }
 {
     first_refusal(config, 0, salt_len, u64::from(config.hash_length))
 }

@@ -6,15 +6,15 @@ ghost use Rattle.argon2_c.specs.Answers.{judgement_of};
 ghost use Rattle.argon2_c.specs.Jobs.{setting_of_job};
 ghost use Rattle.argon2_c.specs.Steps.{Begins, Fills, Finishes, IsPlace, IsSlice, Verifies};
 
-use crate::jobs::LentJob;
-use crate::refusal::Refusal;
+use crate::errors::CallError;
+use crate::jobs::CallerJob;
 use argon2::parts::block::Block;
 use argon2::parts::common::SYNC_POINTS;
 use argon2::parts::context::Job;
 use argon2::parts::stored::are_equal;
-use argon2_fill::lent::{finalize_lent, write_first_lent};
+use argon2_fill::caller_blocks::{begin_segment, finalize_slice};
 use argon2_memory::job::recall_job;
-use argon2_memory::segment::fill_lent_segment;
+use argon2_memory::segment::fill_caller_segment;
 
 /// Whether a slice has the blocks of all lanes.
 fn is_slice(job: &Job, blocks: &[Block]) -> bool
@@ -25,28 +25,24 @@ fn is_slice(job: &Job, blocks: &[Block]) -> bool
 
 /// Writes a lane's first two blocks into its segment of slice 0.
 #[inline(never)]
-pub fn begin(numbers: &LentJob, lane: u32, own: &mut [Block]) -> Result<(), Refusal>
+pub fn begin(numbers: &CallerJob, lane: u32, own: &mut [Block]) -> Result<(), CallError>
     ensures { Begins (setting_of_job numbers.now) lane own.old own.new result }
 {
-    match numbers.job() {
-        Ok(job) => {
-            if lane >= job.lanes() {
-                return Err(Refusal::NoPlace);
-            }
-            if own.len() != job.segment_length() as usize {
-                return Err(Refusal::WrongBlocks);
-            }
-            write_first_lent(&job, lane, own);
-            Ok(())
-        }
-        Err(refusal) => Err(refusal),
+    let job = numbers.job()?;
+    if lane >= job.lanes() {
+        return Err(CallError::NoPlace);
     }
+    if own.len() != job.segment_length() as usize {
+        return Err(CallError::WrongBlocks);
+    }
+    begin_segment(&job, lane, own);
+    Ok(())
 }
 
 /// Fills a lane's segment of a slice in a pass, beside the other three slices in rising order.
 #[inline(never)]
 pub fn fill(
-    numbers: &LentJob,
+    numbers: &CallerJob,
     pass: u32,
     slice: u32,
     lane: u32,
@@ -54,73 +50,61 @@ pub fn fill(
     second: &[Block],
     third: &[Block],
     own: &mut [Block],
-) -> Result<(), Refusal>
+) -> Result<(), CallError>
     ensures { Fills (setting_of_job numbers.now) pass slice lane first.now second.now third.now
         own.old own.new result }
 {
-    match numbers.job() {
-        Ok(job) => {
-            if pass >= job.passes() || slice >= SYNC_POINTS || lane >= job.lanes() {
-                return Err(Refusal::NoPlace);
-            }
-            if !is_slice(&job, first) || !is_slice(&job, second) || !is_slice(&job, third) {
-                return Err(Refusal::WrongBlocks);
-            }
-            if own.len() != job.segment_length() as usize {
-                return Err(Refusal::WrongBlocks);
-            }
-            fill_lent_segment(&job.at(pass, slice), lane, first, second, third, own);
-            Ok(())
-        }
-        Err(refusal) => Err(refusal),
+    let job = numbers.job()?;
+    if pass >= job.passes() || slice >= SYNC_POINTS || lane >= job.lanes() {
+        return Err(CallError::NoPlace);
     }
+    if !is_slice(&job, first) || !is_slice(&job, second) || !is_slice(&job, third) {
+        return Err(CallError::WrongBlocks);
+    }
+    if own.len() != job.segment_length() as usize {
+        return Err(CallError::WrongBlocks);
+    }
+    fill_caller_segment(&job.at(pass, slice), lane, first, second, third, own);
+    Ok(())
 }
 
 /// Writes the tag to a buffer of its length, where slice 3 holds the blocks of the last pass.
 #[inline(never)]
-pub fn finish(numbers: &LentJob, last: &[Block], out: &mut [u8]) -> Result<(), Refusal>
+pub fn finish(numbers: &CallerJob, last: &[Block], out: &mut [u8]) -> Result<(), CallError>
     ensures { Finishes (setting_of_job numbers.now) numbers.now.hash_length last.now out.old out.new
         result }
 {
-    match numbers.job() {
-        Ok(job) => {
-            if !is_slice(&job, last) {
-                return Err(Refusal::WrongBlocks);
-            }
-            if out.len() != numbers.hash_length as usize {
-                return Err(Refusal::WrongLength);
-            }
-            finalize_lent(&job, last, out);
-            Ok(())
-        }
-        Err(refusal) => Err(refusal),
+    let job = numbers.job()?;
+    if !is_slice(&job, last) {
+        return Err(CallError::WrongBlocks);
     }
+    if out.len() != numbers.hash_length as usize {
+        return Err(CallError::WrongLength);
+    }
+    finalize_slice(&job, last, out);
+    Ok(())
 }
 
 /// Whether a hash is the tag, which is then in a buffer of its length. The buffer is the caller's,
 /// who clears it: a compiler may drop a write here that nobody reads.
 #[inline(never)]
 pub fn verify(
-    numbers: &LentJob,
+    numbers: &CallerJob,
     last: &[Block],
     hash: &[u8],
     tag: &mut [u8],
-) -> Result<bool, Refusal>
+) -> Result<bool, CallError>
     ensures { Verifies (setting_of_job numbers.now) numbers.now.hash_length last.now hash.now
         tag.old tag.new (judgement_of result) }
 {
-    match numbers.job() {
-        Ok(job) => {
-            if !is_slice(&job, last) {
-                return Err(Refusal::WrongBlocks);
-            }
-            let length = numbers.hash_length as usize;
-            if hash.len() != length || tag.len() != length {
-                return Err(Refusal::WrongLength);
-            }
-            finalize_lent(&job, last, tag);
-            Ok(are_equal(hash, tag))
-        }
-        Err(refusal) => Err(refusal),
+    let job = numbers.job()?;
+    if !is_slice(&job, last) {
+        return Err(CallError::WrongBlocks);
     }
+    let length = numbers.hash_length as usize;
+    if hash.len() != length || tag.len() != length {
+        return Err(CallError::WrongLength);
+    }
+    finalize_slice(&job, last, tag);
+    Ok(are_equal(hash, tag))
 }

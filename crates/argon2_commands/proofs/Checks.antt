@@ -3,11 +3,10 @@ use Rattle.std.proofs.Common.{◌≡◌, ℕ, slice_index_or, Bool, true, false,
 use Rattle.argon2_standard.specs.declared.config.Config.{Config}
 use Rattle.argon2_standard.specs.declared.error.Error.{Error}
 use Rattle.argon2.specs.Standard.Limits.{AnswersWithin, is_too_costly}
-use Rattle.argon2_standard.specs.Standard.Text.{Spelled}
 use Rattle.argon2.specs.Views.Limits.{default_limits}
 use Rattle.argon2.specs.declared.limits.Unverified.{Unverified}
 use Rattle.argon2.specs.declared.limits.Unverified.TheVariants as unverified
-use Rattle.argon2_commands.specs.Answer.{AsksTooMuch, CheckAnswers, IsAnswer, IsShortPassword, IsTooCostly, MayFail, NewFails, RefusesLong, is_above_limits}
+use Rattle.argon2_commands.specs.Answer.{AsksTooMuch, CheckAnswers, IsAnswer, IsShortPassword, IsTooCostly, MayFail, IsReadingError, is_above_limits}
 use Rattle.argon2_commands.specs.Fault.{fault_of}
 use Rattle.argon2_commands.specs.Run.{AreTooCostly, MayPrecede}
 use Rattle.argon2_commands.specs.Words.{AreSettings, IsCheck, IsCommand, IsNew, IsNumber, word}
@@ -58,7 +57,7 @@ no_other_answer encoded password result costly h other =
 pub check_fault : (encoded : Bor (List ℕ)) (input : Option (List ℕ)) (password : List ℕ) (why : Unverified) → IsShortPassword input password
     → CheckAnswers encoded.now password (Err why) → MayFail (Check encoded) input (fault_of why)
 check_fault encoded input password unverified.TooCostly is h = is_too_costly_text encoded password h
-check_fault encoded input password (unverified.Refused refusal) is h = inr (password, is, h)
+check_fault encoded input password (unverified.Refused error) is h = inr (password, is, h)
 
 -- words that ask for too much are those of the command
 pub is_costly : (program : Program) (words : List (List ℕ)) (input : Option (List ℕ)) (command : Command) (fault : Fault)
@@ -136,9 +135,9 @@ pub no_answer : {A : Type 0} (program : Program) (words : List (List ℕ)) (inpu
 no_answer program words input command answer is answers costly = unanswered command input answer (asks program words command costly is) answers
 
 -- and it fails for that reason, unless the password cannot be read
-long_fault : (input : Option (List ℕ)) (refusal : Error) → RefusesLong input refusal → MayPrecede (Refused refusal)
-long_fault input refusal (inl short) = inr (inr (inl (ap Refused short)))
-long_fault input refusal (inr long) = inr (inr (inr (ap Refused long.0)))
+long_fault : (input : Option (List ℕ)) (error : Error) → IsReadingError input error → MayPrecede (Refused error)
+long_fault input error (inl short) = inr (inr (inl (ap Refused short)))
+long_fault input error (inr long) = inr (inr (inr (ap Refused long.0)))
 
 fails_so : (command : Command) (input : Option (List ℕ)) (fault : Fault) → AsksTooMuch command → MayFail command input fault → MayPrecede fault
 fails_so (Hash config salt) input fault costly may = absurd costly
@@ -146,11 +145,11 @@ fails_so (Verify encoded) input fault costly may = absurd costly
 fails_so (Rehash config encoded) input fault costly may = absurd costly
 fails_so command input TooCostly costly may = inl refl
 fails_so command input Input costly may = inr (inl refl)
-fails_so (New config salt) input (Refused refusal) costly (inl long) = long_fault input refusal long
-fails_so (New config salt) input (Refused refusal) costly (inr (password, is, h)) = let within = h.0 in absurd (cc (costly, within))
-fails_so (Check encoded) input (Refused refusal) costly (inl long) = long_fault input refusal long
-fails_so (Check encoded) input (Refused refusal) costly (inr (password, is, h)) =
-    no_other_answer encoded password (Err (unverified.Refused refusal)) costly h (λ e. cc (e))
+fails_so (New config salt) input (Refused error) costly (inl long) = long_fault input error long
+fails_so (New config salt) input (Refused error) costly (inr (password, is, h)) = let within = h.0 in absurd (cc (costly, within))
+fails_so (Check encoded) input (Refused error) costly (inl long) = long_fault input error long
+fails_so (Check encoded) input (Refused error) costly (inr (password, is, h)) =
+    no_other_answer encoded password (Err (unverified.Refused error)) costly h (λ e. cc (e))
 fails_so command input Usage costly may = absurd may
 fails_so command input Output costly may = absurd may
 fails_so command input OutputShort costly may = absurd may

@@ -3,6 +3,6 @@ pub mod Checks
 pub mod Digits
 pub mod Passwords
 pub mod Reading
-pub mod Refusals
+pub mod Faults
 pub mod Statuses
 pub mod UsageErrors

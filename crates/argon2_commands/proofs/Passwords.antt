@@ -2,16 +2,16 @@
 use Rattle.std.proofs.Common.{◌≡◌, ◌+◌, ◌*◌, ◌==◌, ◌++◌, ◌-◌, ◌∷◌, ◌<◌, ◌≤◌, ◌⊎◌, ℕ, Bool, true, false, List, Option, None, Some, IfSome, IsNone, MatchOption, Result, Err, arith, inl, inr, length, min, nat_lt, refl, sym, ◌∙◌, ap, drop, subst, take}
 use Rattle.std.proofs.Math.Nat.{min-le_left, min-le_right}
 use Rattle.std.proofs.lemmas.Bool.{cases_lt, lt-ltb}
-use Rattle.std.proofs.lemmas.List.{append-nil, append_assoc, length-append, length-take, length-take-le, take-append-le, take_all}
-use Rattle.std.specs.Io.KnownBytes.{Consumes, IsAtEnd}
+use Rattle.std.proofs.lemmas.List.{append_assoc, length-append, length-take, length-take-le, take_all}
+use Rattle.std.specs.Io.KnownBytes.{Consumes}
 use Rattle.argon2_standard.specs.declared.config.Config.{Config}
 use Rattle.argon2_standard.specs.declared.error.Error.{Error}
 use Rattle.argon2_standard.specs.declared.error.Error.TheVariants.{LanesTooFew, LanesTooMany, MemoryTooLittle, PwdTooLong, TimeTooSmall}
 use Rattle.argon2_standard.specs.Standard.Decoded.{decoded_config}
 use Rattle.argon2_standard.specs.Standard.Outcome.{IsResourceError, IsVerdict}
-use Rattle.argon2_standard.specs.Standard.SettingsTable.{first_that_applies, max_lanes, max_length, min_memory, refusal_of, settings_table}
+use Rattle.argon2_standard.specs.Standard.SettingsTable.{first_that_applies, max_lanes, max_length, min_memory, table_error, settings_table}
 use Rattle.argon2_standard.specs.Standard.ThreadModes.{may_lack_workers}
-use Rattle.argon2_commands.specs.Answer.{HashAnswers, IsPassword, IsRefusal, IsShortPassword, IsTooLong, VerifyAnswers, longest_password}
+use Rattle.argon2_commands.specs.Answer.{HashAnswers, IsPassword, IsHashError, IsShortPassword, IsTooLong, VerifyAnswers, longest_password}
 
 -- ---- a password that was read up to its greatest length
 
@@ -37,16 +37,16 @@ first_of false false false true long rows e = (TimeTooSmall, refl)
 first_of false false false false true rows e = (PwdTooLong, refl)
 first_of false false false false false rows e = absurd (cc)
 
-refused_long : (config : Config) (password salt hash : ℕ) → nat_lt max_length password ≡ true → (e : Error) × (refusal_of config password salt hash ≡ Some e)
-unfolding refusal_of
+refused_long : (config : Config) (password salt hash : ℕ) → nat_lt max_length password ≡ true → (e : Error) × (table_error config password salt hash ≡ Some e)
+unfolding table_error
 refused_long config password salt hash long =
     first_of (config.lanes == 0) (nat_lt max_lanes config.lanes) (nat_lt config.mem_cost (min_memory * config.lanes))
     (config.time_cost == 0) (nat_lt max_length password) (drop 5 (settings_table config password salt hash)) long
 
-same_refusal : (config : Config) (one other salt hash : ℕ) → nat_lt max_length one ≡ true → nat_lt max_length other ≡ true
-    → refusal_of config one salt hash ≡ refusal_of config other salt hash
-unfolding refusal_of
-same_refusal config one other salt hash long also = rw (long, also) refl
+same_table_error : (config : Config) (one other salt hash : ℕ) → nat_lt max_length one ≡ true → nat_lt max_length other ≡ true
+    → table_error config one salt hash ≡ table_error config other salt hash
+unfolding table_error
+same_table_error config one other salt hash long also = rw (long, also) refl
 
 -- so what is answered for what was read is the answer for all
 hash_of_all : (config : Config) (salt lines password bytes : List ℕ) → IsEnough password bytes → HashAnswers config salt password lines
@@ -56,19 +56,19 @@ hash_of_all config salt lines password bytes (inr long) h =
     let refused = refused_long config (length password) (length salt) config.hash_length long.0 in
     let none = subst IsNone refused.1 h.accepted in absurd (cc (none))
 
-refusal_of_all : (config : Config) (salt : List ℕ) (refusal : Error) (password bytes : List ℕ) → IsEnough password bytes
-    → IsRefusal config salt password refusal → IsRefusal config salt bytes refusal
-refusal_of_all config salt refusal password bytes (inl same) h = subst (λ p. IsRefusal config salt p refusal) same h
-refusal_of_all config salt refusal password bytes (inr long) h =
-    subst (λ (r : Option Error). MatchOption r (IsResourceError (may_lack_workers config) refusal) (λ first. refusal ≡ first))
-    (same_refusal config (length password) (length bytes) (length salt) config.hash_length long.0 long.1) h
+error_of_all : (config : Config) (salt : List ℕ) (error : Error) (password bytes : List ℕ) → IsEnough password bytes
+    → IsHashError config salt password error → IsHashError config salt bytes error
+error_of_all config salt error password bytes (inl same) h = subst (λ p. IsHashError config salt p error) same h
+error_of_all config salt error password bytes (inr long) h =
+    subst (λ (r : Option Error). MatchOption r (IsResourceError (may_lack_workers config) error) (λ first. error ≡ first))
+    (same_table_error config (length password) (length bytes) (length salt) config.hash_length long.0 long.1) h
 
 verdict_of_all : (config : Config) (salt hash : List ℕ) (workers : Bool) (result : Result Bool Error) (password bytes : List ℕ) → IsEnough password bytes
     → IsVerdict password salt hash config workers result → IsVerdict bytes salt hash config workers result
 verdict_of_all config salt hash workers result password bytes (inl same) h = subst (λ p. IsVerdict p salt hash config workers result) same h
 verdict_of_all config salt hash workers result password bytes (inr long) h =
     let one = refused_long config (length password) (length salt) (length hash) long.0 in
-    let other = sym (same_refusal config (length password) (length bytes) (length salt) (length hash) long.0 long.1) ∙ one.1 in
+    let other = sym (same_table_error config (length password) (length bytes) (length salt) (length hash) long.0 long.1) ∙ one.1 in
     let told : result ≡ Err one.0 = rw one.1 at h in
     rw other told
 
@@ -98,10 +98,10 @@ pub hash_of_input : (config : Config) (salt lines : List ℕ) (input : Option (L
 hash_of_input config salt lines input password read h =
     of_input (λ p. HashAnswers config salt p lines) input password read (λ bytes enough. hash_of_all config salt lines password bytes enough) h
 
-pub refusal_of_input : (config : Config) (salt : List ℕ) (refusal : Error) (input : Option (List ℕ)) (password : List ℕ) → WasRead input password
-    → IsRefusal config salt password refusal → OfInput input (λ p. IsRefusal config salt p refusal)
-refusal_of_input config salt refusal input password read h =
-    of_input (λ p. IsRefusal config salt p refusal) input password read (λ bytes enough. refusal_of_all config salt refusal password bytes enough) h
+pub error_of_input : (config : Config) (salt : List ℕ) (error : Error) (input : Option (List ℕ)) (password : List ℕ) → WasRead input password
+    → IsHashError config salt password error → OfInput input (λ p. IsHashError config salt p error)
+error_of_input config salt error input password read h =
+    of_input (λ p. IsHashError config salt p error) input password read (λ bytes enough. error_of_all config salt error password bytes enough) h
 
 pub verify_of_input : (encoded : List ℕ) (result : Result Bool Error) (input : Option (List ℕ)) (password : List ℕ) → WasRead input password
     → VerifyAnswers encoded password result → OfInput input (λ p. VerifyAnswers encoded p result)

@@ -4,7 +4,7 @@ use Rattle.std.specs.Io.KnownBytes.{Keeps}
 use Rattle.argon2_standard.specs.declared.error.Error.{Error}
 use Rattle.argon2_commands.specs.Answer.{answer_status}
 use Rattle.argon2_commands.specs.Fault.{IsBeforeOutput, fault_status}
-use Rattle.argon2_commands.specs.Run.{Answered, AreTooCostly, HasAnswer, IsRefused, IsShortOrRefused, statuses_of}
+use Rattle.argon2_commands.specs.Run.{Answered, AreTooCostly, HasAnswer, MayFailWith, IsShortOrFails, statuses_of}
 use Rattle.argon2_commands.specs.Words.{IsNoCommand}
 use Rattle.argon2_commands.proofs.Checks.{nothing_costly}
 use Rattle.argon2_commands.specs.declared.usage.Program.{Program}
@@ -29,7 +29,7 @@ five Tool words status costly e = omega (arith, e)
 -- the status of a fault is 2, 3, 4 or, of such words, 5
 pub fault_bounded : (program : Program) (words : List (List ℕ)) (fault : Fault) (status : ℕ) → status ≡ fault_status fault
     → (fault ≡ TooCostly → AreTooCostly program words) → status < statuses_of program
-fault_bounded program words (Refused refusal) status e costly = below_five program status (omega (arith, e))
+fault_bounded program words (Refused error) status e costly = below_five program status (omega (arith, e))
 fault_bounded program words Usage status e costly = below_five program status (omega (arith, e))
 fault_bounded program words Input status e costly = below_five program status (omega (arith, e))
 fault_bounded program words TooCostly status e costly = five program words status (costly refl) e
@@ -37,7 +37,7 @@ fault_bounded program words Output status e costly = below_five program status (
 fault_bounded program words OutputShort status e costly = below_five program status (omega (arith, e))
 
 pub fault_above : (fault : Fault) (status : ℕ) → status ≡ fault_status fault → 1 < status
-fault_above (Refused refusal) status e = omega arith
+fault_above (Refused error) status e = omega arith
 fault_above Usage status e = omega arith
 fault_above Input status e = omega arith
 fault_above TooCostly status e = omega arith
@@ -45,16 +45,11 @@ fault_above Output status e = omega arith
 fault_above OutputShort status e = omega arith
 
 pub no_fault : {A : Type 0} (fault : Fault) (status : ℕ) → status ≡ fault_status fault → status < 2 → A
-no_fault (Refused refusal) status e low = absurd (omega arith)
-no_fault Usage status e low = absurd (omega arith)
-no_fault Input status e low = absurd (omega arith)
-no_fault TooCostly status e low = absurd (omega arith)
-no_fault Output status e low = absurd (omega arith)
-no_fault OutputShort status e low = absurd (omega arith)
+no_fault fault status e low = let above = fault_above fault status e in absurd (omega (arith, above, low))
 
 -- 3 is the status of wrong words alone
 pub at_three : (fault : Fault) (status : ℕ) → status ≡ fault_status fault → status ≡ 3 → fault ≡ Usage
-at_three (Refused refusal) status e three = absurd (omega arith)
+at_three (Refused error) status e three = absurd (omega arith)
 at_three Usage status e three = refl
 at_three Input status e three = absurd (omega arith)
 at_three TooCostly status e three = absurd (omega arith)
@@ -63,18 +58,18 @@ at_three OutputShort status e three = absurd (omega arith)
 
 -- 5 is that of a text above the limits
 pub at_five : (fault : Fault) (status : ℕ) → status ≡ fault_status fault → status ≡ 5 → fault ≡ TooCostly
-at_five (Refused refusal) status e five = absurd (omega arith)
+at_five (Refused error) status e five = absurd (omega arith)
 at_five Usage status e five = absurd (omega arith)
 at_five Input status e five = absurd (omega arith)
 at_five TooCostly status e five = refl
 at_five Output status e five = absurd (omega arith)
 at_five OutputShort status e five = absurd (omega arith)
 
--- 2 is that of a refusal, before anything was written, and of an output that lacked memory
+-- 2 is that of a error, before anything was written, and of an output that lacked memory
 pub at_two : (program : Program) (fault : Fault) (status : ℕ) (words : List (List ℕ)) (input before after : Option (List ℕ)) → status ≡ fault_status fault →
-    ((refusal : Error) → fault ≡ Refused refusal → IsRefused program words input refusal) → (fault ≡ OutputShort → HasAnswer program words input) →
-    (IsBeforeOutput fault → Keeps before after) → status ≡ 2 → IsShortOrRefused program words input before after
-at_two program (Refused refusal) status words input before after e refused short kept two = inl ((refusal, refused refusal refl), kept tt)
+    ((error : Error) → fault ≡ Refused error → MayFailWith program words input error) → (fault ≡ OutputShort → HasAnswer program words input) →
+    (IsBeforeOutput fault → Keeps before after) → status ≡ 2 → IsShortOrFails program words input before after
+at_two program (Refused error) status words input before after e refused short kept two = inl ((error, refused error refl), kept tt)
 at_two program Usage status words input before after e refused short kept two = absurd (omega arith)
 at_two program Input status words input before after e refused short kept two = absurd (omega arith)
 at_two program TooCostly status words input before after e refused short kept two = absurd (omega arith)

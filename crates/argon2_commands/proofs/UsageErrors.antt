@@ -1,5 +1,5 @@
 -- Arguments that are not what they have to be are those of no command.
-use Rattle.std.proofs.Common.{◌≡◌, ◌<◌, ℕ, zero, suc, List, [], length, slice_index_or, nat_eq, cond, Option, None, Some, MatchOption, IsSome, Ok, arith, string_bytes, sym, refl, ◌∙◌, ap, subst}
+use Rattle.std.proofs.Common.{◌≡◌, ◌<◌, ◌+◌, ℕ, zero, suc, List, [], ◌∷◌, length, slice_index_or, nat_eq, cond, Option, None, Some, MatchOption, IsSome, Ok, arith, string_bytes, sym, refl, ◌∙◌, ap, subst}
 use Rattle.std.specs.declared.alloc.Global.{Global}
 use Rattle.std.specs.declared.string.String.{String}
 use Rattle.std.proofs.lemmas.List.{get_or-map}
@@ -12,6 +12,8 @@ use Rattle.argon2_commands.specs.declared.command.Command.{Command}
 use Rattle.argon2_commands.specs.declared.command.Command.TheVariants as commands
 use Rattle.argon2_commands.specs.declared.usage.Program.{Program}
 use Rattle.argon2_commands.specs.declared.usage.Program.TheVariants.{Argon2, Tool}
+use Rattle.argon2_commands.specs.declared.usage.Kind.{Kind}
+use Rattle.argon2_commands.specs.declared.usage.Kind.TheVariants.{Variant, Version, Number, Text}
 use Rattle.argon2_commands.specs.declared.usage.UsageError.{UsageError}
 use Rattle.argon2_commands.specs.declared.usage.UsageError.TheVariants as errors
 use Rattle.argon2_commands.specs.declared.usage.Name.{Name}
@@ -75,36 +77,27 @@ module _ (words : List (List ℕ)) where
   text_fits (suc (suc n)) within = absurd (omega (arith, within))
 
   right : (program : Program) (command : Command) → IsCommand program words command → (name : Name) × AreRight program words name
-  right Argon2 (commands.Hash config salt) is = (Hash, record { has = tt; named = is.name; count = is.count; fit = hash_fits config salt.now is })
-  right Argon2 (commands.Verify encoded) is = (Verify, record { has = tt; named = is.name; count = is.count; fit = text_fits })
+  right Argon2 (commands.Hash config salt) is = (Hash, record { is = (tt, is.name); count = is.count; fit = hash_fits config salt.now is })
+  right Argon2 (commands.Verify encoded) is = (Verify, record { is = (tt, is.name); count = is.count; fit = text_fits })
   right Argon2 (commands.Rehash config encoded) is =
-      (Rehash, record { has = tt; named = is.name; count = is.count; fit = rehash_fits config encoded.now is })
+      (Rehash, record { is = (tt, is.name); count = is.count; fit = rehash_fits config encoded.now is })
   right Argon2 (commands.New config salt) is = absurd is
   right Argon2 (commands.Check encoded) is = absurd is
-  right Tool (commands.Hash config salt) is = (Hash, record { has = tt; named = is.name; count = is.count; fit = hash_fits config salt.now is })
-  right Tool (commands.Verify encoded) is = (Verify, record { has = tt; named = is.name; count = is.count; fit = text_fits })
+  right Tool (commands.Hash config salt) is = (Hash, record { is = (tt, is.name); count = is.count; fit = hash_fits config salt.now is })
+  right Tool (commands.Verify encoded) is = (Verify, record { is = (tt, is.name); count = is.count; fit = text_fits })
   right Tool (commands.Rehash config encoded) is =
-      (Rehash, record { has = tt; named = is.name; count = is.count; fit = rehash_fits config encoded.now is })
-  right Tool (commands.New config salt) is = (New, record { has = tt; named = is.name; count = is.count; fit = new_fits config salt is })
-  right Tool (commands.Check encoded) is = (Check, record { has = tt; named = is.name; count = is.count; fit = text_fits })
+      (Rehash, record { is = (tt, is.name); count = is.count; fit = rehash_fits config encoded.now is })
+  right Tool (commands.New config salt) is = (New, record { is = (tt, is.name); count = is.count; fit = new_fits config salt is })
+  right Tool (commands.Check encoded) is = (Check, record { is = (tt, is.name); count = is.count; fit = text_fits })
 
 -- and where they are, so are the settings
 pub fits_as : (words : List (List ℕ)) (name other : Name) → FitBelow (kinds_of name) words (length (kinds_of name)) → name ≡ other
     → FitBelow (kinds_of other) words (length (kinds_of other))
 fits_as words name other fit same = subst (λ n. FitBelow (kinds_of n) words (length (kinds_of n))) same fit
 
-pub settings_of_new : (words : List (List ℕ)) → FitBelow (kinds_of New) words 9 → SettingsFit words
-settings_of_new words fit = record {
-  variant = fit 1 (omega arith);
-  version = fit 2 (omega arith);
-  time_cost = fit 3 (omega arith);
-  mem_cost = fit 4 (omega arith);
-  lanes = fit 5 (omega arith);
-  hash_length = fit 6 (omega arith);
-}
-
-pub settings_of_hash : (words : List (List ℕ)) → FitBelow (kinds_of Hash) words 9 → SettingsFit words
-settings_of_hash words fit = record {
+pub settings_of : (words : List (List ℕ)) (rest : List Kind) (n : ℕ)
+    → FitBelow (Text ∷ Variant ∷ Version ∷ Number ∷ Number ∷ Number ∷ Number ∷ rest) words (7 + n) → SettingsFit words
+settings_of words rest n fit = record {
   variant = fit 1 (omega arith);
   version = fit 2 (omega arith);
   time_cost = fit 3 (omega arith);
@@ -131,12 +124,11 @@ same_name one other is also =
 -- so what is wrong with arguments keeps them from being any command
 pub no_command : (program : Program) (words : List (List ℕ)) (error : UsageError) → IsUsageError program words error → IsNoCommand program words
 no_command program words errors.Command none command is =
-    let it = right words program command is in none it.0 it.1.has it.1.named
+    let it = right words program command is in none it.0 it.1.is.0 it.1.is.1
 no_command program words (errors.Count name) other command is =
     let it = right words program command is in
-    other.count (it.1.count ∙ ap (λ n. length (kinds_of n)) (same_name it.0 name it.1.named other.named))
-no_command program words (errors.Argument place kind) (name, wrong) command is =
+    other.1 (it.1.count ∙ ap (λ n. length (kinds_of n)) (same_name it.0 name it.1.is.1 other.0.1))
+no_command program words (errors.Argument place kind) (name, named, count, first) command is =
     let it = right words program command is in
-    let same = same_name it.0 name it.1.named wrong.named in
-    wrong.first.3 (subst (λ k. Fits k (word words place)) (sym wrong.first.1)
-    (subst (λ n. FitBelow (kinds_of n) words (length (kinds_of n))) same it.1.fit place wrong.first.0))
+    let same = same_name it.0 name it.1.is.1 named.1 in
+    first.3 (subst (λ k. Fits k (word words place)) (sym first.1) (fits_as words it.0 name it.1.fit same place first.0))

@@ -8,7 +8,7 @@ use Rattle.argon2_standard.specs.Standard.Outcome.{IsResourceError, IsVerdict}
 use Rattle.argon2_standard.specs.Standard.ThreadModes.{may_lack_workers}
 use Rattle.argon2_standard.specs.Standard.Grammar.{Spells, SpellsNothing}
 use Rattle.argon2_standard.specs.Standard.Decoded.{Differs, decoded_config}
-use Rattle.argon2_standard.specs.Standard.SettingsTable.{max_length, refusal_of}
+use Rattle.argon2_standard.specs.Standard.SettingsTable.{max_length, table_error}
 use Rattle.argon2_standard.specs.Standard.Tag.{tag_of}
 use Rattle.argon2_standard.specs.Standard.Text.{Spelled, spelled_of, text_of}
 use Rattle.argon2_standard.specs.declared.config.Config.{Config}
@@ -81,7 +81,7 @@ IsTooLong input = IfSome input (λ bytes. longest_password < length bytes)
 
 -- the settings were accepted for the password, and the lines are those of its tag
 pub record HashAnswers (config : Config) (salt password lines : List ℕ) : Type 0 where
-  pub accepted : IsNone (refusal_of config (length password) (length salt) config.hash_length)
+  pub accepted : IsNone (table_error config (length password) (length salt) config.hash_length)
   pub written : lines ≡ hash_lines config salt password
 
 -- the text of a hash with these settings is above a default limit
@@ -112,39 +112,39 @@ IsAnswer (Check encoded) input (Verdict verdict) =
     (password : List ℕ) × IsShortPassword input password × CheckAnswers encoded.now password (Ok verdict)
 
 -- the error of a hash: the first of the settings table, or a resource error where there is none
-abbrev pub IsRefusal : Config → List ℕ → List ℕ → Error → Type 0
-IsRefusal config salt password refusal =
-    MatchOption (refusal_of config (length password) (length salt) config.hash_length)
-    (IsResourceError (may_lack_workers config) refusal)
-    (λ first. refusal ≡ first)
+abbrev pub IsHashError : Config → List ℕ → List ℕ → Error → Type 0
+IsHashError config salt password error =
+    MatchOption (table_error config (length password) (length salt) config.hash_length)
+    (IsResourceError (may_lack_workers config) error)
+    (λ first. error ≡ first)
 
 -- why `new` makes no hash of a password: its encoded hash would be above a limit; else the error of the hash, or that of
 -- the memory for the salt
 abbrev pub NewFails : Config → List ℕ → List ℕ → Fault → Type 0
 NewFails config salt password TooCostlyFault = is_above_limits config ≡ true
-NewFails config salt password (RefusedFault refusal) =
-    (is_above_limits config ≡ false) × ((refusal ≡ OutOfMemory) ⊎ IsRefusal config salt password refusal)
+NewFails config salt password (RefusedFault error) =
+    (is_above_limits config ≡ false) × ((error ≡ OutOfMemory) ⊎ IsHashError config salt password error)
 NewFails config salt password Usage = ⊥
 NewFails config salt password Input = ⊥
 NewFails config salt password Output = ⊥
 NewFails config salt password OutputShort = ⊥
 
 -- the error is that of the memory to read the password, or of its length
-abbrev pub RefusesLong : Option (List ℕ) → Error → Type 0
-RefusesLong input refusal = (refusal ≡ OutOfMemory) ⊎ ((refusal ≡ PwdTooLong) × IsTooLong input)
+abbrev pub IsReadingError : Option (List ℕ) → Error → Type 0
+IsReadingError input error = (error ≡ OutOfMemory) ⊎ ((error ≡ PwdTooLong) × IsTooLong input)
 
 -- the error may be that of the command: that of the password that was read, or that of the memory to
 -- read it; `rehash` reads none, and `new` and `check` reject a long one
-abbrev pub MayRefuse : Command → Option (List ℕ) → Error → Type 0
-MayRefuse (Hash config salt) input refusal = (refusal ≡ OutOfMemory)
-    ⊎ ((password : List ℕ) × IsPassword input password × IsRefusal config salt.now password refusal)
-MayRefuse (Verify encoded) input refusal = (refusal ≡ OutOfMemory)
-    ⊎ ((password : List ℕ) × IsPassword input password × VerifyAnswers encoded.now password (Err refusal))
-MayRefuse (Rehash config encoded) input refusal = RehashAnswers encoded.now config (Err refusal)
-MayRefuse (New config salt) input refusal = RefusesLong input refusal
-    ⊎ ((password : List ℕ) × IsShortPassword input password × NewFails config salt password (RefusedFault refusal))
-MayRefuse (Check encoded) input refusal = RefusesLong input refusal
-    ⊎ ((password : List ℕ) × IsShortPassword input password × CheckAnswers encoded.now password (Err (Refused refusal)))
+abbrev pub MayBeError : Command → Option (List ℕ) → Error → Type 0
+MayBeError (Hash config salt) input error = (error ≡ OutOfMemory)
+    ⊎ ((password : List ℕ) × IsPassword input password × IsHashError config salt.now password error)
+MayBeError (Verify encoded) input error = (error ≡ OutOfMemory)
+    ⊎ ((password : List ℕ) × IsPassword input password × VerifyAnswers encoded.now password (Err error))
+MayBeError (Rehash config encoded) input error = RehashAnswers encoded.now config (Err error)
+MayBeError (New config salt) input error = IsReadingError input error
+    ⊎ ((password : List ℕ) × IsShortPassword input password × NewFails config salt password (RefusedFault error))
+MayBeError (Check encoded) input error = IsReadingError input error
+    ⊎ ((password : List ℕ) × IsShortPassword input password × CheckAnswers encoded.now password (Err (Refused error)))
 
 -- the string decodes to something, and whatever it decodes to is above a default limit
 abbrev pub IsTooCostly : List ℕ → Type 0
@@ -161,7 +161,7 @@ AsksTooMuch (Check encoded) = IsTooCostly encoded.now
 -- the fault may be that of the command
 abbrev pub MayFail : Command → Option (List ℕ) → Fault → Type 0
 MayFail command input Input = ⊤
-MayFail command input (RefusedFault refusal) = MayRefuse command input refusal
+MayFail command input (RefusedFault error) = MayBeError command input error
 MayFail command input TooCostlyFault = AsksTooMuch command
 MayFail command input Usage = ⊥
 MayFail command input Output = ⊥

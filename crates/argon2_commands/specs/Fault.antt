@@ -11,12 +11,12 @@ use Rattle.argon2_commands.specs.declared.fault.Fault.TheVariants.{Usage, Input,
 -- the fault of a text that was not verified within limits
 abbrev pub fault_of : Unverified → Fault
 fault_of UnverifiedTooCostly = TooCostly
-fault_of (UnverifiedRefused refusal) = Refused refusal
+fault_of (UnverifiedRefused error) = Refused error
 
 -- 2 for an error and for want of memory, 3 for words of no command, 4 where a stream failed for another
 -- reason, 5 for a text above the limits
 abbrev pub fault_status : Fault → ℕ
-fault_status (Refused refusal) = 2
+fault_status (Refused error) = 2
 fault_status Usage = 3
 fault_status Input = 4
 fault_status Output = 4
@@ -25,7 +25,7 @@ fault_status OutputShort = 2
 
 -- nothing was written before the fault
 abbrev pub IsBeforeOutput : Fault → Type 0
-IsBeforeOutput (Refused refusal) = ⊤
+IsBeforeOutput (Refused error) = ⊤
 IsBeforeOutput Usage = ⊤
 IsBeforeOutput Input = ⊤
 IsBeforeOutput TooCostly = ⊤
@@ -34,7 +34,7 @@ IsBeforeOutput OutputShort = ⊥
 
 -- the line of a fault; where the output cannot be written, none
 abbrev pub line_of : Fault → List ℕ
-line_of (Refused refusal) = message_of refusal ++ codes "\n"
+line_of (Refused error) = message_of error ++ codes "\n"
 line_of Usage = codes "usage\n"
 line_of Input = codes "input\n"
 line_of TooCostly = unverified_text UnverifiedTooCostly ++ codes "\n"

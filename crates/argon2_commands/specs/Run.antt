@@ -1,7 +1,7 @@
 -- What a run does.
 use Rattle.std.specs.Prelude.{◌≡◌, ◌⊎◌, ℕ, List, Option}
 use Rattle.std.specs.Io.KnownBytes.{Appends, Keeps}
-use Rattle.argon2_commands.specs.Answer.{AsksTooMuch, IsAnswer, MayRefuse, NeedsNoInput, ReadsUpTo, answer_status, lines_of, most_read}
+use Rattle.argon2_commands.specs.Answer.{AsksTooMuch, IsAnswer, MayBeError, NeedsNoInput, ReadsUpTo, answer_status, lines_of, most_read}
 use Rattle.argon2_commands.specs.CommandLine.{AreWords}
 use Rattle.argon2_commands.specs.Words.{IsCommand, IsNoCommand}
 use Rattle.argon2_standard.specs.declared.error.Error.{Error}
@@ -31,10 +31,10 @@ pub record HasAnswer (program : Program) (words : List (List ℕ)) (input : Opti
   pub is_answer : IsAnswer command input answer
 
 -- the words' command may fail so, for the input's bytes, where they are known
-pub record IsRefused (program : Program) (words : List (List ℕ)) (input : Option (List ℕ)) (refusal : Error) : Type 0 where
+pub record MayFailWith (program : Program) (words : List (List ℕ)) (input : Option (List ℕ)) (error : Error) : Type 0 where
   pub command : Command
   pub is_command : IsCommand program words command
-  pub may_refuse : MayRefuse command input refusal
+  pub may_fail : MayBeError command input error
 
 -- the words' command is to check a text that is above a default limit, or to make one
 pub record AreTooCostly (program : Program) (words : List (List ℕ)) : Type 0 where
@@ -67,9 +67,9 @@ statuses_of Tool = 6
 
 -- the words' command may fail, and nothing was written; or it has an answer, and the output had no
 -- memory to take all of it. A status does not say which of the two it was: a fault does
-abbrev pub IsShortOrRefused : Program → List (List ℕ) → Option (List ℕ) → Option (List ℕ) → Option (List ℕ) → Type 0
-IsShortOrRefused program words input before after =
-    (((refusal : Error) × IsRefused program words input refusal) × Keeps before after) ⊎ HasAnswer program words input
+abbrev pub IsShortOrFails : Program → List (List ℕ) → Option (List ℕ) → Option (List ℕ) → Option (List ℕ) → Type 0
+IsShortOrFails program words input before after =
+    (((error : Error) × MayFailWith program words input error) × Keeps before after) ⊎ HasAnswer program words input
 
 -- what holds of the command line's words, where its arguments are known, or of some words where they are not
 abbrev pub OfWords : Option (List (List ℕ)) → (List (List ℕ) → Type 0) → Type 0

@@ -74,29 +74,16 @@ FirstIsWrong kinds words (Argument place kind) =
 
 -- each argument of the program's command is what it has to be
 pub record AreRight (program : Program) (words : List (List ℕ)) (name : Name) : Type 0 where
-  pub has : Has program name
-  pub named : word words 0 ≡ name_text name
+  pub is : IsNameOf program (word words 0) name
   pub count : length words ≡ length (kinds_of name)
   pub fit : FitBelow (kinds_of name) words (length (kinds_of name))
-
--- the command takes another number of arguments
-pub record IsOtherCount (program : Program) (words : List (List ℕ)) (name : Name) : Type 0 where
-  pub has : Has program name
-  pub named : word words 0 ≡ name_text name
-  pub count : length words ≢ length (kinds_of name)
-
--- this argument of the command is the first that is not what it has to be
-pub record IsWrongAt (program : Program) (words : List (List ℕ)) (place : ℕ) (kind : Kind) (name : Name) : Type 0 where
-  pub has : Has program name
-  pub named : word words 0 ≡ name_text name
-  pub count : length words ≡ length (kinds_of name)
-  pub first : FirstIsWrong (kinds_of name) words (Argument place kind)
 
 -- the usage error of arguments: of the command's name first, then of how many they are, then of each in turn
 abbrev pub IsUsageError : Program → List (List ℕ) → UsageError → Type 0
 IsUsageError program words Command = IsNoName program (word words 0)
-IsUsageError program words (Count name) = IsOtherCount program words name
-IsUsageError program words (Argument place kind) = (name : Name) × IsWrongAt program words place kind name
+IsUsageError program words (Count name) = IsNameOf program (word words 0) name × (length words ≢ length (kinds_of name))
+IsUsageError program words (Argument place kind) = (name : Name) × IsNameOf program (word words 0) name
+    × (length words ≡ length (kinds_of name)) × FirstIsWrong (kinds_of name) words (Argument place kind)
 
 -- the arguments VARIANT VERSION T M P LEN are what they have to be
 pub record SettingsFit (words : List (List ℕ)) : Type 0 where

@@ -6,8 +6,8 @@ ghost use Rattle.argon2.specs.Standard.Limits.{is_too_costly};
 ghost use Rattle.argon2_standard.specs.Standard.Text.{spelled_of};
 ghost use Rattle.argon2_standard.specs.Standard.Outcome.{IsResourceError};
 ghost use Rattle.argon2_standard.specs.Standard.ThreadModes.{may_lack_workers};
-ghost use Rattle.argon2_standard.specs.Standard.SettingsTable.{refusal_of};
-ghost use Rattle.argon2_commands.specs.Answer.{CheckAnswers, IsAnswer, IsRefusal, MayFail, NeedsNoInput, NewAnswers, NewFails, ReadsUpTo, answer_status, hash_lines, lines_of, most_read};
+ghost use Rattle.argon2_standard.specs.Standard.SettingsTable.{table_error};
+ghost use Rattle.argon2_commands.specs.Answer.{CheckAnswers, IsAnswer, IsHashError, MayFail, NeedsNoInput, NewAnswers, NewFails, ReadsUpTo, answer_status, hash_lines, lines_of, most_read};
 
 use crate::command::Command;
 use crate::fault::Fault;
@@ -144,13 +144,13 @@ fn hash_lines<R: Threads + Wait + Sync>(
 ) -> argon2::Result<String>
     ensures lines { IfOk result (λ lines. string_bytes lines
         ≡ hash_lines config.entry salt.now password.now) }
-    ensures accepted { OnOk result (IsNone (refusal_of config.entry (length password.now)
+    ensures accepted { OnOk result (IsNone (table_error config.entry (length password.now)
         (length salt.now) config.entry.hash_length)) }
-    ensures refused { IfErr result (IsRefusal config.entry salt.now password.now) }
+    ensures refused { IfErr result (IsHashError config.entry salt.now password.now) }
 {
     match Context::new(config, password, salt) {
         Ok(context) => tag_lines(rt, alloc, &context),
-        Err(refusal) => Err(refusal),
+        Err(error) => Err(error),
     }
 }
 

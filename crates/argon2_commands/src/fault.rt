@@ -78,14 +78,14 @@ impl Fault {
         match self {
             Fault::Usage => errors.write_all(b"usage\n")?,
             Fault::Input => errors.write_all(b"input\n")?,
-            Fault::Refused(refusal) => writeln!(errors, "{refusal}")?,
+            Fault::Refused(error) => writeln!(errors, "{error}")?,
             Fault::TooCostly => {
                 let reason = Unverified::TooCostly;
                 writeln!(errors, "{reason}")?;
             }
             Fault::OutputShort => {
-                let refusal = Error::OutOfMemory;
-                writeln!(errors, "{refusal}")?;
+                let error = Error::OutOfMemory;
+                writeln!(errors, "{error}")?;
             }
             Fault::Output => {}
         }
@@ -94,10 +94,10 @@ impl Fault {
 }
 
 impl From<Error> for Fault {
-    ghost from_gives = { λ refusal fault. fault ≡ Refused refusal };
+    ghost from_gives = { λ error fault. fault ≡ Refused error };
 
-    fn from(refusal: Error) -> Fault {
-        Fault::Refused(refusal)
+    fn from(error: Error) -> Fault {
+        Fault::Refused(error)
     }
 }
 
@@ -107,7 +107,7 @@ impl From<Unverified> for Fault {
     fn from(unverified: Unverified) -> Fault {
         match unverified {
             Unverified::TooCostly => Fault::TooCostly,
-            Unverified::Refused(refusal) => Fault::Refused(refusal),
+            Unverified::Refused(error) => Fault::Refused(error),
         }
     }
 }

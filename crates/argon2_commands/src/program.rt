@@ -4,7 +4,7 @@ ghost use Rattle.std.specs.Prelude.{◌≡◌, ◌<◌, ◌↔◌, ◌⊎◌};
 ghost use Rattle.std.specs.Process.{exit_status};
 ghost use Rattle.std.specs.Io.KnownBytes.{Keeps};
 ghost use Rattle.argon2_commands.specs.CommandLine.{HasNoText};
-ghost use Rattle.argon2_commands.specs.Run.{Answered, AreTooCostly, HasAnswer, IsShortOrRefused, NeedNoInput, OfWords, Reads, statuses_of};
+ghost use Rattle.argon2_commands.specs.Run.{Answered, AreTooCostly, HasAnswer, IsShortOrFails, NeedNoInput, OfWords, Reads, statuses_of};
 ghost use Rattle.argon2_commands.specs.Words.{IsNoCommand, texts_of};
 ghost use Rattle.argon2_commands.specs.declared.usage.Program.TheVariants.{Argon2};
 
@@ -82,7 +82,7 @@ pub fn run<R: Threads + Wait + Sync, I: Read, O: Write, E: Write>(
     ensures answered { result < 2 → Answered Argon2 (texts_of words.now) (I.remaining input.old)
         (O.contents output.old) (O.contents output.new) result }
     ensures usage { (result ≡ 3) ↔ IsNoCommand Argon2 (texts_of words.now) }
-    ensures refused { result ≡ 2 → IsShortOrRefused Argon2 (texts_of words.now) (I.remaining input.old)
+    ensures refused { result ≡ 2 → IsShortOrFails Argon2 (texts_of words.now) (I.remaining input.old)
         (O.contents output.old) (O.contents output.new) }
     ensures unwritten { result ≡ 3 → Keeps (O.contents output.old) (O.contents output.new) }
     ensures stops { Reads Argon2 (texts_of words.now) (I.remaining input.old) (I.remaining input.new) }

@@ -4,7 +4,7 @@ ghost use Rattle.std.specs.Prelude.{◌≡◌, ◌≢◌, ◌<◌, ◌↔◌, If
 ghost use Rattle.std.specs.Io.KnownBytes.{Appends, Keeps};
 ghost use Rattle.argon2_standard.specs.declared.error.Error.{Error};
 ghost use Rattle.argon2_commands.specs.Fault.{IsBeforeOutput};
-ghost use Rattle.argon2_commands.specs.Run.{Answered, AreTooCostly, HasAnswer, IsRefused, IsShortOrRefused, MayPrecede, NeedNoInput, Reads, statuses_of};
+ghost use Rattle.argon2_commands.specs.Run.{Answered, AreTooCostly, HasAnswer, MayFailWith, IsShortOrFails, MayPrecede, NeedNoInput, Reads, statuses_of};
 ghost use Rattle.argon2_commands.specs.Words.{IsCommand, IsNoCommand, texts_of};
 
 use crate::answer::Answer;
@@ -48,7 +48,7 @@ pub fn conclude<R: Threads + Wait + Sync, I: Read, O: Write, E: Write>(
     ensures answered { result < 2 → Answered program (texts_of words.now) (I.remaining input.old)
         (O.contents output.old) (O.contents output.new) result }
     ensures usage { (result ≡ 3) ↔ IsNoCommand program (texts_of words.now) }
-    ensures refused { result ≡ 2 → IsShortOrRefused program (texts_of words.now) (I.remaining input.old)
+    ensures refused { result ≡ 2 → IsShortOrFails program (texts_of words.now) (I.remaining input.old)
         (O.contents output.old) (O.contents output.new) }
     ensures costly { result ≡ 5 → Keeps (O.contents output.old) (O.contents output.new)
         × AreTooCostly program (texts_of words.now) }
@@ -80,8 +80,8 @@ pub fn attempt<R: Threads + Wait + Sync, I: Read, O: Write>(
     ensures answered { IfOk result (Answered program (texts_of words.now) (I.remaining input.old)
         (O.contents output.old) (O.contents output.new)) }
     ensures usage { (result ≡ Err Fault.Usage) ↔ IsNoCommand program (texts_of words.now) }
-    ensures refused { IfErr result (λ fault. (refusal : Error) → fault ≡ Fault.Refused refusal
-        → IsRefused program (texts_of words.now) (I.remaining input.old) refusal) }
+    ensures refused { IfErr result (λ fault. (error : Error) → fault ≡ Fault.Refused error
+        → MayFailWith program (texts_of words.now) (I.remaining input.old) error) }
     ensures costly { IfErr result (λ fault. fault ≡ Fault.TooCostly
         → AreTooCostly program (texts_of words.now)) }
     ensures judged { AreTooCostly program (texts_of words.now) → IsErrAnd result

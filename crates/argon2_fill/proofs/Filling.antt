@@ -1,4 +1,4 @@
 -- The first blocks, and all passes while they are filled.
 pub mod First
 pub mod Passes
-pub mod Lent
+pub mod CallerBlocks

@@ -5,10 +5,10 @@ ghost use Rattle.argon2_standard.specs.Standard.Outcome.{IsResourceError};
 ghost use Rattle.argon2_standard.specs.Standard.ThreadModes.{may_lack_workers, uses_sequential};
 ghost use Rattle.argon2_memory.specs.Views.Jobs.{setting_of_context};
 ghost use Rattle.argon2_memory.specs.Standard.Kept.{HasShape, HoldsFill, HoldsLastPass, IsLeft, block_of, no_memory};
-ghost use Rattle.argon2_memory.specs.Laws.Matrix.{IsBegun, matrix_with};
+ghost use Rattle.argon2_memory.specs.Theorems.Matrix.{IsBegun, matrix_with};
 ghost use Rattle.argon2_memory.specs.Views.Memories.{AreSlices, blocks_written, slice_writes, writes, writes_in, segments_of};
 ghost use Rattle.argon2_memory.specs.Views.Places.{AreFilledBelow, HoldsSlice, IsReadySlice, lanes_in, last_blocks_in, places_in};
-ghost use Rattle.argon2_memory.specs.Laws.Schedule.{blocks_in_slice};
+ghost use Rattle.argon2_memory.specs.Theorems.Schedule.{blocks_in_slice};
 ghost use Rattle.argon2_standard.specs.Standard.Setting.{memory_blocks};
 ghost use Rattle.argon2_standard.specs.Standard.Tag.{tag_of, tag_from};
 ghost use Rattle.std.specs.Int.{to_le_bytes, w32};
@@ -267,7 +267,7 @@ pub(crate) fn write_tag(block: &mut Block, out: &mut [u8])
 /// The hash of the last blocks of all lanes, combined (RFC 9106, 3.2, steps 7 and 8): the tag,
 /// where the memory is filled. The memory has the context's lanes and lane length. If memory cannot
 /// be allocated, the call returns `OutOfMemory`.
-#[tactic(auto, unfolding(argon2_standard::specs::Standard::SettingsTable::refusal_of))]
+#[tactic(auto, unfolding(argon2_standard::specs::Standard::SettingsTable::table_error))]
 pub fn finalize(alloc: Global, context: &Context<'_>, memory: &Memory) -> Result<Vec<u8>>
     requires shape { HasShape (setting_of_context context.now) memory.now }
     ensures hash { let m = memory.now in IfOk result (λ tag. tag.items

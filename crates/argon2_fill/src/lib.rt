@@ -1,8 +1,8 @@
 //! The matrix, the blocks that fill it, in one thread or by workers, and the tag.
 #![tactic(auto)]
 
+pub mod caller_blocks;
 pub mod fill;
-pub mod lent;
-pub mod stack;
+pub mod stack_wiping;
 pub mod theorems;
 pub mod workers;

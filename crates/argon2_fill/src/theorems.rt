@@ -1,6 +1,6 @@
 //! Theorems about the definitions that contracts cite.
 
-ghost use Rattle.argon2_fill.specs.Laws.Lanes.{EveryRunOfLanesAgrees};
+ghost use Rattle.argon2_fill.specs.Theorems.Lanes.{EveryRunOfLanesAgrees};
 
 /// Whatever the order of the fills of lanes within each slice, and also at the same time: where the
 /// first blocks are there, and each lane of each slice of each pass is filled once in the order of

@@ -8,7 +8,7 @@ ghost use Rattle.argon2_standard.specs.Views.Presets.{workers_of};
 ghost use Rattle.argon2_memory.specs.Views.Jobs.{setting_of_context};
 ghost use Rattle.argon2_fill.specs.Views.Boards.{NoneOut};
 ghost use Rattle.argon2_memory.specs.Views.Filling.{IsSnapshot};
-ghost use Rattle.argon2_memory.specs.Laws.Matrix.{IsBegun};
+ghost use Rattle.argon2_memory.specs.Theorems.Matrix.{IsBegun};
 ghost use Rattle.argon2_memory.specs.Standard.Kept.{HoldsLastPass, HasShape, block_of, no_memory};
 ghost use Rattle.argon2_memory.specs.Views.Memories.{AreSlices, segments_of};
 ghost use Rattle.argon2_memory.specs.Views.Places.{places_in, AreFilledBelow};

@@ -1,7 +1,8 @@
 mod blocks;
-mod lent;
+mod caller_blocks;
 mod memory;
 mod orders;
 mod positions;
 mod prehash;
+mod shared;
 mod workers;

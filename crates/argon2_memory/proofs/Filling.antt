@@ -4,6 +4,6 @@ pub mod Places
 pub mod Slices
 pub mod Written
 pub mod Made
-pub mod Lent
+pub mod CallerBlocks
 pub mod Beside
 pub mod Wiped

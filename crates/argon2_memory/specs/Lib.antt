@@ -1,3 +1,3 @@
 pub mod Standard
-pub mod Laws
+pub mod Theorems
 pub mod Views

@@ -7,6 +7,6 @@ mod positions;
 mod snapshot;
 
 pub use counted::{Segment, Source};
-pub use filling::{fill_lent_segment, fill_segment};
+pub use filling::{fill_caller_segment, fill_segment};
 pub use positions::{pick, reference_positions, reference_set_column, reference_set_size};
 pub use snapshot::Snapshot;

@@ -4,7 +4,7 @@ ghost use Rattle.std.specs.Prelude.{◌≡◌, ◌*◌, ◌/◌, ◌^◌, ◌<�
 ghost use Rattle.std.specs.Borrow.{Bor};
 ghost use Rattle.argon2_standard.specs.Views.Presets.{workers_of};
 ghost use Rattle.argon2_standard.specs.Standard.Prehash.{prehash_of};
-ghost use Rattle.argon2_standard.specs.Standard.SettingsTable.{refusal_of};
+ghost use Rattle.argon2_standard.specs.Standard.SettingsTable.{table_error};
 
 use crate::config::Config;
 use crate::error::Error;
@@ -21,16 +21,16 @@ use std::fmt;
 /// the settings table: only the first error is reported. It takes lengths and no bytes, since an
 /// encoded hash is checked before its salt and hash are decoded.
 pub fn first_refusal(config: &Config, pwd_len: u64, salt_len: u64, hash_len: u64) -> Option<Error>
-    ensures { result ≡ refusal_of config.now pwd_len salt_len hash_len }
+    ensures { result ≡ table_error config.now pwd_len salt_len hash_len }
 {
     let (secret_len, ad_len) = (config.secret.len() as u64, config.ad.len() as u64);
-    refusal_of_lengths(config, pwd_len, salt_len, secret_len, ad_len, hash_len)
+    error_of_lengths(config, pwd_len, salt_len, secret_len, ad_len, hash_len)
 }
 
 /// The same for any secret and any associated data of these lengths. The configuration's own are
 /// not looked at.
-#[tactic(auto, unfolding(crate::specs::Standard::SettingsTable::refusal_of))]
-pub fn refusal_of_lengths(
+#[tactic(auto, unfolding(crate::specs::Standard::SettingsTable::table_error))]
+pub fn error_of_lengths(
     config: &Config,
     pwd_len: u64,
     salt_len: u64,
@@ -39,7 +39,7 @@ pub fn refusal_of_lengths(
     hash_len: u64,
 ) -> Option<Error>
     ensures { (secret ad : Bor (List ℕ)) → length secret.now ≡ secret_len → length ad.now ≡ ad_len
-        → result ≡ refusal_of (record config.now { secret = secret; ad = ad }) pwd_len salt_len
+        → result ≡ table_error (record config.now { secret = secret; ad = ad }) pwd_len salt_len
         hash_len }
 {
     if config.lanes < MIN_LANES {
@@ -71,9 +71,9 @@ pub fn refusal_of_lengths(
 
 /// H0, the hash of all inputs (RFC 9106, 3.2, step 1). They go to BLAKE2b as pieces, so that
 /// nothing is allocated.
-#[tactic(auto, unfolding(crate::specs::Standard::Prehash::prehash_of, crate::specs::Standard::SettingsTable::refusal_of))]
+#[tactic(auto, unfolding(crate::specs::Standard::Prehash::prehash_of, crate::specs::Standard::SettingsTable::table_error))]
 fn prehash<'a>(config: &Config<'a>, pwd: &'a [u8], salt: &'a [u8]) -> [u8; PREHASH_DIGEST_LENGTH]
-    requires { IsNone (refusal_of config.now (length pwd.now)
+    requires { IsNone (table_error config.now (length pwd.now)
         (length salt.now) config.now.hash_length) }
     ensures { result ≡ prehash_of pwd.now salt.now config.now config.now.hash_length }
 {
@@ -122,7 +122,7 @@ pub struct Context<'a> {
     pub salt: &'a [u8],
     pub segment_length: u32,
     prehash: [u8; PREHASH_DIGEST_LENGTH],
-    ghost accepted: { IsNone (refusal_of config (length pwd.now)
+    ghost accepted: { IsNone (table_error config (length pwd.now)
         (length salt.now) config.hash_length) },
     ghost segment: { segment_length ≡ config.mem_cost / (4 * config.lanes) },
     ghost lane: { lane_length ≡ 4 * segment_length },
@@ -134,7 +134,7 @@ impl<'a> Context<'a> {
     /// The context of a hash of `config.hash_length` bytes. It returns an error exactly where the
     /// settings table has one.
     pub fn new(config: Config<'a>, pwd: &'a [u8], salt: &'a [u8]) -> Result<Context<'a>>
-        ensures { MatchOption (refusal_of config.entry (length pwd.entry.now)
+        ensures { MatchOption (table_error config.entry (length pwd.entry.now)
             (length salt.entry.now) config.entry.hash_length)
             (IsOkAnd result (λ c. (c.config ≡ config.entry) × (c.pwd.now ≡ pwd.entry.now)
             × (c.salt.now ≡ salt.entry.now)))
@@ -150,9 +150,9 @@ impl<'a> Context<'a> {
 
 /// The context of settings that were checked and accepted before. The verifying calls check them
 /// for the hash's own length, and come here without a second check.
-#[tactic(auto, unfolding(crate::specs::Standard::SettingsTable::refusal_of))]
+#[tactic(auto, unfolding(crate::specs::Standard::SettingsTable::table_error))]
 pub fn accepted_context<'a>(config: Config<'a>, pwd: &'a [u8], salt: &'a [u8]) -> Context<'a>
-    requires { IsNone (refusal_of config (length pwd.now) (length salt.now) config.hash_length) }
+    requires { IsNone (table_error config (length pwd.now) (length salt.now) config.hash_length) }
     ensures config { result.config ≡ config.entry }
     ensures pwd { result.pwd.now ≡ pwd.entry.now }
     ensures salt { result.salt.now ≡ salt.entry.now }

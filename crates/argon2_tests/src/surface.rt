@@ -9,9 +9,9 @@ ghost use Rattle.argon2_blocks.specs.Standard.Block.{zero_block};
 ghost use Rattle.argon2_fill.specs.Views.Replay.{least_waiting};
 ghost use Rattle.argon2_standard.specs.declared.error.Error.{Error};
 ghost use Rattle.argon2_standard.specs.Standard.Grammar.{Spells};
-ghost use Rattle.argon2.specs.Laws.Definitions.{IsOnlySolution, MeetsRecurrence};
+ghost use Rattle.argon2.specs.Theorems.Definitions.{IsOnlySolution, MeetsRecurrence};
 ghost use Rattle.argon2_memory.specs.Standard.Kept.{no_memory};
-ghost use Rattle.argon2_standard.specs.Standard.SettingsTable.{refusal_of};
+ghost use Rattle.argon2_standard.specs.Standard.SettingsTable.{table_error};
 ghost use Rattle.argon2_text.specs.Views.Texts.{spelled_by};
 ghost use Rattle.argon2_standard.specs.Standard.Tag.{tag_of};
 ghost use Rattle.argon2_standard.specs.Standard.Variant.{variant_number};
@@ -85,9 +85,9 @@ pub fn most_bytes() -> u32
 
 /// `argon2::parts::context`: the first parameter error.
 pub fn refusal(config: &Config, pwd_len: u64, salt_len: u64, hash_len: u64) -> Option<Error>
-    ensures exact { result ≡ refusal_of config.now pwd_len salt_len hash_len }
+    ensures exact { result ≡ table_error config.now pwd_len salt_len hash_len }
     ensures only { (e : Error) → result ≡ Some e
-        → refusal_of config.now pwd_len salt_len hash_len ≡ Some e }
+        → table_error config.now pwd_len salt_len hash_len ≡ Some e }
 {
     first_refusal(config, pwd_len, salt_len, hash_len)
 }

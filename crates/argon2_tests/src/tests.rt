@@ -1,5 +1,5 @@
+mod denied;
 mod encoding;
-mod permits;
-mod refused;
-mod settings;
+mod permitted_workers;
+mod shared;
 mod types;

@@ -1,7 +1,8 @@
 //! What a hash depends on.
 
-use crate::words::Words;
+use crate::line_words::Words;
 use anyhow::{Context, Result, anyhow, bail};
+use argon2::parts::context;
 use argon2::{Config, ThreadMode, Variant, Version};
 use std::alloc::Global;
 
@@ -56,6 +57,15 @@ impl Inputs {
     /// The configuration in the named mode, or in one thread.
     pub fn own_config(&self) -> Config<'_> {
         self.config(self.mode.unwrap_or(ThreadMode::Sequential))
+    }
+
+    /// The call with that configuration, or why it is rejected.
+    pub fn context(&self) -> argon2::Result<context::Context<'_>> {
+        context::Context::new(
+            self.own_config(),
+            self.password.as_slice(),
+            self.salt.as_slice(),
+        )
     }
 }
 

@@ -23,25 +23,25 @@
 //! | `ThreadMode::from_threads N`, `Variant::from_u32 N`, `Version::from_str WORD`, .. | the value and its names |
 //! | `Error NAME` | the error that `serde` reads from this name: its case, what `serde` writes, its message |
 //! | `common` | the constants |
-//! | `run INPUT WORDS`, `run/broken`, `run/full`, `run/without_memory`, `arguments`, `start`, `tool INPUT WORDS`, .. | see `program.rt` |
+//! | `run INPUT WORDS`, `run/broken`, `run/full`, `run/without_memory`, `arguments`, `start`, `tool INPUT WORDS`, .. | see `commands.rt` |
 //!
 //! INPUTS are `VARIANT VERSION T M P LEN MODE PASSWORD SALT SECRET DATA`. MODE is `seq`, `par`,
 //! `max` and a number, or `all`: then all thread modes, and the call that goes by no mode, have to
-//! return the same. Bytes are `-` for none, text behind a `'`, or hexadecimal (`words.rt`). TEXT is
+//! return the same. Bytes are `-` for none, text behind a `'`, or hexadecimal (`line_words.rt`). TEXT is
 //! the rest of the line, or behind `hex` its bytes in hexadecimal. For an error the answer is `ERR`
 //! and its message.
 #![tactic(auto)]
 
+mod commands;
 mod hashes;
 mod inputs;
+mod line_words;
 mod modes;
-mod program;
 mod question;
+mod small_types;
 mod stages;
 mod streams;
 mod texts;
-mod types;
-mod words;
 
 use anyhow::{Context, Result};
 use question::answer;

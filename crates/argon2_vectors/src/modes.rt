@@ -45,10 +45,8 @@ impl Asked<'_> {
         let answered = self.by_no_mode(alloc, inputs)?;
         for mode in MODES {
             let other = self.in_mode(rt, alloc, inputs, mode)?;
-            ensure!(
-                other.as_str() == answered.as_str(),
-                "{mode:?} gives another answer"
-            );
+            let is_same = other.as_str() == answered.as_str();
+            ensure!(is_same, "{mode:?} gives another answer");
         }
         Ok(answered)
     }

@@ -4,9 +4,9 @@ ghost use Rattle.std.specs.Prelude.{◌≡◌, ◌++◌, IfOk, codes, string_byt
 ghost use Rattle.argon2_standard.specs.Views.Messages.{message_of};
 
 use crate::inputs::Inputs;
+use crate::line_words::Words;
 use crate::modes::Asked;
-use crate::words::Words;
-use crate::{hashes, program, stages, texts, types};
+use crate::{commands, hashes, small_types, stages, texts};
 use anyhow::Result;
 use std::alloc::Global;
 use std::marker::Sync;
@@ -23,7 +23,7 @@ pub fn answer<R: Threads + Wait + Sync>(rt: &R, alloc: Global, line: &str) -> Re
         "hash_raw" | "hash_encoded" | "verify_raw" => in_modes(rt, alloc, call, &mut words),
         "verify_encoded" => texts::verdict_and_text(rt, alloc, words.text(alloc)?.as_str()),
         "verify_encoded_ext" => texts::verdict(rt, alloc, &mut words),
-        _ if is_of_a_program(call) => program::answer(rt, alloc, call, &mut words),
+        _ if is_of_a_program(call) => commands::answer(rt, alloc, call, &mut words),
         _ => answer_alone(alloc, call, &mut words),
     }?;
     words.end()?;
@@ -65,29 +65,29 @@ fn answer_alone(alloc: Global, call: &str, words: &mut Words<'_>) -> Result<Stri
         "encoded_len" => texts::text_length(alloc, words),
         "base64_len" => texts::item_length(alloc, words),
         "num_len" => texts::digits(alloc, words),
-        "first_refusal" => stages::refusal(alloc, words),
+        "first_refusal" => stages::first_error(alloc, words),
         "Context::new" => stages::context(alloc, words),
         "Job::new" => stages::job(alloc, words),
         "fill_sequential" => stages::writes(alloc, words),
         "reference_positions" => stages::positions(alloc, words),
         "blake2b" => hashes::plain(alloc, words),
         "hprime" => hashes::stretched(alloc, words),
-        "arguments" => program::words_given(alloc, words),
-        _ => types::answer(alloc, call, words),
+        "arguments" => commands::words_given(alloc, words),
+        _ => small_types::answer(alloc, call, words),
     }
 }
 
-pub fn refused(alloc: Global, refusal: &argon2::Error) -> Result<String>
-    ensures { IfOk result (λ text. string_bytes text ≡ codes "ERR " ++ message_of refusal.now) }
+pub fn told_error(alloc: Global, error: &argon2::Error) -> Result<String>
+    ensures { IfOk result (λ text. string_bytes text ≡ codes "ERR " ++ message_of error.now) }
 {
-    Ok(format!(in alloc; "ERR {refusal}")?)
+    Ok(format!(in alloc; "ERR {error}")?)
 }
 
 /// How a tag is printed, or why there is none.
 pub fn told_bytes(alloc: Global, answer: argon2::Result<Vec<u8>>) -> Result<String> {
     match answer {
         Ok(tag) => Ok(hex::encode(alloc, tag.as_slice())?),
-        Err(refusal) => refused(alloc, &refusal),
+        Err(error) => told_error(alloc, &error),
     }
 }
 
@@ -95,7 +95,7 @@ pub fn told_bytes(alloc: Global, answer: argon2::Result<Vec<u8>>) -> Result<Stri
 pub fn told_text(alloc: Global, answer: argon2::Result<String>) -> Result<String> {
     match answer {
         Ok(text) => Ok(text),
-        Err(refusal) => refused(alloc, &refusal),
+        Err(error) => told_error(alloc, &error),
     }
 }
 
@@ -103,6 +103,6 @@ pub fn told_text(alloc: Global, answer: argon2::Result<String>) -> Result<String
 pub fn told_verdict(alloc: Global, answer: argon2::Result<bool>) -> Result<String> {
     match answer {
         Ok(verdict) => Ok(format!(in alloc; "{verdict}")?),
-        Err(refusal) => refused(alloc, &refusal),
+        Err(error) => told_error(alloc, &error),
     }
 }

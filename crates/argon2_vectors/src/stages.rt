@@ -2,41 +2,39 @@
 //! blocks refer to.
 
 use crate::inputs::Inputs;
-use crate::question::refused;
-use crate::words::Words;
+use crate::line_words::Words;
+use crate::question::told_error;
 use anyhow::{Result, anyhow, ensure};
-use argon2::parts::context::{Context, Job, first_refusal};
+use argon2::parts::context::{Job, first_refusal};
 use argon2::parts::fill::{fill_sequential, initialize, prepare_memory};
 use argon2::parts::memory::Memory;
 use argon2::parts::segment::reference_positions;
 use std::alloc::Global;
 
 /// The first parameter error of settings for a password, a salt and a hash of these lengths.
-pub fn refusal(alloc: Global, words: &mut Words<'_>) -> Result<String> {
+pub fn first_error(alloc: Global, words: &mut Words<'_>) -> Result<String> {
     let inputs = Inputs::read(alloc, words)?;
     let (password, salt) = (words.long_number()?, words.long_number()?);
     let hash = words.long_number()?;
     match first_refusal(&inputs.own_config(), password, salt, hash) {
         None => Ok(String::from_str(alloc, "None")?),
-        Some(refusal) => refused(alloc, &refusal),
+        Some(error) => told_error(alloc, &error),
     }
 }
 
 /// What a context shows, or why there is none.
 pub fn context(alloc: Global, words: &mut Words<'_>) -> Result<String> {
     let inputs = Inputs::read(alloc, words)?;
-    let config = inputs.own_config();
-    match Context::new(config, inputs.password.as_slice(), inputs.salt.as_slice()) {
+    match inputs.context() {
         Ok(context) => Ok(format!(in alloc; "{context:?}")?),
-        Err(refusal) => refused(alloc, &refusal),
+        Err(error) => told_error(alloc, &error),
     }
 }
 
 fn job_of(inputs: &Inputs) -> Result<Job> {
-    let config = inputs.own_config();
-    match Context::new(config, inputs.password.as_slice(), inputs.salt.as_slice()) {
+    match inputs.context() {
         Ok(context) => Ok(Job::new(&context)),
-        Err(refusal) => Err(anyhow!("{refusal}")),
+        Err(error) => Err(anyhow!("{error}")),
     }
 }
 
@@ -48,14 +46,13 @@ pub fn job(alloc: Global, words: &mut Words<'_>) -> Result<String> {
 /// How many blocks are written first, and then by a fill in one thread.
 pub fn writes(alloc: Global, words: &mut Words<'_>) -> Result<String> {
     let inputs = Inputs::read(alloc, words)?;
-    let config = inputs.own_config();
-    let context = match Context::new(config, inputs.password.as_slice(), inputs.salt.as_slice()) {
+    let context = match inputs.context() {
         Ok(context) => context,
-        Err(refusal) => return refused(alloc, &refusal),
+        Err(error) => return told_error(alloc, &error),
     };
     let mut memory = Memory::empty(alloc);
-    if let Err(refusal) = prepare_memory(alloc, &context, &mut memory) {
-        return refused(alloc, &refusal);
+    if let Err(error) = prepare_memory(alloc, &context, &mut memory) {
+        return told_error(alloc, &error);
     }
     initialize(&context, &mut memory);
     let first = memory.writes();

@@ -1,96 +1,90 @@
-//! Streams that fail, and arguments that are known.
+//! Streams that may fail, and arguments that are known.
 
 use std::alloc::Global;
 use std::env::{Env, FillError};
 use std::io;
 use std::io::{Error, ErrorKind, Read, Write};
 
-/// A reader that gives its bytes one at a time, so that its failure comes between two reads.
+/// A reader of some bytes. A broken one gives them one at a time, so that its failure comes between
+/// two reads.
 #[derive(Drop)]
-pub struct Broken<'a>(pub &'a [u8]);
+pub struct Input<'a> {
+    pub bytes: &'a [u8],
+    pub is_broken: bool,
+}
 
-impl Read for Broken<'_> {
+impl Read for Input<'_> {
     fn read(&mut self, buf: &mut [u8]) -> io::Result<usize> {
-        let Some((first, others)) = self.0.split_first() else {
-            return Err(Error::from(ErrorKind::Other));
-        };
-        if buf.is_empty() {
-            return Ok(0);
-        }
-        buf[0] = *first;
-        self.0 = others;
-        Ok(1)
-    }
-}
-
-/// A writer that takes so many bytes, one at a time, and then fails; it fails when it is flushed.
-#[derive(Drop)]
-pub struct Full {
-    room: usize,
-    pub taken: Vec<u8>,
-}
-
-impl Full {
-    pub fn new(alloc: Global, room: usize) -> Full {
-        Full {
-            room,
-            taken: Vec::new(alloc),
-        }
-    }
-}
-
-impl Write for Full {
-    fn write(&mut self, buf: &[u8]) -> io::Result<usize> {
-        if self.taken.len() >= self.room {
+        if self.is_broken && self.bytes.is_empty() {
             return Err(Error::from(ErrorKind::Other));
         }
-        let Some(first) = buf.first() else {
-            return Ok(0);
-        };
-        self.taken.push(*first)?;
-        Ok(1)
-    }
-
-    fn flush(&mut self) -> io::Result<()> {
-        Err(Error::from(ErrorKind::Other))
+        let most = if self.is_broken { 1 } else { buf.len() };
+        let count = most.min(buf.len()).min(self.bytes.len());
+        let (first, others) = self.bytes.split_at(count);
+        buf[..count].copy_from_slice(first);
+        self.bytes = others;
+        Ok(count)
     }
 }
 
-/// A writer that has no memory for what it is given.
-#[derive(Drop)]
-pub struct WithoutMemory;
+/// What is wrong with a writer.
+#[derive(Clone, Copy)]
+pub enum Flaw {
+    None,
 
-impl Write for WithoutMemory {
-    fn write(&mut self, _buf: &[u8]) -> io::Result<usize> {
-        Err(Error::from(ErrorKind::OutOfMemory))
-    }
+    /// It takes so many bytes before it fails, one at a time, and fails when it is flushed.
+    Room(usize),
 
-    fn flush(&mut self) -> io::Result<()> {
-        Ok(())
-    }
+    /// It has no memory for what it is given.
+    Memory,
+
+    /// Its first write fails, for this reason.
+    Write(ErrorKind),
+
+    /// Its first flush fails, for this reason.
+    Flush(ErrorKind),
 }
 
-/// A writer whose first write or flush fails, for this reason, and which takes all from then on.
+/// A writer that takes all, but for its flaw.
 #[derive(Drop)]
-pub struct FailsOnce {
-    pub write: Option<ErrorKind>,
-    pub flush: Option<ErrorKind>,
+pub struct Output {
     pub taken: Vec<u8>,
+    flaw: Flaw,
 }
 
-impl Write for FailsOnce {
+impl Output {
+    pub fn new(alloc: Global, flaw: Flaw) -> Output {
+        let taken = Vec::new(alloc);
+        Output { taken, flaw }
+    }
+}
+
+impl Write for Output {
     fn write(&mut self, buf: &[u8]) -> io::Result<usize> {
-        if let Some(kind) = self.write.take() {
-            return Err(Error::from(kind));
-        }
-        self.taken.extend_from_slice(buf)?;
-        Ok(buf.len())
+        let count = match self.flaw {
+            Flaw::Room(room) if self.taken.len() >= room => {
+                return Err(Error::from(ErrorKind::Other));
+            }
+            Flaw::Room(_) => buf.len().min(1),
+            Flaw::Memory => return Err(Error::from(ErrorKind::OutOfMemory)),
+            Flaw::Write(kind) => {
+                self.flaw = Flaw::None;
+                return Err(Error::from(kind));
+            }
+            Flaw::None | Flaw::Flush(_) => buf.len(),
+        };
+        self.taken.extend_from_slice(&buf[..count])?;
+        Ok(count)
     }
 
     fn flush(&mut self) -> io::Result<()> {
-        match self.flush.take() {
-            Some(kind) => Err(Error::from(kind)),
-            None => Ok(()),
+        match self.flaw {
+            Flaw::Room(_) => Err(Error::from(ErrorKind::Other)),
+            Flaw::Flush(kind) => {
+                self.flaw = Flaw::None;
+                Err(Error::from(kind))
+            }
+            _ => Ok(()),
         }
     }
 }

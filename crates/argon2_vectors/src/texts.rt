@@ -1,8 +1,8 @@
 //! Questions on encoded hashes.
 
 use crate::inputs::Inputs;
-use crate::question::{refused, told_text, told_verdict};
-use crate::words::Words;
+use crate::line_words::Words;
+use crate::question::{told_error, told_text, told_verdict};
 use anyhow::{Result, anyhow, bail, ensure};
 use argon2::parts::context::Context;
 use argon2::parts::decoded::Decoded;
@@ -35,19 +35,14 @@ pub fn verdict_and_text<R: Threads + Wait + Sync>(
             let written = rewritten(alloc, &decoded)?;
             Ok(format!(in alloc; "{verdict} {written}")?)
         }
-        (Ok(_), Err(refusal)) => {
-            ensure!(
-                refusal != Error::DecodingFail,
-                "it is spelled and is no text"
-            );
-            refused(alloc, &refusal)
+        (Ok(_), Err(error)) => {
+            ensure!(error != Error::DecodingFail, "it decodes, and is no hash");
+            told_error(alloc, &error)
         }
         (Err(fault), verdict) => {
-            ensure!(
-                verdict == Err(fault.clone()?),
-                "it is not spelled and has a verdict"
-            );
-            refused(alloc, &fault)
+            let expected = Err(fault.clone()?);
+            ensure!(verdict == expected, "no hash has a verdict");
+            told_error(alloc, &fault)
         }
     }
 }
@@ -67,10 +62,10 @@ fn rewritten(alloc: Global, decoded: &Decoded) -> Result<String> {
     };
     let context = match Context::new(config, PASSWORD, decoded.salt.as_slice()) {
         Ok(context) => context,
-        Err(refusal) => bail!("it has a verdict and {refusal}"),
+        Err(error) => bail!("it has a verdict and {error}"),
     };
-    encode_string(alloc, &context, decoded.hash.as_slice()).map_err(|refusal| anyhow!(
-        "it cannot be written: {refusal}"
+    encode_string(alloc, &context, decoded.hash.as_slice()).map_err(|error| anyhow!(
+        "it cannot be written: {error}"
     ))
 }
 
@@ -80,28 +75,13 @@ pub fn verdict<R: Threads + Wait + Sync>(
     alloc: Global,
     words: &mut Words<'_>,
 ) -> Result<String> {
-    let (password, secret, ad) = (
-        words.bytes(alloc)?,
-        words.bytes(alloc)?,
-        words.bytes(alloc)?,
-    );
+    let password = words.bytes(alloc)?;
+    let (secret, ad) = (words.bytes(alloc)?, words.bytes(alloc)?);
     let text = words.text(alloc)?;
     let (password, encoded) = (password.as_slice(), text.as_str());
-    let verdict = verify_encoded_ext(
-        rt,
-        alloc,
-        encoded,
-        password,
-        secret.as_slice(),
-        ad.as_slice(),
-    );
-    let alone = verify_encoded_sequential(
-        alloc,
-        encoded,
-        password,
-        secret.as_slice(),
-        ad.as_slice(),
-    );
+    let (secret, ad) = (secret.as_slice(), ad.as_slice());
+    let verdict = verify_encoded_ext(rt, alloc, encoded, password, secret, ad);
+    let alone = verify_encoded_sequential(alloc, encoded, password, secret, ad);
     ensure!(alone == verdict, "one thread gives another answer");
     if secret.is_empty() && ad.is_empty() {
         let plain = verify_encoded(rt, alloc, encoded, password);
@@ -114,27 +94,24 @@ pub fn verdict<R: Threads + Wait + Sync>(
 pub fn rehash(alloc: Global, words: &mut Words<'_>) -> Result<String> {
     let inputs = Inputs::read(alloc, words)?;
     let text = words.text(alloc)?;
-    told_verdict(
-        alloc,
-        needs_rehash(alloc, text.as_str(), &inputs.own_config()),
-    )
+    let answer = needs_rehash(alloc, text.as_str(), &inputs.own_config());
+    told_verdict(alloc, answer)
 }
 
 pub fn decoded(alloc: Global, words: &mut Words<'_>) -> Result<String> {
     let text = words.text(alloc)?;
     match decode_string(alloc, text.as_str()) {
         Ok(decoded) => Ok(format!(in alloc; "{decoded:?}")?),
-        Err(fault) => refused(alloc, &fault),
+        Err(fault) => told_error(alloc, &fault),
     }
 }
 
 pub fn encoded(alloc: Global, words: &mut Words<'_>) -> Result<String> {
     let inputs = Inputs::read(alloc, words)?;
     let hash = words.bytes(alloc)?;
-    let config = inputs.own_config();
-    match Context::new(config, inputs.password.as_slice(), inputs.salt.as_slice()) {
+    match inputs.context() {
         Ok(context) => told_text(alloc, encode_string(alloc, &context, hash.as_slice())),
-        Err(refusal) => refused(alloc, &refusal),
+        Err(error) => told_error(alloc, &error),
     }
 }
 

@@ -4,12 +4,12 @@ use Rattle.std.specs.Prelude.{IsSome, OnErr, OnOk}
 use Rattle.argon2_standard.specs.declared.config.Config.{Config}
 use Rattle.argon2_standard.specs.declared.error.Error.{Error}
 use Rattle.argon2_standard.specs.Standard.Prehash.{prehash_of, setting_of}
-use Rattle.argon2_standard.specs.Standard.SettingsTable.{refusal_of}
+use Rattle.argon2_standard.specs.Standard.SettingsTable.{table_error}
 use Rattle.argon2_memory.specs.Standard.Kept.{HoldsFill, IsLeft, MemoryValue}
 use Rattle.argon2_standard.specs.Standard.Text.{Spelled}
 use Rattle.argon2.specs.Standard.Leaves.{LeavesMemory}
-use Rattle.argon2.specs.Views.StoredTexts.{IsAccepted, IsConfigOf, IsStoredConfig}
-use Rattle.argon2.proofs.Verification.StoredTexts.{own_length}
+use Rattle.argon2.specs.Views.StoredHashes.{IsAccepted, IsConfigOf, IsStoredConfig}
+use Rattle.argon2.proofs.Verification.StoredHashes.{own_length}
 
 -- what equals None is not some
 none_is_not_some : {A B : Type 0} (o : Option A) → o ≡ None → IsSome o → B
@@ -18,10 +18,10 @@ none_is_not_some (Some x) none some = absurd (cc)
 
 -- a call with accepted settings leaves what its tag does
 pub leaves_accepted : {A : Type 0} (pwd salt : List ℕ) (config : Config) (len : ℕ) (workers : Bool) (before after : MemoryValue) (answer : Result A Error)
-    → refusal_of config (length pwd) (length salt) len ≡ None → OnOk answer (HoldsFill (setting_of pwd salt config len) after)
+    → table_error config (length pwd) (length salt) len ≡ None → OnOk answer (HoldsFill (setting_of pwd salt config len) after)
     → OnErr answer (IsLeft workers (setting_of pwd salt config len) before after) → LeavesMemory pwd salt config len workers before after answer
 leaves_accepted pwd salt config len workers before after answer none filled left = record {
-  kept = none_is_not_some (refusal_of config (length pwd) (length salt) len) none;
+  kept = none_is_not_some (table_error config (length pwd) (length salt) len) none;
   filled = filled;
   left = λ _. left;
 }
@@ -34,7 +34,7 @@ setting_of-hash_length pwd salt config n len = refl
 
 -- nor for what is left
 pub leaves_of_length : {A : Type 0} (pwd salt hash : List ℕ) (config : Config) (workers : Bool) (before after : MemoryValue) (answer : Result A Error)
-    → refusal_of config (length pwd) (length salt) (length hash) ≡ None
+    → table_error config (length pwd) (length salt) (length hash) ≡ None
     → OnOk answer (HoldsFill (setting_of pwd salt (record config { hash_length = length hash }) (length hash)) after)
     → OnErr answer (IsLeft workers (setting_of pwd salt (record config { hash_length = length hash }) (length hash)) before after)
     → LeavesMemory pwd salt config (length hash) workers before after answer

@@ -6,12 +6,11 @@ use Rattle.std.specs.Int.Bits.{xor_assoc, xor_self, xor_zero_l, xor_zero_r}
 use Rattle.std.proofs.lemmas.Nat.{le_or_l, le_or_r}
 use Rattle.argon2_standard.specs.declared.config.Config.{Config}
 use Rattle.argon2_standard.specs.declared.error.Error.{Error}
-use Rattle.argon2_standard.specs.declared.context.Context.{Context}
 use Rattle.argon2_standard.specs.Standard.Outcome.{IsOutcome, IsResourceError}
-use Rattle.argon2_standard.specs.Standard.SettingsTable.{refusal_of}
+use Rattle.argon2_standard.specs.Standard.SettingsTable.{table_error}
 use Rattle.argon2_standard.specs.Standard.Prehash.{prehash_of, setting_of}
 use Rattle.argon2_standard.specs.Standard.Tag.{tag_from, tag_of}
-use Rattle.argon2.specs.Laws.Definitions.{LengthIsTheHash, OwnTagVerifies, TagForgetsMode}
+use Rattle.argon2.specs.Theorems.Definitions.{LengthIsTheHash, OwnTagVerifies, TagForgetsMode}
 use Rattle.argon2_standard.proofs.Settings.HashLengths.{length-hprime}
 use Rattle.argon2_standard.specs.Standard.Outcome.{IsVerdict}
 use Rattle.argon2.specs.Views.Comparison.{difference_of}
@@ -61,7 +60,7 @@ tag_of-hash_length pwd salt config n len = refl
 -- the field for the length of a hash does not count for its verdict
 pub verdict_of_length : (pwd salt hash : List ℕ) (config : Config) (workers : Bool) (answer : Result Bool Error) →
     IsVerdict pwd salt hash (record config { hash_length = length hash }) workers answer → IsVerdict pwd salt hash config workers answer
-unfolding refusal_of
+unfolding table_error
 verdict_of_length pwd salt hash config workers answer verdict = rw (tag_of-hash_length pwd salt config (length hash) (length hash)) at verdict
 
 -- ---- theorems
@@ -73,7 +72,7 @@ tag_forgets_mode pwd salt config mode len = refl
 
 -- neither error nor tag depends on the configuration's own field for the hash length
 pub length_is_the_hash : LengthIsTheHash
-unfolding refusal_of
+unfolding table_error
 length_is_the_hash pwd salt config field len = (refl, tag_of-hash_length pwd salt config field len)
 
 -- a tag has the length that is asked for
@@ -94,7 +93,7 @@ own_tag_verifies pwd salt config len =
     let tag = tag_of pwd salt config len in
     let n = length-tag_of pwd salt config len in (
       n,
-      λ accepted workers answer verdict. accepted_verdict tag (tag_of pwd salt config (length tag)) (refusal_of config (length pwd) (length salt)
+      λ accepted workers answer verdict. accepted_verdict tag (tag_of pwd salt config (length tag)) (table_error config (length pwd) (length salt)
           (length tag)) workers answer
-          (ap (λ k. refusal_of config (length pwd) (length salt) k) n ∙ accepted) (ap (λ k. tag_of pwd salt config k) (sym n)) verdict,
+          (ap (λ k. table_error config (length pwd) (length salt) k) n ∙ accepted) (ap (λ k. tag_of pwd salt config k) (sym n)) verdict,
     )

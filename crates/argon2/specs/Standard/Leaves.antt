@@ -2,7 +2,7 @@
 use Rattle.std.specs.Prelude.{◌≡◌, ℕ, Bool, List, Result, IsNone, IsSome, OnErr, OnOk, length}
 use Rattle.argon2_standard.specs.declared.config.Config.{Config}
 use Rattle.argon2_standard.specs.declared.error.Error.{Error}
-use Rattle.argon2_standard.specs.Standard.SettingsTable.{refusal_of}
+use Rattle.argon2_standard.specs.Standard.SettingsTable.{table_error}
 use Rattle.argon2_standard.specs.Standard.Prehash.{setting_of}
 use Rattle.argon2_memory.specs.Standard.Kept.{MemoryValue, HoldsFill, IsLeft}
 
@@ -10,7 +10,7 @@ use Rattle.argon2_memory.specs.Standard.Kept.{MemoryValue, HoldsFill, IsLeft}
 -- rejects something; else that of the computation, or what a resource error leaves
 pub record LeavesMemory {A : Type 0} (pwd salt : List ℕ) (config : Config) (len : ℕ) (workers : Bool) (before after : MemoryValue)
     (answer : Result A Error) : Type 0 where
-  pub kept : IsSome (refusal_of config (length pwd) (length salt) len) → after ≡ before
+  pub kept : IsSome (table_error config (length pwd) (length salt) len) → after ≡ before
   pub filled : OnOk answer (HoldsFill (setting_of pwd salt config len) after)
-  pub left : IsNone (refusal_of config (length pwd) (length salt) len) →
+  pub left : IsNone (table_error config (length pwd) (length salt) len) →
       OnErr answer (IsLeft workers (setting_of pwd salt config len) before after)

@@ -6,8 +6,8 @@ use Rattle.argon2_blocks.specs.Standard.Hprime.{hash_chain, hprime}
 use Rattle.argon2_blocks.specs.Standard.Block.{xor}
 use Rattle.argon2_blocks.specs.Standard.Compression.{add_product, block_of_registers, compress_g, half_gb, mix_gb, permute_p, permute_rows}
 use Rattle.argon2_blocks.specs.Standard.Compression.{registers_of, transpose}
-use Rattle.argon2_blocks.specs.Laws.KnownAnswers.{CompressesOneBit, CompressesZeros, HashesAbc, HashesNothing, HashesTo100Bytes, HashesTo16Bytes}
-use Rattle.argon2_blocks.specs.Laws.KnownAnswers.{HashesTwoBlocks}
+use Rattle.argon2_blocks.specs.Theorems.KnownAnswers.{CompressesOneBit, CompressesZeros, HashesAbc, HashesNothing, HashesTo100Bytes, HashesTo16Bytes}
+use Rattle.argon2_blocks.specs.Theorems.KnownAnswers.{HashesTwoBlocks}
 
 -- BLAKE2b of `abc`
 pub hashes_abc : HashesAbc

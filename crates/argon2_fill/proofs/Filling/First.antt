@@ -5,7 +5,7 @@ use Rattle.std.proofs.lemmas.List.FromFn.{get_or-map-range_with_len, length-map-
 use Rattle.std.proofs.Math.Nat.{div-eq_of_lt, mod-eq_of_lt}
 use Rattle.argon2_standard.specs.Standard.Setting.{Setting}
 use Rattle.argon2_memory.specs.Views.Jobs.{IsSetting}
-use Rattle.argon2_memory.specs.Laws.Matrix.{IsBegun}
+use Rattle.argon2_memory.specs.Theorems.Matrix.{IsBegun}
 use Rattle.argon2_standard.specs.Standard.Recurrence.{block_at, first_block}
 use Rattle.argon2_memory.specs.Views.Segments.{IsReady, segment_at, segment_block}
 use Rattle.argon2_memory.specs.Views.Memories.{AreSlices}

@@ -4,7 +4,7 @@ use Rattle.std.specs.Prelude.{◌==◌, ◌&&◌}
 use Rattle.std.proofs.lemmas.Bool.{cases_lt, ne_eqb}
 use Rattle.argon2_standard.specs.Standard.Setting.{Setting, lane_length, memory_blocks}
 use Rattle.argon2_memory.specs.Views.Jobs.{IsSetting}
-use Rattle.argon2_memory.specs.Laws.Schedule.{blocks_in_slice}
+use Rattle.argon2_memory.specs.Theorems.Schedule.{blocks_in_slice}
 use Rattle.argon2_memory.specs.Views.Segments.{IsReady, segment_at, segment_block}
 use Rattle.argon2_memory.specs.Views.Memories.{blocks_written}
 use Rattle.argon2_memory.specs.Standard.Kept.{MemoryValue, HasShape, block_of, segment_in, HoldsLastPass}
@@ -20,7 +20,7 @@ use Rattle.argon2_blocks.specs.Standard.Block.{xor, zero_block}
 use Rattle.argon2_standard.specs.Standard.Recurrence.{block_at}
 use Rattle.argon2_standard.specs.Standard.Tag.{last_blocks}
 use Rattle.argon2_memory.proofs.Filling.Places.{others_hold, filled_further}
-use Rattle.argon2_fill.specs.Laws.Lanes.{IsRunOfLanes, numbered}
+use Rattle.argon2_fill.specs.Theorems.Lanes.{IsRunOfLanes, numbered}
 use Rattle.argon2_fill.proofs.Filling.First.{begun_below}
 
 -- slices filled up to the end of one are filled below the next, of the same pass or the next

@@ -4,7 +4,7 @@ ghost use Rattle.std.specs.Prelude.{◌≡◌, ◌↔◌, ◌+◌, ◌^◌, ◌<
 ghost use Rattle.argon2_fill.specs.Views.Permits.{PermitsAll};
 ghost use Rattle.argon2_fill.specs.Views.Boards.{AllDone, NoneOut};
 
-use crate::stack::wipe_stack;
+use crate::stack_wiping::wipe_stack;
 use crate::workers::board::{Board, Gate, is_filled, put_lane, take_lane};
 use argon2_memory::segment::Snapshot;
 use argon2_standard::error::Error;

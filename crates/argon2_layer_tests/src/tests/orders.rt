@@ -2,20 +2,18 @@
 
 ghost use Rattle.std.specs.Prelude.{◌<◌, length};
 
+use super::shared::{TAGS, Tested, rfc9106};
+use Order::{LaneAfterLane, LastLaneFirst, OneBlockOfEachLane};
 use argon2_blocks::blake2b::hprime;
 use argon2_blocks::block::{Block, fill_block};
 use argon2_blocks::common::SYNC_POINTS;
 use argon2_fill::fill::write_first_block;
 use argon2_memory::job::Job;
 use argon2_memory::segment::{pick, reference_positions};
-use argon2_standard::config::Config;
 use argon2_standard::context::Context;
-use argon2_standard::thread_mode::ThreadMode;
 use argon2_standard::variant::Variant;
-use argon2_standard::version::Version;
 use std::alloc::{AllocError, Global};
 use std::process::Abort;
-use std::test::Fail;
 
 /// An order of the single writes of a slice.
 #[derive(Clone, Copy)]
@@ -31,9 +29,9 @@ fn schedule(alloc: Global, order: Order, lanes: u32, each: u32) -> Result<Vec<u3
     for n in 0..u64::from(lanes) * u64::from(each) {
         let (lanes, each) = (u64::from(lanes), u64::from(each));
         let lane = match order {
-            Order::LaneAfterLane => n / each,
-            Order::OneBlockOfEachLane => n % lanes,
-            Order::LastLaneFirst => (lanes - 1).saturating_sub(n / each),
+            LaneAfterLane => n / each,
+            OneBlockOfEachLane => n % lanes,
+            LastLaneFirst => (lanes - 1).saturating_sub(n / each),
         };
         entries.push((lane % 16) as u32)?;
     }
@@ -117,19 +115,9 @@ fn run_slice(
     Ok(())
 }
 
-/// The tag of a matrix that is filled in the order.
-fn run<'a>(
-    rt: &impl Abort,
-    alloc: Global,
-    config: Config<'a>,
-    pwd: &'a [u8],
-    salt: &'a [u8],
-    order: Order,
-) -> Result<[u8; 32], Fail> {
-    let context = match Context::new(config, pwd, salt) {
-        Ok(context) => context,
-        Err(refusal) => return Err(Fail::from(refusal)),
-    };
+/// The tag of RFC 9106, section 5, of a matrix that is filled in the order.
+fn run(rt: &impl Abort, alloc: Global, variant: Variant, order: Order) -> Tested<[u8; 32]> {
+    let context = Context::new(rfc9106(variant), &[1; 32], &[2; 16])?;
     let job = Job::new(&context);
     let mut blocks: Vec<Block> = Vec::new(alloc);
     for _ in 0..context.memory_blocks {
@@ -156,45 +144,12 @@ fn run<'a>(
     Ok(tag)
 }
 
-/// The settings of RFC 9106, section 5.
-pub(super) fn config(variant: Variant) -> Config<'static> {
-    Config {
-        ad: &[4; 12],
-        hash_length: 32,
-        lanes: 4,
-        mem_cost: 32,
-        secret: &[3; 8],
-        thread_mode: ThreadMode::Sequential,
-        time_cost: 3,
-        variant,
-        version: Version::Version13,
-    }
-}
-
-// The tags of RFC 9106, section 5.
 #[test]
-fn every_order_gives_the_stated_tag(rt: HostRuntime) -> Result<(), Fail> {
+fn every_order_gives_the_stated_tag(rt: HostRuntime) -> Tested<()> {
     let alloc = rt.alloc();
-    for (variant, tag) in [
-        (
-            Variant::Argon2d,
-            "512b391b6f1162975371d30919734294f868e3be3984f3c1a13a4db9fabe4acb",
-        ),
-        (
-            Variant::Argon2i,
-            "c814d9d1dc7f37aa13f0d77f2494bda1c8de6b016dd388d29952a4c4672b6ce8",
-        ),
-        (
-            Variant::Argon2id,
-            "0d640df58d78766c08c037a34a8b53c9d01ef0452d75b65eb52520e96b01e659",
-        ),
-    ] {
-        for order in [
-            Order::LaneAfterLane,
-            Order::OneBlockOfEachLane,
-            Order::LastLaneFirst,
-        ] {
-            let run = run(&rt, alloc, config(variant), &[1; 32], &[2; 16], order)?;
+    for (variant, tag) in TAGS {
+        for order in [LaneAfterLane, OneBlockOfEachLane, LastLaneFirst] {
+            let run = run(&rt, alloc, variant, order)?;
             assert_eq!(rt; hex::encode(alloc, run)?.as_str(), tag);
         }
     }

@@ -7,14 +7,11 @@ ghost use Rattle.argon2_standard.specs.Standard.Setting.{Position, Setting};
 ghost use Rattle.argon2_standard.specs.declared.variant.Variant.TheVariants.{Argon2d};
 ghost use Rattle.argon2_standard.specs.declared.version.Version.TheVariants.{Version13};
 
+use super::shared::{Tested, two_lanes};
 use argon2_memory::job::Job;
 use argon2_memory::segment::{pick, reference_set_column, reference_set_size};
 use argon2_standard::config::Config;
 use argon2_standard::context::Context;
-use argon2_standard::thread_mode::ThreadMode;
-use argon2_standard::variant::Variant;
-use argon2_standard::version::Version;
-use std::test::Fail;
 
 /// The references of RFC 9106, 3.4.2, worked out by hand for two lanes and two blocks a segment: the first
 /// block of the third slice, in the second pass, may refer in another lane to the columns 6 and 7 of the
@@ -33,52 +30,24 @@ fn stated_references()
       passes = 2;
     } in
         let at : Position = record { pass = 1; lane = 0; column = 4 } in
-        reference_set s at 1 ≡ (0, 6) ∷ (0, 7) ∷ (1, 0) ∷ (1, 1) ∷ (1, 2) ∷ [] }
+        (reference_set s at 1 ≡ (0, 6) ∷ (0, 7) ∷ (1, 0) ∷ (1, 1) ∷ (1, 2) ∷ [])
+        × (pick s (2 ^ 32 + 4294967295) at ≡ record { pass = 0; lane = 1; column = 6 })
+        × (pick s (2 ^ 32) at ≡ record { pass = 1; lane = 1; column = 2 }) }
     ensures x { low_half 4294967295 * low_half 4294967295 / 2 ^ 32 ≡ 4294967294 }
     ensures y { 5 * 4294967294 / 2 ^ 32 ≡ 4 }
-    ensures position { relative_position 5 4294967295 ≡ 0 }
-    ensures first { let s : Setting = record {
-      prehash = [];
-      variant = Argon2d;
-      version = Version13;
-      lanes = 2;
-      segment_length = 2;
-      passes = 2;
-    } in
-        let at : Position = record { pass = 1; lane = 0; column = 4 } in
-        pick s (2 ^ 32 + 4294967295) at ≡ record { pass = 0; lane = 1; column = 6 } }
+    ensures first_position { relative_position 5 4294967295 ≡ 0 }
     ensures last_position { relative_position 5 0 ≡ 4 }
-    ensures last { let s : Setting = record {
-      prehash = [];
-      variant = Argon2d;
-      version = Version13;
-      lanes = 2;
-      segment_length = 2;
-      passes = 2;
-    } in
-        let at : Position = record { pass = 1; lane = 0; column = 4 } in
-        pick s (2 ^ 32) at ≡ record { pass = 1; lane = 1; column = 2 } }
 {}
 
 // The same references, as the code finds them.
 #[test]
-fn picks_among_the_blocks_of_another_lane(rt: HostRuntime) -> Result<(), Fail> {
+fn picks_among_the_blocks_of_another_lane(rt: HostRuntime) -> Tested<()> {
     stated_references();
     let config = Config {
-        ad: b"",
-        hash_length: 32,
-        lanes: 2,
         mem_cost: 16,
-        secret: b"",
-        thread_mode: ThreadMode::Sequential,
-        time_cost: 2,
-        variant: Variant::Argon2d,
-        version: Version::Version13,
+        ..two_lanes()
     };
-    let context = match Context::new(config, b"password", b"somesalt") {
-        Ok(context) => context,
-        Err(refusal) => return Err(Fail::from(refusal)),
-    };
+    let context = Context::new(config, b"password", b"somesalt")?;
     let first = Job::new(&context);
     assert!(rt; first.passes() == 2);
     let job = first.at(1, 2);

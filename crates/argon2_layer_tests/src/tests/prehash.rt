@@ -1,21 +1,17 @@
 //! The inputs that are hashed first, as the first block of a lane shows them.
 
+use super::shared::{Tested, two_lanes};
 use argon2_blocks::blake2b::{blake2b, hprime};
 use argon2_blocks::block::Block;
 use argon2_fill::fill::write_first_block;
 use argon2_memory::job::Job;
-use argon2_standard::config::Config;
 use argon2_standard::context::Context;
-use argon2_standard::thread_mode::ThreadMode;
-use argon2_standard::variant::Variant;
-use argon2_standard::version::Version;
-use std::test::Fail;
 
 // The bytes, in hexadecimal, that are hashed first for 2 lanes, a hash of 32 bytes, 256 KiB and 2
 // passes of Argon2d in version 0x13, with `password` and `somesalt`. The first block of lane 1 is
 // made from their hash, the column 0 and the lane.
 #[test]
-fn hashes_the_stated_inputs_first(rt: HostRuntime) -> Result<(), Fail> {
+fn hashes_the_stated_inputs_first(rt: HostRuntime) -> Tested<()> {
     let alloc = rt.alloc();
     let inputs = hex::decode(
         alloc,
@@ -23,17 +19,6 @@ fn hashes_the_stated_inputs_first(rt: HostRuntime) -> Result<(), Fail> {
          70617373776f726408000000736f6d6573616c740000000000000000",
     )?;
     assert_eq!(rt; inputs.len(), 56);
-    let config = Config {
-        ad: b"",
-        hash_length: 32,
-        lanes: 2,
-        mem_cost: 256,
-        secret: b"",
-        thread_mode: ThreadMode::Sequential,
-        time_cost: 2,
-        variant: Variant::Argon2d,
-        version: Version::Version13,
-    };
     let mut prehash = [0; 64];
     blake2b(&mut prehash, &[inputs.as_slice()]);
     let mut input = [0; 72];
@@ -41,7 +26,7 @@ fn hashes_the_stated_inputs_first(rt: HostRuntime) -> Result<(), Fail> {
     input[68] = 1;
     let mut bytes = [0; 1024];
     hprime(&mut bytes, &input);
-    let context = Context::new(config, b"password", b"somesalt")?;
+    let context = Context::new(two_lanes(), b"password", b"somesalt")?;
     let job = Job::new(&context);
     assert_eq!(rt; job.lanes(), 2);
     let mut block = Block::zero();

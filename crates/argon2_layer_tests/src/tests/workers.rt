@@ -8,11 +8,12 @@ ghost use Rattle.argon2_memory.specs.Views.Memories.{AreSlices, segments_of};
 ghost use Rattle.argon2_memory.specs.Views.Places.{places_in, AreFilledBelow};
 
 mod every_slice;
+mod lanes_put_back;
 mod meeting;
 mod overlap;
-mod puts;
 mod starts;
 
+use super::shared::{Tested, rfc9106, two_lanes};
 use argon2_fill::fill::{fill_slice_in_turn, initialize, prepare_memory};
 use argon2_fill::workers::{
     Board, Claim, Event, Filled, NoGate, Permit, Place, board_of, fill_slice, fill_slice_with,
@@ -24,61 +25,54 @@ use argon2_standard::config::Config;
 use argon2_standard::context::Context;
 use argon2_standard::error::Error;
 use argon2_standard::result::Result;
-use argon2_standard::thread_mode::ThreadMode;
 use argon2_standard::variant::Variant;
-use argon2_standard::version::Version;
 use std::alloc::Global;
 use std::marker::Sync;
 use std::process::Abort;
 use std::sync::Wait;
-use std::test::Fail;
 use std::thread::Threads;
 
-fn two_lanes() -> Config<'static> {
-    Config {
-        ad: b"",
-        hash_length: 32,
-        lanes: 2,
-        mem_cost: 256,
-        secret: b"",
-        thread_mode: ThreadMode::Parallel,
-        time_cost: 2,
-        variant: Variant::Argon2d,
-        version: Version::Version13,
-    }
+/// A call.
+#[derive(Clone, Copy)]
+struct Call {
+    password: &'static [u8],
+    salt: &'static [u8],
+    config: Config<'static>,
 }
 
-fn four_lanes() -> Config<'static> {
-    Config {
-        ad: &[4; 12],
-        hash_length: 32,
-        lanes: 4,
-        mem_cost: 32,
-        secret: &[3; 8],
-        thread_mode: ThreadMode::Parallel,
-        time_cost: 3,
-        variant: Variant::Argon2d,
-        version: Version::Version13,
+impl Call {
+    fn of(config: Config<'static>) -> Call {
+        Call {
+            password: b"password",
+            salt: b"somesalt",
+            config,
+        }
+    }
+
+    /// One of two lanes.
+    fn of_two_lanes() -> Call {
+        Call::of(two_lanes())
+    }
+
+    /// One of four lanes, with the inputs of RFC 9106, section 5.
+    fn of_four_lanes() -> Call {
+        Call {
+            password: &[1; 32],
+            salt: &[2; 16],
+            config: rfc9106(Variant::Argon2d),
+        }
     }
 }
 
 /// The second slice of the first pass, with the slices of a memory in which the first one is
 /// filled.
-fn begin<'a>(
-    alloc: Global,
-    password: &'a [u8],
-    salt: &'a [u8],
-    config: Config<'a>,
-) -> Result<(Job, Slices)>
+fn begin(alloc: Global, call: &Call) -> Result<(Job, Slices)>
     ensures at { IfOk result (λ r. (r.0.pass ≡ 0) × (r.0.slice ≡ 1)) }
     ensures slices { IfOk result (λ r. AreSlices r.0.setting.lanes r.0.setting.segment_length
         (segments_of r.1)) }
     ensures ready { IfOk result (λ r. AreFilledBelow r.0.setting 0 1 (places_in (segments_of r.1))) }
 {
-    let context = match Context::new(config, password, salt) {
-        Ok(context) => context,
-        Err(refusal) => return Err(refusal),
-    };
+    let context = Context::new(call.config, call.password, call.salt)?;
     let job = Job::new(&context);
     recall_job(&job);
     recall_context(&context);
@@ -91,19 +85,14 @@ fn begin<'a>(
 }
 
 /// That slice on a board, with the slices that stay.
-fn second_board<'a>(
-    alloc: Global,
-    password: &'a [u8],
-    salt: &'a [u8],
-    config: Config<'a>,
-) -> Result<(Board, Slices)>
+fn second_board(alloc: Global, call: &Call) -> Result<(Board, Slices)>
     ensures none_out { IfOk result (λ r. NoneOut r.0.places) }
     ensures snapshot { IfOk result (λ r. IsSnapshot (record {
       job = r.0.job;
       others = remove (segments_of r.1) 1;
     })) }
 {
-    let (job, mut slices) = begin(alloc, password, salt, config)?;
+    let (job, mut slices) = begin(alloc, call)?;
     let board = board_of(alloc, &job, &mut slices)?;
     Ok((board, slices))
 }
@@ -120,16 +109,12 @@ fn snapshot_of<'a>(board: &Board, slices: &'a Slices) -> Snapshot<'a>
 }
 
 /// The next lane of a board on which one waits.
-fn next(board: &mut Board, waits: &str) -> std::result::Result<Claim, Fail> {
+fn next(board: &mut Board, waits: &str) -> Tested<Claim> {
     Ok(board.take().ok_or(waits)?)
 }
 
 /// A lane, filled from a snapshot of its job.
-fn filled(
-    claim: Claim,
-    snapshot: &Snapshot<'_>,
-    is_of_job: &str,
-) -> std::result::Result<Filled, Fail> {
+fn filled(claim: Claim, snapshot: &Snapshot<'_>, is_of_job: &str) -> Tested<Filled> {
     Ok(claim.fill(snapshot).ok().ok_or(is_of_job)?)
 }
 
@@ -140,11 +125,7 @@ fn place(rt: &impl Abort, board: &Board, lane: u32) -> Place {
 }
 
 /// Takes two lanes, which are all, and puts the second before the first.
-fn put_in_turn(
-    rt: &impl Abort,
-    board: &mut Board,
-    snapshot: &Snapshot<'_>,
-) -> std::result::Result<(), Fail> {
+fn put_in_turn(rt: &impl Abort, board: &mut Board, snapshot: &Snapshot<'_>) -> Tested<()> {
     let first = next(board, "lane 0 waits")?;
     let second = next(board, "lane 1 waits")?;
     assert!(rt; first.lane() == 0 && second.lane() == 1);
@@ -158,19 +139,16 @@ fn put_in_turn(
 }
 
 /// Lane 0 of another board of the same job, filled.
-fn lane_of_another(alloc: Global, snapshot: &Snapshot<'_>) -> std::result::Result<Filled, Fail> {
-    let (mut another, _slices) = second_board(alloc, b"password", b"somesalt", two_lanes())?;
-    filled(
-        next(&mut another, "lane 0 waits")?,
-        snapshot,
-        "the snapshot is of the job",
-    )
+fn lane_of_another(alloc: Global, snapshot: &Snapshot<'_>) -> Tested<Filled> {
+    let (mut another, _slices) = second_board(alloc, &Call::of_two_lanes())?;
+    let claim = next(&mut another, "lane 0 waits")?;
+    filled(claim, snapshot, "the snapshot is of the job")
 }
 
 #[test]
-fn hands_out_lanes_in_order(rt: HostRuntime) -> std::result::Result<(), Fail> {
+fn hands_out_lanes_in_order(rt: HostRuntime) -> Tested<()> {
     let alloc = rt.alloc();
-    let (mut board, slices) = second_board(alloc, b"password", b"somesalt", two_lanes())?;
+    let (mut board, slices) = second_board(alloc, &Call::of_two_lanes())?;
     let snapshot = snapshot_of(&board, &slices);
     put_in_turn(&rt, &mut board, &snapshot)?;
     let again = lane_of_another(alloc, &snapshot)?;
@@ -182,11 +160,7 @@ fn hands_out_lanes_in_order(rt: HostRuntime) -> std::result::Result<(), Fail> {
 }
 
 /// Takes two lanes, and puts the second alone.
-fn put_one_of_two(
-    rt: &impl Abort,
-    board: &mut Board,
-    snapshot: &Snapshot<'_>,
-) -> std::result::Result<(), Fail> {
+fn put_one_of_two(rt: &impl Abort, board: &mut Board, snapshot: &Snapshot<'_>) -> Tested<()> {
     let first = next(board, "lane 0 waits")?;
     let second = next(board, "lane 1 waits")?;
     let second = filled(second, snapshot, "the snapshot is of the job")?;
@@ -196,8 +170,8 @@ fn put_one_of_two(
 }
 
 #[test]
-fn finishes_no_slice_with_a_lane_out(rt: HostRuntime) -> std::result::Result<(), Fail> {
-    let (mut board, slices) = second_board(rt.alloc(), b"password", b"somesalt", two_lanes())?;
+fn finishes_no_slice_with_a_lane_out(rt: HostRuntime) -> Tested<()> {
+    let (mut board, slices) = second_board(rt.alloc(), &Call::of_two_lanes())?;
     let snapshot = snapshot_of(&board, &slices);
     put_one_of_two(&rt, &mut board, &snapshot)?;
     assert!(rt; board.finish().err() == Some(Error::WorkerRefused));
@@ -205,11 +179,7 @@ fn finishes_no_slice_with_a_lane_out(rt: HostRuntime) -> std::result::Result<(),
 }
 
 /// Fills a lane of a board from a snapshot of another job, and checks that it comes back.
-fn check_filling(
-    rt: &impl Abort,
-    ours: &mut Board,
-    snapshot: &Snapshot<'_>,
-) -> std::result::Result<(), Fail> {
+fn check_filling(rt: &impl Abort, ours: &mut Board, snapshot: &Snapshot<'_>) -> Tested<()> {
     let our_job = *ours.job();
     let claim = next(ours, "lane 0 waits")?;
     let claim = claim.fill(snapshot).err().ok_or("another job")?;
@@ -223,7 +193,7 @@ fn check_putting(
     ours: &mut Board,
     theirs: &mut Board,
     snapshot: &Snapshot<'_>,
-) -> std::result::Result<(), Fail> {
+) -> Tested<()> {
     let their_job = *theirs.job();
     let stranger = filled(next(theirs, "lane 0 waits")?, snapshot, "its own job")?;
     let stranger = ours.put(stranger).err().ok_or("another job")?;
@@ -232,10 +202,14 @@ fn check_putting(
 }
 
 #[test]
-fn hands_strangers_back(rt: HostRuntime) -> std::result::Result<(), Fail> {
+fn hands_strangers_back(rt: HostRuntime) -> Tested<()> {
     let alloc = rt.alloc();
-    let (mut ours, _our_slices) = second_board(alloc, b"password", b"somesalt", two_lanes())?;
-    let (mut theirs, their_slices) = second_board(alloc, b"passworD", b"somesalt", two_lanes())?;
+    let (mut ours, _our_slices) = second_board(alloc, &Call::of_two_lanes())?;
+    let another = Call {
+        password: b"passworD",
+        ..Call::of_two_lanes()
+    };
+    let (mut theirs, their_slices) = second_board(alloc, &another)?;
     let snapshot = snapshot_of(&theirs, &their_slices);
     check_filling(&rt, &mut ours, &snapshot)?;
     check_putting(&rt, &mut ours, &mut theirs, &snapshot)?;
@@ -261,27 +235,25 @@ impl Permit for AllBut {
 }
 
 #[test]
-fn starts_permitted_workers_alone(rt: HostRuntime) -> std::result::Result<(), Fail> {
+fn starts_permitted_workers_alone(rt: HostRuntime) -> Tested<()> {
     let alloc = rt.alloc();
-    for refused in 6..10 {
-        let (board, slices) = second_board(alloc, b"password", b"somesalt", two_lanes())?;
+    for denied in 6..10 {
+        let (board, slices) = second_board(alloc, &Call::of_two_lanes())?;
         let snapshot = snapshot_of(&board, &slices);
-        let permit = AllBut(refused);
+        let permit = AllBut(denied);
         let board = fill_slice_with(&rt, board, &snapshot, &NoGate, &permit, 7, 2);
-        let is_refused = refused == 7 || refused == 8;
-        assert!(rt;
-            board.err() == is_refused.then_some(Error::WorkerRefused),
-            "{refused}"
-        );
+        let is_denied = denied == 7 || denied == 8;
+        let expected = is_denied.then_some(Error::WorkerRefused);
+        assert!(rt; board.err() == expected, "{denied}");
     }
     Ok(())
 }
 
 // Whatever allocation is denied, the result is the board or that error.
 #[test]
-fn board_new_refused_in_turn(rt: HostRuntime) -> std::result::Result<(), Fail> {
+fn board_new_refused_in_turn(rt: HostRuntime) -> Tested<()> {
     let alloc = rt.alloc();
-    let board = match begin(alloc, &[1; 32], &[2; 16], four_lanes()) {
+    let board = match begin(alloc, &Call::of_four_lanes()) {
         Ok((job, mut slices)) => board_of(alloc, &job, &mut slices),
         Err(e) => Err(e),
     };
@@ -300,14 +272,14 @@ fn board_new_refused_in_turn(rt: HostRuntime) -> std::result::Result<(), Fail> {
 
 /// The second slice, filled by four workers.
 fn second_slice<R: Threads + Wait + Sync>(rt: &R, alloc: Global) -> Result<Vec<Segment>> {
-    let (board, slices) = second_board(alloc, &[1; 32], &[2; 16], four_lanes())?;
+    let (board, slices) = second_board(alloc, &Call::of_four_lanes())?;
     let snapshot = snapshot_of(&board, &slices);
     fill_slice(rt, board, &snapshot, &NoGate, 4)?.finish()
 }
 
 // Whatever allocation or worker is denied, the result is the slice or that error.
 #[test]
-fn fill_slice_refused_in_turn(rt: HostRuntime) -> std::result::Result<(), Fail> {
+fn fill_slice_refused_in_turn(rt: HostRuntime) -> Tested<()> {
     match second_slice(&rt, rt.alloc()) {
         Ok(segments) => {
             assert!(rt; segments.len() == 4);

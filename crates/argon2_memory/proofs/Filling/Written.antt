@@ -19,13 +19,13 @@ set_behind [] index new h = absurd (omega arith)
 set_behind (x ∷ xs) zero new h = refl
 set_behind (x ∷ xs) (suc i) new h = ap (λ l. x ∷ l) (set_behind xs i new (omega arith))
 
--- `lent` is the caller's blocks, as a slice; `p` and `r` are the two sources' blocks, and `d` is any
-pub write_in_place : (blocks lent front back : List (List ℕ)) (index : ℕ) (prev reference : Source) (with_xor : Bool) (p r d new : List ℕ) →
-    lent ≡ blocks → index < length blocks → front ≡ take index lent → back ≡ drop index lent →
+-- `given` is the caller's blocks, as a slice; `p` and `r` are the two sources' blocks, and `d` is any
+pub write_in_place : (blocks given front back : List (List ℕ)) (index : ℕ) (prev reference : Source) (with_xor : Bool) (p r d new : List ℕ) →
+    given ≡ blocks → index < length blocks → front ≡ take index given → back ≡ drop index given →
     IsBefore index prev → IsBefore index reference → p ≡ source_block front prev → r ≡ source_block front reference →
     new ≡ made_block p r (get_or back 0 d) with_xor →
     front ++ set back 0 new ≡ set blocks index (made_block (source_block blocks prev) (source_block blocks reference) (get_or blocks index []) with_xor)
-write_in_place blocks lent front back index prev reference with_xor p r d new same fits f b before before' ps rs n =
+write_in_place blocks given front back index prev reference with_xor p r d new same fits f b before before' ps rs n =
     let f' : front ≡ take index blocks = f ∙ ap (λ l. take index l) same in
     let b' : back ≡ drop index blocks = b ∙ ap (λ l. drop index l) same in
     let o' : get_or back 0 d ≡ get_or blocks index [] = rw b' (get_or-drop index blocks 0 d ∙ ap (λ i. get_or blocks i d) (omega arith) ∙ get_or_default blocks index d [] fits) in

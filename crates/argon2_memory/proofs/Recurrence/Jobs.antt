@@ -3,7 +3,7 @@ use Rattle.std.proofs.Common.{ℕ, zero, suc, ◌+◌, ◌*◌, ◌/◌, ◌^◌
 use Rattle.std.specs.Prelude.{◌==◌, ◌&&◌, IsNone}
 use Rattle.std.proofs.Math.Nat.{mul-le-mul_right}
 use Rattle.argon2_standard.specs.declared.config.Config.{Config}
-use Rattle.argon2_standard.specs.Standard.SettingsTable.{refusal_of}
+use Rattle.argon2_standard.specs.Standard.SettingsTable.{table_error}
 use Rattle.argon2_standard.specs.Standard.Setting.{Setting, lane_length}
 use Rattle.argon2_standard.specs.Standard.Prehash.{hashed_inputs, prehash_of, setting_of}
 use Rattle.argon2_standard.specs.declared.context.Context.{Context}
@@ -12,7 +12,7 @@ use Rattle.argon2_standard.proofs.Settings.HashLengths.{length-blake2b}
 use Rattle.argon2_memory.specs.Views.Jobs.{IsSetting, setting_of_context}
 
 -- the setting of an accepted call, whose passes and blocks fit 32 bits
-setting_that_fits : (pwd salt : List ℕ) (config : Config) → IsNone (refusal_of config (length pwd) (length salt) config.hash_length) →
+setting_that_fits : (pwd salt : List ℕ) (config : Config) → IsNone (table_error config (length pwd) (length salt) config.hash_length) →
     config.time_cost < 2 ^ 32 → 4 * config.lanes * (config.mem_cost / (4 * config.lanes)) < 2 ^ 32 → IsSetting (setting_of pwd salt config config.hash_length)
 unfolding setting_of prehash_of
 setting_that_fits pwd salt config none few fits =

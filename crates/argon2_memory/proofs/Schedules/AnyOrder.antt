@@ -13,8 +13,8 @@ use Rattle.argon2_standard.specs.Standard.Setting.{Setting, Position, lane_lengt
 use Rattle.argon2_memory.specs.Views.Jobs.{IsSetting, IsPosition}
 use Rattle.argon2_standard.specs.Standard.Reference.{previous, pick}
 use Rattle.argon2_standard.specs.Standard.Recurrence.{Blocks, drawn_word, next_block, recurrence, block_at, first_block, combines}
-use Rattle.argon2_memory.specs.Laws.Matrix.{Matrix, matrix_with}
-use Rattle.argon2_memory.specs.Laws.Schedule.{Progress, blocks_in_slice, block_from, next_column, step}
+use Rattle.argon2_memory.specs.Theorems.Matrix.{Matrix, matrix_with}
+use Rattle.argon2_memory.specs.Theorems.Schedule.{Progress, blocks_in_slice, block_from, next_column, step}
 use Rattle.argon2_memory.proofs.Recurrence.References.{pick-readable, drawn_lane_fits}
 use Rattle.argon2_memory.proofs.Recurrence.Jobs.{later_index}
 use Rattle.argon2_memory.proofs.Recurrence.Recurrences.{same_choice, block_at-recurrence}

@@ -7,9 +7,9 @@ use Rattle.argon2_standard.specs.Standard.Setting.{Setting, Position, slice_of}
 use Rattle.argon2_standard.specs.Standard.Reference.{previous}
 use Rattle.std.proofs.lemmas.Bool.Decides.{eqb_tells}
 use Rattle.argon2_standard.specs.Standard.Recurrence.{block_at}
-use Rattle.argon2_memory.specs.Laws.Matrix.{Matrix}
-use Rattle.argon2_memory.specs.Laws.Schedule.{Progress, IsSchedule, IsWrittenIn, after_slices, blocks_in_slice, pick_from, reads_from, word_from}
-use Rattle.argon2_memory.specs.Laws.AnyOrder.{IsRun, IsEntry, progress_before, entry_position, NoEntryReadsOthers, PicksHoldTheirBlocks}
+use Rattle.argon2_memory.specs.Theorems.Matrix.{Matrix}
+use Rattle.argon2_memory.specs.Theorems.Schedule.{Progress, IsSchedule, IsWrittenIn, after_slices, blocks_in_slice, pick_from, reads_from, word_from}
+use Rattle.argon2_memory.specs.Theorems.AnyOrder.{IsRun, IsEntry, progress_before, entry_position, NoEntryReadsOthers, PicksHoldTheirBlocks}
 use Rattle.argon2_memory.proofs.Schedules.AnyOrder.{Stands, run-stands, count_room, read_pick, here, later, same_slice}
 use Rattle.argon2_memory.proofs.Schedules.SliceToSlice.{after-stands}
 use Rattle.argon2_memory.proofs.Schedules.IndependentEntries.{no_shared_read}

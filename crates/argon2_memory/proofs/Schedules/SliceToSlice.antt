@@ -8,9 +8,9 @@ use Rattle.std.proofs.lemmas.List.{append-nil}
 use Rattle.argon2_standard.specs.Standard.Setting.{Setting}
 use Rattle.argon2_memory.specs.Views.Jobs.{IsSetting}
 use Rattle.argon2_standard.specs.Standard.Recurrence.{block_at}
-use Rattle.argon2_memory.specs.Laws.Matrix.{Matrix, IsBegun}
-use Rattle.argon2_memory.specs.Laws.Schedule.{IsSchedule, blocks_in_slice, next_column, after_slice, after_slices}
-use Rattle.argon2_memory.specs.Laws.AnyOrder.{EveryOrderAgrees}
+use Rattle.argon2_memory.specs.Theorems.Matrix.{Matrix, IsBegun}
+use Rattle.argon2_memory.specs.Theorems.Schedule.{IsSchedule, blocks_in_slice, next_column, after_slice, after_slices}
+use Rattle.argon2_memory.specs.Theorems.AnyOrder.{EveryOrderAgrees}
 use Rattle.argon2_memory.proofs.Recurrence.Recurrences.{block_at-recurrence}
 use Rattle.argon2_memory.proofs.Schedules.AnyOrder.{Stands, front_whole, run-stands, recurrence_first}
 

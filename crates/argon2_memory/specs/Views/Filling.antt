@@ -4,7 +4,7 @@ use Rattle.std.specs.Borrow.{Bor}
 use Rattle.std.specs.List.{range_with_len, remove}
 use Rattle.argon2_standard.specs.Standard.Setting.{Setting}
 use Rattle.argon2_memory.specs.Views.Jobs.{Job, IsJob}
-use Rattle.argon2_memory.specs.Views.Places.{HoldOthers, among, lent_blocks, places_in}
+use Rattle.argon2_memory.specs.Views.Places.{HoldOthers, among, blocks_of_lane, places_in}
 use Rattle.argon2_memory.specs.Views.Segments.{segment_block}
 use Rattle.argon2_memory.specs.Standard.Kept.{SegmentValue}
 
@@ -39,14 +39,14 @@ pub record IsAround (j : Job) (slices : List (List SegmentValue)) : Type 0 where
   pub stand_in : slice_index_or slices j.slice [] ≡ slice_index_or (remove slices j.slice) 0 []
 
 -- slices of the caller, lane after lane
-abbrev pub lent_segment : Setting → List (List ℕ) → ℕ → SegmentValue
-lent_segment s blocks lane = record { blocks = lent_blocks s blocks lane; tally = 0 }
+abbrev pub segment_of_lane : Setting → List (List ℕ) → ℕ → SegmentValue
+segment_of_lane s blocks lane = record { blocks = blocks_of_lane s blocks lane; tally = 0 }
 
-abbrev pub lent_slice : Setting → List (List ℕ) → List SegmentValue
-lent_slice s blocks = map (lent_segment s blocks) (range_with_len 0 s.lanes)
+abbrev pub slice_of_blocks : Setting → List (List ℕ) → List SegmentValue
+slice_of_blocks s blocks = map (segment_of_lane s blocks) (range_with_len 0 s.lanes)
 
-abbrev pub lent_slices : Setting → List (Bor (List (List ℕ))) → List (List SegmentValue)
-lent_slices s others = map (λ (o : Bor (List (List ℕ))). lent_slice s o.now) others
+abbrev pub slices_of_blocks : Setting → List (Bor (List (List ℕ))) → List (List SegmentValue)
+slices_of_blocks s others = map (λ (o : Bor (List (List ℕ))). slice_of_blocks s o.now) others
 
 -- ---- the segment
 

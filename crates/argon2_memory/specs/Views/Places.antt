@@ -25,12 +25,12 @@ abbrev pub places_in : List (List SegmentValue) → Places
 places_in slices slice lane = lanes_in (slice_index_or slices slice []) lane
 
 -- in a slice of the caller, lane after lane
-abbrev pub lent_blocks : Setting → List (List ℕ) → Lanes
-lent_blocks s blocks lane = take s.segment_length (drop (lane * s.segment_length) blocks)
+abbrev pub blocks_of_lane : Setting → List (List ℕ) → Lanes
+blocks_of_lane s blocks lane = take s.segment_length (drop (lane * s.segment_length) blocks)
 
 -- in slices of the caller
-abbrev pub lent_places : Setting → List (List (List ℕ)) → Places
-lent_places s slices slice lane = lent_blocks s (slice_index_or slices slice []) lane
+abbrev pub places_of_slices : Setting → List (List (List ℕ)) → Places
+places_of_slices s slices slice lane = blocks_of_lane s (slice_index_or slices slice []) lane
 
 -- the place of a slice among the three that are not the job's
 abbrev pub rank_among : Job → ℕ → ℕ
@@ -67,8 +67,8 @@ abbrev pub Fills : Job → ℕ → Places → List (List ℕ) → List (List ℕ
 Fills j lane places old new = HoldOthers j places → IsReady j.setting j.pass j.slice lane old → new ≡ segment_at j.setting j.pass j.slice lane
 
 -- the same beside three slices of the caller in rising order
-abbrev pub FillsLent : Job → ℕ → List (List (List ℕ)) → List (List ℕ) → List (List ℕ) → Type 0
-FillsLent j lane others old new = Fills j lane (among j (lent_places j.setting others)) old new
+abbrev pub FillsAmong : Job → ℕ → List (List (List ℕ)) → List (List ℕ) → List (List ℕ) → Type 0
+FillsAmong j lane others old new = Fills j lane (among j (places_of_slices j.setting others)) old new
 
 -- the last block of each of p lanes in a slice, whose segments have len blocks
 abbrev pub last_blocks_in : ℕ → ℕ → Lanes → List (List ℕ)

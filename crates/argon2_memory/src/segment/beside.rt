@@ -2,7 +2,7 @@
 
 ghost use Rattle.std.specs.Prelude.{◌≡◌, ◌*◌, ◌^◌, ◌<◌, [], map, slice_index_or, ◌≢◌, ℕ, ◌+◌, ◌/◌, ◌%◌, ◌≤◌, List, length};
 ghost use Rattle.std.specs.List.{remove};
-ghost use Rattle.argon2_memory.specs.Views.Filling.{IsAround, lent_slices, SnapshotValue, IsBeside, other_blocks, block_seen};
+ghost use Rattle.argon2_memory.specs.Views.Filling.{IsAround, slices_of_blocks, SnapshotValue, IsBeside, other_blocks, block_seen};
 ghost use Rattle.argon2_memory.specs.Views.Jobs.{position_of, first_index};
 ghost use Rattle.argon2_memory.specs.Standard.Kept.{segment_in};
 ghost use Rattle.argon2_memory.specs.Views.Sources.{IsBefore, source_block};
@@ -60,7 +60,7 @@ fn place_in_slice(job: &Job, lane: u32, index: u32) -> usize
 
 /// Caller-provided blocks, lane after lane.
 impl<'a> OtherBlocks for [&'a [Block]; 4] {
-    ghost seen = { λ setting slices. lent_slices setting slices };
+    ghost seen = { λ setting slices. slices_of_blocks setting slices };
 
     fn block(&self, job: &Job, slice: u32, lane: u32, index: u32) -> &Block {
         let place = place_in_slice(job, lane, index);
@@ -133,8 +133,8 @@ pub(super) fn beside_segments<'a>(
 
 /// The slices beside the job's, in rising order, each caller-provided, lane after lane.
 pub(super) fn beside_blocks<'a>(job: Job, others: [&'a [Block]; 3]) -> Beside<[&'a [Block]; 4]>
-    requires { IsBeside (record { job = job; others = lent_slices job.setting others }) }
-    ensures { result ≡ record { job = job; others = lent_slices job.setting others.entry } }
+    requires { IsBeside (record { job = job; others = slices_of_blocks job.setting others }) }
+    ensures { result ≡ record { job = job; others = slices_of_blocks job.setting others.entry } }
 {
     let slice = job.slice();
     Beside {

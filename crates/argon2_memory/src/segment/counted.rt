@@ -242,23 +242,23 @@ impl OwnBlocks for Segment {
 
 /// A segment whose blocks the caller provides, and how many were written, modulo 2^64.
 #[derive(Drop)]
-pub(crate) struct LentSegment<'a> {
+pub(crate) struct CallerSegment<'a> {
     blocks: &'a mut [Block],
     tally: u64,
 }
 
-impl<'a> LentSegment<'a> {
+impl<'a> CallerSegment<'a> {
     /// The blocks, whatever their contents, of which none was written yet.
-    pub(super) fn new(blocks: &'a mut [Block]) -> LentSegment<'a>
+    pub(super) fn new(blocks: &'a mut [Block]) -> CallerSegment<'a>
         ensures same { result.blocks.ghost_name ≡ blocks.entry.ghost_name }
         ensures blocks { result.blocks.now ≡ blocks.old }
         ensures tally { result.tally ≡ 0 }
     {
-        LentSegment { blocks, tally: 0 }
+        CallerSegment { blocks, tally: 0 }
     }
 }
 
-impl<'a> OwnBlocks for LentSegment<'a> {
+impl<'a> OwnBlocks for CallerSegment<'a> {
     ghost seen = { λ s. record { blocks = s.blocks.now; tally = s.tally } };
 
     ghost loan = { λ s. s.blocks.ghost_name };

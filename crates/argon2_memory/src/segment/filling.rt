@@ -1,18 +1,18 @@
 //! The fill of one segment, block after block, whether it is a memory's or the caller provides it.
 
 ghost use Rattle.std.specs.Prelude.{◌≡◌, ℕ, ◌+◌, ◌-◌, ◌*◌, ◌%◌, ◌^◌, ◌<◌, ◌≤◌, [], ◌∷◌, length, slice_index_or, true, false};
-ghost use Rattle.argon2_memory.specs.Laws.Schedule.{blocks_in_slice};
+ghost use Rattle.argon2_memory.specs.Theorems.Schedule.{blocks_in_slice};
 ghost use Rattle.argon2_memory.specs.Views.Filling.{FillsOn, IsFilledTo, IsSnapshot};
 ghost use Rattle.argon2_memory.specs.Views.References.{IsPicked, reference_of};
 ghost use Rattle.argon2_memory.specs.Views.Jobs.{position_of, first_index};
-ghost use Rattle.argon2_memory.specs.Views.Places.{FillsLent};
+ghost use Rattle.argon2_memory.specs.Views.Places.{FillsAmong};
 ghost use Rattle.argon2_memory.specs.Views.Segments.{IsReady, segment_at};
 ghost use Rattle.argon2_memory.specs.Views.Sources.{IsBefore, source_block};
 ghost use Rattle.argon2_standard.specs.Standard.Recurrence.{block_at, drawn_word};
 ghost use Rattle.argon2_standard.specs.Standard.Reference.{is_data_independent};
 
 use super::beside::{Beside, OtherBlocks, beside_blocks, source_before};
-use super::counted::{LentSegment, OwnBlocks, Segment, Source};
+use super::counted::{CallerSegment, OwnBlocks, Segment, Source};
 use super::positions::{pick, reference_positions};
 use super::snapshot::Snapshot;
 use crate::job::{Job, recall_job, stretch};
@@ -235,7 +235,7 @@ pub fn fill_segment(snapshot: &Snapshot<'_>, lane: u32, segment: &mut Segment)
 /// If the slices below the job's hold the blocks of its pass and those above it the blocks of the
 /// pass before, and the segment is as a fill of the job requires, the segment then holds the blocks
 /// of the job's pass.
-pub fn fill_lent_segment(
+pub fn fill_caller_segment(
     job: &Job,
     lane: u32,
     first: &[Block],
@@ -249,10 +249,10 @@ pub fn fill_lent_segment(
         ≡ job.now.setting.lanes * job.now.setting.segment_length }
     requires third_fits { length third.now ≡ job.now.setting.lanes * job.now.setting.segment_length }
     requires own_fits { length own.old ≡ job.now.setting.segment_length }
-    ensures { FillsLent job.now lane (first.now ∷ second.now ∷ third.now ∷ []) own.old own.new }
+    ensures { FillsAmong job.now lane (first.now ∷ second.now ∷ third.now ∷ []) own.old own.new }
 {
     recall_job(job);
     let beside = beside_blocks(*job, [first, second, third]);
-    let mut lent = LentSegment::new(own);
-    fill_own(&beside, lane, &mut lent);
+    let mut segment = CallerSegment::new(own);
+    fill_own(&beside, lane, &mut segment);
 }

@@ -15,7 +15,7 @@ use Rattle.argon2_standard.specs.declared.error.Error.{Error}
 use Rattle.argon2_standard.specs.Standard.Prehash.{le32, hashed_inputs}
 use Rattle.argon2_standard.specs.Standard.Variant.{variant_number}
 use Rattle.argon2_standard.specs.Standard.Version.{version_number}
-use Rattle.argon2_standard.specs.Standard.SettingsTable.{first_that_applies, max_lanes, max_length, refusal_of, settings_table}
+use Rattle.argon2_standard.specs.Standard.SettingsTable.{first_that_applies, max_lanes, max_length, table_error, settings_table}
 use mir.Val.{Fits}
 
 -- no row of a table has a condition that holds
@@ -43,8 +43,8 @@ pub record AreAccepted (config : Config) (salt_len hash_len : ℕ) : Type 0 wher
   pub hash_fits : hash_len ≤ max_length
 
 -- what is not rejected has its lanes, memory, passes and lengths within bounds
-pub accepted : (config : Config) (p s h : ℕ) → IsNone (refusal_of config p s h) → AreAccepted config s h
-unfolding refusal_of
+pub accepted : (config : Config) (p s h : ℕ) → IsNone (table_error config p s h) → AreAccepted config s h
+unfolding table_error
 accepted config p s h none =
     let (lanes, (many, (memory, (passes, (_, (_, (salt, (_, (_, (short, (long, _))))))))))) = none_applies (settings_table config p s h) none in
     record {
@@ -62,9 +62,9 @@ length_fits : (n : ℕ) → ltb max_length n ≡ false → Fits w32 n
 length_fits n e = let few = ltb-false max_length n e in record { fits = omega arith }
 
 -- what is not rejected has inputs whose lengths have 32 bits: the password, the salt, the secret and the associated data
-pub inputs_fit : (config : Config) (p s h : ℕ) → IsNone (refusal_of config p s h)
+pub inputs_fit : (config : Config) (p s h : ℕ) → IsNone (table_error config p s h)
     → Fits w32 p × (Fits w32 s × (Fits w32 (length config.secret.now) × Fits w32 (length config.ad.now)))
-unfolding refusal_of
+unfolding table_error
 inputs_fit config p s h none =
     let (_, (_, (_, (_, (pwd, (_, (salt, (secret, (ad, _))))))))) = none_applies (settings_table config p s h) none in
     (length_fits p pwd, (length_fits s salt, (length_fits _ secret, length_fits _ ad)))

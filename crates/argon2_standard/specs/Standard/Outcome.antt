@@ -3,7 +3,7 @@ use Rattle.std.specs.Prelude.{◌≡◌, ◌⊎◌, Option, Some, None, Result, 
 use Rattle.argon2_standard.specs.declared.error.Error.{Error}
 use Rattle.argon2_standard.specs.declared.error.Error.TheVariants.{OutOfMemory, WorkerRefused}
 use Rattle.argon2_standard.specs.declared.config.Config.{Config}
-use Rattle.argon2_standard.specs.Standard.SettingsTable.{refusal_of}
+use Rattle.argon2_standard.specs.Standard.SettingsTable.{table_error}
 use Rattle.argon2_standard.specs.Standard.Tag.{tag_of}
 
 -- a resource error, which comes only where the settings table has none: an allocation failed or, with
@@ -23,12 +23,12 @@ IsOutcome None workers P (Err e) = IsResourceError workers e
 -- resource error; `workers` says whether workers are started
 abbrev pub IsHash : {A : Type 0} → List ℕ → List ℕ → Config → Bool → (A → List ℕ → Type 0) → Result A Error → Type 0
 IsHash pwd salt config workers Shows answer =
-    IsOutcome (refusal_of config (length pwd) (length salt) config.hash_length) workers
+    IsOutcome (table_error config (length pwd) (length salt) config.hash_length) workers
     (λ value. Shows value (tag_of pwd salt config config.hash_length)) answer
 
 -- the first error of the settings table at the hash's own length, or whether the hash is the tag of that
 -- length, or a resource error
 abbrev pub IsVerdict : List ℕ → List ℕ → List ℕ → Config → Bool → Result Bool Error → Type 0
 IsVerdict pwd salt hash config workers answer =
-    IsOutcome (refusal_of config (length pwd) (length salt) (length hash)) workers
+    IsOutcome (table_error config (length pwd) (length salt) (length hash)) workers
     (λ same. IsTrue same ↔ (hash ≡ tag_of pwd salt config (length hash))) answer

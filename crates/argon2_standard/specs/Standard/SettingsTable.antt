@@ -47,5 +47,5 @@ first_that_applies [] = None
 first_that_applies ((applies, refusal) ∷ rows) = if applies then Some refusal else first_that_applies rows
 
 -- the first error of the settings table, for a password, a salt and a hash of these lengths, in bytes
-unfoldable pub refusal_of : Config → ℕ → ℕ → ℕ → Option Error
-refusal_of config pwd_len salt_len hash_len = first_that_applies (settings_table config pwd_len salt_len hash_len)
+unfoldable pub table_error : Config → ℕ → ℕ → ℕ → Option Error
+table_error config pwd_len salt_len hash_len = first_that_applies (settings_table config pwd_len salt_len hash_len)

@@ -1,8 +1,8 @@
 //! Decoding and writing an encoded hash, and what comes where memory is denied. The strings of the
 //! format's freedoms and faults are rows of `argon2_vectors`.
 
-use crate::tests::refused::tell;
-use crate::tests::settings::small;
+use crate::tests::denied::tell;
+use crate::tests::shared::small;
 use argon2::parts::context::Context;
 use argon2::parts::encoding::{decode_string, encode_string};
 use argon2::{Error, Variant, Version};
@@ -30,9 +30,7 @@ fn decode_string_refused_in_turn(rt: HostRuntime) -> Result<(), Fail> {
 #[test]
 fn encode_string_refused_in_turn(rt: HostRuntime) -> Result<(), Fail> {
     let config = small(Variant::Argon2i, Version::Version13, 1);
-    let Ok(context) = Context::new(config, b"password", b"somesalt") else {
-        return Err(Fail::from("the settings are accepted"));
-    };
+    let context = Context::new(config, b"password", b"somesalt")?;
     let answer = encode_string(rt.alloc(), &context, &TAG);
     tell(&rt, answer.map(|text| text.as_str() == TEXT))
 }
@@ -40,7 +38,7 @@ fn encode_string_refused_in_turn(rt: HostRuntime) -> Result<(), Fail> {
 // Each fault before the salt, the missing or added `$` among them, as in the rows. For these
 // nothing is allocated: whatever request is denied, the result is `DecodingFail` and not
 // `OutOfMemory`.
-const HEAD_FAULTS: [&str; 34] = [
+pub const HEAD_FAULTS: [&str; 34] = [
     "",
     "$$$$$",
     "$argon2i$v=19$m=4096,t=3,p=1c2FsdDEyMzQ$MTIzNDU2Nzg5MDEyMzQ1Njc4OTAxMjM0NTY3ODkwMTI",

@@ -9,22 +9,13 @@ use std::test::Fail;
 
 #[test]
 fn orders_variants_and_versions_by_their_numbers(rt: HostRuntime) {
-    let variants = [Variant::Argon2d, Variant::Argon2i, Variant::Argon2id];
-    assert_eq!(rt;
-        order_of_variants(&variants[0], &variants[1]),
-        Ordering::Less
-    );
-    assert_eq!(rt;
-        order_of_variants(&variants[2], &variants[1]),
-        Ordering::Greater
-    );
-    assert_eq!(rt;
-        order_of_variants(&variants[2], &variants[2]),
-        Ordering::Equal
-    );
+    let (d, i, id) = (Variant::Argon2d, Variant::Argon2i, Variant::Argon2id);
+    assert_eq!(rt; order_of_variants(&d, &i), Ordering::Less);
+    assert_eq!(rt; order_of_variants(&id, &i), Ordering::Greater);
+    assert_eq!(rt; order_of_variants(&id, &id), Ordering::Equal);
     let order = order_of_versions(&Version::Version10, &Version::Version13);
     assert_eq!(rt; order, Ordering::Less);
-    let is_less = Variant::Argon2i < Variant::Argon2id && Version::Version10 < Version::Version13;
+    let is_less = i < id && Version::Version10 < Version::Version13;
     assert!(rt; is_less, "not by the numbers");
 }
 

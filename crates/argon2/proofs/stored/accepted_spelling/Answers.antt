@@ -1,7 +1,7 @@
 -- The head of a string that decodes to a value is rejected as the value is.
 use Rattle.std.proofs.lemmas.Option.{MatchOption-at_none, MatchOption-at_some}
 use Rattle.argon2_text.specs.Views.Texts.{IsSpellingOf}
-use Rattle.argon2.proofs.Verification.StoredTexts.{head_accepted, head_refused, spells_some}
+use Rattle.argon2.proofs.Verification.StoredHashes.{head_accepted, head_rejected, spells_some}
 use Rattle.argon2.proofs.stored.accepted_spelling.Goals as goal
 
 pub returns-in_err-head-clause-spelled : goal.returns-in_err-head-clause-spelled
@@ -32,5 +32,5 @@ returns-in-Some-clause-unspelled c none =
 pub returns-in-Some-clause-spelled : goal.returns-in-Some-clause-spelled
 returns-in-Some-clause-spelled c d config spells stored =
     let s = MatchOption-at_some _ (IsSpellingOf c.args.encoded.now) c.in_ok-head.head c.in_ok-head.ensures.ok_part c.spelling_of.ensures in
-    head_refused c.args.encoded.now c.in_ok-head.head c.args.pwd_len c.args.secret.now c.args.ad.now c.refusal.result d config c.in-Some.refusal
+    head_rejected c.args.encoded.now c.in_ok-head.head c.args.pwd_len c.args.secret.now c.args.ad.now c.refusal.result d config c.in-Some.refusal
     c.refusal.ensures s c.in-Some.is spells stored

@@ -1,7 +1,7 @@
-use Rattle.argon2.proofs.TextLaws.TextMarks.{head_has_items}
-use Rattle.argon2.proofs.TextLaws.TextSpellings.{spells_one}
-use Rattle.argon2.proofs.TextLaws.TextVerdicts.{hashed_text_verifies}
-use Rattle.argon2.proofs.TextLaws.TextWritten.{is_joined_items, spells_example, spells_own_value, writes_example}
+use Rattle.argon2.proofs.TextTheorems.TextMarks.{head_has_items}
+use Rattle.argon2.proofs.TextTheorems.TextSpellings.{spells_one}
+use Rattle.argon2.proofs.TextTheorems.TextVerdicts.{hashed_text_verifies}
+use Rattle.argon2.proofs.TextTheorems.TextWritten.{is_joined_items, spells_example, spells_own_value, writes_example}
 use Rattle.argon2.proofs.Verification.Verdicts.{length_is_the_hash, own_tag_verifies, tag_forgets_mode}
 use Rattle.argon2.proofs.theorems.laws.Goals as goal
 

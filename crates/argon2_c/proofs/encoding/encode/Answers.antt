@@ -1,13 +1,13 @@
 -- The settings' own configuration has no secret and no data, as any that is asked about.
 use Rattle.std.proofs.Common.{length, refl, sym, arith, ◌∙◌}
-use Rattle.argon2_c.proofs.Inputs.{other_inputs, same_refusal}
+use Rattle.argon2_c.proofs.Inputs.{other_inputs, same_error}
 use Rattle.argon2_c.proofs.Lengths.{accepted_salt}
 use Rattle.argon2_c.proofs.encoding.encode.Goals as goal
 
 pub write_tag_text-requires : goal.write_tag_text-requires
 write_tag_text-requires c =
     let config = c.in_ok-config.config in
-    let fits = accepted_salt config 0 (length c.args.salt.now) config.hash_length (sym c.refused.ensures ∙ c.in-None.is) in
+    let fits = accepted_salt config 0 (length c.args.salt.now) config.hash_length (sym c.settings_error.ensures ∙ c.in-None.is) in
     omega (arith, fits)
 
 pub returns-in-Some : goal.returns-in-Some
@@ -16,8 +16,8 @@ returns-in-Some c secret ad no_secret no_ad =
     let is = c.in_ok-config.ensures in
     rw (
       other_inputs c.args.settings.now _ _ secret ad config is,
-      same_refusal c.args.settings.now _ _ secret ad config 0 (length c.args.salt.now) config.hash_length is (sym no_secret) (sym no_ad),
-      sym c.refused.ensures ∙ c.in-Some.is,
+      same_error c.args.settings.now _ _ secret ad config 0 (length c.args.salt.now) config.hash_length is (sym no_secret) (sym no_ad),
+      sym c.settings_error.ensures ∙ c.in-Some.is,
     ) (refl, refl)
 
 pub returns-in-None : goal.returns-in-None
@@ -26,6 +26,6 @@ returns-in-None c secret ad no_secret no_ad =
     let is = c.in_ok-config.ensures in
     rw (
       other_inputs c.args.settings.now _ _ secret ad config is,
-      same_refusal c.args.settings.now _ _ secret ad config 0 (length c.args.salt.now) config.hash_length is (sym no_secret) (sym no_ad),
-      sym c.refused.ensures ∙ c.in-None.is,
+      same_error c.args.settings.now _ _ secret ad config 0 (length c.args.salt.now) config.hash_length is (sym no_secret) (sym no_ad),
+      sym c.settings_error.ensures ∙ c.in-None.is,
     ) c.write_tag_text.ensures

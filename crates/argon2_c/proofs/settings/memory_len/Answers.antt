@@ -5,12 +5,12 @@ use Rattle.argon2_c.proofs.settings.memory_len.Goals as goal
 
 pub overflow_mul-segments : goal.overflow_mul-segments
 overflow_mul-segments c =
-    let none = sym c.refused.ensures ∙ c.in-None.is in
+    let none = sym c.settings_error.ensures ∙ c.in-None.is in
     let a = accepted c.args.config.now 0 c.from.result c.args.config.now.hash_length (rw none refl) in
     let few = a.few_lanes in omega (arith, few)
 
 pub nonzero_div-config : goal.nonzero_div-config
 nonzero_div-config c =
-    let none = sym c.refused.ensures ∙ c.in-None.is in
+    let none = sym c.settings_error.ensures ∙ c.in-None.is in
     let a = accepted c.args.config.now 0 c.from.result c.args.config.now.hash_length (rw none refl) in
     let some = a.some_lane in omega (arith, some)

@@ -6,7 +6,7 @@ use Rattle.argon2_commands.specs.Words.{texts_of}
 use Rattle.argon2_commands.specs.declared.fault.Fault.TheVariants.{Usage, Refused, TooCostly}
 use Rattle.argon2_commands.proofs.Attempts.{answer_is_no_usage, output_is_not, same_error, status_is_no_usage}
 use Rattle.argon2_commands.proofs.Checks.{fails_costly, is_costly, no_answer}
-use Rattle.argon2_commands.proofs.Refusals.{is_no_output, is_refused, passed_on, told, untouched}
+use Rattle.argon2_commands.proofs.Faults.{is_no_output, is_refused, passed_on, told, untouched}
 use Rattle.argon2_commands.proofs.runs.attempt.Goals as goal
 
 -- ---- words of no command
@@ -21,7 +21,7 @@ returns-in_err-command-clause-usage g c =
 
 pub returns-in_err-command-clause-refused : goal.returns-in_err-command-clause-refused
 returns-in_err-command-clause-refused g c =
-    passed_on c.from_residual.result c.in_err-command.field-0.0 _ c.from_residual.ensures (λ refusal refused. absurd (cc (c.in_err-command.ensures.1, refused)))
+    passed_on c.from_residual.result c.in_err-command.field-0.0 _ c.from_residual.ensures (λ error refused. absurd (cc (c.in_err-command.ensures.1, refused)))
 
 pub returns-in_err-command-clause-short : goal.returns-in_err-command-clause-short
 returns-in_err-command-clause-short g c =
@@ -135,8 +135,8 @@ returns-clause-usage g c = (
 )
 
 pub returns-clause-refused : goal.returns-clause-refused
-returns-clause-refused g c refusal =
-    output_is_not c.of_stream.result (λ fault. fault ≡ Refused refusal) c.of_stream.ensures.short c.of_stream.ensures.other (λ e. cc (e)) (λ e. cc (e))
+returns-clause-refused g c error =
+    output_is_not c.of_stream.result (λ fault. fault ≡ Refused error) c.of_stream.ensures.short c.of_stream.ensures.other (λ e. cc (e)) (λ e. cc (e))
 
 pub returns-clause-short : goal.returns-clause-short
 returns-clause-short g c _ = record {

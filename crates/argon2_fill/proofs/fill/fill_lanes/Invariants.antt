@@ -2,7 +2,7 @@ use Rattle.std.proofs.Common.{◌≡◌, ℕ, ◌+◌, ◌*◌, ◌%◌, ◌^◌
 use Rattle.argon2_memory.specs.Views.Segments.{IsReady, segment_at}
 use Rattle.argon2_memory.specs.Standard.Kept.{no_segment}
 use Rattle.argon2_memory.specs.Views.Memories.{slice_writes}
-use Rattle.argon2_memory.specs.Laws.Schedule.{blocks_in_slice}
+use Rattle.argon2_memory.specs.Theorems.Schedule.{blocks_in_slice}
 use Rattle.argon2_fill.proofs.fill.fill_lanes.Given as goal
 
 abbrev pub invariant-loop-lane : goal.invariant-loop-lane

@@ -1,7 +1,7 @@
 use Rattle.std.proofs.Common.{◌≡◌, ◌*◌, ◌<◌, length, set, get_or, arith, sym, ◌∙◌, ap, List, []}
 use Rattle.std.proofs.lemmas.List.{with_items_is}
 use Rattle.std.specs.Vec.{with_items}
-use Rattle.argon2_memory.specs.Laws.Schedule.{blocks_in_slice}
+use Rattle.argon2_memory.specs.Theorems.Schedule.{blocks_in_slice}
 use Rattle.argon2_memory.specs.Standard.Kept.{SegmentValue}
 use Rattle.argon2_memory.specs.Views.Memories.{segments_of}
 use Rattle.argon2_memory.proofs.Filling.Slices.{is_snapshot, slices_stay, filled_next, set-writes, others-taken, put_back}
@@ -25,16 +25,16 @@ returns c =
     let good = c.recall_job.ensures in
     let segments = c.take_slice-segments.result in
     let new = c.fill_lanes.new.segments in
-    let lent : c.deref_mut.result.now ≡ get_or old j.slice [] =
+    let given : c.deref_mut.result.now ≡ get_or old j.slice [] =
     c.deref_mut.ensures.value ∙ c.take_slice-segments.ensures.taken ∙ ap (λ n. get_or old n []) same in
     let length-new : length new ≡ length segments.items = c.fill_lanes.auto.segments ∙ ap (λ (l : List SegmentValue). length l) c.deref_mut.ensures.value in
     let fits : j.slice < length old = omega (arith, c.requires.slices.count, c.slice-slice.ensures) in
     let lanes : length new ≡ j.setting.lanes =
-    c.fill_lanes.auto.segments ∙ ap (λ (l : List SegmentValue). length l) lent ∙ c.requires.slices.lanes j.slice (omega (arith, c.slice-slice.ensures)) in
+    c.fill_lanes.auto.segments ∙ ap (λ (l : List SegmentValue). length l) given ∙ c.requires.slices.lanes j.slice (omega (arith, c.slice-slice.ensures)) in
     let back = put_back c.args.slices.now c.take_slice-segments.new.slices k c.take_slice-segments.ensures.left (with_items segments new) new
     (with_items_is segments new (length-new ∙ sym segments.ok.0)) ∙ ap (λ n. set old n new) same in
     let filled = rw c.new-snapshot.ensures at c.fill_lanes.ensures.filled in
-    let writes = rw (c.new-snapshot.ensures, lent) at c.fill_lanes.ensures.writes in
+    let writes = rw (c.new-snapshot.ensures, given) at c.fill_lanes.ensures.writes in
     record {
       slices = rw back (slices_stay j good old c.requires.slices c.requires.ready new lanes filled);
       filled = rw back (filled_next j good old c.requires.slices c.requires.ready new lanes filled);

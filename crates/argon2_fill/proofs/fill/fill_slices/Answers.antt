@@ -2,7 +2,7 @@ use Rattle.std.proofs.Common.{◌≡◌, ℕ, arith, ◌+◌, ◌*◌, ◌/◌, 
 use Rattle.argon2_fill.proofs.Filling.Passes.{next_slice, blocks_more, add_written}
 use Rattle.argon2_memory.specs.Views.Memories.{blocks_written, writes_in, segments_of}
 use Rattle.argon2_memory.specs.Views.Places.{places_in}
-use Rattle.argon2_memory.specs.Laws.Schedule.{blocks_in_slice}
+use Rattle.argon2_memory.specs.Theorems.Schedule.{blocks_in_slice}
 use Rattle.argon2_fill.proofs.fill.fill_slices.Goals as goal
 
 pub loop-n-preserved : goal.loop-n-preserved

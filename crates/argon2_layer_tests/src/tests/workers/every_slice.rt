@@ -4,8 +4,8 @@ ghost use Rattle.std.specs.Prelude.{IfOk};
 ghost use Rattle.argon2_memory.specs.Standard.Kept.{HasShape};
 ghost use Rattle.argon2_memory.specs.Views.Jobs.{setting_of_context};
 
-use super::overlap::reaches;
-use super::two_lanes;
+use super::overlap::wait;
+use super::{Tested, two_lanes};
 use argon2_fill::fill::{finalize, initialize, prepare_memory};
 use argon2_fill::workers::{AllPermitted, Claim, Filled, Gate, fill_parallel, fill_parallel_with};
 use argon2_memory::memory::Memory;
@@ -18,7 +18,6 @@ use std::marker::Sync;
 use std::process::Abort;
 use std::sync::Wait;
 use std::sync::atomic::{AtomicU64, Ordering};
-use std::test::Fail;
 use std::thread::Threads;
 
 /// Holds lane 0 of each slice in its filling until lane 1 was put, and lane 1 in its own until lane
@@ -40,13 +39,6 @@ impl EachSlice {
             fills: AtomicU64::new(0),
         }
     }
-
-    /// Waits until a word is a number, and notes it where that takes too long.
-    fn wait(&self, word: &AtomicU64, number: u64) {
-        if !reaches(word, number) {
-            self.late.store(1, Ordering::SeqCst);
-        }
-    }
 }
 
 impl Gate for EachSlice {
@@ -59,9 +51,9 @@ impl Gate for EachSlice {
             .fetch_add(1 << (2 * (2 * slice + lane)), Ordering::SeqCst);
         if lane == 0 {
             self.begun.store(slice + 1, Ordering::SeqCst);
-            self.wait(&self.puts, slice + 1);
+            wait(&self.puts, slice + 1, &self.late);
         } else {
-            self.wait(&self.begun, slice + 1);
+            wait(&self.begun, slice + 1, &self.late);
         }
         claim.fill(snapshot)
     }
@@ -100,28 +92,19 @@ fn check_gate(rt: &impl Abort, gate: &EachSlice) {
     assert_eq!(rt; gate.fills.load(Ordering::SeqCst), 0x5555_5555_5555);
 }
 
-/// Three passes: the first, the one that comes first of those like it, and another.
-fn three_passes() -> Config<'static> {
-    Config {
-        time_cost: 3,
-        ..two_lanes()
-    }
-}
-
-/// Fills twelve slices of two lanes by one of the two calls, and checks what the gate saw, and the
-/// tag, which is libargon2's.
-fn check_every_slice<'a, R: Threads + Wait + Sync + Abort>(
+/// Fills twelve slices of two lanes by one of the two calls, in three passes: the first, the one
+/// that comes first of those like it, and another. It checks what the gate saw, and the tag, which
+/// is libargon2's.
+fn check_every_slice<R: Threads + Wait + Sync + Abort>(
     rt: &R,
     alloc: Global,
-    config: Config<'a>,
-    password: &'a [u8],
-    salt: &'a [u8],
     with_permit: bool,
-) -> std::result::Result<(), Fail> {
-    let context = match Context::new(config, password, salt) {
-        Ok(context) => context,
-        Err(refusal) => return Err(Fail::from(refusal)),
+) -> Tested<()> {
+    let config = Config {
+        time_cost: 3,
+        ..two_lanes()
     };
+    let context = Context::new(config, b"password", b"somesalt")?;
     let gate = EachSlice::new();
     let memory = filled(rt, alloc, &context, &gate, with_permit)?;
     check_gate(rt, &gate);
@@ -134,25 +117,11 @@ fn check_every_slice<'a, R: Threads + Wait + Sync + Abort>(
 }
 
 #[test]
-fn gives_the_tag_under_a_gate(rt: HostRuntime) -> std::result::Result<(), Fail> {
-    check_every_slice(
-        &rt,
-        rt.alloc(),
-        three_passes(),
-        b"password",
-        b"somesalt",
-        false,
-    )
+fn gives_the_tag_under_a_gate(rt: HostRuntime) -> Tested<()> {
+    check_every_slice(&rt, rt.alloc(), false)
 }
 
 #[test]
-fn gives_the_tag_under_a_gate_and_a_permit(rt: HostRuntime) -> std::result::Result<(), Fail> {
-    check_every_slice(
-        &rt,
-        rt.alloc(),
-        three_passes(),
-        b"password",
-        b"somesalt",
-        true,
-    )
+fn gives_the_tag_under_a_gate_and_a_permit(rt: HostRuntime) -> Tested<()> {
+    check_every_slice(&rt, rt.alloc(), true)
 }

@@ -1,13 +1,12 @@
 //! Workers that are all in their fillings at once.
 
-use super::overlap::reaches;
-use super::{second_board, snapshot_of, two_lanes};
+use super::overlap::wait;
+use super::{Call, Tested, second_board, snapshot_of, two_lanes};
 use argon2_fill::workers::{Claim, Filled, Gate, fill_slice};
 use argon2_memory::segment::Snapshot;
 use argon2_standard::config::Config;
 use std::marker::Sync;
 use std::sync::atomic::{AtomicU64, Ordering};
-use std::test::Fail;
 
 /// More workers than a batch of handles holds.
 const WORKERS: u32 = 40;
@@ -22,9 +21,7 @@ struct Meeting {
 impl Gate for Meeting {
     fn fill(&self, claim: Claim, snapshot: &Snapshot<'_>) -> std::result::Result<Filled, Claim> {
         self.there.fetch_add(1, Ordering::SeqCst);
-        if !reaches(&self.there, u64::from(WORKERS)) {
-            self.late.store(1, Ordering::SeqCst);
-        }
+        wait(&self.there, u64::from(WORKERS), &self.late);
         claim.fill(snapshot)
     }
 
@@ -32,14 +29,14 @@ impl Gate for Meeting {
 }
 
 #[test]
-fn forty_workers_meet(rt: HostRuntime) -> std::result::Result<(), Fail> {
+fn forty_workers_meet(rt: HostRuntime) -> Tested<()> {
     let config = Config {
         lanes: WORKERS,
         mem_cost: 320,
         time_cost: 1,
         ..two_lanes()
     };
-    let (board, slices) = second_board(rt.alloc(), b"password", b"somesalt", config)?;
+    let (board, slices) = second_board(rt.alloc(), &Call::of(config))?;
     let snapshot = snapshot_of(&board, &slices);
     let gate = Meeting {
         there: AtomicU64::new(0),

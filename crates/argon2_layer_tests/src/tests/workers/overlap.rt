@@ -1,29 +1,27 @@
 //! Workers under a gate that holds one back until another has come so far.
 
-use super::{four_lanes, second_board, snapshot_of, two_lanes};
+use super::{Call, Tested, second_board, snapshot_of};
+use argon2_fill::workers::Event::{Put, Take};
 use argon2_fill::workers::{Claim, Event, Filled, Gate, fill_slice};
 use argon2_memory::segment::Snapshot;
-use argon2_standard::config::Config;
 use std::alloc::Global;
 use std::marker::Sync;
 use std::process::Abort;
 use std::sync::Wait;
 use std::sync::atomic::{AtomicU64, Ordering};
-use std::test::Fail;
 use std::thread::Threads;
 
 /// How often a gate looks before it gives up.
 const LOOKS: u32 = 1_000_000_000;
 
-/// Looks at a word until it is a number or more, and says whether it came so far before the looks
-/// were used up.
-pub(super) fn reaches(word: &AtomicU64, number: u64) -> bool {
+/// Waits until a word is a number or more, and notes in `late` where that takes too long.
+pub(super) fn wait(word: &AtomicU64, number: u64, late: &AtomicU64) {
     for _look in 0..LOOKS {
         if word.load(Ordering::SeqCst) >= number {
-            return true;
+            return;
         }
     }
-    false
+    late.store(1, Ordering::SeqCst);
 }
 
 /// Keeps lane 0 in its filling until the last lane was put, and lane 1 in its own until lane 0's
@@ -47,13 +45,6 @@ impl Hold {
             fills: AtomicU64::new(0),
         }
     }
-
-    /// Waits until a word is set, and notes it where that takes too long.
-    fn wait(&self, word: &AtomicU64) {
-        if !reaches(word, 1) {
-            self.late.store(1, Ordering::SeqCst);
-        }
-    }
 }
 
 impl Gate for Hold {
@@ -64,9 +55,9 @@ impl Gate for Hold {
         match claim.lane() {
             0 => {
                 self.begun.store(1, Ordering::SeqCst);
-                self.wait(&self.put);
+                wait(&self.put, 1, &self.late);
             }
-            1 => self.wait(&self.begun),
+            1 => wait(&self.begun, 1, &self.late),
             _ => {}
         }
         claim.fill(snapshot)
@@ -80,23 +71,21 @@ impl Gate for Hold {
 }
 
 /// Fills a slice by two workers under a gate, and checks the order of what happened.
-fn check_overlap<'a, R: Threads + Wait + Sync + Abort>(
+fn check_overlap<R: Threads + Wait + Sync + Abort>(
     rt: &R,
     alloc: Global,
-    password: &'a [u8],
-    salt: &'a [u8],
-    config: Config<'a>,
+    call: &Call,
     log: &[Event],
-) -> std::result::Result<(), Fail> {
-    let (board, slices) = second_board(alloc, password, salt, config)?;
+) -> Tested<()> {
+    let (board, slices) = second_board(alloc, call)?;
     let snapshot = snapshot_of(&board, &slices);
-    let gate = Hold::new(config.lanes.wrapping_sub(1));
+    let gate = Hold::new(call.config.lanes.wrapping_sub(1));
     let board = fill_slice(rt, board, &snapshot, &gate, 2)?;
     assert!(rt; gate.late.load(Ordering::SeqCst) == 0, "the gate gave up");
     let fills = gate.fills.load(Ordering::SeqCst);
     for lane in 0..4 {
         let calls = fills >> (16 * lane) & 0xffff;
-        assert!(rt; calls == u64::from(lane < config.lanes), "lane {lane}");
+        assert!(rt; calls == u64::from(lane < call.config.lanes), "lane {lane}");
     }
     assert_eq!(rt; board.log(), log);
     assert!(rt; board.finish().is_ok());
@@ -104,36 +93,22 @@ fn check_overlap<'a, R: Threads + Wait + Sync + Abort>(
 }
 
 #[test]
-fn fills_two_lanes_at_once(rt: HostRuntime) -> std::result::Result<(), Fail> {
-    let log = [Event::Take(0), Event::Take(1), Event::Put(1), Event::Put(0)];
-    check_overlap(
-        &rt,
-        rt.alloc(),
-        b"password",
-        b"somesalt",
-        two_lanes(),
-        log.as_slice(),
-    )
+fn fills_two_lanes_at_once(rt: HostRuntime) -> Tested<()> {
+    let log = [Take(0), Take(1), Put(1), Put(0)];
+    check_overlap(&rt, rt.alloc(), &Call::of_two_lanes(), &log)
 }
 
 #[test]
-fn fills_four_lanes_by_two_workers(rt: HostRuntime) -> std::result::Result<(), Fail> {
+fn fills_four_lanes_by_two_workers(rt: HostRuntime) -> Tested<()> {
     let log = [
-        Event::Take(0),
-        Event::Take(1),
-        Event::Put(1),
-        Event::Take(2),
-        Event::Put(2),
-        Event::Take(3),
-        Event::Put(3),
-        Event::Put(0),
+        Take(0),
+        Take(1),
+        Put(1),
+        Take(2),
+        Put(2),
+        Take(3),
+        Put(3),
+        Put(0),
     ];
-    check_overlap(
-        &rt,
-        rt.alloc(),
-        &[1; 32],
-        &[2; 16],
-        four_lanes(),
-        log.as_slice(),
-    )
+    check_overlap(&rt, rt.alloc(), &Call::of_four_lanes(), &log)
 }

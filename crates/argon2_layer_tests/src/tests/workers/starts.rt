@@ -1,12 +1,11 @@
 //! Which workers start, counted by a gate.
 
-use super::{AllBut, four_lanes, second_board, snapshot_of, two_lanes};
+use super::{AllBut, Call, Tested, second_board, snapshot_of};
 use argon2_fill::workers::{Claim, Filled, Gate, Permit, fill_slice, fill_slice_with};
 use argon2_memory::segment::Snapshot;
 use argon2_standard::error::Error;
 use std::marker::Sync;
 use std::sync::atomic::{AtomicU64, Ordering};
-use std::test::Fail;
 
 /// How often a filling looks whether too many are under way.
 const LOOKS: u32 = 20_000_000;
@@ -63,13 +62,13 @@ impl Permit for Nobody {
 }
 
 #[test]
-fn starts_the_others_of_a_refused_worker(rt: HostRuntime) -> std::result::Result<(), Fail> {
+fn starts_the_others_of_a_refused_worker(rt: HostRuntime) -> Tested<()> {
     let alloc = rt.alloc();
-    for refused in 0..2 {
-        let (board, slices) = second_board(alloc, b"password", b"somesalt", two_lanes())?;
+    for denied in 0..2 {
+        let (board, slices) = second_board(alloc, &Call::of_two_lanes())?;
         let snapshot = snapshot_of(&board, &slices);
         let gate = Count::new(1);
-        let board = fill_slice_with(&rt, board, &snapshot, &gate, &AllBut(refused), 0, 2);
+        let board = fill_slice_with(&rt, board, &snapshot, &gate, &AllBut(denied), 0, 2);
         assert!(rt; board.err() == Some(Error::WorkerRefused));
         assert_eq!(rt; gate.fills.load(Ordering::SeqCst), 2);
         assert!(rt; gate.too_many.load(Ordering::SeqCst) == 0, "two started");
@@ -78,9 +77,9 @@ fn starts_the_others_of_a_refused_worker(rt: HostRuntime) -> std::result::Result
 }
 
 #[test]
-fn starts_nobody_without_a_permit(rt: HostRuntime) -> std::result::Result<(), Fail> {
+fn starts_nobody_without_a_permit(rt: HostRuntime) -> Tested<()> {
     let alloc = rt.alloc();
-    let (board, slices) = second_board(alloc, b"password", b"somesalt", two_lanes())?;
+    let (board, slices) = second_board(alloc, &Call::of_two_lanes())?;
     let snapshot = snapshot_of(&board, &slices);
     let gate = Count::new(0);
     let board = fill_slice_with(&rt, board, &snapshot, &gate, &Nobody, 0, 2);
@@ -90,17 +89,14 @@ fn starts_nobody_without_a_permit(rt: HostRuntime) -> std::result::Result<(), Fa
 }
 
 #[test]
-fn starts_no_more_than_asked(rt: HostRuntime) -> std::result::Result<(), Fail> {
+fn starts_no_more_than_asked(rt: HostRuntime) -> Tested<()> {
     let alloc = rt.alloc();
-    let (board, slices) = second_board(alloc, &[1; 32], &[2; 16], four_lanes())?;
+    let (board, slices) = second_board(alloc, &Call::of_four_lanes())?;
     let snapshot = snapshot_of(&board, &slices);
     let gate = Count::new(2);
     let board = fill_slice(&rt, board, &snapshot, &gate, 2)?;
     assert!(rt; board.finish().is_ok());
     assert_eq!(rt; gate.fills.load(Ordering::SeqCst), 4);
-    assert!(rt;
-        gate.too_many.load(Ordering::SeqCst) == 0,
-        "three fill at once"
-    );
+    assert_eq!(rt; gate.too_many.load(Ordering::SeqCst), 0);
     Ok(())
 }

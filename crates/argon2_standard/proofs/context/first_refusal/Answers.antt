@@ -3,4 +3,4 @@ use Rattle.std.proofs.Common.{refl}
 use Rattle.argon2_standard.proofs.context.first_refusal.Goals as goal
 
 pub returns : goal.returns
-returns c = c.refusal_of_lengths.ensures c.args.config.now.secret c.args.config.now.ad refl refl
+returns c = c.error_of_lengths.ensures c.args.config.now.secret c.args.config.now.ad refl refl

@@ -1,5 +1,5 @@
 use Rattle.std.proofs.Common.{nat_lt, refl}
-use Rattle.argon2.proofs.Verification.StoredTexts.{verdict_without}
+use Rattle.argon2.proofs.Verification.StoredHashes.{verdict_without}
 use Rattle.argon2.proofs.verifying.texts.verify_encoded.Goals as goal
 
 pub returns-clause-spelled : goal.returns-clause-spelled

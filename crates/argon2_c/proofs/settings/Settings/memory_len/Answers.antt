@@ -1,6 +1,6 @@
 use Rattle.std.proofs.Common.{refl, sym}
 use Rattle.argon2_standard.specs.Standard.SettingsTable.{min_salt_length}
-use Rattle.argon2_c.proofs.Inputs.{no_inputs, other_inputs, same_refusal}
+use Rattle.argon2_c.proofs.Inputs.{no_inputs, other_inputs, same_error}
 use Rattle.argon2_c.proofs.settings.Settings.memory_len.Goals as goal
 
 pub returns-in-Ok : goal.returns-in-Ok
@@ -9,7 +9,7 @@ returns-in-Ok c secret ad no_secret no_ad =
     let is = c.in-Ok.ensures in
     rw (
       other_inputs c.args.self.now _ _ secret ad config is,
-      same_refusal c.args.self.now _ _ secret ad config 0 min_salt_length config.hash_length is (sym no_secret) (sym no_ad),
+      same_error c.args.self.now _ _ secret ad config 0 min_salt_length config.hash_length is (sym no_secret) (sym no_ad),
     ) c.memory_len.ensures
 
 pub returns-in-Err : goal.returns-in-Err

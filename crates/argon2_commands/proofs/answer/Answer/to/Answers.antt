@@ -1,10 +1,10 @@
 use Rattle.std.proofs.Common.{Err, Ok, inl, inr, refl, string_bytes, subst}
 use Rattle.std.proofs.lemmas.Result.{IfOk-from_err}
 use Rattle.argon2_standard.specs.declared.error.Error.TheVariants.{OutOfMemory}
-use Rattle.argon2_commands.specs.Answer.{CheckAnswers, HashAnswers, IsRefusal, MayRefuse, NeedsNoInput, VerifyAnswers}
+use Rattle.argon2_commands.specs.Answer.{CheckAnswers, HashAnswers, IsHashError, MayBeError, NeedsNoInput, VerifyAnswers}
 use Rattle.argon2_commands.proofs.Checks.{check_fault}
-use Rattle.argon2_commands.proofs.Passwords.{hash_of_input, refusal_of_input, verify_of_input}
-use Rattle.argon2_commands.proofs.Refusals.{passed_on, read_fault, untouched}
+use Rattle.argon2_commands.proofs.Passwords.{hash_of_input, error_of_input, verify_of_input}
+use Rattle.argon2_commands.proofs.Faults.{passed_on, read_fault, untouched}
 use Rattle.argon2_commands.proofs.answer.Answer.to.Goals as goal
 
 -- ---- a fault
@@ -44,7 +44,7 @@ returns-in_err-password-in-Hash-clause-answer g c = IfOk-from_err _ _ c.from_res
 
 pub returns-in_err-password-in-Hash-clause-fault : goal.returns-in_err-password-in-Hash-clause-fault
 returns-in_err-password-in-Hash-clause-fault g c =
-    let may : MayRefuse c.args.command.now (g.I.Read.remaining c.args.input.now) OutOfMemory = rw c.in-Hash.is (inl refl) in
+    let may : MayBeError c.args.command.now (g.I.Read.remaining c.args.input.now) OutOfMemory = rw c.in-Hash.is (inl refl) in
     passed_on _ _ _ c.from_residual.ensures (read_fault _ _ _ c.in_err-password-in-Hash.ensures.fault may)
 
 pub returns-in_err-password-in-Hash-clause-unread : goal.returns-in_err-password-in-Hash-clause-unread
@@ -55,7 +55,7 @@ returns-in_err-password-in-Verify-clause-answer g c = IfOk-from_err _ _ c.from_r
 
 pub returns-in_err-password-in-Verify-clause-fault : goal.returns-in_err-password-in-Verify-clause-fault
 returns-in_err-password-in-Verify-clause-fault g c =
-    let may : MayRefuse c.args.command.now (g.I.Read.remaining c.args.input.now) OutOfMemory = rw c.in-Verify.is (inl refl) in
+    let may : MayBeError c.args.command.now (g.I.Read.remaining c.args.input.now) OutOfMemory = rw c.in-Verify.is (inl refl) in
     passed_on _ _ _ c.from_residual-in_err-password-in-Verify.ensures (read_fault _ _ _ c.in_err-password-in-Verify.ensures.fault may)
 
 pub returns-in_err-password-in-Verify-clause-unread : goal.returns-in_err-password-in-Verify-clause-unread
@@ -90,9 +90,9 @@ returns-in_ok-needs_rehash-in-Rehash-clause-unread g c need = untouched (g.I.Rea
 
 pub returns-in_err-lines-in-Hash-clause-fault : goal.returns-in_err-lines-in-Hash-clause-fault
 returns-in_err-lines-in-Hash-clause-fault g c = rw c.in-Hash.is
-    (passed_on _ _ _ c.from_residual-in_err-lines-in-Hash.ensures (inr (refusal_of_input _ _ _ _ _ c.in_ok-password-in-Hash.ensures.bytes
-    (subst (λ read. IsRefusal c.in-Hash.config c.in-Hash.salt.now read c.in_err-lines-in-Hash.field-0.0) c.as_slice.ensures.value
-    (subst (λ salt. IsRefusal c.in-Hash.config salt c.as_slice.result.now c.in_err-lines-in-Hash.field-0.0)
+    (passed_on _ _ _ c.from_residual-in_err-lines-in-Hash.ensures (inr (error_of_input _ _ _ _ _ c.in_ok-password-in-Hash.ensures.bytes
+    (subst (λ read. IsHashError c.in-Hash.config c.in-Hash.salt.now read c.in_err-lines-in-Hash.field-0.0) c.as_slice.ensures.value
+    (subst (λ salt. IsHashError c.in-Hash.config salt c.as_slice.result.now c.in_err-lines-in-Hash.field-0.0)
     c.as_bytes.ensures.value c.in_err-lines-in-Hash.ensures.refused)))))
 
 pub returns-in_ok-lines-in-Hash-clause-answer : goal.returns-in_ok-lines-in-Hash-clause-answer

@@ -1,0 +1,39 @@
+-- The configuration that an encoded hash is verified with.
+use Rattle.std.specs.Prelude.{◌≡◌, ℕ, List, Option, None, Some, Result, Ok, Err, length, min, nat_lt, if◌then◌else◌}
+use Rattle.argon2_standard.specs.declared.error.Error.{Error}
+use Rattle.argon2_standard.specs.declared.config.Config.{Config}
+use Rattle.argon2_standard.specs.declared.thread_mode.ThreadMode.TheVariants.{AtMost, Sequential}
+use Rattle.argon2_standard.specs.Standard.SettingsTable.{max_length, table_error}
+use Rattle.argon2_standard.specs.Standard.Text.{Spelled}
+
+-- the configuration has the settings of a decoded hash, and this secret and associated data: all that a
+-- verdict looks at
+pub record IsStoredConfig (d : Spelled) (given_secret given_ad : List ℕ) (config : Config) : Type 0 where
+  pub variant : config.variant ≡ d.variant
+  pub version : config.version ≡ d.version
+  pub mem_cost : config.mem_cost ≡ d.mem_cost
+  pub time_cost : config.time_cost ≡ d.time_cost
+  pub lanes : config.lanes ≡ d.parallelism
+  pub secret : config.secret.now ≡ given_secret
+  pub ad : config.ad.now ≡ given_ad
+
+-- the settings table rejects none of the settings for a password of this length
+abbrev pub IsAccepted : Spelled → ℕ → List ℕ → List ℕ → Type 0
+IsAccepted d pwd_len secret ad = (config : Config) → IsStoredConfig d secret ad config
+    → table_error config pwd_len (length d.salt) (length d.hash) ≡ None
+
+-- the error, where there is one; else a value for which P holds
+abbrev pub IsAccepting : {A : Type 0} → Option Error → (A → Type 0) → Result A Error → Type 0
+IsAccepting (Some refusal) P result = result ≡ Err refusal
+IsAccepting None P (Ok value) = P value
+IsAccepting None P (Err e) = ⊥
+
+-- the most workers that verify one encoded hash
+abbrev pub max_workers : ℕ
+max_workers = 16
+
+-- the configuration in use: few workers, and the length of the hash as far as the field holds it
+pub record IsConfigOf (d : Spelled) (secret ad : List ℕ) (config : Config) : Type 0 where
+  pub stored : IsStoredConfig d secret ad config
+  pub thread_mode : config.thread_mode ≡ (if nat_lt 1 d.parallelism then AtMost max_workers else Sequential)
+  pub hash_length : config.hash_length ≡ min (length d.hash) max_length

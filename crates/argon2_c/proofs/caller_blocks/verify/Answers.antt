@@ -1,0 +1,11 @@
+-- The length of the hash stands in the configuration in place of the settings'.
+use Rattle.std.proofs.Common.{sym}
+use Rattle.argon2_standard.specs.Standard.Prehash.{prehash_of, setting_of}
+use Rattle.argon2_standard.specs.Standard.Tag.{tag_of}
+use Rattle.argon2_c.proofs.caller_blocks.verify.Goals as goal
+
+pub returns : goal.returns
+unfolding tag_of setting_of prehash_of
+returns c =
+    let e = c.in_ok-context.ensures in
+    rw (sym c.in_ok-config.ensures, e.accepted) (rw (e.inputs.0, e.inputs.1, e.config) at c.verify_context.ensures)

@@ -1,6 +1,0 @@
-use Rattle.std.proofs.Common.{refl}
-use Rattle.argon2_c.proofs.Numbers.{variant_of-none}
-use Rattle.argon2_c.proofs.jobs.LentJob.job.Goals as goal
-
-pub returns-in-Err : goal.returns-in-Err
-returns-in-Err c = rw (variant_of-none c.args.self.now.variant c.in-Err.ensures.read.1) (refl, refl)

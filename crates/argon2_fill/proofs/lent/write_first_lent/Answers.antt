@@ -1,8 +1,0 @@
-use Rattle.argon2_fill.proofs.Filling.Lent.{lent_begun}
-use Rattle.argon2_fill.proofs.lent.write_first_lent.Goals as goal
-
-pub returns : goal.returns
-returns c =
-    let q = c.requires in
-    lent_begun c.args.job.now.setting c.recall_job.ensures.setting c.args.lane q.lane_fits c.args.own.now q.own_fits
-    c.write_first_block.new.block c.write_first_block-2.new.block c.write_first_block.ensures c.write_first_block-2.ensures
