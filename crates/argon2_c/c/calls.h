@@ -9,11 +9,11 @@
 
 enum { LONGEST = 96, INPUTS = 40 };
 
-typedef struct call {
+struct call {
     proved_argon2_settings settings;
     uint8_t pwd[INPUTS], salt[INPUTS], secret[INPUTS], ad[INPUTS];
     uint32_t pwd_len, salt_len, secret_len, ad_len;
-} call;
+};
 
 static uint64_t state = 88172645463325252u;
 
@@ -33,47 +33,47 @@ static inline uint32_t some(uint8_t *bytes, uint32_t least)
     return least + below(INPUTS - least);
 }
 
-static inline call any_call(uint32_t most_lanes)
+static inline struct call any_call(uint32_t most_lanes)
 {
-    call it;
+    struct call call;
     const uint32_t lanes = 1 + below(below(2) ? most_lanes : 8), version = below(2) ? 0x10 : 0x13;
-    it.settings = (proved_argon2_settings){
+    call.settings = (proved_argon2_settings){
         below(3), version, 8 * lanes + below(300), 1 + below(3), lanes, 4 + below(LONGEST - 4)};
-    it.pwd_len = some(it.pwd, 0);
-    it.salt_len = some(it.salt, 8);
-    it.secret_len = some(it.secret, 0);
-    it.ad_len = some(it.ad, 0);
-    return it;
+    call.pwd_len = some(call.pwd, 0);
+    call.salt_len = some(call.salt, 8);
+    call.secret_len = some(call.secret, 0);
+    call.ad_len = some(call.ad, 0);
+    return call;
 }
 
-static inline uint32_t hash_raw(const proved_argon2_options *with, const call *it, uint8_t *out)
+static inline uint32_t hash_raw(const proved_argon2_options *with, const struct call *call, uint8_t *out)
 {
-    return proved_argon2_hash_raw_with(with, it->pwd, it->pwd_len, it->salt, it->salt_len, it->secret, it->secret_len,
-        it->ad, it->ad_len, &it->settings, out, it->settings.hash_length);
+    return proved_argon2_hash_raw_with(with, call->pwd, call->pwd_len, call->salt, call->salt_len, call->secret,
+        call->secret_len, call->ad, call->ad_len, &call->settings, out, call->settings.hash_length);
 }
 
-static inline uint32_t hash_encoded(const proved_argon2_options *with, const call *it, char *text, size_t len)
+static inline uint32_t hash_encoded(const proved_argon2_options *with, const struct call *call, char *text, size_t len)
 {
-    return proved_argon2_hash_encoded_with(with, it->pwd, it->pwd_len, it->salt, it->salt_len, it->secret,
-        it->secret_len, it->ad, it->ad_len, &it->settings, text, len);
+    return proved_argon2_hash_encoded_with(with, call->pwd, call->pwd_len, call->salt, call->salt_len, call->secret,
+        call->secret_len, call->ad, call->ad_len, &call->settings, text, len);
 }
 
-static inline uint32_t verify_raw(const proved_argon2_options *with, const call *it, const uint8_t *hash)
+static inline uint32_t verify_raw(const proved_argon2_options *with, const struct call *call, const uint8_t *hash)
 {
-    return proved_argon2_verify_raw_with(with, it->pwd, it->pwd_len, it->salt, it->salt_len, it->secret, it->secret_len,
-        it->ad, it->ad_len, &it->settings, hash, it->settings.hash_length);
+    return proved_argon2_verify_raw_with(with, call->pwd, call->pwd_len, call->salt, call->salt_len, call->secret,
+        call->secret_len, call->ad, call->ad_len, &call->settings, hash, call->settings.hash_length);
 }
 
-static inline uint32_t verify_encoded(const proved_argon2_options *with, const call *it, const char *text)
+static inline uint32_t verify_encoded(const proved_argon2_options *with, const struct call *call, const char *text)
 {
     return proved_argon2_verify_encoded_with(
-        with, text, strlen(text), it->pwd, it->pwd_len, it->secret, it->secret_len, it->ad, it->ad_len);
+        with, text, strlen(text), call->pwd, call->pwd_len, call->secret, call->secret_len, call->ad, call->ad_len);
 }
 
 /* The tag of libargon2. */
-static inline bool peer(const call *it, uint8_t *out)
+static inline bool peer(const struct call *call, uint8_t *out)
 {
-    call own = *it;
+    struct call own = *call;
     argon2_context context = {.out = out,
         .outlen = own.settings.hash_length,
         .pwd = own.pwd,

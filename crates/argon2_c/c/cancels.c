@@ -5,7 +5,7 @@
 #include <unistd.h>
 
 /* Of 2 MiB by 4 lanes; the tag is that of libargon2. */
-static const call it = {
+static const struct call call = {
     {PROVED_ARGON2_ID, PROVED_ARGON2_VERSION_13, 2048, 3, 4, 32}, "password", "somesalt", "", "", 8, 8, 0, 0};
 static uint8_t expected[LONGEST], out[LONGEST];
 
@@ -33,7 +33,7 @@ static void *computes(void *arg)
 {
     cancelled *const self = arg;
     pthread_setcanceltype(self->type, NULL);
-    self->code = hash_raw(&self->with, &it, out);
+    self->code = hash_raw(&self->with, &call, out);
     self->is_after = 1;
     pthread_testcancel();
     return NULL;
@@ -76,7 +76,7 @@ static void check_state(void)
     const proved_argon2_options with = by(4);
     int before_call = -1, after = -1;
     pthread_setcancelstate(PTHREAD_CANCEL_DISABLE, &before_call);
-    const uint32_t code = hash_raw(&with, &it, out);
+    const uint32_t code = hash_raw(&with, &call, out);
     pthread_setcancelstate(PTHREAD_CANCEL_ENABLE, &after);
     check(code == PROVED_ARGON2_OK && before_call == PTHREAD_CANCEL_ENABLE && after == PTHREAD_CANCEL_DISABLE,
         "whether the thread can be cancelled is as it was");
@@ -84,7 +84,7 @@ static void check_state(void)
 
 int main(void)
 {
-    check(peer(&it, expected), "what is asked");
+    check(peer(&call, expected), "what is asked");
     check_cancelling(PTHREAD_CANCEL_DEFERRED, "a call goes on where its thread is cancelled");
     check_cancelling(PTHREAD_CANCEL_ASYNCHRONOUS, "a call goes on where its thread is cancelled at once");
     check_state();

@@ -86,7 +86,7 @@ static void show_text(void)
     free(text);
 }
 
-static void show_refusals(void)
+static void show_errors(void)
 {
     uint8_t tag[sizeof expected_tag];
     uint32_t code = proved_argon2_hash_raw(
@@ -110,6 +110,6 @@ int main(void)
     expect(
         verify("$argon2id$v=19$m=4294967295,t=1,p=1$c29tZXNhbHQ$c29tZWhhc2g", "password") == PROVED_ARGON2_TOO_COSTLY,
         "an encoded hash of 4 TiB is too costly");
-    show_refusals();
+    show_errors();
     return EXIT_SUCCESS;
 }

@@ -1,6 +1,6 @@
 /*
- * The steps of a hash over caller-provided blocks: tags by lanes in two orders, and the job of an encoded hash. unfit.c
- * has the numbers, lengths and addresses that do not fit a job.
+ * The steps of a hash over caller-provided blocks: tags by lanes in two orders, and the job of an encoded hash.
+ * invalid_steps.c has the numbers, lengths and addresses that do not fit a job.
  *
  * The tags are those of RFC 9106, section 5, and of the tests of the C reference implementation.
  */

@@ -11,14 +11,15 @@ enum { TAG = 32, SMALL = 256, LARGE = 3072, HUGE_PAGE = 2 << 20 };
 static uint8_t buffer[256], before[256];
 
 /* The call, of so many KiB by 4 lanes, its tag, its text and its job. */
-static call it;
+static struct call call;
 static uint8_t tag[TAG];
 static char text[256], written[256];
 static proved_argon2_job job;
 static proved_argon2_options with;
 
-#define INPUTS it.pwd, it.pwd_len, it.salt, it.salt_len, it.secret, it.secret_len, it.ad, it.ad_len, &it.settings
-#define STORED text, strlen(text), it.pwd, it.pwd_len, it.secret, it.secret_len, it.ad, it.ad_len
+#define INPUTS \
+    call.pwd, call.pwd_len, call.salt, call.salt_len, call.secret, call.secret_len, call.ad, call.ad_len, &call.settings
+#define STORED text, strlen(text), call.pwd, call.pwd_len, call.secret, call.secret_len, call.ad, call.ad_len
 /* clang-format off */
 #define CALL(name, ...) static uint32_t does_##name(void) { return proved_argon2_##name(__VA_ARGS__); }
 /* clang-format on */
@@ -54,9 +55,9 @@ static void make(uint32_t mem_cost)
 {
     refuse_nothing();
     const proved_argon2_options alone = by(1);
-    it = (call){{PROVED_ARGON2_ID, PROVED_ARGON2_VERSION_13, mem_cost, 2, 4, TAG}, "password", "somesalt", "secret",
-        "data", 8, 8, 6, 4};
-    const bool good = peer(&it, tag) && hash_encoded(&alone, &it, text, sizeof text) == PROVED_ARGON2_OK
+    call = (struct call){{PROVED_ARGON2_ID, PROVED_ARGON2_VERSION_13, mem_cost, 2, 4, TAG}, "password", "somesalt",
+        "secret", "data", 8, 8, 6, 4};
+    const bool good = peer(&call, tag) && hash_encoded(&alone, &call, text, sizeof text) == PROVED_ARGON2_OK
         && proved_argon2_job_make(INPUTS, &job) == PROVED_ARGON2_OK;
     check(good, "what is asked");
 }
@@ -87,21 +88,21 @@ static bool ends_well(const struct row *row, size_t number, size_t of_team)
 /* Refuses the first request, the second and so on, until a run asks for no more. */
 static void check_call(const struct row *row, uint32_t threads)
 {
-    const size_t blocks = (size_t)it.settings.mem_cost * 1024;
-    const bool has_team = threads > 1 && it.settings.mem_cost == LARGE;
-    const size_t wanted = 1 + row->bytes + (has_team ? 2 : with.tell != NULL ? 1 : 0);
+    const size_t blocks = (size_t)call.settings.mem_cost * 1024;
+    const bool has_team = threads > 1 && call.settings.mem_cost == LARGE;
+    const size_t expected = 1 + row->bytes + (has_team ? 2 : with.tell != NULL ? 1 : 0);
     size_t number = 1;
     bool good = true;
     char name[96];
     with.threads = threads;
     do {
-        good = ends_well(row, number, has_team ? wanted : 0);
+        good = ends_well(row, number, has_team ? expected : 0);
     } while (good && requests >= number++ && number < 100);
     /* (a mapping is cut out of one that has a huge page more) */
     const size_t most = blocks + 2048 + (blocks < HUGE_PAGE ? 0 : HUGE_PAGE);
     snprintf(name, sizeof name, "%s of %u KiB by %u threads makes %zu requests, each of which may be refused",
-        row->name, (unsigned)it.settings.mem_cost, (unsigned)threads, wanted);
-    check(good && requests == wanted && most_held >= blocks && most_held <= most, name);
+        row->name, (unsigned)call.settings.mem_cost, (unsigned)threads, expected);
+    check(good && requests == expected && most_held >= blocks && most_held <= most, name);
 }
 
 /* A call with pages refused at one of the populatings of its mapping. Where the system has none, that is a shortage, which
@@ -124,7 +125,7 @@ static bool ends_well_unpopulated(const struct row *row, size_t number, int how)
 /* All pages are asked for once, as huge ones, and each of the parts may be refused. */
 static void check_populating(const struct row *row, uint32_t threads)
 {
-    const size_t blocks = (size_t)it.settings.mem_cost * 1024;
+    const size_t blocks = (size_t)call.settings.mem_cost * 1024;
     char name[96];
     with = by(threads);
     bool good = ends_well_unpopulated(row, 0, 0) && populated == blocks
@@ -175,7 +176,7 @@ static bool takes_no_more(uint32_t mem_cost, uint32_t threads)
 {
     enum { BESIDE = 64 * 1024, OF_A_THREAD = 48 * 1024 };
     size_t at_its_end = 0;
-    it.settings = (proved_argon2_settings){PROVED_ARGON2_ID, PROVED_ARGON2_VERSION_13, mem_cost, 1, 4, TAG};
+    call.settings = (proved_argon2_settings){PROVED_ARGON2_ID, PROVED_ARGON2_VERSION_13, mem_cost, 1, 4, TAG};
     with = by(threads);
     with.tell = measures;
     with.arg = &at_its_end;
@@ -228,21 +229,21 @@ static void check_memory_new(uint32_t mem_cost)
 {
     void *memory = &memory;
     size_t len = 5;
-    it.settings.mem_cost = mem_cost;
+    call.settings.mem_cost = mem_cost;
     held = 0;
     refuse_request(1);
     errno = 77;
-    uint32_t code = proved_argon2_memory_new(&it.settings, &memory, &len);
+    uint32_t code = proved_argon2_memory_new(&call.settings, &memory, &len);
     check(code == PROVED_ARGON2_OUT_OF_MEMORY && memory == &memory && len == 5 && errno == 77 && held == 0,
         "a memory that is refused");
     refuse_nothing();
-    code = proved_argon2_memory_new(&it.settings, &memory, &len);
+    code = proved_argon2_memory_new(&call.settings, &memory, &len);
     check(code == PROVED_ARGON2_OK && requests == 1 && held >= len, "a memory is one request");
     proved_argon2_memory_free(memory, len);
     check(held == 0 && errno == 77, "and is given back");
 }
 
-#define REFUSED_TEXT(it) it, strlen(it), NULL, 0, NULL, 0, NULL, 0
+#define REFUSED_TEXT(text) text, strlen(text), NULL, 0, NULL, 0, NULL, 0
 
 /* Calls that take no memory, and refusals that come before any is taken, even where it would be refused. */
 static void check_without_memory(void)
@@ -251,7 +252,7 @@ static void check_without_memory(void)
                       no_hash[] = "$argon2d$m=256,t=2,p=1$c2";
     static const char right[] = "$argon2d$m=256,t=2,p=1$c29tZXNhbHQ$vUBIaP8AxS51Q8gzLmp3KlckiS1+Mo1c8lO7yOcms3E";
     const proved_argon2_limits below = {256, 2, 1, 511};
-    proved_argon2_settings refused = it.settings;
+    proved_argon2_settings refused = call.settings;
     proved_argon2_stored stored;
     proved_argon2_job job;
     uint8_t salt[8], hash[32];
@@ -261,17 +262,17 @@ static void check_without_memory(void)
     with = by(4);
     with.limits = &below;
     refuse_request(1);
-    const uint32_t little = proved_argon2_hash_raw(NULL, 0, it.salt, 8, NULL, 0, NULL, 0, &refused, buffer, TAG);
+    const uint32_t little = proved_argon2_hash_raw(NULL, 0, call.salt, 8, NULL, 0, NULL, 0, &refused, buffer, TAG);
     const uint32_t shorter = proved_argon2_hash_raw(
-        NULL, 0, it.salt, 8, NULL, 0, NULL, 0, &it.settings, buffer, TAG - 1);
-    const size_t without_zero = (size_t)proved_argon2_encoded_len(&it.settings, 8);
+        NULL, 0, call.salt, 8, NULL, 0, NULL, 0, &call.settings, buffer, TAG - 1);
+    const size_t without_zero = (size_t)proved_argon2_encoded_len(&call.settings, 8);
     const uint32_t full = proved_argon2_hash_encoded(
-        NULL, 0, it.salt, 8, NULL, 0, NULL, 0, &it.settings, written, without_zero);
+        NULL, 0, call.salt, 8, NULL, 0, NULL, 0, &call.settings, written, without_zero);
     const uint32_t text_of_none = proved_argon2_verify_encoded(REFUSED_TEXT(no_passes));
     const uint32_t costly = proved_argon2_verify_encoded_within(REFUSED_TEXT(right), &below);
     const uint32_t costly_with = proved_argon2_verify_encoded_with(&with, REFUSED_TEXT(right));
     const uint32_t no_memory = proved_argon2_memory_new(&refused, &memory, &len);
-    const uint32_t made = proved_argon2_job_make(NULL, 0, it.salt, 8, NULL, 0, NULL, 0, &it.settings, &job);
+    const uint32_t made = proved_argon2_job_make(NULL, 0, call.salt, 8, NULL, 0, NULL, 0, &call.settings, &job);
     const uint32_t run = made ? made : proved_argon2_job_run(&with, &job, buffer, TAG - 1);
     check(requests == 0 && little == PROVED_ARGON2_LANES_TOO_FEW && shorter == PROVED_ARGON2_WRONG_LENGTH
             && full == PROVED_ARGON2_WRONG_LENGTH && text_of_none == PROVED_ARGON2_TIME_TOO_SMALL
@@ -280,10 +281,10 @@ static void check_without_memory(void)
     const uint32_t fault = proved_argon2_read(no_hash, strlen(no_hash), &stored);
     const uint32_t read = proved_argon2_read(right, strlen(right), &stored);
     const uint32_t bytes = proved_argon2_read_bytes(right, strlen(right), salt, 8, hash, 32);
-    const uint32_t rehash = proved_argon2_needs_rehash(right, strlen(right), &it.settings);
+    const uint32_t rehash = proved_argon2_needs_rehash(right, strlen(right), &call.settings);
     check(requests == 0 && fault == PROVED_ARGON2_DECODING_FAIL && read == PROVED_ARGON2_OK && bytes == PROVED_ARGON2_OK
             && rehash == PROVED_ARGON2_NEEDS_REHASH && proved_argon2_message(0) != NULL
-            && proved_argon2_encoded_len(&it.settings, 8) > 0 && proved_argon2_memory_len(&it.settings) > 0,
+            && proved_argon2_encoded_len(&call.settings, 8) > 0 && proved_argon2_memory_len(&call.settings) > 0,
         "nor do the calls that hash and verify nothing");
 }
 

@@ -1,5 +1,5 @@
 /*
- * Every number of the header, asked of the library: each refusal's with its text, the variants and the
+ * Every number of the header, asked of the library: each error's with its text, the variants and the
  * versions, the limits and the recommended settings.
  *
  * The tags are those of RFC 9106, section 5, and of the tests of the C reference implementation.
@@ -10,15 +10,15 @@
 
 static const proved_argon2_settings small = {PROVED_ARGON2_ID, PROVED_ARGON2_VERSION_13, 8, 1, 1, 32};
 
-/* ---- refusals */
+/* ---- errors */
 
-typedef struct refusal {
+typedef struct known_error {
     uint32_t number;
     const char *message;
-} refusal;
+} known_error;
 
 /* clang-format off */
-static const refusal refusals[] = {
+static const known_error known_errors[] = {
     /* errors, by .ci/pages/presets */
     {PROVED_ARGON2_OUTPUT_TOO_SHORT, "Output is too short"},
     {PROVED_ARGON2_OUTPUT_TOO_LONG, "Output is too long"},
@@ -69,12 +69,13 @@ enum { OF_C = 5 }; /* the last ones, which nothing proved returns */
 uint32_t proved_message(uint32_t number, uint8_t *text, size_t text_len);
 
 /* A message for each number of the header and for no other one; and that of what is proved, where it has the number. */
-static void check_refusals(void)
+static void check_errors(void)
 {
     const char *const unknown = proved_argon2_message(PROVED_ARGON2_UNKNOWN_NUMBER);
     size_t known = 0, proved = 0;
-    for (size_t i = 0; i < sizeof refusals / sizeof *refusals; i++) {
-        check(strcmp(proved_argon2_message(refusals[i].number), refusals[i].message) == 0, refusals[i].message);
+    for (size_t i = 0; i < sizeof known_errors / sizeof *known_errors; i++) {
+        const known_error *error = &known_errors[i];
+        check(strcmp(proved_argon2_message(error->number), error->message) == 0, error->message);
     }
     for (uint32_t number = 0; number < 1000; number++) {
         uint8_t text[64];
@@ -83,8 +84,8 @@ static void check_refusals(void)
         proved += proved_message(number, text, sizeof text) == PROVED_ARGON2_OK
             && strcmp((const char *)text, message) == 0;
     }
-    check(known + 1 == sizeof refusals / sizeof *refusals, "the library has no other refusal");
-    check(proved + OF_C == sizeof refusals / sizeof *refusals, "the messages are those that are proved");
+    check(known + 1 == sizeof known_errors / sizeof *known_errors, "the library has no other error");
+    check(proved + OF_C == sizeof known_errors / sizeof *known_errors, "the messages are those that are proved");
 }
 
 /* ---- variants and versions */
@@ -115,15 +116,15 @@ static void check_version(uint32_t version, const char *expected, const char *na
 
 /* ---- limits */
 
-/* What the first refusal of settings and lengths is; no byte of the inputs is read. */
-typedef struct request {
+/* What the first error of settings and lengths is; no byte of the inputs is read. */
+struct request {
     proved_argon2_settings settings;
     size_t pwd, salt, secret, ad;
-} request;
+};
 
 static const uint8_t *readable;
 
-static uint32_t refusal_of(request request)
+static uint32_t error_of(struct request request)
 {
     uint8_t out[4];
     return proved_argon2_hash_raw(readable, request.pwd, readable, request.salt, readable, request.secret, readable,
@@ -132,53 +133,53 @@ static uint32_t refusal_of(request request)
 
 static void check_limits_of_settings(void)
 {
-    request it = {small, 0, 8, 0, 0};
-    it.settings.lanes = PROVED_ARGON2_MIN_LANES - 1;
-    check_code(refusal_of(it), PROVED_ARGON2_LANES_TOO_FEW, "one lane less than the least");
-    it.settings.lanes = PROVED_ARGON2_MIN_LANES;
-    check_code(refusal_of(it), PROVED_ARGON2_WRONG_LENGTH, "the least number of lanes");
-    it.settings.lanes = PROVED_ARGON2_MAX_LANES + 1;
-    check_code(refusal_of(it), PROVED_ARGON2_LANES_TOO_MANY, "one lane more than the most");
-    it.settings.lanes = PROVED_ARGON2_MAX_LANES;
-    it.settings.mem_cost = PROVED_ARGON2_MAX_LANES * PROVED_ARGON2_MIN_MEMORY_PER_LANE;
-    check_code(refusal_of(it), PROVED_ARGON2_WRONG_LENGTH, "the most lanes with the least memory");
-    it.settings.mem_cost -= 1;
-    check_code(refusal_of(it), PROVED_ARGON2_MEMORY_TOO_LITTLE, "1 KiB less than the least memory");
-    it.settings = small;
-    it.settings.time_cost = PROVED_ARGON2_MIN_TIME - 1;
-    check_code(refusal_of(it), PROVED_ARGON2_TIME_TOO_SMALL, "one pass less than the least");
-    it.settings.time_cost = PROVED_ARGON2_MIN_TIME;
-    check_code(refusal_of(it), PROVED_ARGON2_WRONG_LENGTH, "the least number of passes");
-    it.settings.hash_length = PROVED_ARGON2_MIN_HASH_LENGTH - 1;
-    check_code(refusal_of(it), PROVED_ARGON2_OUTPUT_TOO_SHORT, "a hash of one byte less than the least");
-    it.settings.hash_length = PROVED_ARGON2_MIN_HASH_LENGTH;
-    check_code(refusal_of(it), PROVED_ARGON2_OK, "the least hash");
-    it.settings.hash_length = PROVED_ARGON2_MAX_HASH_LENGTH;
-    check_code(refusal_of(it), PROVED_ARGON2_WRONG_LENGTH, "the longest hash");
+    struct request request = {small, 0, 8, 0, 0};
+    request.settings.lanes = PROVED_ARGON2_MIN_LANES - 1;
+    check_code(error_of(request), PROVED_ARGON2_LANES_TOO_FEW, "one lane less than the least");
+    request.settings.lanes = PROVED_ARGON2_MIN_LANES;
+    check_code(error_of(request), PROVED_ARGON2_WRONG_LENGTH, "the least number of lanes");
+    request.settings.lanes = PROVED_ARGON2_MAX_LANES + 1;
+    check_code(error_of(request), PROVED_ARGON2_LANES_TOO_MANY, "one lane more than the most");
+    request.settings.lanes = PROVED_ARGON2_MAX_LANES;
+    request.settings.mem_cost = PROVED_ARGON2_MAX_LANES * PROVED_ARGON2_MIN_MEMORY_PER_LANE;
+    check_code(error_of(request), PROVED_ARGON2_WRONG_LENGTH, "the most lanes with the least memory");
+    request.settings.mem_cost -= 1;
+    check_code(error_of(request), PROVED_ARGON2_MEMORY_TOO_LITTLE, "1 KiB less than the least memory");
+    request.settings = small;
+    request.settings.time_cost = PROVED_ARGON2_MIN_TIME - 1;
+    check_code(error_of(request), PROVED_ARGON2_TIME_TOO_SMALL, "one pass less than the least");
+    request.settings.time_cost = PROVED_ARGON2_MIN_TIME;
+    check_code(error_of(request), PROVED_ARGON2_WRONG_LENGTH, "the least number of passes");
+    request.settings.hash_length = PROVED_ARGON2_MIN_HASH_LENGTH - 1;
+    check_code(error_of(request), PROVED_ARGON2_OUTPUT_TOO_SHORT, "a hash of one byte less than the least");
+    request.settings.hash_length = PROVED_ARGON2_MIN_HASH_LENGTH;
+    check_code(error_of(request), PROVED_ARGON2_OK, "the least hash");
+    request.settings.hash_length = PROVED_ARGON2_MAX_HASH_LENGTH;
+    check_code(error_of(request), PROVED_ARGON2_WRONG_LENGTH, "the longest hash");
 }
 
 /* Each greatest length is refused for what the table has behind it. */
 static void check_limits_of_inputs(bool has_time)
 {
-    request it = {small, (size_t)PROVED_ARGON2_MAX_PWD_LENGTH + 1, 8, 0, 0};
-    check_code(refusal_of(it), PROVED_ARGON2_PWD_TOO_LONG, "a password one byte too long");
-    it.pwd = PROVED_ARGON2_MAX_PWD_LENGTH;
-    it.salt = PROVED_ARGON2_MIN_SALT_LENGTH - 1;
-    check_code(refusal_of(it), PROVED_ARGON2_SALT_TOO_SHORT, "a salt one byte too short");
-    it.salt = (size_t)PROVED_ARGON2_MAX_SALT_LENGTH + 1;
-    check_code(refusal_of(it), PROVED_ARGON2_SALT_TOO_LONG, "a salt one byte too long");
-    it.salt = PROVED_ARGON2_MAX_SALT_LENGTH;
-    it.secret = (size_t)PROVED_ARGON2_MAX_SECRET_LENGTH + 1;
-    check_code(refusal_of(it), PROVED_ARGON2_SECRET_TOO_LONG, "a secret one byte too long");
-    it.secret = PROVED_ARGON2_MAX_SECRET_LENGTH;
-    it.ad = (size_t)PROVED_ARGON2_MAX_AD_LENGTH + 1;
-    check_code(refusal_of(it), PROVED_ARGON2_AD_TOO_LONG, "associated data one byte too long");
-    it.ad = PROVED_ARGON2_MAX_AD_LENGTH;
+    struct request request = {small, (size_t)PROVED_ARGON2_MAX_PWD_LENGTH + 1, 8, 0, 0};
+    check_code(error_of(request), PROVED_ARGON2_PWD_TOO_LONG, "a password one byte too long");
+    request.pwd = PROVED_ARGON2_MAX_PWD_LENGTH;
+    request.salt = PROVED_ARGON2_MIN_SALT_LENGTH - 1;
+    check_code(error_of(request), PROVED_ARGON2_SALT_TOO_SHORT, "a salt one byte too short");
+    request.salt = (size_t)PROVED_ARGON2_MAX_SALT_LENGTH + 1;
+    check_code(error_of(request), PROVED_ARGON2_SALT_TOO_LONG, "a salt one byte too long");
+    request.salt = PROVED_ARGON2_MAX_SALT_LENGTH;
+    request.secret = (size_t)PROVED_ARGON2_MAX_SECRET_LENGTH + 1;
+    check_code(error_of(request), PROVED_ARGON2_SECRET_TOO_LONG, "a secret one byte too long");
+    request.secret = PROVED_ARGON2_MAX_SECRET_LENGTH;
+    request.ad = (size_t)PROVED_ARGON2_MAX_AD_LENGTH + 1;
+    check_code(error_of(request), PROVED_ARGON2_AD_TOO_LONG, "associated data one byte too long");
+    request.ad = PROVED_ARGON2_MAX_AD_LENGTH;
     if (has_time) {
-        check_code(refusal_of(it), PROVED_ARGON2_WRONG_LENGTH, "the longest inputs");
+        check_code(error_of(request), PROVED_ARGON2_WRONG_LENGTH, "the longest inputs");
     }
-    it = (request){small, 0, PROVED_ARGON2_MIN_SALT_LENGTH, 0, 0};
-    check_code(refusal_of(it), PROVED_ARGON2_WRONG_LENGTH, "the shortest inputs");
+    request = (struct request){small, 0, PROVED_ARGON2_MIN_SALT_LENGTH, 0, 0};
+    check_code(error_of(request), PROVED_ARGON2_WRONG_LENGTH, "the shortest inputs");
     uint32_t code = proved_argon2_verify_raw(
         NULL, 0, readable, 8, NULL, 0, NULL, 0, &small, readable, (size_t)PROVED_ARGON2_MAX_HASH_LENGTH + 1);
     check_code(code, PROVED_ARGON2_OUTPUT_TOO_LONG, "a hash one byte too long");
@@ -201,7 +202,7 @@ int main(int count, char **words)
     void *mapped = mmap(NULL, longest, PROT_READ, MAP_PRIVATE | MAP_ANONYMOUS | MAP_NORESERVE, -1, 0);
     check(mapped != MAP_FAILED, "4 GiB of addresses");
     readable = (const uint8_t *)mapped;
-    check_refusals();
+    check_errors();
     check_variant(PROVED_ARGON2_D, "512b391b6f1162975371d30919734294f868e3be3984f3c1a13a4db9fabe4acb", "Argon2d");
     check_variant(PROVED_ARGON2_I, "c814d9d1dc7f37aa13f0d77f2494bda1c8de6b016dd388d29952a4c4672b6ce8", "Argon2i");
     check_variant(PROVED_ARGON2_ID, "0d640df58d78766c08c037a34a8b53c9d01ef0452d75b65eb52520e96b01e659", "Argon2id");

@@ -1,21 +1,21 @@
 /*
  * The threads of a call: each has the program's signals blocked and a small stack, and is joined; the lanes of those that
- * are refused are filled; and none starts where it would not pay. sizes.c has how many there are. Tags are compared with
- * libargon2's. It is linked with --wrap for what it counts and refuses.
+ * are refused are filled; and none starts where it would not pay. drawn_settings.c has how many there are. Tags are
+ * compared with libargon2's. It is linked with --wrap for what it counts and refuses.
  */
 #include "calls.h"
 #include "system.h"
 
 enum { LARGE = 2400, PASSES = 2, LANES = 4, BESIDE = LANES - 1 };
 
-static call it;
+static struct call call;
 static uint8_t expected[LONGEST];
 
 static bool make(uint32_t mem_cost, uint32_t passes)
 {
-    it = (call){{PROVED_ARGON2_ID, PROVED_ARGON2_VERSION_13, mem_cost, passes, LANES, 32}, "password", "somesalt",
-        "secret", "data", 8, 8, 6, 4};
-    return peer(&it, expected);
+    call = (struct call){{PROVED_ARGON2_ID, PROVED_ARGON2_VERSION_13, mem_cost, passes, LANES, 32}, "password",
+        "somesalt", "secret", "data", 8, 8, 6, 4};
+    return peer(&call, expected);
 }
 
 /* The signals that the caller blocks, of which one is blocked before each call. */
@@ -33,16 +33,16 @@ static bool has_its_signals(void)
 static bool starts_as_many(size_t beside, size_t refused)
 {
     const proved_argon2_options with = by(LANES);
-    const size_t given = refused != 0 && refused <= beside ? refused - 1 : beside;
+    const size_t allowed = refused != 0 && refused <= beside ? refused - 1 : beside;
     uint8_t tag[LONGEST] = {0};
     if (refused == 0) {
         refuse_nothing();
     } else {
         refuse_starts(refused, SIZE_MAX);
     }
-    const uint32_t code = hash_raw(&with, &it, tag);
-    const bool good = code == PROVED_ARGON2_OK && memcmp(tag, expected, 32) == 0 && granted == given
-        && starts == given + (given < beside) && joins == granted && running == 0 && most_running == given
+    const uint32_t code = hash_raw(&with, &call, tag);
+    const bool good = code == PROVED_ARGON2_OK && memcmp(tag, expected, 32) == 0 && granted == allowed
+        && starts == allowed + (allowed < beside) && joins == granted && running == 0 && most_running == allowed
         && open_to_signals == 0 && large_stacks == 0 && has_its_signals();
     if (!good) {
         printf("%u: %zu starts of %zu and %zu joins\n", (unsigned)code, granted, starts, joins);
@@ -50,7 +50,7 @@ static bool starts_as_many(size_t beside, size_t refused)
     return good;
 }
 
-static void check_refusals(void)
+static void check_errors(void)
 {
     bool good = make(LARGE, PASSES) && starts_as_many(BESIDE, 0);
     for (size_t start = 1; start <= BESIDE + 1; start++) {
@@ -77,7 +77,7 @@ int main(void)
     sigemptyset(&one);
     sigaddset(&one, SIGUSR2);
     pthread_sigmask(SIG_SETMASK, &one, NULL);
-    check_refusals();
+    check_errors();
     check_small();
     return checks_failed != 0;
 }

@@ -1,5 +1,5 @@
 /*
- * Looking at texts without verifying them, what a refusal leaves, and null pointers with the length 0.
+ * Looking at texts without verifying them, what an error leaves, and null pointers with the length 0.
  */
 #include "checks.h"
 
@@ -38,17 +38,17 @@ static void check_reading(void)
 }
 
 /* What is no text is refused by a number, and what would have been written is as it was. */
-static void check_unread(const char *it, uint32_t refusal, const char *name)
+static void check_unread(const char *text, uint32_t error, const char *name)
 {
     const proved_argon2_limits none = {0, 0, 0, 0};
     proved_argon2_stored stored, before;
     memset(&stored, 7, sizeof stored);
     memset(&before, 7, sizeof before);
-    uint32_t code = proved_argon2_read(it, strlen(it), &stored);
-    check(code == refusal && memcmp(&stored, &before, sizeof stored) == 0
-            && proved_argon2_needs_rehash(it, strlen(it), &small) == refusal
-            && proved_argon2_verify_encoded(it, strlen(it), NULL, 0, NULL, 0, NULL, 0) == refusal
-            && proved_argon2_verify_encoded_within(it, strlen(it), NULL, 0, NULL, 0, NULL, 0, &none) == refusal,
+    uint32_t code = proved_argon2_read(text, strlen(text), &stored);
+    check(code == error && memcmp(&stored, &before, sizeof stored) == 0
+            && proved_argon2_needs_rehash(text, strlen(text), &small) == error
+            && proved_argon2_verify_encoded(text, strlen(text), NULL, 0, NULL, 0, NULL, 0) == error
+            && proved_argon2_verify_encoded_within(text, strlen(text), NULL, 0, NULL, 0, NULL, 0, &none) == error,
         name);
 }
 
@@ -76,24 +76,24 @@ static void check_rehash(void)
 
 static void check_bytes(void)
 {
-    static const char it[] =
+    static const char text[] =
         "$argon2id$v=19$m=32,t=3,p=4$AgICAgICAgICAgICAgICAg$DWQN9Y14dmwIwDejSotTydAe8EUtdbZetSUg6WsB5lk";
     static const char loose[] = "$argon2d$m=64,t=2,p=1$$AAAA";
     uint8_t salt[17], hash[33];
     memset(salt, 7, sizeof salt);
     memset(hash, 7, sizeof hash);
     for (size_t len = 15; len <= 17; len += 2) {
-        check_code(proved_argon2_read_bytes(it, strlen(it), salt, len, hash, 32), PROVED_ARGON2_WRONG_LENGTH,
+        check_code(proved_argon2_read_bytes(text, strlen(text), salt, len, hash, 32), PROVED_ARGON2_WRONG_LENGTH,
             "a salt of another length");
-        check_code(proved_argon2_read_bytes(it, strlen(it), salt, 16, hash, len + 16), PROVED_ARGON2_WRONG_LENGTH,
+        check_code(proved_argon2_read_bytes(text, strlen(text), salt, 16, hash, len + 16), PROVED_ARGON2_WRONG_LENGTH,
             "a hash of another length");
     }
-    check_code(proved_argon2_read_bytes(it, strlen(it) - 1, salt, 16, hash, 32), PROVED_ARGON2_DECODING_FAIL,
+    check_code(proved_argon2_read_bytes(text, strlen(text) - 1, salt, 16, hash, 32), PROVED_ARGON2_DECODING_FAIL,
         "a part of a text");
     check_code(proved_argon2_read_bytes("\xff", 1, salt, 16, hash, 32), PROVED_ARGON2_NOT_UTF8, "no UTF-8");
     check(
         is_hex(salt, 17, "0707070707070707070707070707070707") && hash[0] == 7 && hash[32] == 7, "nothing is written");
-    uint32_t code = proved_argon2_read_bytes(it, strlen(it), salt, 16, hash, 32);
+    uint32_t code = proved_argon2_read_bytes(text, strlen(text), salt, 16, hash, 32);
     check(code == PROVED_ARGON2_OK && is_hex(salt, 16, "02020202020202020202020202020202") && salt[16] == 7,
         "the salt of a text");
     check(is_hex(hash, 32, "0d640df58d78766c08c037a34a8b53c9d01ef0452d75b65eb52520e96b01e659") && hash[32] == 7,
@@ -187,14 +187,14 @@ static const char *text_of_length(size_t length)
 }
 
 /* What each call with limits answers to a text, where that is one number, or else 0. */
-static uint32_t answer_within(const char *it, const proved_argon2_limits *limits)
+static uint32_t answer_within(const char *text, const proved_argon2_limits *limits)
 {
     proved_argon2_options with = PROVED_ARGON2_OPTIONS;
     proved_argon2_stored stored;
     with.limits = limits;
-    const uint32_t code = proved_argon2_verify_encoded_with(&with, it, strlen(it), NULL, 0, NULL, 0, NULL, 0);
-    const uint32_t within = proved_argon2_verify_encoded_within(it, strlen(it), NULL, 0, NULL, 0, NULL, 0, limits);
-    const uint32_t read = proved_argon2_read_within(it, strlen(it), limits, &stored);
+    const uint32_t code = proved_argon2_verify_encoded_with(&with, text, strlen(text), NULL, 0, NULL, 0, NULL, 0);
+    const uint32_t within = proved_argon2_verify_encoded_within(text, strlen(text), NULL, 0, NULL, 0, NULL, 0, limits);
+    const uint32_t read = proved_argon2_read_within(text, strlen(text), limits, &stored);
     return code == within && (code == PROVED_ARGON2_MISMATCH ? read == PROVED_ARGON2_OK : read == code) ? code : 0;
 }
 
@@ -205,13 +205,13 @@ static void check_limits_of_long_texts(void)
     static const proved_argon2_limits at = {8, 11, 1, 88}, below = {8, 10, 1, 88};
     char name[64];
     for (size_t i = 0; i < sizeof lengths / sizeof *lengths; i++) {
-        const char *const it = text_of_length(lengths[i]);
+        const char *const text = text_of_length(lengths[i]);
         snprintf(name, sizeof name, "a text of %zu characters at its limits", lengths[i]);
-        check_code(answer_within(it, &at), PROVED_ARGON2_MISMATCH, name);
+        check_code(answer_within(text, &at), PROVED_ARGON2_MISMATCH, name);
         snprintf(name, sizeof name, "a text of %zu characters above a limit", lengths[i]);
-        check_code(answer_within(it, &below), PROVED_ARGON2_TOO_COSTLY, name);
+        check_code(answer_within(text, &below), PROVED_ARGON2_TOO_COSTLY, name);
         snprintf(name, sizeof name, "a text of %zu characters above the default limits", lengths[i]);
-        check_code(proved_argon2_password_verify(it, "", 0), PROVED_ARGON2_TOO_COSTLY, name);
+        check_code(proved_argon2_password_verify(text, "", 0), PROVED_ARGON2_TOO_COSTLY, name);
     }
 }
 

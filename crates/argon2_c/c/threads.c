@@ -1,6 +1,6 @@
 /*
  * The calls with options (bindings/c): tags by 1 to 33 threads beside libargon2's, a memory and a pool of the caller's,
- * options and limits. starts.c has the threads, memory.c the memory, left.c what is left in the process.
+ * options and limits. starts.c has the threads, memory.c the memory, clearing.c what is left in the process.
  *
  *     threads          all checks
  *     threads few      those that a tool looks at: a few tags, and eight hashes at once over threads that stay
@@ -11,42 +11,43 @@
 /* ---- tags */
 
 /* One call beside libargon2, by some threads, or by a pool, over a memory of its own or of the caller's. */
-static bool agrees(const call *it, uint32_t threads, uint32_t kind)
+static bool agrees(const struct call *call, uint32_t threads, uint32_t kind)
 {
     uint8_t tag[LONGEST], expected[LONGEST];
     char text[512];
     proved_argon2_options with = by(threads);
-    const size_t len = it->settings.hash_length;
-    uint8_t *const room = __real_malloc((size_t)it->settings.mem_cost * 1024);
+    const size_t len = call->settings.hash_length;
+    uint8_t *const buffer = __real_malloc((size_t)call->settings.mem_cost * 1024);
     with.run = kind % 2 == 1 ? backwards : NULL;
-    with.memory = kind >= 2 ? room : NULL;
-    with.memory_len = (size_t)it->settings.mem_cost * 1024;
-    memset(room, 5, with.memory_len);
-    bool same = peer(it, expected) && hash_raw(&with, it, tag) == PROVED_ARGON2_OK && memcmp(tag, expected, len) == 0;
-    same = same && verify_raw(&with, it, expected) == PROVED_ARGON2_OK;
+    with.memory = kind >= 2 ? buffer : NULL;
+    with.memory_len = (size_t)call->settings.mem_cost * 1024;
+    memset(buffer, 5, with.memory_len);
+    bool same = peer(call, expected) && hash_raw(&with, call, tag) == PROVED_ARGON2_OK
+        && memcmp(tag, expected, len) == 0;
+    same = same && verify_raw(&with, call, expected) == PROVED_ARGON2_OK;
     expected[below((uint32_t)len)] ^= (uint8_t)(1 << below(8));
-    same = same && verify_raw(&with, it, expected) == PROVED_ARGON2_MISMATCH;
-    same = same && hash_encoded(&with, it, text, sizeof text) == PROVED_ARGON2_OK;
-    same = same && verify_encoded(&with, it, text) == PROVED_ARGON2_OK;
-    free(room);
+    same = same && verify_raw(&with, call, expected) == PROVED_ARGON2_MISMATCH;
+    same = same && hash_encoded(&with, call, text, sizeof text) == PROVED_ARGON2_OK;
+    same = same && verify_encoded(&with, call, text) == PROVED_ARGON2_OK;
+    free(buffer);
     return same;
 }
 
 /* A call for which threads pay. */
-static call any_large_call(uint32_t most_lanes)
+static struct call any_large_call(uint32_t most_lanes)
 {
-    call it = any_call(most_lanes);
-    it.settings.mem_cost += 2048;
-    it.settings.time_cost = 2;
-    return it;
+    struct call call = any_call(most_lanes);
+    call.settings.mem_cost += 2048;
+    call.settings.time_cost = 2;
+    return call;
 }
 
 static void check_tags(uint32_t count, uint32_t most_lanes)
 {
     uint32_t good = 0;
     for (uint32_t i = 0; i < count; i++) {
-        const call it = i % 4 == 0 ? any_large_call(most_lanes) : any_call(most_lanes);
-        good += agrees(&it, 1 + i % 33, most_lanes < 33 ? i % 4 : i / 33 % 4);
+        const struct call call = i % 4 == 0 ? any_large_call(most_lanes) : any_call(most_lanes);
+        good += agrees(&call, 1 + i % 33, most_lanes < 33 ? i % 4 : i / 33 % 4);
     }
     printf("%u of %u calls by 1 to 33 threads agree with libargon2\n", good, count);
     check(good == count, "tags, verdicts and texts by threads");
@@ -59,7 +60,7 @@ enum { LOGINS = 8, THREADS = 4 };
 typedef struct login {
     pthread_t thread;
     proved_argon2_options with;
-    call it;
+    struct call call;
     bool good;
 } login;
 
@@ -67,10 +68,10 @@ static void *log_in(void *arg)
 {
     login *const self = arg;
     uint8_t tag[LONGEST], expected[LONGEST];
-    self->good = peer(&self->it, expected);
+    self->good = peer(&self->call, expected);
     for (int i = 0; i < 2; i++) {
-        self->good &= hash_raw(&self->with, &self->it, tag) == PROVED_ARGON2_OK
-            && memcmp(tag, expected, self->it.settings.hash_length) == 0;
+        self->good &= hash_raw(&self->with, &self->call, tag) == PROVED_ARGON2_OK
+            && memcmp(tag, expected, self->call.settings.hash_length) == 0;
     }
     return NULL;
 }
@@ -92,7 +93,7 @@ static void check_at_once(void)
 {
     login logins[LOGINS];
     for (size_t i = 0; i < LOGINS; i++) {
-        logins[i].it = any_large_call(THREADS);
+        logins[i].call = any_large_call(THREADS);
         logins[i].with = by(THREADS);
     }
     check(log_in_at_once(logins), "eight hashes at once");
@@ -177,7 +178,7 @@ static void check_at_once_over_pools(void)
     bool good = true;
     for (size_t i = 0; i < LOGINS; i++) {
         good &= begin_staying(&pools[i]);
-        logins[i].it = any_call(THREADS);
+        logins[i].call = any_call(THREADS);
         logins[i].with = by(THREADS);
         logins[i].with.run = run_staying;
         logins[i].with.pool = &pools[i];
@@ -191,7 +192,7 @@ static void check_at_once_over_pools(void)
 
 /* ---- options */
 
-static const call sample = {
+static const struct call sample = {
     {PROVED_ARGON2_ID, PROVED_ARGON2_VERSION_13, 256, 2, 4, 32}, "password", "somesalt", "", "", 8, 8, 0, 0};
 
 /* A call that is refused: its number, and nothing written. */

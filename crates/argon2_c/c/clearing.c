@@ -1,15 +1,15 @@
 /*
  * What the calls that hash or verify leave of secrets: nothing but what SECURITY.md names, whatever they return. What
  * is passed to free is searched, and after a call the vector registers and all memory of the process that can be
- * written. leaves.c has the calls that are proved. It is linked with --wrap for what it looks at and denies.
+ * written. proved_clearing.c has the calls that are proved. It is linked with --wrap for what it looks at and denies.
  *
- *     left            all checks
- *     left unwiped    what is left where nothing is cleared: each call has to fail
- *     left late       the same where a name is bound late behind a call (for a program that is linked so)
- *     left few        each call but those of a password alone, done once, where all else takes too long
- *     left unwiped few
+ *     clearing            all checks
+ *     clearing unwiped    what is left where nothing is cleared: each call has to fail
+ *     clearing late       the same where a name is bound late behind a call (for a program that is linked so)
+ *     clearing few        each call but those of a password alone, done once, where all else takes too long
+ *     clearing unwiped few
  */
-#include "left.h"
+#include "search.h"
 
 enum { NAMES = 13, WITH = 6, PLAIN = 11, MEMORIES = 3 };
 
@@ -18,7 +18,7 @@ static const char *const names[NAMES] = {"hash_raw_with", "hash_encoded_with", "
     "verify_encoded_with", "job_run_verify", "hash_raw", "hash_encoded", "verify_raw", "verify_encoded",
     "verify_encoded_within", "password_hash", "password_verify"};
 
-static _Alignas(8) uint8_t lent[2048 * 1024 + 8];
+static _Alignas(8) uint8_t caller_bytes[2048 * 1024 + 8];
 static uint8_t out[512];
 
 ssize_t __wrap_getrandom(void *buffer, size_t length, unsigned flags);
@@ -30,12 +30,12 @@ ssize_t __wrap_getrandom(void *buffer, size_t length, unsigned flags)
 }
 
 /* A call, with what decides how it ends. */
-typedef struct trial {
+struct trial {
     proved_argon2_options with;
     size_t call;
     bool is_right, is_short;    /* the hash that is verified, and the buffer that is written to */
     uint32_t expected, or_else; /* what it may answer */
-} trial;
+};
 
 static bool is_hashing(size_t name)
 {
@@ -43,40 +43,41 @@ static bool is_hashing(size_t name)
 }
 
 /* A run of a job, which the caller clears. */
-static uint32_t run_job(const trial *it, bool is_hashing)
+static uint32_t run_job(const struct trial *trial, bool is_hashing)
 {
     static proved_argon2_job job;
-    uint32_t code = proved_argon2_job_make(INPUTS_OF(calls[it->call]), &job);
+    uint32_t code = proved_argon2_job_make(INPUTS_OF(calls[trial->call]), &job);
     code = code      ? code
-        : is_hashing ? proved_argon2_job_run(&it->with, &job, out, it->is_short ? TAG - 1 : TAG)
+        : is_hashing ? proved_argon2_job_run(&trial->with, &job, out, trial->is_short ? TAG - 1 : TAG)
                      : proved_argon2_job_run_verify(
-                         &it->with, &job, it->is_right ? sought->tag : zeros, it->is_short ? TAG - 1 : TAG);
+                         &trial->with, &job, trial->is_right ? sought->tag : zeros, trial->is_short ? TAG - 1 : TAG);
     __real_explicit_bzero(&job, sizeof job);
     return code;
 }
 
-#define STORED_OF(it) text, strlen(text), BYTES(it, pwd), BYTES(it, secret), BYTES(it, ad)
+#define STORED_OF(call) text, strlen(text), BYTES(call, pwd), BYTES(call, secret), BYTES(call, ad)
 
-static uint32_t answer(size_t name, const trial *it)
+static uint32_t answer(size_t name, const struct trial *trial)
 {
-    const call *const of = &calls[it->call];
-    const uint8_t *const hash = it->is_right ? sought->tag : zeros;
-    const char *const text = it->is_right ? sought->text : sought->other;
-    const size_t tag_len = it->is_short ? TAG - 1 : TAG, text_len = it->is_short ? TAG - 1 : sizeof out;
+    const struct call *const of = &calls[trial->call];
+    const uint8_t *const hash = trial->is_right ? sought->tag : zeros;
+    const char *const text = trial->is_right ? sought->text : sought->other;
+    const size_t tag_len = trial->is_short ? TAG - 1 : TAG, text_len = trial->is_short ? TAG - 1 : sizeof out;
     const proved_argon2_limits widest = {UINT32_MAX, UINT32_MAX, UINT32_MAX, UINT64_MAX};
     switch (name) {
-    case 0: return proved_argon2_hash_raw_with(&it->with, INPUTS_OF(*of), out, tag_len);
-    case 1: return hash_encoded(&it->with, of, (char *)out, text_len);
-    case 2: return run_job(it, true);
-    case 3: return verify_raw(&it->with, of, hash);
-    case 4: return verify_encoded(&it->with, of, text);
-    case 5: return run_job(it, false);
+    case 0: return proved_argon2_hash_raw_with(&trial->with, INPUTS_OF(*of), out, tag_len);
+    case 1: return hash_encoded(&trial->with, of, (char *)out, text_len);
+    case 2: return run_job(trial, true);
+    case 3: return verify_raw(&trial->with, of, hash);
+    case 4: return verify_encoded(&trial->with, of, text);
+    case 5: return run_job(trial, false);
     case 6: return proved_argon2_hash_raw(INPUTS_OF(*of), out, tag_len);
     case 7: return proved_argon2_hash_encoded(INPUTS_OF(*of), (char *)out, text_len);
     case 8: return proved_argon2_verify_raw(INPUTS_OF(*of), hash, TAG);
     case 9: return proved_argon2_verify_encoded(STORED_OF(*of));
     case 10:
-        return proved_argon2_verify_encoded_within(STORED_OF(*of), it->with.limits == NULL ? &widest : it->with.limits);
+        return proved_argon2_verify_encoded_within(
+            STORED_OF(*of), trial->with.limits == NULL ? &widest : trial->with.limits);
     case 11: return proved_argon2_password_hash((char *)out, (const char *)of->pwd, of->pwd_len);
     default: return proved_argon2_password_verify(text, (const char *)of->pwd, of->pwd_len);
     }
@@ -84,27 +85,27 @@ static uint32_t answer(size_t name, const trial *it)
 
 struct asked {
     size_t name;
-    const trial *it;
+    const struct trial *trial;
 };
 
 static uint32_t answer_asked(const void *arg)
 {
     const struct asked *const asked = arg;
-    return answer(asked->name, asked->it);
+    return answer(asked->name, asked->trial);
 }
 
 /* Whether a call answers what it is to, and leaves nothing but what it writes, and holds nothing. */
-static bool is_cleared(size_t name, const trial *it)
+static bool is_cleared(size_t name, const struct trial *trial)
 {
-    seek(it->call);
+    seek(trial->call);
     memset(found, 0, sizeof found);
     held = 0;
     look_at = look_at_request;
-    const uint32_t code = far_below(answer_asked, &(struct asked){name, it});
+    const uint32_t code = far_below(answer_asked, &(struct asked){name, trial});
     look_at = NULL;
     __real_explicit_bzero(out, sizeof out);
     look_everywhere();
-    const bool is_expected = code == it->expected || code == it->or_else;
+    const bool is_expected = code == trial->expected || code == trial->or_else;
     if (!is_expected || held != 0) {
         printf("%s answers %u and holds %zu bytes\n", names[name], (unsigned)code, held);
     }
@@ -112,14 +113,14 @@ static bool is_cleared(size_t name, const trial *it)
 }
 
 /* Over a mapping, a little of malloc's, or the caller's memory. */
-static trial over(size_t memory, uint32_t threads)
+static struct trial over(size_t memory, uint32_t threads)
 {
-    trial it = {.with = by(threads), .call = memory == 1 ? SMALL : MAPPED};
+    struct trial trial = {.with = by(threads), .call = memory == 1 ? SMALL : MAPPED};
     if (memory == 2) {
-        it.with.memory = lent;
-        it.with.memory_len = sizeof lent - 8;
+        trial.with.memory = caller_bytes;
+        trial.with.memory_len = sizeof caller_bytes - 8;
     }
-    return it;
+    return trial;
 }
 
 /* As many of these as a call can be made over: a call without options has none of the caller's. */
@@ -128,12 +129,12 @@ static size_t memories_of(size_t name)
     return name < WITH ? MEMORIES : name < PLAIN ? 2 : 1;
 }
 
-static trial trial_of(size_t name, size_t memory, uint32_t threads)
+static struct trial trial_of(size_t name, size_t memory, uint32_t threads)
 {
-    trial it = over(memory, threads);
-    it.call = name < PLAIN ? it.call : ALONE;
-    it.expected = it.or_else = is_hashing(name) ? PROVED_ARGON2_OK : PROVED_ARGON2_MISMATCH;
-    return it;
+    struct trial trial = over(memory, threads);
+    trial.call = name < PLAIN ? trial.call : ALONE;
+    trial.expected = trial.or_else = is_hashing(name) ? PROVED_ARGON2_OK : PROVED_ARGON2_MISMATCH;
+    return trial;
 }
 
 static void check_cleared(size_t name, bool good, const char *where)
@@ -148,11 +149,11 @@ static void check_done(size_t name)
     bool good = true;
     for (size_t n = 0; n < memories_of(name) * 8; n++) {
         refuse_nothing();
-        trial it = trial_of(name, n / 8, n % 2 == 0 ? 1 : 4);
-        it.with.run = n / 2 % 2 == 0 ? NULL : backwards;
-        it.is_right = n / 4 % 2 == 0;
-        it.expected = it.or_else = it.is_right || is_hashing(name) ? PROVED_ARGON2_OK : PROVED_ARGON2_MISMATCH;
-        good = good && is_cleared(name, &it);
+        struct trial trial = trial_of(name, n / 8, n % 2 == 0 ? 1 : 4);
+        trial.with.run = n / 2 % 2 == 0 ? NULL : backwards;
+        trial.is_right = n / 4 % 2 == 0;
+        trial.expected = trial.or_else = trial.is_right || is_hashing(name) ? PROVED_ARGON2_OK : PROVED_ARGON2_MISMATCH;
+        good = good && is_cleared(name, &trial);
         n += name < WITH ? 0 : 3; /* (which has no threads and no pool) */
     }
     check_cleared(name, good, "it is done");
@@ -164,8 +165,8 @@ static void check_starts(size_t name)
     bool good = true;
     for (size_t n = 0; n < MEMORIES * 4; n++) {
         refuse_starts(from[n % 4], SIZE_MAX);
-        const trial it = trial_of(name, n / 4, 4);
-        good = good && is_cleared(name, &it);
+        const struct trial trial = trial_of(name, n / 4, 4);
+        good = good && is_cleared(name, &trial);
     }
     check_cleared(name, good, "a start is refused");
 }
@@ -176,9 +177,9 @@ static bool is_cleared_at_requests(size_t name, size_t memory)
     bool good = true;
     for (size_t number = 1; good; number++) {
         refuse_request(number);
-        trial it = trial_of(name, memory, 4);
-        it.expected = PROVED_ARGON2_OUT_OF_MEMORY;
-        good = is_cleared(name, &it);
+        struct trial trial = trial_of(name, memory, 4);
+        trial.expected = PROVED_ARGON2_OUT_OF_MEMORY;
+        good = is_cleared(name, &trial);
         if (requests < number) {
             return number > 1;
         }
@@ -202,11 +203,11 @@ static void check_pools(size_t name)
     for (int n = 0; n < MEMORIES * 9; n++) {
         int left = n % 9 + 1;
         refuse_nothing();
-        trial it = trial_of(name, (size_t)n / 9, 4);
-        it.with.run = pools[(n + n / 9) % 4];
-        it.with.pool = &left;
-        it.expected = it.or_else = PROVED_ARGON2_WORKER_REFUSED;
-        good = good && is_cleared(name, &it);
+        struct trial trial = trial_of(name, (size_t)n / 9, 4);
+        trial.with.run = pools[(n + n / 9) % 4];
+        trial.with.pool = &left;
+        trial.expected = trial.or_else = PROVED_ARGON2_WORKER_REFUSED;
+        good = good && is_cleared(name, &trial);
     }
     check_cleared(name, good, "a pool refuses");
 }
@@ -223,16 +224,16 @@ static void check_stops(size_t name)
     for (size_t n = 0; n < MEMORIES * 8; n++) {
         uint64_t at = n % 8 + 1;
         refuse_nothing();
-        trial it = trial_of(name, n / 8, n % 2 == 0 ? 1 : 4);
-        it.with.tell = stops_at;
-        it.with.arg = &at;
-        it.expected = it.or_else = PROVED_ARGON2_STOPPED;
-        good = good && is_cleared(name, &it);
+        struct trial trial = trial_of(name, n / 8, n % 2 == 0 ? 1 : 4);
+        trial.with.tell = stops_at;
+        trial.with.arg = &at;
+        trial.expected = trial.or_else = PROVED_ARGON2_STOPPED;
+        good = good && is_cleared(name, &trial);
     }
     check_cleared(name, good, "it is stopped");
 }
 
-static uint32_t refusal_of(size_t name)
+static uint32_t error_of(size_t name)
 {
     return is_hashing(name) || name == 5 ? PROVED_ARGON2_WRONG_LENGTH
         : name == 4 || name == 10        ? PROVED_ARGON2_TOO_COSTLY
@@ -244,20 +245,20 @@ static void check_arguments(size_t name)
 {
     static const proved_argon2_limits below = {2047, 2, 4, UINT64_MAX};
     refuse_nothing();
-    trial it = trial_of(name, 0, 4);
-    it.is_short = true;
-    it.with.limits = &below;
-    it.expected = it.or_else = refusal_of(name);
-    bool good = is_cleared(name, &it);
+    struct trial trial = trial_of(name, 0, 4);
+    trial.is_short = true;
+    trial.with.limits = &below;
+    trial.expected = trial.or_else = error_of(name);
+    bool good = is_cleared(name, &trial);
     if (name < WITH) {
-        it = trial_of(name, 2, 4);
-        it.with.memory_len--;
-        it.expected = it.or_else = PROVED_ARGON2_OUT_OF_MEMORY;
-        good = good && is_cleared(name, &it);
-        it = trial_of(name, 2, 4);
-        it.with.memory = lent + 1;
-        it.expected = it.or_else = PROVED_ARGON2_MISALIGNED;
-        good = good && is_cleared(name, &it);
+        trial = trial_of(name, 2, 4);
+        trial.with.memory_len--;
+        trial.expected = trial.or_else = PROVED_ARGON2_OUT_OF_MEMORY;
+        good = good && is_cleared(name, &trial);
+        trial = trial_of(name, 2, 4);
+        trial.with.memory = caller_bytes + 1;
+        trial.expected = trial.or_else = PROVED_ARGON2_MISALIGNED;
+        good = good && is_cleared(name, &trial);
     }
     check_cleared(name, good, "its arguments are refused");
 }
@@ -321,10 +322,10 @@ static void check_signals(size_t name)
     bool good = has_handler();
     for (size_t n = 0; n < MEMORIES * 4; n++) {
         refuse_nothing();
-        trial it = trial_of(name, n / 4, n % 2 == 0 ? 1 : 4);
-        it.with.tell = signals;
-        it.with.run = n / 2 % 2 == 0 ? NULL : signals_behind;
-        good = good && is_cleared(name, &it);
+        struct trial trial = trial_of(name, n / 4, n % 2 == 0 ? 1 : 4);
+        trial.with.tell = signals;
+        trial.with.run = n / 2 % 2 == 0 ? NULL : signals_behind;
+        good = good && is_cleared(name, &trial);
     }
     check_cleared(name, good, "signals have a stack of their own");
 }
@@ -359,31 +360,31 @@ static int ends_before_a_late_call(const void *arg)
 {
     const struct asked *const asked = arg;
     calls_behind = calls_late;
-    return is_cleared(asked->name, asked->it) ? 0 : 1;
+    return is_cleared(asked->name, asked->trial) ? 0 : 1;
 }
 
-static bool is_cleared_before_a_late_call(size_t name, const trial *it)
+static bool is_cleared_before_a_late_call(size_t name, const struct trial *trial)
 {
-    return status_of(ends_before_a_late_call, &(struct asked){name, it}) == 0;
+    return status_of(ends_before_a_late_call, &(struct asked){name, trial}) == 0;
 }
 
 static void check_late(size_t name)
 {
     uint64_t at = 1;
-    trial it = trial_of(name, 0, 4);
-    bool good = is_cleared_before_a_late_call(name, &it);
-    it.is_right = true;
-    it.expected = it.or_else = PROVED_ARGON2_OK;
-    good &= is_cleared_before_a_late_call(name, &it);
-    it.with.tell = stops_at;
-    it.with.arg = &at;
-    it.expected = it.or_else = PROVED_ARGON2_STOPPED;
-    good &= name >= WITH || is_cleared_before_a_late_call(name, &it);
+    struct trial trial = trial_of(name, 0, 4);
+    bool good = is_cleared_before_a_late_call(name, &trial);
+    trial.is_right = true;
+    trial.expected = trial.or_else = PROVED_ARGON2_OK;
+    good &= is_cleared_before_a_late_call(name, &trial);
+    trial.with.tell = stops_at;
+    trial.with.arg = &at;
+    trial.expected = trial.or_else = PROVED_ARGON2_STOPPED;
+    good &= name >= WITH || is_cleared_before_a_late_call(name, &trial);
     for (size_t request = 1; request <= 2; request++) {
-        it = trial_of(name, 0, 1);
-        it.or_else = PROVED_ARGON2_OUT_OF_MEMORY;
+        trial = trial_of(name, 0, 1);
+        trial.or_else = PROVED_ARGON2_OUT_OF_MEMORY;
         refuse_request(request);
-        good &= is_cleared_before_a_late_call(name, &it);
+        good &= is_cleared_before_a_late_call(name, &trial);
     }
     refuse_nothing();
     check_cleared(name, good, "a name is bound late behind it");
@@ -441,10 +442,10 @@ static uint8_t *stack_of_call, *frame_of_call;
 
 static void *verifies(void *unused)
 {
-    trial it = {.with = by(1)};
-    seek(it.call = SMALL);
+    struct trial trial = {.with = by(1)};
+    seek(trial.call = SMALL);
     frame_of_call = __builtin_frame_address(0);
-    return answer(4, &it) == PROVED_ARGON2_MISMATCH ? &stack_of_call : unused;
+    return answer(4, &trial) == PROVED_ARGON2_MISMATCH ? &stack_of_call : unused;
 }
 
 /* Below the call's own frames all is cleared that was written, but for what the clearing itself leaves there. */
@@ -505,7 +506,7 @@ int main(int argc, char **argv)
             check_stops(name);
             check_signals(name);
         }
-        if (name < PLAIN && refusal_of(name) != PROVED_ARGON2_MISMATCH) {
+        if (name < PLAIN && error_of(name) != PROVED_ARGON2_MISMATCH) {
             check_arguments(name);
         }
     }

@@ -6,7 +6,7 @@
  * salt is the same each time.
  */
 #include "../../../bindings/c/builds.h"
-#include "given.h"
+#include "arguments.h"
 
 #include <errno.h>
 
@@ -24,43 +24,44 @@ ssize_t __wrap_getrandom(void *buffer, size_t length, unsigned flags)
 
 CALL(verify_raw, INPUTS, BYTES(HASH))
 CALL(verify_encoded, STORED_TEXT)
-CALL(verify_encoded_within, STORED_TEXT, given[LIMITS].at)
-CALL(read, BYTES(TEXT_READ), given[STORED].at)
-CALL(read_within, BYTES(TEXT_READ), given[LIMITS].at, given[STORED].at)
+CALL(verify_encoded_within, STORED_TEXT, arguments[LIMITS].at)
+CALL(read, BYTES(TEXT_READ), arguments[STORED].at)
+CALL(read_within, BYTES(TEXT_READ), arguments[LIMITS].at, arguments[STORED].at)
 CALL(read_bytes, BYTES(TEXT_READ), BYTES(SALT_WRITTEN), BYTES(HASH_WRITTEN))
-CALL(needs_rehash, BYTES(TEXT_READ), given[SETTINGS].at)
-CALL_AS(check_settings, check, given[SETTINGS].at, 8, 8, 8, 8)
-CALL(check_encoded, BYTES(TEXT_READ), given[LIMITS].at, 8, 8, 8, given[STORED].at)
-CALL(password_hash, given[ROOM].at, BYTES(PASSWORD))
-CALL(password_verify, given[TEXT_ENDED].at, BYTES(PASSWORD))
-CALL(password_hash_with, given[OPTIONS].at, given[SETTINGS].at, given[ROOM].at, BYTES(PASSWORD), BYTES(PEPPER))
-CALL(password_verify_with, given[OPTIONS].at, given[TEXT_ENDED].at, BYTES(PASSWORD), BYTES(PEPPER))
-CALL(job_check, given[JOB].at)
-CALL(job_read, STORED_TEXT, given[JOB_WRITTEN].at, BYTES(SALT_WRITTEN), BYTES(HASH_WRITTEN))
-CALL(encode, BYTES(SALT), given[SETTINGS].at, BYTES(TAG_READ), BYTES(TEXT_WRITTEN))
-CALL(hash_raw_with, given[OPTIONS].at, INPUTS, BYTES(OUT))
-CALL(hash_encoded_with, given[OPTIONS].at, INPUTS, BYTES(TEXT_WRITTEN))
-CALL(verify_raw_with, given[OPTIONS].at, INPUTS, BYTES(HASH))
-CALL(verify_encoded_with, given[OPTIONS].at, STORED_TEXT)
-CALL(job_run, given[OPTIONS].at, given[JOB].at, BYTES(TAG_OUT))
-CALL(job_run_verify, given[OPTIONS].at, given[JOB].at, BYTES(HASH))
+CALL(needs_rehash, BYTES(TEXT_READ), arguments[SETTINGS].at)
+CALL_AS(check_settings, check, arguments[SETTINGS].at, 8, 8, 8, 8)
+CALL(check_encoded, BYTES(TEXT_READ), arguments[LIMITS].at, 8, 8, 8, arguments[STORED].at)
+CALL(password_hash, arguments[TEXT_BUFFER].at, BYTES(PASSWORD))
+CALL(password_verify, arguments[TEXT_ENDED].at, BYTES(PASSWORD))
+CALL(password_hash_with, arguments[OPTIONS].at, arguments[SETTINGS].at, arguments[TEXT_BUFFER].at, BYTES(PASSWORD),
+    BYTES(PEPPER))
+CALL(password_verify_with, arguments[OPTIONS].at, arguments[TEXT_ENDED].at, BYTES(PASSWORD), BYTES(PEPPER))
+CALL(job_check, arguments[JOB].at)
+CALL(job_read, STORED_TEXT, arguments[JOB_WRITTEN].at, BYTES(SALT_WRITTEN), BYTES(HASH_WRITTEN))
+CALL(encode, BYTES(SALT), arguments[SETTINGS].at, BYTES(TAG_READ), BYTES(TEXT_WRITTEN))
+CALL(hash_raw_with, arguments[OPTIONS].at, INPUTS, BYTES(OUT))
+CALL(hash_encoded_with, arguments[OPTIONS].at, INPUTS, BYTES(TEXT_WRITTEN))
+CALL(verify_raw_with, arguments[OPTIONS].at, INPUTS, BYTES(HASH))
+CALL(verify_encoded_with, arguments[OPTIONS].at, STORED_TEXT)
+CALL(job_run, arguments[OPTIONS].at, arguments[JOB].at, BYTES(TAG_OUT))
+CALL(job_run_verify, arguments[OPTIONS].at, arguments[JOB].at, BYTES(HASH))
 
 /* Three that have no number for it: no settings have no length, and nothing is freed where there is no memory. */
 static uint32_t encoded_len(void)
 {
-    const uint64_t len = proved_argon2_encoded_len(given[SETTINGS].at, 8);
-    return len == strlen(known.text) ? PROVED_ARGON2_OK
-        : len != 0                   ? PROVED_ARGON2_WRONG_LENGTH
-        : given[SETTINGS].at == NULL ? PROVED_ARGON2_NULL_POINTER
-                                     : PROVED_ARGON2_INCORRECT_TYPE;
+    const uint64_t len = proved_argon2_encoded_len(arguments[SETTINGS].at, 8);
+    return len == strlen(known.text)     ? PROVED_ARGON2_OK
+        : len != 0                       ? PROVED_ARGON2_WRONG_LENGTH
+        : arguments[SETTINGS].at == NULL ? PROVED_ARGON2_NULL_POINTER
+                                         : PROVED_ARGON2_INCORRECT_TYPE;
 }
 
 static uint32_t memory_len(void)
 {
-    const uint64_t len = proved_argon2_memory_len(given[SETTINGS].at);
+    const uint64_t len = proved_argon2_memory_len(arguments[SETTINGS].at);
     return len == sizeof blocks - sizeof *blocks ? PROVED_ARGON2_OK
         : len != 0                               ? PROVED_ARGON2_WRONG_LENGTH
-        : given[SETTINGS].at == NULL             ? PROVED_ARGON2_NULL_POINTER
+        : arguments[SETTINGS].at == NULL         ? PROVED_ARGON2_NULL_POINTER
                                                  : PROVED_ARGON2_INCORRECT_TYPE;
 }
 
@@ -69,8 +70,8 @@ static uint32_t memory_free(void)
 {
     void *memory = NULL;
     size_t len = 0;
-    const uint32_t code = given[MEMORY].at == NULL ? PROVED_ARGON2_NULL_POINTER
-                                                   : proved_argon2_memory_new(&small, &memory, &len);
+    const uint32_t code = arguments[MEMORY].at == NULL ? PROVED_ARGON2_NULL_POINTER
+                                                       : proved_argon2_memory_new(&small, &memory, &len);
     proved_argon2_memory_free(memory, len);
     return code;
 }
@@ -78,7 +79,8 @@ static uint32_t memory_free(void)
 /* What is written to is not looked at but where the memory is refused: it is given back. */
 static uint32_t memory_new(void)
 {
-    const uint32_t code = proved_argon2_memory_new(given[SETTINGS].at, given[MEMORY].at, given[MEMORY_LEN].at);
+    const uint32_t code = proved_argon2_memory_new(
+        arguments[SETTINGS].at, arguments[MEMORY].at, arguments[MEMORY_LEN].at);
     if (code == PROVED_ARGON2_OK) {
         proved_argon2_memory_free(written.memory, written.memory_len);
     }
@@ -98,8 +100,9 @@ static const struct row {
 } rows[] = {ROW(hash_raw, OF_INPUTS, OUT), ROW(hash_encoded, OF_INPUTS, TEXT_WRITTEN), ROW(verify_raw, OF_INPUTS, HASH),
     ROW(verify_encoded, OF_TEXT), ROW(verify_encoded_within, OF_TEXT, LIMITS), ROW(read, TEXT_READ, STORED),
     ROW(read_within, TEXT_READ, LIMITS, STORED), ROW(read_bytes, TEXT_READ, SALT_WRITTEN, HASH_WRITTEN),
-    ROW(needs_rehash, TEXT_READ, SETTINGS), ROW(password_hash, ROOM, PASSWORD),
-    ROW(password_verify, TEXT_ENDED, PASSWORD), ROW(password_hash_with, OPTIONS, SETTINGS, ROOM, PASSWORD, PEPPER),
+    ROW(needs_rehash, TEXT_READ, SETTINGS), ROW(password_hash, TEXT_BUFFER, PASSWORD),
+    ROW(password_verify, TEXT_ENDED, PASSWORD),
+    ROW(password_hash_with, OPTIONS, SETTINGS, TEXT_BUFFER, PASSWORD, PEPPER),
     ROW(password_verify_with, OPTIONS, TEXT_ENDED, PASSWORD, PEPPER), ROW(job_check, JOB),
     ROW(job_make, OF_INPUTS, JOB_WRITTEN), ROW(job_read, OF_TEXT, JOB_WRITTEN, SALT_WRITTEN, HASH_WRITTEN),
     ROW(job_begin, JOB, OWN), ROW(job_fill, JOB, FIRST, SECOND, THIRD, OWN), ROW(job_finish, JOB, LAST, OUT),
@@ -135,7 +138,7 @@ static bool refuses_null(const struct row *row, enum place place, bool is_spoilt
     if (is_spoilt) {
         spoil();
     }
-    given[place].at = NULL;
+    arguments[place].at = NULL;
     const bool is_refused = row->call() == PROVED_ARGON2_NULL_POINTER;
     return is_refused && memcmp(&written, &written_before, sizeof written) == 0;
 }
@@ -145,12 +148,12 @@ static bool takes_none(const struct row *row, enum place place)
 {
     struct written by_address;
     give_what_fits();
-    given[place].len = 0;
+    arguments[place].len = 0;
     const uint32_t code = row->call();
     memcpy(&by_address, &written, sizeof written);
     give_what_fits();
-    given[place].len = 0;
-    given[place].at = NULL;
+    arguments[place].len = 0;
+    arguments[place].at = NULL;
     const bool is_same = row->call() == code && code != PROVED_ARGON2_NULL_POINTER;
     return is_same && memcmp(&by_address, &written, sizeof written) == 0;
 }
@@ -163,8 +166,8 @@ static void check_pointers(const struct row *row)
     for (size_t i = 0; row->pointers[i] != END; i++) {
         const enum place place = row->pointers[i];
         give_what_fits();
-        const bool has_length = given[place].len != 0;
-        snprintf(name, sizeof name, "%s without %s", row->name, given[place].name);
+        const bool has_length = arguments[place].len != 0;
+        snprintf(name, sizeof name, "%s without %s", row->name, arguments[place].name);
         const bool is_refused = refuses_null(row, place, false) && refuses_null(row, place, true);
         check(is_refused && (!has_length || takes_none(row, place)), name);
     }

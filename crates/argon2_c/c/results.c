@@ -95,7 +95,7 @@ static void check_refused(proved_argon2_settings settings, uint32_t number, cons
     check_code(proved_argon2_check(&settings, 8, 8, 0, 0), number, "the same, by a check");
 }
 
-static void check_refusals(void)
+static void check_errors(void)
 {
     proved_argon2_settings bad = settings_of_rfc(3);
     check_refused(bad, 17, "no such variant");
@@ -244,7 +244,7 @@ int main(void)
     check_tag(1, argon2i, "the tag of Argon2i");
     check_tag(2, argon2id, "the tag of Argon2id");
     check_text();
-    check_refusals();
+    check_errors();
     check_lengths();
     check_buffers();
     check_no_texts();

@@ -2,9 +2,9 @@
  * What does not fit a job: each number, length and address that a step of a hash is given, with others that are wrong
  * too. It is refused by name, in the order of the header, and nothing is written.
  *
- *     unfit few       one in 17 of the combinations that a segment is filled with, where all take too long
+ *     invalid_steps few    one in 17 of the combinations that a segment is filled with, where all take too long
  */
-#include "given.h"
+#include "arguments.h"
 
 /* Whether a step answers a number, and writes nothing, but its own where it is done. */
 static bool answers(uint32_t (*step)(void), uint32_t expected, size_t from, size_t len)
@@ -13,7 +13,7 @@ static bool answers(uint32_t (*step)(void), uint32_t expected, size_t from, size
     if (code == PROVED_ARGON2_OK) {
         memcpy((uint8_t *)&written_before + from, (const uint8_t *)&written + from, len);
     }
-    const bool good = code == expected && is_as_it_was();
+    const bool good = code == expected && is_unchanged();
     if (!good) {
         printf("%u in place of %u in pass %u, slice %u, lane %u, or more was written\n", (unsigned)code,
             (unsigned)expected, (unsigned)pass, (unsigned)slice, (unsigned)lane);
@@ -53,8 +53,9 @@ static void check_begin(void)
         size_t number = n;
         give_what_fits();
         lane = (uint32_t)NEXT(lanes, &number);
-        given[OWN].len = NEXT(of_segment, &number);
-        good &= answers(job_begin, expected_of(lane < LANES, given[OWN].len == LENGTH, true), ITS(own, LENGTH * 1024));
+        arguments[OWN].len = NEXT(of_segment, &number);
+        good &= answers(
+            job_begin, expected_of(lane < LANES, arguments[OWN].len == LENGTH, true), ITS(own, LENGTH * 1024));
     }
     check(good, "job_begin at lanes and with lengths");
 }
@@ -69,13 +70,14 @@ static void check_fill(size_t step)
         pass = (uint32_t)NEXT(passes, &number);
         slice = (uint32_t)NEXT(slices, &number);
         lane = (uint32_t)NEXT(lanes, &number);
-        given[FIRST].len = NEXT(of_slice, &number);
-        given[SECOND].len = NEXT(of_slice, &number);
-        given[THIRD].len = NEXT(of_slice, &number);
-        given[OWN].len = NEXT(of_segment, &number);
-        const bool has_blocks = given[FIRST].len == SLICE && given[SECOND].len == SLICE && given[THIRD].len == SLICE;
+        arguments[FIRST].len = NEXT(of_slice, &number);
+        arguments[SECOND].len = NEXT(of_slice, &number);
+        arguments[THIRD].len = NEXT(of_slice, &number);
+        arguments[OWN].len = NEXT(of_segment, &number);
+        const bool has_blocks = arguments[FIRST].len == SLICE && arguments[SECOND].len == SLICE
+            && arguments[THIRD].len == SLICE;
         good &= answers(job_fill,
-            expected_of(pass < PASSES && slice < 4 && lane < LANES, has_blocks && given[OWN].len == LENGTH, true),
+            expected_of(pass < PASSES && slice < 4 && lane < LANES, has_blocks && arguments[OWN].len == LENGTH, true),
             ITS(own, LENGTH * 1024));
     }
     check(good, "job_fill at passes, slices and lanes, and with lengths");
@@ -87,12 +89,13 @@ static void check_ends(void)
     for (size_t n = 0; n < 5 * 5 * 5; n++) {
         size_t number = n;
         give_what_fits();
-        given[LAST].len = NEXT(of_slice, &number);
-        given[TAG_WRITTEN].len = given[OUT].len = NEXT(of_tag, &number);
-        given[HASH].len = NEXT(of_tag, &number);
-        const bool has_blocks = given[LAST].len == SLICE, has_room = given[OUT].len == TAG;
-        good &= answers(job_finish, expected_of(true, has_blocks, has_room), ITS(out, TAG));
-        good &= answers(job_verify, expected_of(true, has_blocks, has_room && given[HASH].len == TAG), ITS(tag, TAG));
+        arguments[LAST].len = NEXT(of_slice, &number);
+        arguments[TAG_WRITTEN].len = arguments[OUT].len = NEXT(of_tag, &number);
+        arguments[HASH].len = NEXT(of_tag, &number);
+        const bool has_blocks = arguments[LAST].len == SLICE, has_length = arguments[OUT].len == TAG;
+        good &= answers(job_finish, expected_of(true, has_blocks, has_length), ITS(out, TAG));
+        good &= answers(
+            job_verify, expected_of(true, has_blocks, has_length && arguments[HASH].len == TAG), ITS(tag, TAG));
     }
     check(good, "job_finish and job_verify with lengths");
 }
@@ -106,7 +109,7 @@ static bool answers_over(uint32_t (*call)(void), bool has_blocks, bool has_lengt
         memcpy(&written_before.blocks, &written.blocks, 4 * SLICE * sizeof *blocks);
         memcpy((uint8_t *)&written_before + from, (const uint8_t *)&written + from, len);
     }
-    return code == expected_of(true, has_blocks, has_length) && is_as_it_was();
+    return code == expected_of(true, has_blocks, has_length) && is_unchanged();
 }
 
 static void check_over(void)
@@ -115,28 +118,28 @@ static void check_over(void)
     for (size_t n = 0; n < 5 * 5 * 5; n++) {
         size_t number = n;
         give_what_fits();
-        given[BLOCKS].len = NEXT(of_memory, &number);
-        given[TAG_WRITTEN].len = given[OUT].len = NEXT(of_tag, &number);
-        given[HASH].len = NEXT(of_tag, &number);
-        const bool has_blocks = given[BLOCKS].len == 4 * SLICE, has_room = given[OUT].len == TAG;
-        const bool has_hash = given[HASH].len == TAG;
-        good &= answers_over(job_hash_over, has_blocks, has_room, ITS(out, TAG));
-        good &= answers_over(hash_over, has_blocks, has_room, ITS(out, TAG));
-        good &= answers_over(job_verify_over, has_blocks, has_room && has_hash, ITS(tag, TAG));
+        arguments[BLOCKS].len = NEXT(of_memory, &number);
+        arguments[TAG_WRITTEN].len = arguments[OUT].len = NEXT(of_tag, &number);
+        arguments[HASH].len = NEXT(of_tag, &number);
+        const bool has_blocks = arguments[BLOCKS].len == 4 * SLICE, has_length = arguments[OUT].len == TAG;
+        const bool has_hash = arguments[HASH].len == TAG;
+        good &= answers_over(job_hash_over, has_blocks, has_length, ITS(out, TAG));
+        good &= answers_over(hash_over, has_blocks, has_length, ITS(out, TAG));
+        good &= answers_over(job_verify_over, has_blocks, has_length && has_hash, ITS(tag, TAG));
         /* (its hash has any length, of which each tag is another) */
-        good &= !has_hash || answers_over(verify_over, has_blocks, has_room, ITS(tag, TAG));
+        good &= !has_hash || answers_over(verify_over, has_blocks, has_length, ITS(tag, TAG));
     }
     check(good, "hash_over, verify_over and those of a job with lengths");
 }
 
 /* A number that a job has, by the name of its field. */
-typedef struct number {
+struct number {
     const char *name;
     uint32_t *at, value;
-} number;
+};
 
 /* One more than each limit, or one less: with 3 lanes, 4 slices of segments of 357913942 blocks are above 4 TiB. */
-static const number of_no_job[] = {{"variant", &job.variant, 3}, {"variant", &job.variant, UINT32_MAX},
+static const struct number of_no_job[] = {{"variant", &job.variant, 3}, {"variant", &job.variant, UINT32_MAX},
     {"version", &job.version, 0}, {"version", &job.version, 0xf}, {"version", &job.version, 0x11},
     {"version", &job.version, 0x12}, {"version", &job.version, 0x14}, {"version", &job.version, UINT32_MAX},
     {"lanes", &job.lanes, 0}, {"lanes", &job.lanes, PROVED_ARGON2_MAX_LANES + 1}, {"lanes", &job.lanes, UINT32_MAX},
@@ -145,15 +148,15 @@ static const number of_no_job[] = {{"variant", &job.variant, 3}, {"variant", &jo
     {"passes", &job.passes, 0}, {"hash_length", &job.hash_length, 0}, {"hash_length", &job.hash_length, 3}};
 
 /* The first of these are another job's, whose blocks and tags have other lengths. */
-static const number of_a_job[] = {{"lanes", &job.lanes, 1}, {"lanes", &job.lanes, PROVED_ARGON2_MAX_LANES},
+static const struct number of_a_job[] = {{"lanes", &job.lanes, 1}, {"lanes", &job.lanes, PROVED_ARGON2_MAX_LANES},
     {"segment_length", &job.segment_length, 3}, {"segment_length", &job.segment_length, 357913941},
     {"hash_length", &job.hash_length, 4}, {"hash_length", &job.hash_length, UINT32_MAX},
     {"variant", &job.variant, PROVED_ARGON2_D}, {"variant", &job.variant, PROVED_ARGON2_I},
     {"version", &job.version, PROVED_ARGON2_VERSION_10}, {"passes", &job.passes, 1},
     {"passes", &job.passes, UINT32_MAX}};
 
-CALL(job_run, given[OPTIONS].at, given[JOB].at, BYTES(OUT))
-CALL(job_run_verify, given[OPTIONS].at, given[JOB].at, BYTES(HASH))
+CALL(job_run, arguments[OPTIONS].at, arguments[JOB].at, BYTES(OUT))
+CALL(job_run_verify, arguments[OPTIONS].at, arguments[JOB].at, BYTES(HASH))
 
 static void give_place(uint32_t place)
 {
@@ -161,7 +164,7 @@ static void give_place(uint32_t place)
 }
 
 /* A job with a number that no accepted call has: no step takes it, whatever else is wrong. */
-static void check_no_job(const number *it)
+static void check_no_job(const struct number *number)
 {
     uint32_t (*const steps[])(void) = {
         job_begin, job_fill, job_finish, job_verify, job_hash_over, job_verify_over, job_run, job_run_verify};
@@ -175,26 +178,26 @@ static void check_no_job(const number *it)
             give_place(UINT32_MAX);
         }
         job.lanes = LANES;
-        *it->at = it->value;
+        *number->at = number->value;
         options = (proved_argon2_options)PROVED_ARGON2_OPTIONS;
         good &= answers(steps[n % 8], PROVED_ARGON2_NO_JOB, 0, 0);
     }
-    snprintf(name, sizeof name, "no job: %s %u", it->name, (unsigned)it->value);
+    snprintf(name, sizeof name, "no job: %s %u", number->name, (unsigned)number->value);
     check(good, name);
 }
 
 /* What a job with another number is refused for: not the job. */
-static void check_a_job(const number *it)
+static void check_a_job(const struct number *number)
 {
     char name[96];
     give_what_fits();
     give_place(0);
-    *it->at = it->value;
+    *number->at = number->value;
     const bool has_blocks = job.lanes == LANES && job.segment_length == LENGTH, has_length = job.hash_length == TAG;
     bool good = answers(job_begin, expected_of(true, job.segment_length == LENGTH, true), ITS(own, LENGTH * 1024));
     good &= answers(job_fill, expected_of(true, has_blocks, true), ITS(own, LENGTH * 1024));
     good &= answers(job_finish, expected_of(true, has_blocks, has_length), ITS(out, TAG));
-    snprintf(name, sizeof name, "a job: %s %u", it->name, (unsigned)it->value);
+    snprintf(name, sizeof name, "a job: %s %u", number->name, (unsigned)number->value);
     check(good, name);
 }
 
@@ -217,17 +220,17 @@ static void check_alignment(uint32_t (*step)(void), enum place place, const char
         for (int n = 0; n < 3; n++) {
             give_what_fits();
             give_place(0);
-            given[place].at = (uint8_t *)given[place].at + off;
+            arguments[place].at = (uint8_t *)arguments[place].at + off;
             if (n == 1) {
                 spoil();
             } else if (n == 2) {
-                given[JOB].at = given[SETTINGS].at = NULL;
+                arguments[JOB].at = arguments[SETTINGS].at = NULL;
             }
             const bool is_refused = step() == (n == 2 ? PROVED_ARGON2_NULL_POINTER : PROVED_ARGON2_MISALIGNED);
             good &= is_refused && memcmp(&written, &written_before, sizeof written) == 0;
         }
     }
-    snprintf(said, sizeof said, "%s, which is not aligned, for %s", given[place].name, name);
+    snprintf(said, sizeof said, "%s, which is not aligned, for %s", arguments[place].name, name);
     check(good, said);
 }
 

@@ -1,10 +1,10 @@
 /*
  * What the proved calls leave of secrets in caller-provided memory, who clears it, and what they overwrite: SECURITY.md
- * says so. Each call is made in a child, which has none of it before. left.c has the driver's calls; c/run compares the
- * calls that are named in both with those of the headers, and runs this over a library that overwrites nothing, where
- * each check of that has to fail. It is linked with --wrap for what it looks at.
+ * says so. Each call is made in a child, which has none of it before. clearing.c has the driver's calls; c/run compares
+ * the calls that are named in both with those of the headers, and runs this over a library that overwrites nothing,
+ * where each check of that has to fail. It is linked with --wrap for what it looks at.
  */
-#include "left.h"
+#include "search.h"
 
 static uint8_t out[512];
 static proved_argon2_job job;
@@ -12,24 +12,26 @@ static proved_argon2_stored stored;
 static uint8_t hash[TAG], salt[16];
 static proved_argon2_block blocks[2048];
 
-#define IT calls[MAPPED]
+#define MAPPED_CALL calls[MAPPED]
 #define TEXT_READ sought->text, strlen(sought->text)
-#define TEXT_OF(it) sought->other, strlen(sought->other), BYTES(it, pwd), BYTES(it, secret), BYTES(it, ad)
+#define TEXT_OF(call) sought->other, strlen(sought->other), BYTES(call, pwd), BYTES(call, secret), BYTES(call, ad)
 /* clang-format off */
 #define CALL(name, ...) static uint32_t does_##name(void) { return proved_argon2_##name(__VA_ARGS__); }
 /* clang-format on */
 
-CALL(job_make, INPUTS_OF(IT), &job)
-CALL(job_read, TEXT_OF(IT), &job, salt, 16, hash, TAG)
+CALL(job_make, INPUTS_OF(MAPPED_CALL), &job)
+CALL(job_read, TEXT_OF(MAPPED_CALL), &job, salt, 16, hash, TAG)
 CALL(read, TEXT_READ, &stored)
 CALL(read_within, TEXT_READ, &(proved_argon2_limits){2048, 2, 4, 4096}, &stored)
-CALL(check, &IT.settings, IT.pwd_len, IT.salt_len, IT.secret_len, IT.ad_len)
-CALL(check_encoded, TEXT_READ, &(proved_argon2_limits){2048, 2, 4, 4096}, IT.pwd_len, IT.secret_len, IT.ad_len, &stored)
+CALL(
+    check, &MAPPED_CALL.settings, MAPPED_CALL.pwd_len, MAPPED_CALL.salt_len, MAPPED_CALL.secret_len, MAPPED_CALL.ad_len)
+CALL(check_encoded, TEXT_READ, &(proved_argon2_limits){2048, 2, 4, 4096}, MAPPED_CALL.pwd_len, MAPPED_CALL.secret_len,
+    MAPPED_CALL.ad_len, &stored)
 CALL(read_bytes, TEXT_READ, salt, 16, hash, TAG)
-CALL(needs_rehash, TEXT_READ, &IT.settings)
-CALL(encode, BYTES(IT, salt), &IT.settings, sought->tag, TAG, (char *)out, sizeof out)
-CALL(hash_over, INPUTS_OF(IT), blocks, 2048, out, TAG)
-CALL(verify_over, INPUTS_OF(IT), blocks, 2048, zeros, TAG, out, TAG)
+CALL(needs_rehash, TEXT_READ, &MAPPED_CALL.settings)
+CALL(encode, BYTES(MAPPED_CALL, salt), &MAPPED_CALL.settings, sought->tag, TAG, (char *)out, sizeof out)
+CALL(hash_over, INPUTS_OF(MAPPED_CALL), blocks, 2048, out, TAG)
+CALL(verify_over, INPUTS_OF(MAPPED_CALL), blocks, 2048, zeros, TAG, out, TAG)
 
 static uint32_t does_job_check(void)
 {
@@ -44,12 +46,12 @@ static uint32_t does_message(void)
 
 static uint32_t does_encoded_len(void)
 {
-    return proved_argon2_encoded_len(&IT.settings, IT.salt_len) == strlen(sought->text) ? 0 : 1;
+    return proved_argon2_encoded_len(&MAPPED_CALL.settings, MAPPED_CALL.salt_len) == strlen(sought->text) ? 0 : 1;
 }
 
 static uint32_t does_memory_len(void)
 {
-    return proved_argon2_memory_len(&IT.settings) == sizeof blocks ? 0 : 1;
+    return proved_argon2_memory_len(&MAPPED_CALL.settings) == sizeof blocks ? 0 : 1;
 }
 
 /* Steps of a job. */
@@ -140,8 +142,8 @@ static int kinds_found(void)
     return bits;
 }
 
-/* Clears what the calls are lent, as a caller does, and what the vector registers held, which are the driver's to clear. */
-static void clear_what_is_lent(void)
+/* Clears the caller's memory, as a caller does, and what the vector registers held, which are the driver's to clear. */
+static void clear_caller_memory(void)
 {
     memset(registers, 0, sizeof registers);
     __real_explicit_bzero(&job, sizeof job);
@@ -150,8 +152,8 @@ static void clear_what_is_lent(void)
     __real_explicit_bzero(hash, sizeof hash);
 }
 
-/* What is found after a call: of what it leaves, of what it overwrites, and elsewhere than in what it is lent. What a call
- * gives back may have none of it. */
+/* What is found after a call: of what it leaves, of what it overwrites, and elsewhere than in the caller's memory. What a
+ * call frees may have none of it. */
 enum { LEAVES = 1, OVERWRITES = 2, ELSEWHERE = 4, NO_ANSWER = 8 };
 
 static int what_is_left(const void *arg)
@@ -165,7 +167,7 @@ static int what_is_left(const void *arg)
     }
     look_at = NULL;
     const int bits = kinds_found(), leaves = row->leaves == KINDS ? -1 : 1 << row->leaves;
-    clear_what_is_lent();
+    clear_caller_memory();
     return (bits & leaves ? LEAVES : 0) | (bits & row->overwrites ? OVERWRITES : 0) | (kinds_found() ? ELSEWHERE : 0);
 }
 

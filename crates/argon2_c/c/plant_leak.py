@@ -2,7 +2,7 @@
 """Plants a leak into functions of an object that a library is made of, so that a check can be seen to refuse it. A
 function goes on to give what it gives.
 
-    leak.py OBJECT LEAK TO
+    plant_leak.py OBJECT LEAK TO
 
 A leak is machine code that is run before or behind the function's own. It is put behind that code, in the function's
 section, and the function's first instructions become a jump to it.
@@ -25,10 +25,10 @@ LEAKS = {
     'nothing_is_overwritten': dict.fromkeys((
         "argon2_blocks::blake2b::wipe::<i8,20'core::clone::U8Clone{}>",
         "argon2_blocks::blake2b::wipe::<i64,21'core::clone::U64Clone{}>",
-        'argon2_fill::stack::wipe_stack'), 'ret'),
+        'argon2_fill::stack_wiping::wipe_stack'), 'ret'),
     # for ARM64: divides where a word of the first block that is read is odd, which is the first argument
     'branch_to_a_division': {COMPRESSION: 'ldr x9, [x0]; tbz x9, 0, 1f; udiv x9, x0, x1; 1:'},
-    # each block that is written adds one to a number where c/sizes.c has it
+    # each block that is written adds one to a number where c/drawn_settings.c has it
     'blocks_are_counted': {COMPRESSION: 'push %rax; mov $0x10000000, %eax; lock incq (%rax); pop %rax'},
     # the block that was written is the third argument
     'branch_on_a_word': {COMPRESSION: 'push %rdx; call original; pop %rdx; testb $1, (%rdx); je 1f; 1: ret'},
@@ -78,7 +78,7 @@ def objects(archive, folder, prefix=''):
     """The objects of an archive, by their names."""
     folder.mkdir()
     run(f'{prefix}ar', 'x', archive.resolve(), cwd=folder)
-    return {it.name: it for it in folder.iterdir()}
+    return {file.name: file for file in folder.iterdir()}
 
 
 def library(folder, cpu=''):
@@ -109,8 +109,8 @@ def front(path, section, prefix, least):
 
 def with_code(own, prefix, **parts):
     """The contents of a section with code."""
-    with tempfile.TemporaryDirectory() as room:
-        before, source, made, flat = (Path(room, it) for it in ('own', 'code.s', 'made.o', 'flat'))
+    with tempfile.TemporaryDirectory() as folder:
+        before, source, made, flat = (Path(folder, name) for name in ('own', 'code.s', 'made.o', 'flat'))
         before.write_bytes(own)
         source.write_text(BEHIND.format(own=before, **parts), encoding='ascii')
         run(f'{prefix}as', '-o', made, source)

@@ -48,15 +48,15 @@ static void check_place(const proved_argon2_settings *settings, size_t bytes, si
 /* ---- calls over it */
 
 static proved_argon2_options with = PROVED_ARGON2_OPTIONS;
-static call it;
+static struct call call;
 static uint8_t expected[LONGEST];
 static char text[256];
 
 static bool make(const proved_argon2_settings *settings)
 {
     const proved_argon2_options alone = by(1);
-    it = (call){*settings, "password", "somesalt", "pepper", "data", 8, 8, 6, 4};
-    return peer(&it, expected) && hash_encoded(&alone, &it, text, sizeof text) == PROVED_ARGON2_OK;
+    call = (struct call){*settings, "password", "somesalt", "pepper", "data", 8, 8, 6, 4};
+    return peer(&call, expected) && hash_encoded(&alone, &call, text, sizeof text) == PROVED_ARGON2_OK;
 }
 
 /* The tag, the text and the verdicts over the memory, which ask for bytes of a tag alone, and leave the memory clear. */
@@ -67,14 +67,14 @@ static bool computes(uint32_t threads)
     char other[256];
     with.threads = threads;
     held = most_held = 0;
-    bool good = hash_raw(&with, &it, tag) == PROVED_ARGON2_OK && memcmp(tag, expected, TAG) == 0;
-    good = good && hash_encoded(&with, &it, other, sizeof other) == PROVED_ARGON2_OK && memcmp(text, other, 256) == 0;
-    good = good && verify_raw(&with, &it, expected) == PROVED_ARGON2_OK;
-    good = good && verify_encoded(&with, &it, text) == PROVED_ARGON2_OK;
-    it.pwd[0] ^= 1;
-    good = good && verify_raw(&with, &it, expected) == PROVED_ARGON2_MISMATCH;
-    good = good && verify_encoded(&with, &it, text) == PROVED_ARGON2_MISMATCH;
-    it.pwd[0] ^= 1;
+    bool good = hash_raw(&with, &call, tag) == PROVED_ARGON2_OK && memcmp(tag, expected, TAG) == 0;
+    good = good && hash_encoded(&with, &call, other, sizeof other) == PROVED_ARGON2_OK && memcmp(text, other, 256) == 0;
+    good = good && verify_raw(&with, &call, expected) == PROVED_ARGON2_OK;
+    good = good && verify_encoded(&with, &call, text) == PROVED_ARGON2_OK;
+    call.pwd[0] ^= 1;
+    good = good && verify_raw(&with, &call, expected) == PROVED_ARGON2_MISMATCH;
+    good = good && verify_encoded(&with, &call, text) == PROVED_ARGON2_MISMATCH;
+    call.pwd[0] ^= 1;
     return good && held == 0 && most_held < 1024 && memcmp(with.memory, zeros, sizeof zeros) == 0;
 }
 

@@ -1,7 +1,7 @@
 /* Looks through the memory of the process and its vector registers for pieces of what a call computes: H0, blocks, the tag
  * and the inputs. */
-#ifndef LEFT_H
-#define LEFT_H
+#ifndef SEARCH_H
+#define SEARCH_H
 
 #include "calls.h"
 #include "registers.h"
@@ -22,7 +22,7 @@ static const char *const of_kinds[KINDS] = {"H0", "what a first block is hashed 
  * can write, and so are not found there. */
 enum { MAPPED, SMALL, ALONE, CALLS };
 
-static const call calls[CALLS] = {
+static const struct call calls[CALLS] = {
     {{PROVED_ARGON2_ID, 0x13, 2048, 2, 4, TAG}, "the password that is looked for", "a salt of 16 byt",
         "the secret that is looked for", "data", 31, 16, 29, 4},
     {{PROVED_ARGON2_ID, 0x13, 64, 2, 4, TAG}, "the password that is looked for", "a salt of 16 byt",
@@ -32,8 +32,8 @@ static const call calls[CALLS] = {
         16, 0, 0},
 };
 
-#define BYTES(it, what) (it).what, (it).what##_len
-#define INPUTS_OF(it) BYTES(it, pwd), BYTES(it, salt), BYTES(it, secret), BYTES(it, ad), &(it).settings
+#define BYTES(call, what) (call).what, (call).what##_len
+#define INPUTS_OF(call) BYTES(call, pwd), BYTES(call, salt), BYTES(call, secret), BYTES(call, ad), &(call).settings
 
 /* A call's tag, its text, a text of zeros, and what is looked for, each byte with MASK so that it is not found here. */
 typedef struct known {
@@ -116,25 +116,26 @@ static inline void keep_last(const proved_argon2_job *job, const proved_argon2_b
     }
 }
 
-static inline bool spell(const call *it, const uint8_t *tag, char *text)
+static inline bool spell(const struct call *call, const uint8_t *tag, char *text)
 {
-    return proved_argon2_encode(it->salt, it->salt_len, &it->settings, tag, it->settings.hash_length, text, TEXT)
+    return proved_argon2_encode(
+               call->salt, call->salt_len, &call->settings, tag, call->settings.hash_length, text, TEXT)
         == PROVED_ARGON2_OK;
 }
 
 /* Computes a call by its steps, to know what to look for. */
-static inline bool know(const call *it, known *to)
+static inline bool know(const struct call *call, known *to)
 {
-    const size_t size = (size_t)it->settings.mem_cost * 1024, len = it->settings.hash_length;
+    const size_t size = (size_t)call->settings.mem_cost * 1024, len = call->settings.hash_length;
     proved_argon2_block *const blocks = mmap(NULL, size, PROT_READ | PROT_WRITE, MAP_PRIVATE | MAP_ANONYMOUS, -1, 0);
     proved_argon2_job job;
-    bool good = proved_argon2_job_make(INPUTS_OF(*it), &job) == PROVED_ARGON2_OK;
+    bool good = proved_argon2_job_make(INPUTS_OF(*call), &job) == PROVED_ARGON2_OK;
     for (uint32_t step = 0; good && step <= 4 * job.passes; step++) {
         good = take_step(&job, blocks, step, to);
     }
     const size_t slice = (size_t)job.lanes * job.segment_length;
     good = good && proved_argon2_job_finish(&job, blocks + 3 * slice, slice, to->tag, len) == PROVED_ARGON2_OK;
-    good = good && spell(it, to->tag, to->text) && spell(it, zeros, to->other);
+    good = good && spell(call, to->tag, to->text) && spell(call, zeros, to->other);
     for (size_t i = 0; i < 4; i++) {
         keep(to, OF_H0, job.prehash + PART * i);
     }
@@ -143,9 +144,9 @@ static inline bool know(const call *it, known *to)
     for (size_t at = 0; at + PART <= len; at += PART) {
         keep(to, OF_TAG, to->tag + at);
     }
-    keep(to, OF_INPUTS, it->pwd + 1);
-    if (it->secret_len != 0) {
-        keep(to, OF_INPUTS, it->secret + 1);
+    keep(to, OF_INPUTS, call->pwd + 1);
+    if (call->secret_len != 0) {
+        keep(to, OF_INPUTS, call->secret + 1);
     }
     return good;
 }
@@ -231,23 +232,23 @@ static void (*calls_behind)(void);
  * frames were. */
 __attribute__((noinline)) static uint32_t far_below(uint32_t (*does)(const void *), const void *arg)
 {
-    volatile uint8_t room[1 << 16];
-    room[0] = 0;
+    volatile uint8_t space[1 << 16];
+    space[0] = 0;
     const uint32_t code = does(arg);
     if (calls_behind != NULL) {
         calls_behind();
     }
     NOTE_ALL();
-    return code + room[0];
+    return code + space[0];
 }
 
 /* Whether none is found; the first few that are, are told. */
 static inline bool is_nothing_found(const char *after)
 {
-    static int told;
+    static int reported;
     bool is_nothing = true;
     for (size_t kind = 0; kind < KINDS; kind++) {
-        if (found[kind] != 0 && ++told <= 10) {
+        if (found[kind] != 0 && ++reported <= 10) {
             printf("%zu pieces of %s are left by %s\n", found[kind], of_kinds[kind], after);
         }
         is_nothing = is_nothing && found[kind] == 0;

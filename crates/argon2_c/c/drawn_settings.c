@@ -2,9 +2,10 @@
  * Calls of all sizes, drawn from a seed: up to a gibibyte, or a quarter of what the system has left, hundreds of lanes and
  * threads, and a tag of a mebibyte. Each has libargon2's tag, and starts as many threads, asks as often for memory and
  * writes as many blocks as its settings say, so that none is refused, cut or done twice from some size on. It is linked
- * with --wrap for what it counts, and over a library in which each block that is written adds one to a number (leak.py).
+ * with --wrap for what it counts, and over a library in which each block that is written adds one to a number
+ * (plant_leak.py).
  *
- *     sizes [SEED]     the seed is printed
+ *     drawn_settings [SEED]     the seed is printed
  */
 #include "calls.h"
 #include "system.h"
@@ -44,17 +45,17 @@ static uint32_t drawn(uint32_t least, uint32_t most)
     return from + below(to - from + 1);
 }
 
-static call drawn_call(uint32_t draw)
+static struct call drawn_call(uint32_t draw)
 {
-    call it = any_call(1);
+    struct call call = any_call(1);
     const uint32_t lanes = draw == 0 ? MOST_LANES : drawn(1, MOST_LANES);
     const uint32_t memory = draw <= 1 ? most_memory : drawn(8 * lanes, most_memory);
     const uint32_t passes = most_memory / memory < MOST_PASSES ? most_memory / memory : MOST_PASSES;
-    it.settings.lanes = lanes;
-    it.settings.mem_cost = memory;
-    it.settings.time_cost = drawn(1, passes);
-    it.settings.hash_length = draw == 2 ? MOST_TAG : drawn(4, MOST_TAG);
-    return it;
+    call.settings.lanes = lanes;
+    call.settings.mem_cost = memory;
+    call.settings.time_cost = drawn(1, passes);
+    call.settings.hash_length = draw == 2 ? MOST_TAG : drawn(4, MOST_TAG);
+    return call;
 }
 
 /* ---- what is to be counted */
@@ -79,7 +80,7 @@ static size_t blocks_of(const proved_argon2_settings *of)
 
 /* How a call is made: as each of the four, by threads; again by the first without options; and over a memory of memory_new,
  * twice. */
-enum way { RAW, ENCODED, VERIFY, VERIFY_ENCODED, PLAIN, KEPT };
+enum way { RAW, ENCODED, VERIFY, VERIFY_ENCODED, PLAIN, REUSED };
 
 /* How many threads it takes, of at most so many: the caller's alone where others do not pay. */
 static size_t threads_of(const proved_argon2_settings *of, uint32_t most)
@@ -93,13 +94,13 @@ typedef struct counted {
     size_t starts, requests, blocks, most_held;
 } counted;
 
-static counted counts_of(const call *it, enum way way, uint32_t threads)
+static counted counts_of(const struct call *call, enum way way, uint32_t threads)
 {
-    const proved_argon2_settings *const of = &it->settings;
+    const proved_argon2_settings *const of = &call->settings;
     const uint32_t most = way == PLAIN                       ? 1
         : way == VERIFY_ENCODED && threads > MOST_FOR_A_TEXT ? MOST_FOR_A_TEXT
                                                              : threads;
-    const size_t tasks = threads_of(of, most), calls_made = way == KEPT ? 2 : 1;
+    const size_t tasks = threads_of(of, most), calls_made = way == REUSED ? 2 : 1;
     const size_t beside = way == ENCODED || way == VERIFY || way == VERIFY_ENCODED ? 1 : 0;
     return (counted){.starts = calls_made * (tasks - 1),
         .requests = 1 + beside + (tasks == 1 ? 0 : 2 * calls_made),
@@ -109,43 +110,43 @@ static counted counts_of(const call *it, enum way way, uint32_t threads)
 
 /* ---- the calls */
 
-static uint32_t hash_over_kept(const proved_argon2_options *by_threads, const call *it)
+static uint32_t hash_over_buffer(const proved_argon2_options *by_threads, const struct call *call)
 {
     proved_argon2_options with = *by_threads;
-    uint32_t code = proved_argon2_memory_new(&it->settings, &with.memory, &with.memory_len);
+    uint32_t code = proved_argon2_memory_new(&call->settings, &with.memory, &with.memory_len);
     for (int n = 0; n < 2 && code == PROVED_ARGON2_OK; n++) {
-        memset(tag, n, it->settings.hash_length);
-        code = hash_raw(&with, it, tag);
+        memset(tag, n, call->settings.hash_length);
+        code = hash_raw(&with, call, tag);
     }
     proved_argon2_memory_free(with.memory, with.memory_len);
     return code;
 }
 
-static uint32_t answer(const call *it, enum way way, uint32_t threads)
+static uint32_t answer(const struct call *call, enum way way, uint32_t threads)
 {
     const proved_argon2_options with = by(threads);
-    memset(tag, 0, it->settings.hash_length);
+    memset(tag, 0, call->settings.hash_length);
     switch (way) {
-    case RAW: return hash_raw(&with, it, tag);
-    case ENCODED: return hash_encoded(&with, it, text, sizeof text);
-    case VERIFY: return verify_raw(&with, it, expected);
-    case VERIFY_ENCODED: return verify_encoded(&with, it, text);
+    case RAW: return hash_raw(&with, call, tag);
+    case ENCODED: return hash_encoded(&with, call, text, sizeof text);
+    case VERIFY: return verify_raw(&with, call, expected);
+    case VERIFY_ENCODED: return verify_encoded(&with, call, text);
     case PLAIN:
-        return proved_argon2_hash_raw(it->pwd, it->pwd_len, it->salt, it->salt_len, it->secret, it->secret_len, it->ad,
-            it->ad_len, &it->settings, tag, it->settings.hash_length);
-    default: return hash_over_kept(&with, it);
+        return proved_argon2_hash_raw(call->pwd, call->pwd_len, call->salt, call->salt_len, call->secret,
+            call->secret_len, call->ad, call->ad_len, &call->settings, tag, call->settings.hash_length);
+    default: return hash_over_buffer(&with, call);
     }
 }
 
 /* Whether a call answers what it is to, and takes for it what it is to. */
-static bool is_as_counted(const call *it, enum way way, uint32_t threads)
+static bool is_as_counted(const struct call *call, enum way way, uint32_t threads)
 {
-    const counted to_be = counts_of(it, way, threads);
+    const counted to_be = counts_of(call, way, threads);
     refuse_nothing();
     held = most_held = *written = 0;
-    const uint32_t code = answer(it, way, threads);
-    const bool has_tag = way == RAW || way == PLAIN || way == KEPT;
-    const bool good = code == PROVED_ARGON2_OK && (!has_tag || memcmp(tag, expected, it->settings.hash_length) == 0)
+    const uint32_t code = answer(call, way, threads);
+    const bool has_tag = way == RAW || way == PLAIN || way == REUSED;
+    const bool good = code == PROVED_ARGON2_OK && (!has_tag || memcmp(tag, expected, call->settings.hash_length) == 0)
         && starts == to_be.starts && granted == starts && joins == starts && requests == to_be.requests
         && *written == to_be.blocks && held == 0 && most_held >= to_be.most_held
         && most_held <= to_be.most_held + SLACK + sizeof text;
@@ -161,13 +162,13 @@ static bool is_as_counted(const call *it, enum way way, uint32_t threads)
 static void check_draw(uint32_t draw)
 {
     char name[128];
-    const call it = drawn_call(draw);
-    const proved_argon2_settings *const of = &it.settings;
+    const struct call call = drawn_call(draw);
+    const proved_argon2_settings *const of = &call.settings;
     const uint32_t threads = draw <= 1 ? of->lanes : drawn(1, MOST_LANES);
-    bool good = peer(&it, expected) && is_as_counted(&it, ENCODED, threads)
-        && is_as_counted(&it, VERIFY_ENCODED, threads);
-    const enum way way = draw <= 2 ? KEPT : (enum way)below(WAYS);
-    good = good && (way == ENCODED || way == VERIFY_ENCODED || is_as_counted(&it, way, threads));
+    bool good = peer(&call, expected) && is_as_counted(&call, ENCODED, threads)
+        && is_as_counted(&call, VERIFY_ENCODED, threads);
+    const enum way way = draw <= 2 ? REUSED : (enum way)below(WAYS);
+    good = good && (way == ENCODED || way == VERIFY_ENCODED || is_as_counted(&call, way, threads));
     snprintf(name, sizeof name, "variant %u, %u KiB, %u passes, %u lanes, %u threads, a tag of %u bytes",
         (unsigned)of->variant, (unsigned)of->mem_cost, (unsigned)of->time_cost, (unsigned)of->lanes, (unsigned)threads,
         (unsigned)of->hash_length);

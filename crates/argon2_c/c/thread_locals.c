@@ -7,13 +7,13 @@ static _Thread_local volatile uint8_t variables[VARIABLES];
 
 int main(void)
 {
-    static const call it = {
+    static const struct call call = {
         {PROVED_ARGON2_ID, PROVED_ARGON2_VERSION_13, 4096, 1, 4, 32}, "password", "somesalt", "", "", 8, 8, 0, 0};
     const proved_argon2_options with = by(4);
     uint8_t expected[LONGEST], tag[LONGEST];
     variables[VARIABLES - 1] = 1;
     refuse_nothing();
-    const bool is_right = peer(&it, expected) && hash_raw(&with, &it, tag) == PROVED_ARGON2_OK
+    const bool is_right = peer(&call, expected) && hash_raw(&with, &call, tag) == PROVED_ARGON2_OK
         && memcmp(tag, expected, 32) == 0;
     check(is_right && granted == 3 && variables[0] == 0, "threads of a program that has many variables of a thread");
     return checks_failed != 0;

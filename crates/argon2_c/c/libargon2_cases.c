@@ -157,55 +157,55 @@ static const known_hash hashes[] = {
         "vfMrBczELrFdWP0ZsfhWsRPaHppYdP3MVEMIVlqoFBw"},
 };
 
-static bool is_small(const known_hash *it)
+static bool is_small(const known_hash *known)
 {
-    return it->log_of_memory <= 8;
+    return known->log_of_memory <= 8;
 }
 
 /* The text of a hash. Before version 0x13 a text had no version, and such a text is verified too. */
-static void spell(const known_hash *it, bool has_version, char text[TEXT])
+static void spell(const known_hash *known, bool has_version, char text[TEXT])
 {
-    const char *const variant = it->type == Argon2_i ? "argon2i" : "argon2id";
-    const char *const salt = strcmp(it->salt, "somesalt") == 0 ? "c29tZXNhbHQ" : "ZGlmZnNhbHQ";
+    const char *const variant = known->type == Argon2_i ? "argon2i" : "argon2id";
+    const char *const salt = strcmp(known->salt, "somesalt") == 0 ? "c29tZXNhbHQ" : "ZGlmZnNhbHQ";
     char version[8] = "";
     if (has_version) {
-        snprintf(version, sizeof version, "$v=%u", (unsigned)it->version);
+        snprintf(version, sizeof version, "$v=%u", (unsigned)known->version);
     }
-    snprintf(text, TEXT, "$%s%s$m=%u,t=%u,p=%u$%s$%s", variant, version, 1u << it->log_of_memory, (unsigned)it->t_cost,
-        (unsigned)it->parallelism, salt, it->letters);
+    snprintf(text, TEXT, "$%s%s$m=%u,t=%u,p=%u$%s$%s", variant, version, 1u << known->log_of_memory,
+        (unsigned)known->t_cost, (unsigned)known->parallelism, salt, known->letters);
 }
 
 /* Whether a hash and its text are the known ones. */
-static bool is_known(hash_form *form, const known_hash *it)
+static bool is_known(hash_form *form, const known_hash *known)
 {
     uint8_t tag[OUT];
     char text[TEXT], expected[TEXT];
-    spell(it, true, expected);
-    return form(it->t_cost, UINT32_C(1) << it->log_of_memory, it->parallelism, it->pwd, strlen(it->pwd), it->salt,
-               strlen(it->salt), tag, OUT, text, TEXT, it->type, it->version)
+    spell(known, true, expected);
+    return form(known->t_cost, UINT32_C(1) << known->log_of_memory, known->parallelism, known->pwd, strlen(known->pwd),
+               known->salt, strlen(known->salt), tag, OUT, text, TEXT, known->type, known->version)
         == ARGON2_OK
-        && is_hex(tag, OUT, it->tag) && strcmp(text, expected) == 0;
+        && is_hex(tag, OUT, known->tag) && strcmp(text, expected) == 0;
 }
 
 /* Whether a text of it is verified with its password and, where that takes no time, with no other one. */
-static bool is_verified(verify_form *form, const known_hash *it, bool has_version)
+static bool is_verified(verify_form *form, const known_hash *known, bool has_version)
 {
     char text[TEXT];
-    spell(it, has_version, text);
-    return form(text, it->pwd, strlen(it->pwd), it->type) == ARGON2_OK
-        && (!is_small(it) || form(text, it->pwd, strlen(it->pwd) - 1, it->type) == ARGON2_VERIFY_MISMATCH);
+    spell(known, has_version, text);
+    return form(text, known->pwd, strlen(known->pwd), known->type) == ARGON2_OK
+        && (!is_small(known) || form(text, known->pwd, strlen(known->pwd) - 1, known->type) == ARGON2_VERIFY_MISMATCH);
 }
 
-static void check_hash(const known_hash *it)
+static void check_hash(const known_hash *known)
 {
     char name[96];
-    bool good = is_known(hash, it) && is_verified(verify, it, true);
-    if (it->version == ARGON2_VERSION_10) {
-        good = good && is_verified(verify, it, false);
+    bool good = is_known(hash, known) && is_verified(verify, known, true);
+    if (known->version == ARGON2_VERSION_10) {
+        good = good && is_verified(verify, known, false);
     }
     snprintf(name, sizeof name, "%s, version %x: %u passes over 2^%u KiB, %u lanes, %s and %s",
-        it->type == Argon2_i ? "Argon2i" : "Argon2id", (unsigned)it->version, (unsigned)it->t_cost,
-        (unsigned)it->log_of_memory, (unsigned)it->parallelism, it->pwd, it->salt);
+        known->type == Argon2_i ? "Argon2i" : "Argon2id", (unsigned)known->version, (unsigned)known->t_cost,
+        (unsigned)known->log_of_memory, (unsigned)known->parallelism, known->pwd, known->salt);
     check(good, name);
 }
 
@@ -294,14 +294,14 @@ static const known_call refused[] = {
 };
 
 /* The answer of a form; that something was written where it is refused is 2. */
-static int answer(hash_form *form, const known_call *it)
+static int answer(hash_form *form, const known_call *known)
 {
     uint8_t out[OUT], before[OUT];
     char text[TEXT] = "";
     memset(out, 7, sizeof out);
     memcpy(before, out, sizeof out);
-    const int number = form(it->t_cost, it->m_cost, it->parallelism, it->pwd, it->pwdlen, it->salt, it->saltlen, out,
-        it->hashlen, text, it->encodedlen, Argon2_id, ARGON2_VERSION_13);
+    const int number = form(known->t_cost, known->m_cost, known->parallelism, known->pwd, known->pwdlen, known->salt,
+        known->saltlen, out, known->hashlen, text, known->encodedlen, Argon2_id, ARGON2_VERSION_13);
     const bool is_computed = number == ARGON2_OK || number == ARGON2_ENCODING_FAIL;
     return is_computed || form == argon2_hash || memcmp(out, before, sizeof out) == 0 ? number : 2;
 }

@@ -56,7 +56,7 @@ static void check_password(void)
     check(memcmp(text, other, sizeof text) == 0 && errno == 77, "the text is as it was, and so is errno");
     interruptions = 3;
     code = proved_argon2_password_hash(text, "password", 8);
-    check(code == PROVED_ARGON2_OK && errno == 77, "a signal is no refusal");
+    check(code == PROVED_ARGON2_OK && errno == 77, "a signal is no error");
 }
 
 int main(void)

@@ -1,6 +1,6 @@
 /* What the checks of bad input share: all that a call of the header is given, so that one thing at a time is spoilt. */
-#ifndef GIVEN_H
-#define GIVEN_H
+#ifndef ARGUMENTS_H
+#define ARGUMENTS_H
 
 #include "checks.h"
 
@@ -10,12 +10,12 @@ enum { TAG = 32, TEXT = 128, LANES = 3, LENGTH = 2, SLICE = LANES * LENGTH, PASS
 
 static const proved_argon2_settings small = {PROVED_ARGON2_ID, PROVED_ARGON2_VERSION_13, 4 * SLICE, PASSES, LANES, TAG};
 
-/* What the calls are given: the places of `given`, of which those from MEMORY on are written to. A memory is a pointer to
- * one, which has its length elsewhere. */
+/* The places of `arguments`, of which those from MEMORY on are written to. A memory is a pointer to one, which has its
+ * length elsewhere. */
 /* clang-format off */
 enum place {
     END, OPTIONS, TEXT_READ, TEXT_ENDED, PWD, PASSWORD, SALT, SECRET, PEPPER, AD, SETTINGS, LIMITS, JOB, FIRST, SECOND, THIRD,
-    LAST, HASH, TAG_READ, MEMORY, MEMORY_LEN, BLOCKS, OUT, TAG_OUT, TEXT_WRITTEN, ROOM, STORED, JOB_WRITTEN, OWN,
+    LAST, HASH, TAG_READ, MEMORY, MEMORY_LEN, BLOCKS, OUT, TAG_OUT, TEXT_WRITTEN, TEXT_BUFFER, STORED, JOB_WRITTEN, OWN,
     SALT_WRITTEN, HASH_WRITTEN, TAG_WRITTEN, PLACES
 };
 /* clang-format on */
@@ -25,7 +25,7 @@ static struct pointer {
     const char *name;
     void *at;
     size_t len;
-} given[PLACES];
+} arguments[PLACES];
 
 static uint32_t pass, slice, lane; /* where a step is */
 static proved_argon2_options options;
@@ -54,8 +54,8 @@ static struct written {
     uint8_t out[TAG + 1], text[TEXT], salt[8], hash[TAG], tag[TAG + 1];
 } written, written_before;
 
-#define BYTES(place) given[place].at, given[place].len
-#define INPUTS BYTES(PWD), BYTES(SALT), BYTES(SECRET), BYTES(AD), given[SETTINGS].at
+#define BYTES(place) arguments[place].at, arguments[place].len
+#define INPUTS BYTES(PWD), BYTES(SALT), BYTES(SECRET), BYTES(AD), arguments[SETTINGS].at
 #define STORED_TEXT BYTES(TEXT_READ), BYTES(PWD), BYTES(SECRET), BYTES(AD)
 #define SLICES BYTES(FIRST), BYTES(SECOND), BYTES(THIRD)
 /* A call by its name alone, as other languages find it. */
@@ -70,19 +70,19 @@ static struct written {
 
 CALL(hash_raw, INPUTS, BYTES(OUT))
 CALL(hash_encoded, INPUTS, BYTES(TEXT_WRITTEN))
-CALL(job_make, INPUTS, given[JOB_WRITTEN].at)
-CALL(job_begin, given[JOB].at, lane, BYTES(OWN))
-CALL(job_fill, given[JOB].at, pass, slice, lane, SLICES, BYTES(OWN))
-CALL(job_finish, given[JOB].at, BYTES(LAST), BYTES(OUT))
-CALL(job_verify, given[JOB].at, BYTES(LAST), BYTES(HASH), BYTES(TAG_WRITTEN))
-CALL(job_hash_over, given[JOB].at, BYTES(BLOCKS), BYTES(OUT))
-CALL(job_verify_over, given[JOB].at, BYTES(BLOCKS), BYTES(HASH), BYTES(TAG_WRITTEN))
+CALL(job_make, INPUTS, arguments[JOB_WRITTEN].at)
+CALL(job_begin, arguments[JOB].at, lane, BYTES(OWN))
+CALL(job_fill, arguments[JOB].at, pass, slice, lane, SLICES, BYTES(OWN))
+CALL(job_finish, arguments[JOB].at, BYTES(LAST), BYTES(OUT))
+CALL(job_verify, arguments[JOB].at, BYTES(LAST), BYTES(HASH), BYTES(TAG_WRITTEN))
+CALL(job_hash_over, arguments[JOB].at, BYTES(BLOCKS), BYTES(OUT))
+CALL(job_verify_over, arguments[JOB].at, BYTES(BLOCKS), BYTES(HASH), BYTES(TAG_WRITTEN))
 CALL(hash_over, INPUTS, BYTES(BLOCKS), BYTES(OUT))
 CALL(verify_over, INPUTS, BYTES(BLOCKS), BYTES(HASH), BYTES(TAG_WRITTEN))
 
 static inline void give(enum place place, const char *name, void *at, size_t len)
 {
-    given[place] = (struct pointer){name, at, len};
+    arguments[place] = (struct pointer){name, at, len};
 }
 
 static inline void give_to_read(void)
@@ -124,7 +124,7 @@ static inline void give_to_write(void)
     give(OUT, "out", written.out, TAG);
     give(TAG_OUT, "tag", written.out, TAG);
     give(TEXT_WRITTEN, "text", written.text, TEXT);
-    give(ROOM, "text", written.text, 0);
+    give(TEXT_BUFFER, "text", written.text, 0);
     give(STORED, "stored", &written.stored, 0);
     give(JOB_WRITTEN, "job", &written.job, 0);
     give(OWN, "own", written.own, LENGTH);
@@ -149,11 +149,11 @@ static inline void spoil(void)
     job.lanes = 0;
     text[0] = (char)0xff;
     for (size_t i = 0; i < PLACES; i++) {
-        given[i].len -= given[i].len != 0;
+        arguments[i].len -= arguments[i].len != 0;
     }
 }
 
-static inline bool is_as_it_was(void)
+static inline bool is_unchanged(void)
 {
     return memcmp(&written, &written_before, sizeof written) == 0 && memcmp(blocks, known.blocks, sizeof blocks) == 0;
 }
