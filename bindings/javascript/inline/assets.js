@@ -3,7 +3,7 @@
 
 /** The bytes of a module. */
 export function readModule(isShared) {
-    return Uint8Array.from(atob(isShared ? SHARED_MODULE : OWN_MODULE), (it) => it.charCodeAt(0));
+    return Uint8Array.from(atob(isShared ? SHARED_MODULE : OWN_MODULE), (character) => character.charCodeAt(0));
 }
 
 let address;

@@ -45,9 +45,9 @@ class Bundle:
     def with_functions(self, name, text):
         """A file's text without imports and exports, and what it exports."""
         names = [found[1] for found in DECLARED.findall(text)]
-        names += [it.strip() for found in LISTED.findall(text) for it in found.split(",") if it.strip()]
+        names += [export.strip() for found in LISTED.findall(text) for export in found.split(",") if export.strip()]
         for other in ALL_OF.findall(text):
-            names += [f"{it}: {other}_js.{it}" for it in self.add(other)]
+            names += [f"{export}: {other}_js.{export}" for export in self.add(other)]
         text = IMPORT.sub(self.import_of, text)
         text = DECLARED.sub(r"\1", LISTED.sub("", ALL_OF.sub("", text)))
         text, defaults = DEFAULT.subn("const ofThis = ", text)
@@ -78,10 +78,10 @@ def inlined(folder, modules):
 def main():
     folder, modules = map(Path, sys.argv[1:])
     package = Bundle(folder, (HERE / "assets.js").read_text(encoding="utf-8"))
-    names = [it.split(":")[0] for it in package.add("index")]
+    names = [name.split(":")[0] for name in package.add("index")]
     front = "// The package proved-argon2 as one file, made of its sources by bindings/javascript/inline/make.py.\n"
     body = inlined(folder, modules) + package.text().removeprefix("'use strict';\n")
-    listed = ", ".join(it for it in names if it != "default")
+    listed = ", ".join(name for name in names if name != "default")
     (folder / "inline.js").write_text(
         f"{front}{body}export const {{ {listed} }} = index_js;\nexport default index_js.default;\n", encoding="utf-8")
     (folder / "inline.cjs").write_text(

@@ -8,7 +8,7 @@ function decodeBase64(text) {
     try {
         const characters = atob(text);
         return btoa(characters).replace(/=*$/, '') === text
-            ? Uint8Array.from(characters, (it) => it.charCodeAt(0)) : undefined;
+            ? Uint8Array.from(characters, (character) => character.charCodeAt(0)) : undefined;
     } catch {
         return undefined;
     }

@@ -15,7 +15,7 @@ const WORK = 16;
 /** The least length of a salt (RFC 9106, 3.1). A longer one is as good. */
 const MIN_SALT = 8;
 /** What a memory may have grown to and still be reused by the next call. */
-const KEPT = 2 ** 20;
+const MAX_REUSED = 2 ** 20;
 
 let opened;
 
@@ -59,17 +59,17 @@ export class Encoder {
 
     /** Works with the memory, and overwrites it. One that has grown much, or whose instance failed, is dropped. */
     #withMemory(work) {
-        let isKept = false;
+        let isReusable = false;
         try {
             const result = work(this.#memory);
-            isKept = true;
+            isReusable = true;
             return result;
         } catch (error) {
-            isKept = error instanceof Rejected;
+            isReusable = error instanceof Rejected;
             throw error;
         } finally {
             this.#memory.clear();
-            opened = isKept && this.#memory.size <= KEPT ? opened : undefined;
+            opened = isReusable && this.#memory.size <= MAX_REUSED ? opened : undefined;
         }
     }
 

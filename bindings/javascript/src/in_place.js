@@ -8,11 +8,11 @@ import { run } from './run.js';
 const queue = new Queue();
 let isBusy = false;
 /** The memory of the run before, overwritten, unless the engine has collected it. */
-let kept;
+let previous;
 
 async function runNow(task, progress) {
-    const memory = kept?.deref() ?? await Memory.open(await compiledModule());
-    kept = new WeakRef(memory);
+    const memory = previous?.deref() ?? await Memory.open(await compiledModule());
+    previous = new WeakRef(memory);
     const report = async (done, all) => {
         const isStopped = progress.report(done, all);
         await yieldToTasks();

@@ -42,7 +42,7 @@ function takeStepOfLane(memory, layout, step, lane) {
     }
     const slice = (step - 1) % SLICES;
     const pass = Math.floor((step - 1) / SLICES);
-    const others = [0, 1, 2, 3].filter((it) => it !== slice).map((it) => sliceOf(layout, it));
+    const others = [0, 1, 2, 3].filter((other) => other !== slice).map((other) => sliceOf(layout, other));
     return memory.call('job_fill', job, pass, slice, lane, ...others, segmentOf(layout, slice, lane));
 }
 

@@ -11,6 +11,7 @@ function startThread({ onMessage, onEnd }) {
     const worker = newThread(nodeThreads.Worker, { execArgv: [] });
     worker.on('message', onMessage);
     worker.on('error', onEnd);
+    worker.on('messageerror', onEnd);
     worker.on('exit', (status) => onEnd(new Error(`the worker has ended with status ${status}`)));
     worker.unref();
     return {

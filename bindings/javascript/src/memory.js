@@ -129,8 +129,9 @@ export class Memory {
     }
 
     /** What a call returns: a place is passed as an address and a length. */
-    call(name, ...given) {
-        const passed = given.flatMap((it) => (it instanceof Place ? [BigInt(it.at), BigInt(it.length)] : it));
+    call(name, ...values) {
+        const passed = values.flatMap((value) =>
+            (value instanceof Place ? [BigInt(value.at), BigInt(value.length)] : value));
         return this.#exports[`proved_argon2_${name}`](...passed);
     }
 

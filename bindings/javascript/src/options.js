@@ -44,23 +44,23 @@ const NAMES = new Set([
 ]);
 const NAMES_OF_LIMITS = new Set(Object.keys(defaultLimits));
 
-const typeError = (name, wanted) => new TypeError(`'${name}' has to be ${wanted}`);
+const typeError = (name, expected) => new TypeError(`'${name}' has to be ${expected}`);
 
 /** The own properties of an object that have a value, each read once. */
-function ownOf(given, names, what) {
-    if (Object.prototype.toString.call(given) !== '[object Object]') {
+function ownOf(object, names, what) {
+    if (Object.prototype.toString.call(object) !== '[object Object]') {
         throw typeError(what, 'an object');
     }
-    const all = { ...given };
+    const all = { ...object };
     const unknown = Object.keys(all).find((name) => !names.has(name));
     if (unknown !== undefined) {
         throw new TypeError(`there is no option '${unknown}'`);
     }
-    const isGiven = ([, value]) => value !== undefined;
-    return { __proto__: null, ...Object.fromEntries(Object.entries(all).filter(isGiven)) };
+    const isDefined = ([, value]) => value !== undefined;
+    return { __proto__: null, ...Object.fromEntries(Object.entries(all).filter(isDefined)) };
 }
 
-export const optionsOf = (given) => ownOf(given, NAMES, 'options');
+export const optionsOf = (options) => ownOf(options, NAMES, 'options');
 
 function numberOf(name, value, most = MAX_NUMBER) {
     if (typeof value !== 'number') {
@@ -105,7 +105,7 @@ export function encodedOf(encoded) {
 }
 
 /** The bytes of an option, or none. */
-const givenOf = (name, value) => (value === undefined ? allocate(0) : bytesOf(name, value));
+const bytesOrNone = (name, value) => (value === undefined ? allocate(0) : bytesOf(name, value));
 
 /** The salt that is given, or a new one of 16 bytes (RFC 9106, 3.1). */
 const saltOf = (salt) => (salt === undefined ? crypto.getRandomValues(allocate(SALT_LENGTH)) : bytesOf('salt', salt));
@@ -114,8 +114,8 @@ const saltOf = (salt) => (salt === undefined ? crypto.getRandomValues(allocate(S
 export function inputsOf(password, { salt, secret, associatedData }) {
     return new Inputs({
         salt: saltOf(salt),
-        secret: givenOf('secret', secret),
-        associatedData: givenOf('associatedData', associatedData),
+        secret: bytesOrNone('secret', secret),
+        associatedData: bytesOrNone('associatedData', associatedData),
         password: passwordOf(password),
     });
 }

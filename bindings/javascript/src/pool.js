@@ -10,16 +10,16 @@ const workers = new Set();
 const idle = [];
 const queue = new Queue();
 
-/** Takes the last idle worker of those that are wanted, or else the last one. */
-function popIdle(isWanted) {
-    const wanted = idle.findLastIndex(isWanted);
-    return idle.splice(wanted < 0 ? idle.length - 1 : wanted, 1)[0];
+/** Takes the last idle worker of those that are preferred, or else the last one. */
+function popIdle(isPreferred) {
+    const index = idle.findLastIndex(isPreferred);
+    return idle.splice(index < 0 ? idle.length - 1 : index, 1)[0];
 }
 
 /** A worker that is there at once, or none. */
-function takeWorker(isWanted) {
+function takeWorker(isPreferred) {
     if (idle.length > 0) {
-        return popIdle(isWanted).wake();
+        return popIdle(isPreferred).wake();
     }
     if (workers.size >= processors()) {
         return undefined;
@@ -129,7 +129,7 @@ class Call {
         throw new Rejected(STOPPED);
     }
 
-    /** A channel from the leader to each helper passes the memory, so that this thread never holds one. */
+    /** A channel from the leader to each helper passes the memory: this thread would hold it until it is collected. */
     #begin(task) {
         const channels = this.#helpers.map(() => new MessageChannel());
         const ports = channels.map(({ port1 }) => port1);
@@ -149,9 +149,8 @@ class Call {
             this.fail(new Error(message.failure));
         } else if (message.code !== undefined) {
             this.#end.resolve(message);
-        } else if (message.invitations) {
-            this.#helpers.forEach((helper, i) =>
-                helper.post({ module: this.#module, invitation: message.invitations[i] }));
+        } else if (message.invitation) {
+            this.#helpers[message.helper].post({ module: this.#module, invitation: message.invitation });
         } else if (this.#progress.report(message.done, message.all)) {
             this.#stop();
         }

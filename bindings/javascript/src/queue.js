@@ -11,15 +11,15 @@ export class Queue {
     /** What the call in front is given, once it is its turn. One that is aborted meanwhile goes. */
     wait(progress) {
         let forget;
-        const given = new Promise((resolve, reject) => {
-            const it = { resolve, reject };
-            this.#waiting.push(it);
+        const turn = new Promise((resolve, reject) => {
+            const call = { resolve, reject };
+            this.#waiting.push(call);
             forget = progress.whenAborted(() => {
-                this.#waiting.splice(this.#waiting.indexOf(it), 1);
+                this.#waiting.splice(this.#waiting.indexOf(call), 1);
                 reject(new Rejected(STOPPED));
             });
         });
-        return given.finally(forget);
+        return turn.finally(forget);
     }
 
     /** Gives something to the call in front. */

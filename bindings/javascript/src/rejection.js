@@ -5,6 +5,6 @@ const classes = Object.values(errors);
 
 /** The error of a number, in the library's words, and with those of its cause. */
 export function errorOf({ code, cause }, words) {
-    const Named = classes.find((it) => it.prototype.code === code) ?? errors.Argon2Error;
+    const Named = classes.find((errorClass) => errorClass.prototype.code === code) ?? errors.Argon2Error;
     return cause === undefined ? new Named(words) : new Named(`${words}: ${cause.message}`, { cause });
 }

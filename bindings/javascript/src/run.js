@@ -24,14 +24,14 @@ function takePlaces(memory, { settings, saltLength }, helpers) {
 /** Writes the job: that of a hash, or that of the string that is verified, with the hash in it. */
 function makeJob(memory, { encoded, inputs }, places) {
     const { password, salt, secret, associatedData } = inputs;
-    const given = memory.putAll([encoded ?? salt, password, secret, associatedData]);
+    const inputPlaces = memory.putAll([encoded ?? salt, password, secret, associatedData]);
     inputs.clear();
-    const [first, ofPassword, ...keys] = given;
+    const [first, ofPassword, ...keys] = inputPlaces;
     const job = pointer(places.job);
     const code = encoded === undefined
         ? memory.call('job_make', ofPassword, first, ...keys, pointer(places.settings), job)
         : memory.call('job_read', first, ofPassword, ...keys, job, places.salt, places.hash);
-    given.forEach((place) => memory.clearPlace(place));
+    inputPlaces.forEach((place) => memory.clearPlace(place));
     check(code);
     return { ...shapeOf(memory, places.job), job: { ...places.job }, blocks: { ...places.blocks } };
 }
@@ -79,7 +79,7 @@ async function compute(memory, task, { helpers, invite, report }) {
     const layout = makeJob(memory, task, places);
     const barrier = helpers > 0 ? new Barrier(memory.shared, places.barrier) : undefined;
     if (barrier) {
-        invite(invitationsTo(memory, layout, places));
+        await invite(invitationsTo(memory, layout, places));
     }
     try {
         await fill(memory, layout, barrier, helpers, report);
@@ -90,8 +90,8 @@ async function compute(memory, task, { helpers, invite, report }) {
 }
 
 /**
- * The code of a run, with the tag of a hash. `invite` has so many helpers join the memory. The inputs are overwritten,
- * and so is the memory.
+ * The code of a run, with the tag of a hash. `invite` has so many helpers join the memory, and waits for them. The
+ * inputs are overwritten, and so is the memory.
  */
 export async function run(memory, task, company) {
     try {

@@ -8,18 +8,26 @@ import { help, run } from './run.js';
 let memory;
 let isStopped = false;
 
-/** Invites helpers by ports of their own. WebKit passes a memory only by way of the thread that has started both. */
+/** The port of the worker that this one helps. */
+let leader;
+
+/**
+ * Invites helpers, each by a port of its own, and waits until they have joined. Where an engine does not pass a memory
+ * by a port, the thread that has started both workers passes it on: WebKit never does, Firefox now and then loses it.
+ */
 function inviteBy(ports) {
-    return (invitations) => {
+    return (invitations) => Promise.all(ports.map((port, helper) => new Promise((resolve) => {
+        const passOn = () => caller.postMessage({ helper, invitation: invitations[helper] });
+        port.onmessage = ({ data }) => (data.hasJoined ? resolve() : passOn());
         try {
-            ports.forEach((port, i) => port.postMessage(invitations[i]));
+            port.postMessage(invitations[helper]);
         } catch (error) {
             if (error.name !== 'DataCloneError') {
                 throw error;
             }
-            caller.postMessage({ invitations });
+            passOn();
         }
-    };
+    })));
 }
 
 async function lead({ module, task, ports, isReported }) {
@@ -39,7 +47,10 @@ async function lead({ module, task, ports, isReported }) {
 }
 
 async function join(module, invitation) {
-    help(await Memory.join(module, invitation.memory, invitation.stack), invitation);
+    const joined = await Memory.join(module, invitation.memory, invitation.stack);
+    leader.postMessage({ hasJoined: true });
+    help(joined, invitation);
+    leader.close();
 }
 
 /** Does something, and reports where it fails: whom this works for ends this worker then. */
@@ -53,12 +64,12 @@ async function attempt(work) {
 
 /** Waits for the invitation of the worker that leads. */
 function waitForInvitation({ module, port }) {
-    port.onmessage = ({ data }) => {
-        port.close();
-        attempt(() => join(module, data));
-    };
+    leader = port;
+    port.onmessage = ({ data }) => attempt(() => join(module, data));
+    port.onmessageerror = () => port.postMessage({ hasJoined: false });
 }
 
+caller.onmessageerror = () => caller.postMessage({ failure: 'a message to the worker could not be read' });
 caller.onmessage = ({ data }) => attempt(async () => {
     if (data.stop) {
         isStopped = true;

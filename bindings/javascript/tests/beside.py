@@ -41,22 +41,22 @@ def drawn(source, most):
     }
 
 
-def tag(library, it):
-    out = ctypes.create_string_buffer(it["length"])
-    given = [part for piece in it["inputs"] for part in (piece, len(piece))]
+def tag(library, case):
+    out = ctypes.create_string_buffer(case["length"])
+    arguments = [part for piece in case["inputs"] for part in (piece, len(piece))]
     context = Context(
-        ctypes.cast(out, ctypes.c_char_p), it["length"], *given, it["t"], it["m"], it["p"], 1, it["version"], None,
-        None, 0)
-    code = library.argon2_ctx(ctypes.byref(context), VARIANTS[it["variant"]])
+        ctypes.cast(out, ctypes.c_char_p), case["length"], *arguments, case["t"], case["m"], case["p"], 1,
+        case["version"], None, None, 0)
+    code = library.argon2_ctx(ctypes.byref(context), VARIANTS[case["variant"]])
     if code != 0:
-        raise ValueError(f"libargon2 answers {code} for {it}")
+        raise ValueError(f"libargon2 answers {code} for {case}")
     return out.raw
 
 
 def with_data(library):
     inputs = [b"password", b"somesalt", b"", b"user 7"]
-    it = {"variant": "argon2id", "version": 19, "t": 2, "m": 256, "p": 1, "length": 32, "inputs": inputs}
-    parts = inputs[1], inputs[3], tag(library, it)
+    case = {"variant": "argon2id", "version": 19, "t": 2, "m": 256, "p": 1, "length": 32, "inputs": inputs}
+    parts = inputs[1], inputs[3], tag(library, case)
     salt, data, made = (base64.b64encode(part).decode().rstrip("=") for part in parts)
     return f"$argon2id$v=19$m=256,t=2,p=1,data={data}${salt}${made}"
 
@@ -69,9 +69,10 @@ def main():
     seed, count, most = map(int, sys.argv[1:])
     source = random.Random(seed)
     for _ in range(count):
-        it = drawn(source, most)
-        pieces = [piece.hex() or "-" for piece in it["inputs"]]
-        print(it["variant"], it["version"], it["t"], it["m"], it["p"], it["length"], *pieces, tag(library, it).hex())
+        case = drawn(source, most)
+        pieces = [piece.hex() or "-" for piece in case["inputs"]]
+        print(case["variant"], case["version"], case["t"], case["m"], case["p"], case["length"], *pieces,
+              tag(library, case).hex())
 
 
 if __name__ == "__main__":

@@ -1,4 +1,5 @@
 // Chromium, Firefox and WebKit without a window, each driven by what it has for that: pipes, a socket, or a server.
+import assert from 'node:assert/strict';
 import { spawn, spawnSync } from 'node:child_process';
 import { once } from 'node:events';
 import { existsSync, mkdtempSync, readFileSync, rmSync, writeFileSync } from 'node:fs';
@@ -6,13 +7,16 @@ import { connect, createServer } from 'node:net';
 import { tmpdir } from 'node:os';
 import { join } from 'node:path';
 import { setTimeout as sleep } from 'node:timers/promises';
-import { keptBelow } from './processes.mjs';
+import { memoryBelow } from './processes.mjs';
 
 /** Whether a program is there, a browser or another one. */
 export const isThere = (program) => spawnSync('sh', ['-c', `command -v ${program}`]).status === 0;
 
-/** A browser has ended while something waited for it. */
+/** A browser, or its page, has ended while something waited for it. */
 export class BrowserEnded extends Error {}
+
+/** How long anything of a browser may take, in milliseconds: nothing waits for ever. */
+const LONGEST_WAIT = 300000;
 
 /** Requests by numbers, and what waits for their answers. */
 class Requests {
@@ -26,10 +30,19 @@ class Requests {
         }
         this.#last += 1;
         const number = this.#last;
-        return new Promise((resolve, reject) => {
+        const answer = new Promise((resolve, reject) => {
             this.#waiting.set(number, { resolve, reject });
             send(number);
         });
+        const late = new BrowserEnded(`there was no answer within ${LONGEST_WAIT / 1000} seconds`);
+        const timer = setTimeout(() => this.endAll(late), LONGEST_WAIT);
+        return answer.finally(() => clearTimeout(timer));
+    }
+
+    throwIfEnded() {
+        if (this.#ended) {
+            throw this.#ended;
+        }
     }
 
     /** Rejects all that waits, and what is asked later. */
@@ -83,8 +96,8 @@ class Browser {
     }
 
     /** The bytes that its processes keep. */
-    kept() {
-        return keptBelow(this.process.pid);
+    memoryInUse() {
+        return memoryBelow(this.process.pid);
     }
 
     /** Ends it as a fault would. */
@@ -97,31 +110,52 @@ class Browser {
         this.requests.endAll(new BrowserEnded(`${this.constructor.name} has ended by itself: ${how}`));
     }
 
-    /** Waits until an expression of the page is true. */
-    async until(expression) {
-        while (!await this.evaluate(expression)) {
+    /** Waits until a condition holds: `what` is what a browser lacks that takes too long. */
+    async waitFor(what, condition) {
+        const end = Date.now() + LONGEST_WAIT;
+        while (!await condition()) {
+            this.requests.throwIfEnded();
+            assert.ok(Date.now() < end, `after ${LONGEST_WAIT / 1000} seconds: ${what}`);
             await sleep(20);
         }
     }
 
+    /** Opens a page, and marks it: where its process has ended, Firefox has another page or none in its place. */
+    async visit(url) {
+        await this.navigate(url);
+        await this.evaluate(`document.documentElement.dataset.visited = ''`);
+    }
+
+    /** Waits until an expression of the page that was visited is true. */
+    async until(expression) {
+        await this.waitFor(expression, async () => {
+            const [isVisited, holds] = await this.evaluate(
+                `['visited' in document.documentElement.dataset, Boolean(${expression})]`) ?? [];
+            if (!isVisited) {
+                this.hasEnded('its page has crashed');
+            }
+            return isVisited && holds;
+        });
+    }
+
     /** What a program gives that runs as a module of the page. */
-    async told(program) {
+    async resultOf(program) {
         const module = `const failed = (error) => ({ error: String(error.stack) });
-            const told = await (async () => {${program}})().catch(failed);
-            document.documentElement.dataset.told = JSON.stringify(told);`;
+            const result = await (async () => {${program}})().catch(failed);
+            document.documentElement.dataset.result = JSON.stringify(result);`;
         await this.evaluate(`(() => {
-            delete document.documentElement.dataset.told;
+            delete document.documentElement.dataset.result;
             const script = document.createElement('script');
             script.type = 'module';
             script.textContent = ${JSON.stringify(module)};
             document.body.append(script);
         })()`);
-        await this.until('document.documentElement.dataset.told !== undefined');
-        const told = JSON.parse(await this.evaluate('document.documentElement.dataset.told'));
-        if (told.error) {
-            throw new Error(told.error);
+        await this.until('document.documentElement.dataset.result !== undefined');
+        const result = JSON.parse(await this.evaluate('document.documentElement.dataset.result'));
+        if (result.error) {
+            throw new Error(result.error);
         }
-        return told;
+        return result;
     }
 }
 
@@ -144,7 +178,7 @@ export class Chromium extends Browser {
     #read(data) {
         const messages = (this.#rest + data).split('\0');
         this.#rest = messages.pop();
-        for (const { id, error, result, method } of messages.map((it) => JSON.parse(it))) {
+        for (const { id, error, result, method } of messages.map((message) => JSON.parse(message))) {
             if (method === 'Target.targetCrashed') {
                 this.hasEnded('its page has crashed');
             } else {
@@ -158,9 +192,10 @@ export class Chromium extends Browser {
             this.process.stdio[3].write(`${JSON.stringify({ id, method, params, sessionId: this.session })}\0`));
     }
 
-    async visit(url) {
+    async navigate(url) {
         await this.#send('Page.navigate', { url });
-        await this.until(`document.readyState === 'complete' && location.href === ${JSON.stringify(url)}`);
+        const isOpen = `document.readyState === 'complete' && location.href === ${JSON.stringify(url)}`;
+        await this.waitFor(isOpen, () => this.evaluate(isOpen));
     }
 
     async evaluate(expression) {
@@ -200,15 +235,13 @@ export class Firefox extends Browser {
         this.start(Firefox.command, ['--headless', '--marionette', '--remote-allow-system-access', '--no-remote',
             '--profile', this.profile]);
         const port = join(this.profile, 'MarionetteActivePort');
-        while (!existsSync(port) || readFileSync(port, 'utf8') === '') {
-            await sleep(50);
-        }
+        await this.waitFor('its port', () => existsSync(port) && readFileSync(port, 'utf8') !== '');
         this.socket = connect(Number(readFileSync(port, 'utf8')), '127.0.0.1');
         this.socket.on('data', (data) => this.#read(data));
         await once(this.socket, 'connect');
         const { capabilities } = await this.#send('WebDriver:NewSession');
         this.name = `Firefox ${capabilities.browserVersion}`;
-        await this.#send('WebDriver:SetTimeouts', { script: 600000 });
+        await this.#send('WebDriver:SetTimeouts', { script: LONGEST_WAIT });
         return this;
     }
 
@@ -234,7 +267,7 @@ export class Firefox extends Browser {
         });
     }
 
-    async visit(url) {
+    async navigate(url) {
         await this.#send('WebDriver:Navigate', { url });
     }
 
@@ -300,7 +333,7 @@ export class WebKit extends Browser {
         this.#session = `/${sessionId}`;
         this.isOpen = true;
         this.name = `WebKit ${capabilities.browserVersion}`;
-        await this.#send('POST', '/timeouts', { script: 600000 });
+        await this.#send('POST', '/timeouts', { script: LONGEST_WAIT });
         return this;
     }
 
@@ -338,7 +371,7 @@ export class WebKit extends Browser {
         });
     }
 
-    async visit(url) {
+    async navigate(url) {
         await this.#send('POST', '/url', { url });
     }
 

@@ -22,11 +22,11 @@ async function tell() {
     const encoded = await hash('password', { memoryCost: 256, parallelism: 2 });
     return [await verify(encoded, 'password'), await verify(encoded, 'passwort')].join(' ');
 }
-tell().catch(String).then((told) => {
+tell().catch(String).then((outcome) => {
     if (globalThis.document) {
-        document.documentElement.dataset.told = told;
+        document.documentElement.dataset.outcome = outcome;
     } else {
-        console.log(told);
+        console.log(outcome);
     }
 });
 `;
@@ -58,8 +58,8 @@ async function runsInPage(folder, policy, isIsolated = false) {
     const browser = await new Chromium().open();
     try {
         await browser.visit(server.url);
-        await browser.until('document.documentElement.dataset.told !== undefined');
-        assert.equal(await browser.evaluate('document.documentElement.dataset.told'), RIGHT);
+        await browser.until('document.documentElement.dataset.outcome !== undefined');
+        assert.equal(await browser.evaluate('document.documentElement.dataset.outcome'), RIGHT);
     } finally {
         await browser.close();
         server.close();
@@ -130,11 +130,11 @@ bundledTest('rollup for Node and for pages: the single file', ['rollup', 'chromi
 
 test('the files are as large as the page says', () => {
     const page = readFileSync(join(process.env.PAGE, '../JAVASCRIPT.md'), 'utf8').replace(/\s+/g, ' ');
-    const [, ...told] = page.match(/one file, of (\d+) KB \((\d+) KB by gzip\).* module only, of (\d+) KB by gzip/);
+    const [, ...stated] = page.match(/one file, of (\d+) KB \((\d+) KB by gzip\).* module only, of (\d+) KB by gzip/);
     const [single, module] = ['inline.js', 'proved_argon2.wasm'].map((name) => readFileSync(join(sources, name)));
     const sizes = [single, gzipSync(single), gzipSync(module)].map((bytes) => bytes.length / 1000);
     for (const [i, size] of sizes.entries()) {
-        assert.ok(Math.abs(size - told[i]) < 1 + size / 50, `${size} KB, and ${told[i]} are told`);
+        assert.ok(Math.abs(size - stated[i]) < 1 + size / 50, `${size} KB, and ${stated[i]} are told`);
     }
 });
 
@@ -161,6 +161,6 @@ bundledTest('the files under a policy that allows nothing else', ['chromium'], a
 
 bundledTest('a policy that allows no worker is named by the error', ['chromium'], async () => {
     const folder = folderWith(FILES.replace("'proved-argon2'", "'./proved-argon2/index.js'"), 'bundle.js');
-    const told = await runsInPage(folder, `${FILES_POLICY}; worker-src 'none'`).catch((error) => error.actual);
-    assert.match(told, /^WorkerRefused: A worker was refused: \w.*$/);
+    const outcome = await runsInPage(folder, `${FILES_POLICY}; worker-src 'none'`).catch((error) => error.actual);
+    assert.match(outcome, /^WorkerRefused: A worker was refused: \w.*$/);
 });

@@ -47,7 +47,7 @@ test('the version is that of the module', async () => {
 test('the module imports nothing, and the shared one a memory alone', async () => {
     const importsOf = (file) => WebAssembly.Module.imports(new WebAssembly.Module(readFileSync(`${source}/${file}`)));
     assert.deepEqual(importsOf('proved_argon2.wasm'), []);
-    const shared = importsOf('proved_argon2_shared.wasm').map((it) => `${it.module}.${it.name} ${it.kind}`);
+    const shared = importsOf('proved_argon2_shared.wasm').map((entry) => `${entry.module}.${entry.name} ${entry.kind}`);
     assert.deepEqual(shared, ['env.memory memory']);
 });
 

@@ -10,7 +10,7 @@ import * as argon2 from 'proved-argon2';
 
 const MOST = 0xffffffff;
 const SALT = new Uint8Array(16);
-const KEPT = '$argon2id$v=19$m=256,t=2,p=1$c29tZXNhbHQ$nf65EOgLrQMR/uIPnA4rEsF5h7TKyQwu9U1bMCHGi/4';
+const ENCODED = '$argon2id$v=19$m=256,t=2,p=1$c29tZXNhbHQ$nf65EOgLrQMR/uIPnA4rEsF5h7TKyQwu9U1bMCHGi/4';
 
 const stringOf = (memory, time, lanes) =>
     `$argon2id$v=19$m=${memory},t=${time},p=${lanes}$c29tZXNhbHQ$nf65EOgLrQMR/uIPnA4rEsF5h7TKyQwu9U1bMCHGi/4`;
@@ -62,14 +62,14 @@ const HASHING = [
 const VERIFYING = [
     ['DecodingFail', ''],
     ['DecodingFail', '$2b$12$R9h/cIPz0gi.URNNX3kh2OPST9/PgBkqquzi.Ss7KIUgO2t0jWMUW'],
-    ['DecodingFail', `${KEPT}\0`],
-    ['DecodingFail', `${KEPT}é`],
-    ['DecodingFail', KEPT.replace('v=19', 'v=18')],
-    ['DecodingFail', KEPT, { limits: { memoryCost: 255 } }, (text) => text.slice(1)],
-    ['TooCostly', KEPT, { limits: { memoryCost: 255 } }],
-    ['TooCostly', KEPT, { limits: { timeCost: 1 } }],
+    ['DecodingFail', `${ENCODED}\0`],
+    ['DecodingFail', `${ENCODED}é`],
+    ['DecodingFail', ENCODED.replace('v=19', 'v=18')],
+    ['DecodingFail', ENCODED, { limits: { memoryCost: 255 } }, (text) => text.slice(1)],
+    ['TooCostly', ENCODED, { limits: { memoryCost: 255 } }],
+    ['TooCostly', ENCODED, { limits: { timeCost: 1 } }],
     ['TooCostly', stringOf(256, 1, 2), { limits: { parallelism: 1 } }],
-    ['TooCostly', KEPT, { limits: { work: 511 } }],
+    ['TooCostly', ENCODED, { limits: { work: 511 } }],
     ['TooCostly', stringOf(2097153, 1, 1)],
     ['TooCostly', stringOf(256, 11, 1)],
     ['TooCostly', stringOf(256, 1, 17)],
@@ -83,14 +83,14 @@ const VERIFYING = [
     ['LanesTooMany', stringOf(MOST, MOST, 0x1000000), { limits: null }],
     ['MemoryTooLittle', stringOf(7, 1, 1)],
     ['TypeError', 5],
-    ['TypeError', new TextEncoder().encode(KEPT)],
-    ['TypeError', KEPT, []],
-    ['TypeError', KEPT, { limits: 5 }],
-    ['TypeError', KEPT, { limits: [] }],
-    ['TypeError', KEPT, { limits: { memory: 5 } }],
-    ['TypeError', KEPT, { limits: { memoryCost: '256' } }],
-    ['RangeError', KEPT, { limits: { work: -1 } }],
-    ['RangeError', KEPT, { limits: { work: 2 ** 53 } }],
+    ['TypeError', new TextEncoder().encode(ENCODED)],
+    ['TypeError', ENCODED, []],
+    ['TypeError', ENCODED, { limits: 5 }],
+    ['TypeError', ENCODED, { limits: [] }],
+    ['TypeError', ENCODED, { limits: { memory: 5 } }],
+    ['TypeError', ENCODED, { limits: { memoryCost: '256' } }],
+    ['RangeError', ENCODED, { limits: { work: -1 } }],
+    ['RangeError', ENCODED, { limits: { work: 2 ** 53 } }],
     ['DecodingFail', '', { limits: { work: 2 ** 53 - 1 } }],
 ];
 
@@ -98,7 +98,7 @@ const PASSWORDS = [5, null, undefined, {}, ['password'], true, 'half a pair \ud8
 
 /** Checks that a call is rejected by an error of this name. */
 async function rejects(name, call, what) {
-    const error = await call().then((value) => assert.fail(`${what} gave ${value}`), (it) => it);
+    const error = await call().then((value) => assert.fail(`${what} gave ${value}`), (reason) => reason);
     assert.equal(error.name, name, `${what}: ${error.stack}`);
     if (name in argon2) {
         assert.ok(error instanceof argon2[name] && error instanceof argon2.Argon2Error);
@@ -110,18 +110,19 @@ async function rejects(name, call, what) {
 test('each error of hash has its name, and comes before a worker', async () => {
     const started = countWorkers();
     for (const [name, options] of HASHING) {
-        await rejects(name, () => argon2.hash('password', options), JSON.stringify(options, (_, it) => String(it)));
+        await rejects(name, () => argon2.hash('password', options),
+            JSON.stringify(options, (_, value) => String(value)));
     }
     for (const password of PASSWORDS) {
         await rejects('TypeError', () => argon2.hash(password), String(password));
-        await rejects('TypeError', () => argon2.verify(KEPT, password), String(password));
+        await rejects('TypeError', () => argon2.verify(ENCODED, password), String(password));
     }
     assert.equal(started(), 0);
 });
 
 test('each error of verify has its name, and comes before a worker', async () => {
     const started = countWorkers();
-    for (const [name, encoded, options, change = (it) => it] of VERIFYING) {
+    for (const [name, encoded, options, change = (text) => text] of VERIFYING) {
         const call = () => argon2.verify(change(encoded), 'password', options);
         await rejects(name, call, `${encoded} ${JSON.stringify(options)}`);
     }
@@ -130,10 +131,10 @@ test('each error of verify has its name, and comes before a worker', async () =>
 
 test('each error of needsRehash has its name', async () => {
     await rejects('DecodingFail', () => argon2.needsRehash('$argon2id$'), 'a part');
-    await rejects('IncorrectType', () => argon2.needsRehash(KEPT, { type: 7 }), 'a type');
-    await rejects('IncorrectVersion', () => argon2.needsRehash(KEPT, { version: 0 }), 'a version');
+    await rejects('IncorrectType', () => argon2.needsRehash(ENCODED, { type: 7 }), 'a type');
+    await rejects('IncorrectVersion', () => argon2.needsRehash(ENCODED, { version: 0 }), 'a version');
     await rejects('TypeError', () => argon2.needsRehash(null), 'null');
-    await rejects('TypeError', () => argon2.needsRehash(KEPT, { timeCost: '2' }), 'a string');
+    await rejects('TypeError', () => argon2.needsRehash(ENCODED, { timeCost: '2' }), 'a string');
 });
 
 test('memory that the engine refuses is OutOfMemory, and the next call is made', async () => {
@@ -142,7 +143,7 @@ test('memory that the engine refuses is OutOfMemory, and the next call is made',
         await rejects('OutOfMemory', () => argon2.hash('password', { ...most, ...running }), JSON.stringify(running));
     }
     await rejects('OutOfMemory', () => argon2.verify(stringOf(MOST, 1, 1), 'password', { limits: null }), 'a string');
-    assert.equal(await argon2.verify(KEPT, 'password'), true);
+    assert.equal(await argon2.verify(ENCODED, 'password'), true);
 });
 
 test('a memory.grow that is refused in place is OutOfMemory', async () => {
@@ -162,9 +163,9 @@ test('the errors are those of the library for C, with their numbers', () => {
     const named = (name) => name.toLowerCase().replace(/(^|_)(\w)/g, (_, __, letter) => letter.toUpperCase());
     const lines = header.matchAll(/^ {4}PROVED_ARGON2_(\w+) = (\d+)/gm);
     const numbers = Array.from(lines, ([, name, code]) => [named(name), +code]);
-    const wanted = new Map(numbers.filter(([name, code]) => (code > 0 && code < 64) || name === 'TooCostly'));
-    assert.equal(wanted.size, 22);
-    for (const [name, code] of wanted) {
+    const expected = new Map(numbers.filter(([name, code]) => (code > 0 && code < 64) || name === 'TooCostly'));
+    assert.equal(expected.size, 22);
+    for (const [name, code] of expected) {
         assert.equal(argon2[name]?.prototype.code, code, name);
         assert.equal(argon2[name].name, name);
     }
@@ -174,7 +175,7 @@ test('an aborted signal rejects by its reason, before a worker', async () => {
     const started = countWorkers();
     const reason = new Error('no more');
     await assert.rejects(argon2.hash('password', { signal: AbortSignal.abort(reason) }), (error) => error === reason);
-    await assert.rejects(argon2.verify(KEPT, 'password', { signal: AbortSignal.abort() }), { name: 'AbortError' });
+    await assert.rejects(argon2.verify(ENCODED, 'password', { signal: AbortSignal.abort() }), { name: 'AbortError' });
     assert.equal(started(), 0);
 });
 
@@ -190,7 +191,7 @@ test('inputs are overwritten where a call is stopped before it runs', async () =
     };
     try {
         const secret = Uint8Array.of(1, 2, 3);
-        const calls = [argon2.hash, (...given) => argon2.verify(KEPT, ...given)];
+        const calls = [argon2.hash, (...values) => argon2.verify(ENCODED, ...values)];
         for (const call of calls) {
             const controller = new AbortController();
             const stopped = call(password, { secret, signal: controller.signal });

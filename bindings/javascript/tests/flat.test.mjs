@@ -18,8 +18,8 @@ const SOON = 50;
 
 const workers = [];
 threads.Worker = class extends threads.Worker {
-    constructor(...given) {
-        super(...given);
+    constructor(...values) {
+        super(...values);
         workers.push(this);
         this.on('exit', () => workers.splice(workers.indexOf(this), 1));
     }

@@ -3,7 +3,7 @@ import assert from 'node:assert/strict';
 import { test } from 'node:test';
 import * as argon2 from 'proved-argon2';
 
-const KEPT = '$argon2id$v=19$m=256,t=2,p=1$c29tZXNhbHQ$nf65EOgLrQMR/uIPnA4rEsF5h7TKyQwu9U1bMCHGi/4';
+const ENCODED = '$argon2id$v=19$m=256,t=2,p=1$c29tZXNhbHQ$nf65EOgLrQMR/uIPnA4rEsF5h7TKyQwu9U1bMCHGi/4';
 const SALT = new TextEncoder().encode('somesalt');
 const CHEAP = { memoryCost: 256, salt: SALT };
 const PASSWORD = new TextEncoder().encode('password');
@@ -58,9 +58,9 @@ const FORGED = {
 
 for (const [what, make] of Object.entries({ ...GONE, ...FORGED })) {
     test(`${what} is a TypeError that names the input`, async () => {
-        const wanted = { name: 'TypeError', message: /^'password' has to be bytes/ };
-        await assert.rejects(argon2.hash(make(), CHEAP), wanted);
-        await assert.rejects(argon2.verify(KEPT, make()), wanted);
+        const expected = { name: 'TypeError', message: /^'password' has to be bytes/ };
+        await assert.rejects(argon2.hash(make(), CHEAP), expected);
+        await assert.rejects(argon2.verify(ENCODED, make()), expected);
         for (const name of ['salt', 'secret', 'associatedData']) {
             const message = new RegExp(`^'${name}' has to be bytes`);
             await assert.rejects(argon2.hash('password', { ...CHEAP, [name]: make() }), { name: 'TypeError', message });
@@ -78,7 +78,7 @@ test('each kind of view has the bytes that it shows', async () => {
         new Int16Array(buffer, 8, 4), new BigUint64Array(buffer, 8, 1), buffer.slice(8, 16), shared,
     ];
     for (const view of views) {
-        assert.equal(await argon2.verify(KEPT, view), true, view.constructor.name);
+        assert.equal(await argon2.verify(ENCODED, view), true, view.constructor.name);
     }
 });
 
@@ -87,7 +87,7 @@ test('what a view says of itself is not asked', async () => {
     for (const name of ['buffer', 'byteLength', 'byteOffset', 'length']) {
         Object.defineProperty(view, name, { value: 0 });
     }
-    assert.equal(await argon2.verify(KEPT, view), true);
+    assert.equal(await argon2.verify(ENCODED, view), true);
 });
 
 test('what is added to Object.prototype is no option', async () => {
@@ -95,17 +95,17 @@ test('what is added to Object.prototype is no option', async () => {
     const added = {
         memoryCost: 8, timeCost: 1, parallelism: 8, type: 0, version: 16, hashLength: 4, salt: SALT, limits: null,
         raw: true, secret: SALT, associatedData: SALT, worker: 1, threads: 0, onProgress: 1, work: 1,
-        encoded: KEPT, code: 0, helpers: 1, failure: 'x', invitations: 1,
+        encoded: ENCODED, code: 0, helpers: 1, failure: 'x', invitations: 1,
     };
-    const costly = KEPT.replace('t=2', 't=11');
+    const costly = ENCODED.replace('t=2', 't=11');
     for (const [name, value] of Object.entries(added)) {
         Object.defineProperty(Object.prototype, name, { value, configurable: true, writable: true });
     }
     let outcomes;
     try {
         outcomes = await Promise.allSettled([
-            argon2.hash('password'), argon2.hash('password', {}), argon2.verify(KEPT, 'password'),
-            argon2.verify(costly, 'password', { limits: {} }), argon2.needsRehash(KEPT, { memoryCost: 256 }),
+            argon2.hash('password'), argon2.hash('password', {}), argon2.verify(ENCODED, 'password'),
+            argon2.verify(costly, 'password', { limits: {} }), argon2.needsRehash(ENCODED, { memoryCost: 256 }),
         ]);
     } finally {
         Object.keys(added).forEach((name) => delete Object.prototype[name]);
@@ -131,20 +131,20 @@ test('an option is read once', async () => {
 test('options without a prototype, or with undefined ones, are as those that are left out', async () => {
     const missing = { secret: undefined, limits: undefined, timeCost: undefined };
     const bare = Object.assign(Object.create(null), CHEAP, missing);
-    assert.equal(await argon2.hash('password', bare), KEPT);
+    assert.equal(await argon2.hash('password', bare), ENCODED);
 });
 
 test('strings of node-argon2 that have their data are verified by it', async () => {
     // (made by libargon2 with the data "user 7", and written as node-argon2 does)
     const encoded = process.env.WITH_DATA;
     assert.match(encoded, /,data=dXNlciA3\$/);
-    const given = { associatedData: Buffer.from('user 7') };
+    const options = { associatedData: Buffer.from('user 7') };
     assert.equal(await argon2.verify(encoded, 'password'), true);
-    assert.equal(await argon2.verify(encoded, 'password', given), true);
+    assert.equal(await argon2.verify(encoded, 'password', options), true);
     assert.equal(await argon2.verify(encoded, 'passwort'), false);
     assert.equal(await argon2.verify(encoded, 'password', { associatedData: Buffer.from('user 8') }), false);
     assert.equal(await argon2.verify(encoded.replace('dXNlciA3', 'dXNlciA4'), 'password'), false);
-    assert.equal(await argon2.verify(encoded.replace(',data=dXNlciA3', ''), 'password', given), true);
+    assert.equal(await argon2.verify(encoded.replace(',data=dXNlciA3', ''), 'password', options), true);
     assert.equal(await argon2.needsRehash(encoded, { memoryCost: 256, timeCost: 2 }), false);
     assert.equal(await argon2.needsRehash(encoded), true);
 });

@@ -27,7 +27,7 @@ export function look() {
         const bytes = memory.buffer.byteLength;
         return { bytes, held: held(memory, 0, STACK) + held(memory, base, bytes) };
     });
-    const sumOf = (name) => memories.reduce((sum, it) => sum + it[name], 0);
+    const sumOf = (name) => memories.reduce((sum, memory) => sum + memory[name], 0);
     return { threadId, bytes: sumOf('bytes'), held: sumOf('held') };
 }
 

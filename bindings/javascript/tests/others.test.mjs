@@ -16,7 +16,7 @@ const SETTINGS = [
 /** What another answers to lines of words. */
 function answersOf(who, lines) {
     const [command, ...words] = others[who];
-    const input = lines.map((it) => `${it.join('\t')}\n`).join('');
+    const input = lines.map((line) => `${line.join('\t')}\n`).join('');
     const said = execFileSync(command, words, { input, encoding: 'utf8' });
     const answers = said.trim().split('\n');
     assert.equal(answers.length, lines.length, said);

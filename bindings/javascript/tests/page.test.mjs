@@ -29,17 +29,17 @@ const SIZES = {
 const MEASURED = `document.getElementById('estimate').textContent.startsWith('A hash takes')`;
 
 /** What does not fit into its place. */
-const TOO_WIDE = `[...document.querySelectorAll('form, p')].filter((it) => it.scrollWidth > it.clientWidth)
-    .map((it) => it.textContent)`;
+const TOO_WIDE = `[...document.querySelectorAll('form, p')]
+    .filter((element) => element.scrollWidth > element.clientWidth).map((element) => element.textContent)`;
 
 const literal = (value) => JSON.stringify(value);
 const of = (form, part) => `document.querySelector('#${form} ${part}')`;
 
 /** Sets what a visitor would type or drag. */
 const set = (browser, id, value) => browser.evaluate(`(() => {
-    const it = document.getElementById(${literal(id)});
-    it.value = ${literal(value)};
-    it.dispatchEvent(new Event('input'));
+    const element = document.getElementById(${literal(id)});
+    element.value = ${literal(value)};
+    element.dispatchEvent(new Event('input'));
 })()`);
 
 const press = (browser, form, part) => browser.evaluate(`${of(form, part)}.click()`);
@@ -71,8 +71,8 @@ const mixedCalls = (from, to) => `${IMPORTED}
 /** Lines of hashes, computed in the page by at most so many workers. */
 const hashesInPage = (lines, threads) => `${IMPORTED}
     const variants = { argon2d: 0, argon2i: 1, argon2id: 2 };
-    const bytes = (hex) => Uint8Array.from(hex === '-' ? [] : hex.match(/../g), (it) => parseInt(it, 16));
-    const hex = (it) => [...it].map((byte) => byte.toString(16).padStart(2, '0')).join('');
+    const bytes = (hex) => Uint8Array.from(hex === '-' ? [] : hex.match(/../g), (pair) => parseInt(pair, 16));
+    const hex = (tag) => [...tag].map((byte) => byte.toString(16).padStart(2, '0')).join('');
     const wrong = [];
     for (const line of ${literal(lines)}) {
         const [type, version, timeCost, memoryCost, parallelism, hashLength, ...rest] = line.split(' ');
@@ -140,24 +140,24 @@ function tests(Browser, isIsolated) {
 
     async function compare(lines, least, threads) {
         assert.ok(lines.length >= least, `${lines.length} lines`);
-        const { wrong, isIsolated: found } = await browser.told(hashesInPage(lines, threads));
+        const { wrong, isIsolated: found } = await browser.resultOf(hashesInPage(lines, threads));
         assert.deepEqual(wrong, []);
         assert.equal(found, isIsolated);
     }
 
     pageTest('300 calls of several kinds take one memory a worker at most, and an idle browser none', async () => {
-        const start = browser.kept();
+        const start = browser.memoryInUse();
         let most = 0;
         for (let call = 0; call < CALLS; call += AT_ONCE) {
-            await browser.told(mixedCalls(call, call + AT_ONCE));
-            most = Math.max(most, browser.kept() - start);
+            await browser.resultOf(mixedCalls(call, call + AT_ONCE));
+            most = Math.max(most, browser.memoryInUse() - start);
         }
         const limit = WORKERS * MEMORIES[1] * 1024 + BESIDES;
         assert.ok(most <= limit, `${most / MIB} MiB above the start, and ${limit / MIB} MiB is the limit`);
-        for (let tries = IDLE.tries; tries > 0 && browser.kept() - start > BESIDES; tries--) {
+        for (let tries = IDLE.tries; tries > 0 && browser.memoryInUse() - start > BESIDES; tries--) {
             await sleep(IDLE.pause);
         }
-        assert.ok(browser.kept() - start <= BESIDES, `${(browser.kept() - start) / MIB} MiB stay`);
+        assert.ok(browser.memoryInUse() - start <= BESIDES, `${(browser.memoryInUse() - start) / MIB} MiB stay`);
     });
 
     pageTest('the outside hashes', () => compare(linesOf(`${VECTORS}/raw.txt`), 240, WORKERS));
@@ -171,7 +171,7 @@ function tests(Browser, isIsolated) {
     });
 
     pageTest('errors have their names', async () => {
-        assert.deepEqual(await browser.told(REFUSED_IN_PAGE),
+        assert.deepEqual(await browser.resultOf(REFUSED_IN_PAGE),
             ['OutOfMemory', 'OutOfMemory', 'OutOfMemory', 'TimeTooSmall', 'TooCostly', 'AbortError']);
     });
 
@@ -199,11 +199,12 @@ function tests(Browser, isIsolated) {
     pageTest('what is shown is told to whoever hears the page', async () => {
         await set(browser, 'memory', '14');
         await set(browser, 'passes', '1');
-        const told = await browser.evaluate(`[...document.querySelectorAll('[type=range]')].map((it) =>
-            it.getAttribute('aria-valuetext')).join()`);
-        assert.equal(told, '16 MiB,1 pass,3 lanes');
+        const shown = await browser.evaluate(`[...document.querySelectorAll('[type=range]')].map((element) =>
+            element.getAttribute('aria-valuetext')).join()`);
+        assert.equal(shown, '16 MiB,1 pass,3 lanes');
         const named = await browser.evaluate(`[...document.querySelectorAll('input, textarea, select, progress')].map(
-            (it) => it.labels?.[0]?.firstChild.textContent.trim() || it.getAttribute('aria-label')).join('; ')`);
+            (element) => element.labels?.[0]?.firstChild.textContent.trim() || element.getAttribute('aria-label'))
+            .join('; ')`);
         assert.equal(named.split('; ').filter(Boolean).length, 10, named);
         assert.equal(new Set(named.split('; ')).size, 10, named);
         await browser.evaluate(`document.getElementById('copy').click()`);
@@ -243,7 +244,7 @@ function tests(Browser, isIsolated) {
     });
 }
 
-const Browser = [Chromium, Firefox, WebKit].find((it) => it.command === BROWSER);
+const Browser = [Chromium, Firefox, WebKit].find((browser) => browser.command === BROWSER);
 
 test('a browser that ends fails what waits for it', async () => {
     const browser = await new Browser().open();

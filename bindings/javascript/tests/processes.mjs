@@ -13,7 +13,7 @@ function statusOf(number) {
 }
 
 /** The bytes that a process and those below it have written and keep: without the files that they map. */
-export function keptBelow(first) {
+export function memoryBelow(first) {
     const all = new Map(readdirSync('/proc').filter(isNumber).map((number) => [number, statusOf(number)]));
     const isBelow = (number) => all.has(number) && (number === String(first) || isBelow(all.get(number).get('PPid')));
     let kibibytes = 0;

@@ -40,8 +40,8 @@ function changed(draw, bytes) {
 function changedSettings(draw, settings) {
     const others = { ...settings };
     const name = Object.keys(settings)[draw(6)];
-    const change = { type: (it) => (it + 1) % 3, version: (it) => 0x23 - it };
-    others[name] = (change[name] ?? ((it) => it + 1))(settings[name]);
+    const change = { type: (value) => (value + 1) % 3, version: (value) => 0x23 - value };
+    others[name] = (change[name] ?? ((value) => value + 1))(settings[name]);
     return others;
 }
 
@@ -83,7 +83,7 @@ test('hash, verify and needsRehash agree, in workers and in place', async (conte
 test('salts are 16 random bytes, new for each hash', async () => {
     const small = { memoryCost: 8, timeCost: 1 };
     const encoded = await Promise.all(Array.from({ length: 200 }, () => argon2.hash('password', small)));
-    const salts = encoded.map((it) => Buffer.from(it.split('$')[4], 'base64'));
+    const salts = encoded.map((text) => Buffer.from(text.split('$')[4], 'base64'));
     assert.ok(salts.every((salt) => salt.length === 16));
     assert.equal(new Set(salts.map((salt) => salt.toString('hex'))).size, 200);
     // each bit is set in some, and not in others: but once in 2^191 runs

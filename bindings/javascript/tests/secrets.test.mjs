@@ -38,7 +38,8 @@ function countIn(pid, secrets) {
     for (const region of regionsOf(pid)) {
         for (const piece of piecesOf(file, region)) {
             bytes += piece.length;
-            secrets.filter((secret) => piece.includes(secret.subarray(0, KNOWN_BY))).forEach((it) => found.add(it));
+            secrets.filter((secret) => piece.includes(secret.subarray(0, KNOWN_BY)))
+                .forEach((secret) => found.add(secret));
         }
     }
     closeSync(file);

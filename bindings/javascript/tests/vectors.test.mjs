@@ -27,12 +27,12 @@ async function answerOf(call) {
 /** A line of raw.txt: the settings, the inputs, and the hash or the error. */
 async function compareRaw(line, running) {
     const [type, version, timeCost, memoryCost, parallelism, hashLength, ...inputs] = line.split(' ');
-    const [password, salt, secret, associatedData, ...wanted] = inputs;
+    const [password, salt, secret, associatedData, ...expected] = inputs;
     const settings = { type: VARIANTS.get(type), version: +version, timeCost: +timeCost, memoryCost: +memoryCost,
         parallelism: +parallelism, hashLength: +hashLength };
     const keys = { salt: bytes(salt), secret: bytes(secret), associatedData: bytes(associatedData) };
     const answer = await answerOf(argon2.hash(bytes(password), { ...settings, ...keys, ...running, raw: true }));
-    assert.equal(typeof answer === 'string' ? answer : Buffer.from(answer).toString('hex'), wanted.join(' '), line);
+    assert.equal(typeof answer === 'string' ? answer : Buffer.from(answer).toString('hex'), expected.join(' '), line);
 }
 
 async function compareAll(file, least, running) {
@@ -59,7 +59,7 @@ test('the outside strings', async () => {
     const lines = linesOf(`${VECTORS}/texts.txt`);
     assert.ok(lines.length >= 147);
     for (const line of lines) {
-        const [encoded, wanted] = line.split('\t');
-        assert.equal(String(await answerOf(argon2.verify(encoded, 'password', { limits: null }))), wanted, encoded);
+        const [encoded, expected] = line.split('\t');
+        assert.equal(String(await answerOf(argon2.verify(encoded, 'password', { limits: null }))), expected, encoded);
     }
 });
