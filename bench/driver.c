@@ -54,8 +54,8 @@ static void name_hashers(void)
     hashers[hasher_count++] = (struct hasher){"before-v3", before_v3};
     hashers[hasher_count++] = (struct hasher){"before-with-v3", before_v3_with};
     process_count = hasher_count;
-    hashers[hasher_count++] = (struct hasher){"kept", ours_kept};
-    hashers[hasher_count++] = (struct hasher){"kept-v3", ours_v3_kept};
+    hashers[hasher_count++] = (struct hasher){"kept", ours_reusing};
+    hashers[hasher_count++] = (struct hasher){"kept-v3", ours_v3_reusing};
 }
 
 /* Argon2 rounds the memory down to a multiple of four blocks a lane. */

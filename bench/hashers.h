@@ -35,7 +35,7 @@ extern const struct hasher peers[];
 /* Our library and the compression alone, each as it was built for the default processor and for
  * x86-64-v3 (ours.c), from the folder that bench/run builds. Not 0 where one of the four libraries lacks. */
 int load_ours(const char *folder);
-hash_function ours_default, ours_v3, ours_kept, ours_v3_kept, ours_with, ours_v3_with, before_v3, before_v3_with;
+hash_function ours_default, ours_v3, ours_reusing, ours_v3_reusing, ours_with, ours_v3_with, before_v3, before_v3_with;
 
 /* The peers that bench/run builds into the folder; one that lacks has no figures. */
 void load_peers(const char *folder);

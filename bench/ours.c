@@ -64,29 +64,29 @@ int ours_v3(const struct cost *cost, const struct input *input, uint8_t tag[TAG_
     return call(hash_v3, cost, input, tag);
 }
 
-/* Over a memory that is kept from call to call, as large as the last case wants. */
-static int call_kept(hash_raw_with *hash, const struct cost *cost, const struct input *input, uint8_t *tag)
+/* Over a buffer that is reused from call to call, of the memory that the last case takes. */
+static int call_reusing(hash_raw_with *hash, const struct cost *cost, const struct input *input, uint8_t *tag)
 {
     static proved_argon2_options options = PROVED_ARGON2_OPTIONS;
-    static uint32_t kept;
+    static uint32_t buffer_memory;
     const proved_argon2_settings settings = settings_of(cost);
-    if (kept != cost->memory) {
+    if (buffer_memory != cost->memory) {
         memory_free_default(options.memory, options.memory_len);
         options = (proved_argon2_options)PROVED_ARGON2_OPTIONS;
-        kept = cost->memory;
+        buffer_memory = cost->memory;
     }
     if (options.memory == NULL && memory_new_default(&settings, &options.memory, &options.memory_len) != 0) return 1;
     return cost->threads != 1 || call_with(hash, options, cost, input, tag);
 }
 
-int ours_kept(const struct cost *cost, const struct input *input, uint8_t tag[TAG_LENGTH])
+int ours_reusing(const struct cost *cost, const struct input *input, uint8_t tag[TAG_LENGTH])
 {
-    return call_kept(hash_with_default, cost, input, tag);
+    return call_reusing(hash_with_default, cost, input, tag);
 }
 
-int ours_v3_kept(const struct cost *cost, const struct input *input, uint8_t tag[TAG_LENGTH])
+int ours_v3_reusing(const struct cost *cost, const struct input *input, uint8_t tag[TAG_LENGTH])
 {
-    return call_kept(hash_with_v3, cost, input, tag);
+    return call_reusing(hash_with_v3, cost, input, tag);
 }
 
 /* By the call with options, which can start threads. */

@@ -19,7 +19,7 @@ SETTINGS = ('time_cost', 'memory_cost', 'parallelism', 'hash_len', 'salt_len')
 
 def ours(library, build):
     """Our hasher over a shared object, of a package of its own, by a build of it."""
-    for name in [it for it in sys.modules if it.split('.')[0] == 'proved_argon2']:
+    for name in [module for module in sys.modules if module.split('.')[0] == 'proved_argon2']:
         del sys.modules[name]
     os.environ.update(PROVED_ARGON2_LIBRARY=library, PROVED_ARGON2_CPU=build)
     hasher = importlib.import_module('proved_argon2').PasswordHasher()

@@ -79,10 +79,10 @@ struct job {
     void *argument;
 };
 
-static void *run_job(void *given)
+static void *run_job(void *argument)
 {
-    const struct job job = *(struct job *)given;
-    free(given);
+    const struct job job = *(struct job *)argument;
+    free(argument);
     job.function(job.argument);
     return NULL;
 }

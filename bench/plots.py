@@ -44,7 +44,7 @@ def text(x, y, words, anchor='start', kind=''):
 def lines(x, y, words, letters=LETTERS, kind='caption'):
     """Words in lines, and how high these are."""
     wrapped = textwrap.wrap(words, letters)
-    return [text(x, y + LINE * at, it, kind=kind) for at, it in enumerate(wrapped)], LINE * len(wrapped)
+    return [text(x, y + LINE * at, line, kind=kind) for at, line in enumerate(wrapped)], LINE * len(wrapped)
 
 
 def picture(path, bottom, title, caption, parts):
@@ -138,13 +138,13 @@ def draw_bars(path, title, caption, groups):
     picture(path, y - 10, title, caption, out)
 
 
-def by_name(cases, told):
+def by_name(cases, milliseconds_of):
     """The numbers of each name that has a style, by the place of their case."""
     series = {}
     for place, (case, times) in enumerate(cases.items()):
         for name, time in times.items():
             if name in STYLES:
-                series.setdefault(name, {})[place] = told(case, time)
+                series.setdefault(name, {})[place] = milliseconds_of(case, time)
     return series
 
 

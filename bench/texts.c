@@ -12,14 +12,14 @@
 #include <string.h>
 #include <time.h>
 
-enum { SALT = 16, TAG = 32, ROOM = 128, CALLS = 2000, ROUNDS = 300, BITS_OF_BYTE = 8, BITS_OF_LETTER = 6 };
+enum { SALT = 16, TAG = 32, CAPACITY = 128, CALLS = 2000, ROUNDS = 300, BITS_OF_BYTE = 8, BITS_OF_LETTER = 6 };
 
 static const char LETTERS[] = "ABCDEFGHIJKLMNOPQRSTUVWXYZabcdefghijklmnopqrstuvwxyz0123456789+/";
 static uint8_t numbers[256];
 
 static uint8_t salt[SALT], tag[TAG];
 static proved_argon2_settings settings;
-static char text[ROOM], by_tables[ROOM];
+static char text[CAPACITY], by_tables[CAPACITY];
 
 static char *letters_of(const uint8_t *bytes, size_t length, char *to)
 {
@@ -46,7 +46,7 @@ static const char *bytes_of(const char *letters, uint8_t *to)
 
 static void write_by_library(void)
 {
-    if (proved_argon2_encode(salt, SALT, &settings, tag, TAG, text, ROOM) != PROVED_ARGON2_OK) exit(1);
+    if (proved_argon2_encode(salt, SALT, &settings, tag, TAG, text, CAPACITY) != PROVED_ARGON2_OK) exit(1);
 }
 
 static void write_by_tables(void)
@@ -81,7 +81,7 @@ static void read_job_by_library(void)
 static void read_by_tables(void)
 {
     proved_argon2_settings read;
-    uint8_t read_salt[ROOM], read_tag[ROOM];
+    uint8_t read_salt[CAPACITY], read_tag[CAPACITY];
     int at = 0;
     if (sscanf(by_tables, "$argon2id$v=%u$m=%u,t=%u,p=%u$%n", &read.version, &read.mem_cost, &read.time_cost,
             &read.lanes, &at)

@@ -5,7 +5,7 @@
 # The crates that are named, or all, and those below them, each behind those below it: `find_crates NAME..` leaves them
 # in `found`. Fails where one is not there, or stands above one below it.
 find_crates() {
-    lines='' seen=' ' wanted=" $* " found=''
+    lines='' seen=' ' requested=" $* " found=''
     while read -r line; do
         lines="$line
 $lines"
@@ -13,20 +13,20 @@ $lines"
     while IFS=':' read -r named below; do
         crate=${named%% *}
         seen="$seen$crate "
-        for it in $below; do
-            case $seen in *" $it "*) why="crates.txt has $crate above $it" && return 1 ;; esac
+        for lower in $below; do
+            case $seen in *" $lower "*) why="crates.txt has $crate above $lower" && return 1 ;; esac
         done
-        case $wanted in
+        case $requested in
         '  ') ;;
-        *" $crate "*) wanted="$wanted$below " ;;
+        *" $crate "*) requested="$requested$below " ;;
         *) continue ;;
         esac
         found="$crate $found"
     done <<END
 ${lines%?}
 END
-    for it; do
-        case $seen in *" $it "*) ;; *) why="crates.txt has no $it" && return 1 ;; esac
+    for asked; do
+        case $seen in *" $asked "*) ;; *) why="crates.txt has no $asked" && return 1 ;; esac
     done
 }
 

@@ -15,11 +15,11 @@ class Machine(NamedTuple):
 
 
 def read_machine(line):
-    (name, number, target, prefix, base), builds = (it.split() for it in line.split(":"))
+    (name, number, target, prefix, base), builds = (part.split() for part in line.split(":"))
     return Machine(name, int(number), target, prefix.removeprefix("-"), base, builds)
 
 
 def machines():
     with open(f"{HERE}/machines.txt", encoding="utf-8") as lines:
         found = [read_machine(line) for line in lines if not line.startswith("#")]
-    return {it.name: it for it in found}
+    return {machine.name: machine for machine in found}

@@ -35,8 +35,8 @@ def locked(crate):
     try:
         yield
     finally:
-        for it in crate.held:
-            os.close(it)
+        for descriptor in crate.held:
+            os.close(descriptor)
 
 
 def stamp(*crates):
@@ -55,7 +55,7 @@ def is_current(crate, *files, says_why=False):
     return subprocess.run([f"{HERE}/stamp", "--check", crate, *files], stderr=errors, check=False).returncode == 0
 
 
-def are_kept(libraries):
+def are_current(libraries):
     """Whether all these libraries are as a whole proof left them, and no source has changed since. They fit only each
     other: where another command has built one anew, the mark in its folder is gone."""
-    return all(is_current(it.name, os.path.dirname(it.rlib)) for it in libraries)
+    return all(is_current(library.name, os.path.dirname(library.rlib)) for library in libraries)

@@ -36,10 +36,10 @@ async function inPage(Browser) {
     const server = await serve(page);
     const browser = await new Browser().open();
     await browser.visit(server.url);
-    const told = await browser.told(`
+    const measured = await browser.resultOf(`
         const argon2 = await import('/proved-argon2/index.js');
         return (${times})(argon2, ${rounds});`);
-    say(await browser.version(), told);
+    say(await browser.version(), measured);
     await browser.close();
     server.close();
 }

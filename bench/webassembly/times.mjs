@@ -74,7 +74,6 @@ export async function times(load, say, clock = () => performance.now()) {
     for (const which of CASES) {
         const [memory, passes] = which, least = timeCase(hashes, which, clock);
         const of = (name) => (least[name] ? Math.round(least[name] * 1e6 / memory / passes) : 'skipped');
-        const part = least.upstream ? (least.ours / least.upstream).toFixed(2) : 'skipped';
-        say([which.join(', '), of('ours'), of('upstream'), of('vectors'), part].join(' | '));
+        say([which.join(', '), of('ours'), of('upstream'), of('vectors')].join(' | '));
     }
 }

@@ -23,16 +23,16 @@ static int has(unsigned word, unsigned bits)
 
 static int newest_build(void)
 {
-    unsigned eax, ebx, ecx, edx, leaf_1 = 0, leaf_7 = 0, leaf_80000001 = 0, kept = 0;
+    unsigned eax, ebx, ecx, edx, leaf_1 = 0, leaf_7 = 0, leaf_80000001 = 0, saved = 0;
     if (!__get_cpuid(1, &eax, &ebx, &leaf_1, &edx) || !has(leaf_1, LEAF_1_OF_V2)
         || !__get_cpuid(0x80000001, &eax, &ebx, &leaf_80000001, &edx) || !has(leaf_80000001, LEAF_80000001_OF_V2)) {
         return NO_BUILD;
     }
     if (has(leaf_1, LEAF_1_OF_V3) && has(leaf_80000001, LEAF_80000001_OF_V3)
         && __get_cpuid_count(7, 0, &eax, &leaf_7, &ecx, &edx)) {
-        __asm__ volatile("xgetbv" : "=a"(kept), "=d"(edx) : "c"(0));
+        __asm__ volatile("xgetbv" : "=a"(saved), "=d"(edx) : "c"(0));
     }
-    return has(leaf_7, LEAF_7_OF_V3) && has(kept, VECTORS_OF_THE_SYSTEM) ? X86_64_V3 : X86_64_V2;
+    return has(leaf_7, LEAF_7_OF_V3) && has(saved, VECTORS_OF_THE_SYSTEM) ? X86_64_V3 : X86_64_V2;
 }
 
 int choose_build(void)

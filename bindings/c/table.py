@@ -17,7 +17,7 @@ from pathlib import Path
 HERE = Path(__file__).resolve().parent
 CRATES = HERE.parents[1] / "crates"
 HEADERS, SOURCES = CRATES / "argon2_c/include", CRATES / "argon2_c/src"
-MESSAGES = [CRATES / it for it in ("argon2_standard/specs/Views/Messages.antt", "argon2_c/specs/ErrorTable.antt")]
+MESSAGES = [CRATES / path for path in ("argon2_standard/specs/Views/Messages.antt", "argon2_c/specs/ErrorTable.antt")]
 PROVED = re.compile(r'^pub extern "C" fn (proved_argon2_\w+)', re.M)
 CALL = re.compile(
     r"^(uint32_t|uint64_t|proved_argon2_settings|proved_argon2_limits) (proved_argon2_\w+)\(([^)]*)\);", re.M)
@@ -56,7 +56,7 @@ static inline void *some(const void *at, size_t len)
 
 
 @dataclass(frozen=True)
-class Given:
+class Argument:
     """What a call is given: a number, a pointer, or one with its length behind it."""
     type: str
     name: str
@@ -76,32 +76,32 @@ class Call:
     answer: str
     taken: str
 
-    def given(self):
+    def arguments(self):
         """What it is given, but the lengths."""
-        words = [] if self.taken == "void" else [it.strip() for it in self.taken.split(",")]
-        pairs = [(it, re.search(r"\w+$", it)[0]) for it in words]
+        words = [] if self.taken == "void" else [word.strip() for word in self.taken.split(",")]
+        pairs = [(word, re.search(r"\w+$", word)[0]) for word in words]
         names = {name for _, name in pairs}
-        return [Given(it, name, f"{name}_len" in names) for it, name in pairs
+        return [Argument(word, name, f"{name}_len" in names) for word, name in pairs
                 if not (name.endswith("_len") and name.removesuffix("_len") in names)]
 
-    def refusal(self, code):
+    def error(self, code):
         is_code = self.answer == "uint32_t" and self.name not in ANSWERS_NO_CODE
         return f"PROVED_ARGON2_{code}" if is_code else f"({self.answer}){{0}}"
 
     def tests(self):
         """The lines that look at its pointers."""
-        pointers = [it for it in self.given() if "*" in it.type]
-        blocks = [f"IS_MISALIGNED({it.name})" for it in pointers if "proved_argon2_block" in it.type]
-        for tests, code in (([it.missing() for it in pointers], "NULL_POINTER"), (blocks, "MISALIGNED")):
+        pointers = [argument for argument in self.arguments() if "*" in argument.type]
+        blocks = [f"IS_MISALIGNED({pointer.name})" for pointer in pointers if "proved_argon2_block" in pointer.type]
+        for tests, code in (([pointer.missing() for pointer in pointers], "NULL_POINTER"), (blocks, "MISALIGNED")):
             if tests:
-                yield wrapped("if (" + " || ".join(tests) + ") {") + f"\n        return {self.refusal(code)};\n    }}\n"
+                yield wrapped("if (" + " || ".join(tests) + ") {") + f"\n        return {self.error(code)};\n    }}\n"
 
     def declared(self):
         return f"DECLARED({self.answer}, {self.own_name()}, ({self.taken}))\n"
 
     def made(self):
-        passed = ", ".join(it.passed() for it in self.given())
-        jump = wrapped(f"MADE({self.own_name()}, ({passed}), {self.refusal('OLD_PROCESSOR')})")
+        passed = ", ".join(argument.passed() for argument in self.arguments())
+        jump = wrapped(f"MADE({self.own_name()}, ({passed}), {self.error('OLD_PROCESSOR')})")
         return f"{self.answer} {self.name}({self.taken})\n{{\n{''.join(self.tests())}{jump}\n}}\n"
 
     def own_name(self):
@@ -114,19 +114,19 @@ def wrapped(line):
 
 def declared_calls(headers, proved):
     """What headers declare of the proved calls."""
-    wanted = {*proved} - OF_CONSTANTS
+    names = {*proved} - OF_CONSTANTS
     found = {name: Call(name, answer, taken.strip()) for text in headers
-             for answer, name, taken in CALL.findall(COMMENT.sub("", text)) if name in wanted}
-    if {*found} != wanted:
-        raise SystemExit(f"no header declares {' '.join(sorted(wanted - {*found}))}")
+             for answer, name, taken in CALL.findall(COMMENT.sub("", text)) if name in names}
+    if {*found} != names:
+        raise SystemExit(f"no header declares {' '.join(sorted(names - {*found}))}")
     return [found[name] for name in sorted(found)]
 
 
 def messages():
     """The C of the messages, as the definitions that the proved call keeps to have them."""
-    of_all = "".join(it.read_text(encoding="utf-8") for it in MESSAGES)
-    numbers = dict(re.findall(r"^(?:library_number|number_of) (?:error|refusal)\.(\w+) = (\d+)$", of_all, re.M))
-    texts = dict(re.findall(r'^message_of (?:error|refusal)\.(\w+) = codes "(.*)"$', of_all, re.M))
+    of_all = "".join(path.read_text(encoding="utf-8") for path in MESSAGES)
+    numbers = dict(re.findall(r"^(?:library_number|number_of) (?:error|call)\.(\w+) = (\d+)$", of_all, re.M))
+    texts = dict(re.findall(r'^message_of (?:error|call)\.(\w+) = codes "(.*)"$', of_all, re.M))
     if {*numbers} != {*texts}:
         raise SystemExit(f"these have no message or no number: {' '.join({*numbers} ^ {*texts})}")
     known = [(numbers[name], texts[name]) for name in numbers if name != UNKNOWN] + [*OWN_MESSAGES.items()]
@@ -136,10 +136,11 @@ def messages():
 
 
 def table():
-    headers = [(HEADERS / it).read_text(encoding="utf-8") for it in ("proved_argon2.h", "proved_argon2_jobs.h")]
-    proved = [name for it in sorted(SOURCES.rglob("*.rt")) for name in PROVED.findall(it.read_text(encoding="utf-8"))]
+    headers = [(HEADERS / name).read_text(encoding="utf-8") for name in ("proved_argon2.h", "proved_argon2_jobs.h")]
+    proved = [name for file in sorted(SOURCES.rglob("*.rt"))
+              for name in PROVED.findall(file.read_text(encoding="utf-8"))]
     calls = declared_calls(headers, proved)
-    declared, made = "".join(it.declared() for it in calls), "\n".join(it.made() for it in calls)
+    declared, made = "".join(call.declared() for call in calls), "\n".join(call.made() for call in calls)
     return f"{HEAD}{declared}#pragma GCC visibility pop\n\n{made}\n{messages()}"
 
 

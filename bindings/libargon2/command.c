@@ -123,12 +123,12 @@ static void read_word(settings *to, const char *word)
 static void read_words(settings *to, char **word)
 {
     while (*word != NULL && !to->is_help) {
-        const char *const it = *word++;
-        if (has_argument(it)) {
-            read_option(to, it[1], *word);
+        const char *const option = *word++;
+        if (has_argument(option)) {
+            read_option(to, option[1], *word);
             word += *word != NULL;
         } else {
-            read_word(to, it);
+            read_word(to, option);
         }
     }
 }
@@ -153,13 +153,13 @@ static void print_hex(const unsigned char *bytes, size_t length)
     printf("\n");
 }
 
-static void *room_for(size_t length, const char *error)
+static void *allocate(size_t length, const char *error)
 {
-    void *const room = malloc(length);
-    if (room == NULL) {
+    void *const memory = malloc(length);
+    if (memory == NULL) {
         stop(error);
     }
-    return room;
+    return memory;
 }
 
 static void require(int code)
@@ -182,11 +182,12 @@ static void print_all(const settings *s, const unsigned char *tag, const char *e
 static void run(const settings *s, const char *salt, size_t length)
 {
     const clock_t began = clock();
-    const size_t room = argon2_encodedlen(s->passes, s->memory, s->lanes, (uint32_t)strlen(salt), s->length, s->type);
-    unsigned char *const tag = room_for((size_t)s->length + 1, "could not allocate memory for output");
-    char *const encoded = room_for(room, "could not allocate memory for hash");
+    const size_t encoded_length = argon2_encodedlen(
+        s->passes, s->memory, s->lanes, (uint32_t)strlen(salt), s->length, s->type);
+    unsigned char *const tag = allocate((size_t)s->length + 1, "could not allocate memory for output");
+    char *const encoded = allocate(encoded_length, "could not allocate memory for hash");
     require(argon2_hash(s->passes, s->memory, s->lanes, password, length, salt, strlen(salt), tag, s->length, encoded,
-        room, s->type, s->version));
+        encoded_length, s->type, s->version));
     const clock_t took = clock() - began;
     if (s->encoded_only) {
         puts(encoded);

@@ -170,14 +170,14 @@ size_t argon2_encodedlen(
     return proved_argon2_encoded_len(&settings, saltlen) + 1;
 }
 
-/* Writes the encoded hash and its zero, and nothing behind it, or zeros alone where there is no room. */
-static int encode(const argon2_context *c, argon2_type type, char *encoded, size_t room)
+/* Writes the encoded hash and its zero, and nothing behind it, or zeros alone where it does not fit. */
+static int encode(const argon2_context *c, argon2_type type, char *encoded, size_t capacity)
 {
     const proved_argon2_settings settings = settings_of(c, type);
     const size_t needed = proved_argon2_encoded_len(&settings, c->saltlen) + 1;
     const uint32_t code = proved_argon2_encode(
-        c->salt, c->saltlen, &settings, c->out, c->outlen, encoded, room < needed ? room : needed);
-    if (code != PROVED_ARGON2_OK) explicit_bzero(encoded, room);
+        c->salt, c->saltlen, &settings, c->out, c->outlen, encoded, capacity < needed ? capacity : needed);
+    if (code != PROVED_ARGON2_OK) explicit_bzero(encoded, capacity);
     return code == PROVED_ARGON2_OK ? ARGON2_OK : ARGON2_ENCODING_FAIL;
 }
 

@@ -25,9 +25,9 @@ ARCHIVES = ('.gz', '.crate', '.tgz')
 
 def fault_of(kind, path, mode, is_owned):
     """What is wrong with a path, or None."""
-    wanted = next((number for of, pattern, number in RULES if of == kind and (
+    expected = next((number for of, pattern, number in RULES if of == kind and (
         fnmatch.fnmatch(path, pattern) or fnmatch.fnmatch(path, f'*/{pattern}'))), '')
-    if f'{mode:o}' != wanted:
+    if f'{mode:o}' != expected:
         return f'the {kind} {path} has the mode {mode:o}'
     return None if is_owned else f'the {kind} {path} is of somebody else'
 
@@ -35,43 +35,45 @@ def fault_of(kind, path, mode, is_owned):
 def entries_installed(prefix):
     """Each path as its kind, its name, its mode and whether it is whose it has to be."""
     for path in [prefix, *sorted(prefix.rglob('*'))]:
-        told = path.lstat()
+        status = path.lstat()
         kind = 'link' if path.is_symlink() else 'folder' if path.is_dir() else 'file'
-        is_owned = (told.st_uid, told.st_gid) == (os.geteuid(), os.getegid())
-        yield kind, path.relative_to(prefix.parent).as_posix(), stat.S_IMODE(told.st_mode), is_owned
+        is_owned = (status.st_uid, status.st_gid) == (os.geteuid(), os.getegid())
+        yield kind, path.relative_to(prefix.parent).as_posix(), stat.S_IMODE(status.st_mode), is_owned
 
 
 def entries_of_tar(content, before=''):
     with tarfile.open(fileobj=io.BytesIO(content)) as archive:
-        return [('link' if it.issym() else 'file' if it.isfile() else 'folder', before + it.name.removeprefix('./'),
-                 it.mode, (it.uid, it.gid, it.uname, it.gname) == (0, 0, 'root', 'root')) for it in archive]
+        return [('link' if entry.issym() else 'file' if entry.isfile() else 'folder',
+                 before + entry.name.removeprefix('./'), entry.mode,
+                 (entry.uid, entry.gid, entry.uname, entry.gname) == (0, 0, 'root', 'root')) for entry in archive]
 
 
 def entries_packed(path):
     if path.suffix == '.whl':
         with zipfile.ZipFile(path) as archive:
-            return [('file', it.filename, it.external_attr >> 16 & 0o7777, True) for it in archive.infolist()]
+            return [('file', entry.filename, entry.external_attr >> 16 & 0o7777, True) for entry in archive.infolist()]
     if path.suffix != '.deb':
         return entries_of_tar(path.read_bytes())
-    control, files = (subprocess.check_output(['dpkg-deb', it, path]) for it in ('--ctrl-tarfile', '--fsys-tarfile'))
+    control, files = (subprocess.check_output(['dpkg-deb', option, path])
+                      for option in ('--ctrl-tarfile', '--fsys-tarfile'))
     return entries_of_tar(control, 'DEBIAN/') + entries_of_tar(files)
 
 
 def faults_packed(path):
     entries = entries_packed(path)
-    faults = [fault_of(*it) for it in entries]
+    faults = [fault_of(*entry) for entry in entries]
     faults += [f'an entry for {name}' for kind, name, _, _ in entries if path.suffix in ARCHIVES
                and (kind == 'folder' and OURS not in name or name.startswith(('/', '..')))]
-    return [f'{path.name}: {it}' for it in faults if it] if entries else [f'{path.name}: has nothing']
+    return [f'{path.name}: {fault}' for fault in faults if fault] if entries else [f'{path.name}: has nothing']
 
 
 def main(what, folder):
     folder = Path(folder)
     if what == 'installed':
-        faults = [it for entry in entries_installed(folder) if (it := fault_of(*entry))]
+        faults = [fault for entry in entries_installed(folder) if (fault := fault_of(*entry))]
     else:
-        packages = sorted(it for it in folder.iterdir() if it.suffix in ('.deb', '.whl', *ARCHIVES))
-        faults = [it for path in packages for it in faults_packed(path)]
+        packages = sorted(path for path in folder.iterdir() if path.suffix in ('.deb', '.whl', *ARCHIVES))
+        faults = [fault for path in packages for fault in faults_packed(path)]
     print(''.join(f'{fault}\n' for fault in faults), end='')
     return bool(faults)
 

@@ -54,11 +54,11 @@ def header(name, mode, size, kind, link):
 
 def entry(path, name):
     """What an archive has of a path."""
-    told = path.lstat()
-    if stat.S_ISLNK(told.st_mode):
+    status = path.lstat()
+    if stat.S_ISLNK(status.st_mode):
         return header(name, 0o777, 0, b"2", os.readlink(path))
-    mode = stat.S_IMODE(told.st_mode)
-    if stat.S_ISDIR(told.st_mode):
+    mode = stat.S_IMODE(status.st_mode)
+    if stat.S_ISDIR(status.st_mode):
         return header(f"{name}/", mode, 0, b"5", "")
     content = path.read_bytes()
     return header(name, mode, len(content), b"0", "") + content + bytes(-len(content) % BLOCK)
@@ -80,12 +80,12 @@ def is_ours(folder, path):
 
 def pack_tar(file, folder):
     folder = Path(folder)
-    Path(file).write_bytes(gzipped(archive(folder, [it for it in below(folder) if is_ours(folder, it)])))
+    Path(file).write_bytes(gzipped(archive(folder, [path for path in below(folder) if is_ours(folder, path)])))
 
 
 def member(name, content):
-    told = b"%-16s%-12d0     0     100644  %-10d`\n" % (name.encode(), epoch(), len(content))
-    return told + content + b"\n" * (len(content) % 2)
+    fields = b"%-16s%-12d0     0     100644  %-10d`\n" % (name.encode(), epoch(), len(content))
+    return fields + content + b"\n" * (len(content) % 2)
 
 
 def compressed(folder, paths):
@@ -95,13 +95,14 @@ def compressed(folder, paths):
 
 def pack_deb(file, folder):
     folder = Path(folder)
-    told = folder / "DEBIAN"
+    control = folder / "DEBIAN"
     members = {
         "debian-binary": b"2.0\n",
-        "control.tar.xz": compressed(told, below(told)),
-        "data.tar.xz": compressed(folder, [it for it in below(folder) if it != told and told not in it.parents]),
+        "control.tar.xz": compressed(control, below(control)),
+        "data.tar.xz": compressed(folder, [path for path in below(folder)
+                                           if path != control and control not in path.parents]),
     }
-    Path(file).write_bytes(b"!<arch>\n" + b"".join(member(*it) for it in members.items()))
+    Path(file).write_bytes(b"!<arch>\n" + b"".join(member(*item) for item in members.items()))
 
 
 def pack_gzip(*files):

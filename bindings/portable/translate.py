@@ -50,15 +50,15 @@ class Module:
 
 
 def unescaped(text):
-    def byte(it):
-        return bytes.fromhex(it[1].decode()) if len(it[1]) == 2 else it[1]
+    def byte(found):
+        return bytes.fromhex(found[1].decode()) if len(found[1]) == 2 else found[1]
 
     return re.sub(rb"\\([0-9a-f]{2}|.)", byte, text.encode())
 
 
 def read_module(file):
     module = Module(output_of("wasm2wat", "--enable-memory64", file).splitlines())
-    for at, content, _ in (it.groups() for it in map(DATA.fullmatch, module.lines) if it):
+    for at, content, _ in (found.groups() for found in map(DATA.fullmatch, module.lines) if found):
         module.base = module.base or int(at)
         module.data.extend(bytes(int(at) - module.base - len(module.data)) + unescaped(content))
     if "call_indirect" in "".join(module.lines) or not module.data:
@@ -72,7 +72,7 @@ def constant(module, indent, number, close=""):
     """A number, or the address of a datum as what it is from where the data are."""
     if not module.has(number):
         return [f"{indent}i64.const {number}{close}"]
-    return [f"{indent}{it}" for it in ("global.get $data", f"i64.const {number - module.base}", f"i64.add{close}")]
+    return [f"{indent}{line}" for line in ("global.get $data", f"i64.const {number - module.base}", f"i64.add{close}")]
 
 
 def translated(module, line, used):
@@ -81,18 +81,18 @@ def translated(module, line, used):
         return []
     if "(global $__stack_pointer " in line:
         return [STACK_POINTER]
-    if it := DATA.fullmatch(line):
-        return [it[3]] if it[3] else []
-    if it := ACCESS.fullmatch(line):
-        indent, name, kind, what, offset, close = it.groups()
+    if found := DATA.fullmatch(line):
+        return [found[3]] if found[3] else []
+    if found := ACCESS.fullmatch(line):
+        indent, name, kind, what, offset, close = found.groups()
         name = name.replace(".", "_")
         used[name] = f"(param i64 i64) (result {kind})" if what == "load" else f"(param i64 {kind} i64)"
         return constant(module, indent, int(offset or 0)) + [f"{indent}call ${name}{close}"]
-    if it := BULK.fullmatch(line):
-        used[it[2]] = f"(param {BULK_TAKES[it[2]]})"
-        return [f"{it[1]}call ${it[2]}{it[3]}"]
-    if it := CONSTANT.fullmatch(line):
-        return constant(module, it[1], int(it[2]), it[3])
+    if found := BULK.fullmatch(line):
+        used[found[2]] = f"(param {BULK_TAKES[found[2]]})"
+        return [f"{found[1]}call ${found[2]}{found[3]}"]
+    if found := CONSTANT.fullmatch(line):
+        return constant(module, found[1], int(found[2]), found[3])
     return [line]
 
 
@@ -101,7 +101,8 @@ def without_memory(module):
     used = {}
     lines = [new for line in module.lines for new in translated(module, line, used)]
     first = next(at for at, line in enumerate(lines) if line.startswith("  (func "))
-    lines[first:first] = [f'  (import "memory" "{it}" (func ${it} {types}))' for it, types in sorted(used.items())]
+    lines[first:first] = [f'  (import "memory" "{name}" (func ${name} {types}))'
+                          for name, types in sorted(used.items())]
     return "\n".join(lines)
 
 
@@ -118,10 +119,10 @@ def deepest_stack(module):
             own = sum(map(int, FRAME.findall(functions[name])))
             if name in called and (times := RECURSIVE.get(name.split("::<")[0])):
                 called, own = called - {name}, times * own
-            depths[name] = own + max((depth_of(it, above | {name}) for it in called), default=RED_ZONE)
+            depths[name] = own + max((depth_of(other, above | {name}) for other in called), default=RED_ZONE)
         return depths[name]
 
-    return max(depth_of(it, frozenset()) for it in functions)
+    return max(depth_of(name, frozenset()) for name in functions)
 
 
 # ---- the C
@@ -151,7 +152,7 @@ def data_of(module):
 
 
 def numbers(values):
-    words = [str(it) for it in values]
+    words = [str(value) for value in values]
     return "\n".join("    " + ", ".join(words[at:at + 20]) + "," for at in range(0, len(words), 20))
 
 
@@ -174,8 +175,8 @@ static const u16 module_addresses[{len(addresses)}] = {{
 
 
 def main(first, second, to):
-    modules = [read_module(it) for it in (first, second)]
-    made = {file_of(it) for it in modules}
+    modules = [read_module(file) for file in (first, second)]
+    made = {file_of(module) for module in modules}
     if len(made) != 1 or modules[0].base == modules[1].base:
         raise SystemExit(f"{first} and {second} are not the same code with its data at two addresses")
     with open(to, "w", encoding="utf-8") as file:

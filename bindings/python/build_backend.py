@@ -95,13 +95,13 @@ def _time():
 
 def _write_wheel(folder, files, platform="any"):
     """Writes a wheel of these files and of what tells of them, and returns its name."""
-    told = f"{_stem()}.dist-info"
+    dist_info = f"{_stem()}.dist-info"
     kind = WHEEL.format(str(platform == "any").lower())
-    kind += "".join(f"Tag: py3-none-{it}\n" for it in platform.split("."))
-    files = {**files, f"{told}/METADATA": _metadata().encode(), f"{told}/WHEEL": kind.encode()}
-    files.update({f"{told}/{name}": (ROOT / name).read_bytes() for name in LICENCES})
+    kind += "".join(f"Tag: py3-none-{tag}\n" for tag in platform.split("."))
+    files = {**files, f"{dist_info}/METADATA": _metadata().encode(), f"{dist_info}/WHEEL": kind.encode()}
+    files.update({f"{dist_info}/{name}": (ROOT / name).read_bytes() for name in LICENCES})
     lines = [_record_line(name, content) for name, content in files.items()]
-    files[f"{told}/RECORD"] = "".join([*lines, f"{told}/RECORD,,\n"]).encode()
+    files[f"{dist_info}/RECORD"] = "".join([*lines, f"{dist_info}/RECORD,,\n"]).encode()
     name = f"{_stem()}-py3-none-{platform}.whl"
     with zipfile.ZipFile(Path(folder) / name, "w", zipfile.ZIP_DEFLATED) as wheel:
         for file, content in files.items():
@@ -122,7 +122,7 @@ def _sources_in_c():
 
 def _compiled():
     """The shared object, by the C compiler of this machine, and the platform that it is for."""
-    sources = [str(it) for it in _sources_in_c() if it.suffix == ".c"]
+    sources = [str(file) for file in _sources_in_c() if file.suffix == ".c"]
     if not sources:
         raise SystemExit(f"{_project('name')}: there is no library for {machines.machine()}: nothing is installed")
     print(f"there is no library for {machines.machine()}: the library as C is compiled", file=sys.stderr)

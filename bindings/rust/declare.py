@@ -50,8 +50,8 @@ def declared_calls():
 
 def named_calls():
     """The calls that the crate names."""
-    files = [FACE.with_suffix(".rs"), *(it for it in FACE.glob("*.rs") if it != MADE)]
-    texts = (it.read_text(encoding="utf-8") for it in files)
+    files = [FACE.with_suffix(".rs"), *(file for file in FACE.glob("*.rs") if file != MADE)]
+    texts = (file.read_text(encoding="utf-8") for file in files)
     return sorted({name for text in texts for name in re.findall(r"\b(proved_argon2_\w+)\(", text)})
 
 
@@ -66,12 +66,12 @@ def argument(declaration):
 
 def declaration(name, answer, taken):
     """A call, on one line where that is short enough."""
-    arguments = [] if taken.strip() == "void" else [argument(it) for it in taken.split(",")]
+    arguments = [] if taken.strip() == "void" else [argument(part) for part in taken.split(",")]
     end = ");" if answer == "void" else f") -> {TYPES[answer]};"
     line = f"    pub fn {name}({', '.join(arguments)}{end}"
     if len(line) <= WIDTH:
         return f"{line}\n"
-    lines = "".join(f"        {it},\n" for it in arguments)
+    lines = "".join(f"        {item},\n" for item in arguments)
     return f"    pub fn {name}(\n{lines}    {end}\n"
 
 

@@ -62,9 +62,9 @@ static int is_number(const char *word, uint32_t *number)
 {
     const char *const digits = word + (*word == '+');
     errno = 0;
-    const unsigned long it = strtoul(digits, NULL, 10);
-    *number = (uint32_t)it;
-    return *digits != 0 && digits[strspn(digits, DIGITS)] == 0 && errno == 0 && it <= UINT32_MAX;
+    const unsigned long value = strtoul(digits, NULL, 10);
+    *number = (uint32_t)value;
+    return *digits != 0 && digits[strspn(digits, DIGITS)] == 0 && errno == 0 && value <= UINT32_MAX;
 }
 
 static int is_variant(const char *word, uint32_t *number)
@@ -126,14 +126,14 @@ static int is_command(int count, char **word)
 /* Reads standard input up to its end, and at most most_read bytes. */
 static int read_password(void)
 {
-    for (size_t room = 0; password_len < most_read;) {
-        if (password_len == room) {
-            room = room == 0 ? 4096 : room < most_read / 2 ? 2 * room : most_read;
-            uint8_t *const longer = realloc(password, room);
+    for (size_t capacity = 0; password_len < most_read;) {
+        if (password_len == capacity) {
+            capacity = capacity == 0 ? 4096 : capacity < most_read / 2 ? 2 * capacity : most_read;
+            uint8_t *const longer = realloc(password, capacity);
             if (longer == NULL) return refuse(PROVED_ARGON2_OUT_OF_MEMORY);
             password = longer;
         }
-        const ssize_t got = read(STDIN_FILENO, password + password_len, room - password_len);
+        const ssize_t got = read(STDIN_FILENO, password + password_len, capacity - password_len);
         if (got == 0) return TRUE;
         if (got < 0 && errno != EINTR)
             return errno == ENOMEM ? refuse(PROVED_ARGON2_OUT_OF_MEMORY) : end(STREAM, "input");

@@ -14,7 +14,9 @@
 #define PIECE(name) const uint8_t *name, size_t name##_len
 #define SHOWN(name) (int)name##_len, (const char *)name
 #define SETTINGS "%u %u %u %u %u %u"
-#define EACH(it) (it)->variant, (it)->version, (it)->mem_cost, (it)->time_cost, (it)->lanes, (it)->hash_length
+#define EACH(settings) \
+    (settings)->variant, (settings)->version, (settings)->mem_cost, (settings)->time_cost, (settings)->lanes, \
+        (settings)->hash_length
 
 /* The numbers that the header gives to names. */
 /* clang-format off */
@@ -86,36 +88,36 @@ static void wait_while_held(void)
     is_waiting = is_held = false;
 }
 
-/* How many threads the last call with options asked for, which names no pool, and how many bytes it lent, or -1. */
+/* How many threads the last call with options asked for, which names no pool, and how many bytes of memory it was passed, or -1. */
 static uint32_t threads;
-static int64_t lent;
+static int64_t memory_len;
 
 /* What the last call with options was answered that told that it had filled a slice, or -1 where nobody was to be told. */
-static int64_t told;
+static int64_t progress_result;
 
 uint32_t threads_of_the_last(void)
 {
     return threads;
 }
 
-int64_t bytes_lent_to_the_last(void)
+int64_t memory_len_of_the_last(void)
 {
-    return lent;
+    return memory_len;
 }
 
-int64_t told_to_the_last(void)
+int64_t progress_result_of_the_last(void)
 {
-    return told;
+    return progress_result;
 }
 
 static void take(const proved_argon2_options *with)
 {
     const int has_pool = with->run != NULL || with->pool != NULL;
-    told = with->tell == NULL ? -1 : with->tell(with->arg, 1, 12);
+    progress_result = with->tell == NULL ? -1 : with->tell(with->arg, 1, 12);
     threads = with->size != sizeof *with || has_pool ? UINT32_MAX : with->threads;
-    lent = with->memory != NULL && (uintptr_t)with->memory % 8 == 0 ? (int64_t)with->memory_len
-        : with->memory != NULL || with->memory_len != 0             ? INT64_MIN
-                                                                    : -1;
+    memory_len = with->memory != NULL && (uintptr_t)with->memory % 8 == 0 ? (int64_t)with->memory_len
+        : with->memory != NULL || with->memory_len != 0                   ? INT64_MIN
+                                                                          : -1;
 }
 
 /* What the last call was passed that computes, that checks, and that does neither. */

@@ -29,7 +29,7 @@ from proved_argon2.low_level import ARGON2_VERSION, Memory, error_to_str, hash_s
 
 STUB = _library._library
 STUB.passed_to.restype = _library.ctypes.c_char_p
-STUB.bytes_lent_to_the_last.restype = STUB.told_to_the_last.restype = _library.ctypes.c_int64
+STUB.memory_len_of_the_last.restype = STUB.progress_result_of_the_last.restype = _library.ctypes.c_int64
 
 
 def header(name):
@@ -66,11 +66,11 @@ class Answers(unittest.TestCase):
     def setUp(self):
         set_answers()
 
-    def holds_for_each(self, place, call, wanted):
-        """Whether a call does the wanted thing for each number in this place: its value, or an exception."""
+    def holds_for_each(self, place, call, expected_of):
+        """Whether a call does the expected thing for each number in this place: its value, or an exception."""
         for number in NUMBERS:
             set_answers(**{place: number})
-            expected = wanted(number)
+            expected = expected_of(number)
             with self.subTest(place=place, number=number):
                 if isinstance(expected, Exception):
                     with self.assertRaises(type(expected)) as raised:
@@ -114,14 +114,14 @@ class Answers(unittest.TestCase):
         )
 
     def test_a_password_verifies_for_ok_alone(self):
-        def wanted(number):
+        def expected_of(number):
             if number == OK:
                 return True
             errors = {MISMATCH: VerifyMismatchError, TOO_COSTLY: TooCostlyError}
             return errors.get(number, VerificationError)(said_of(number))
 
         for call in self.verifying():
-            self.holds_for_each("then", call, wanted)
+            self.holds_for_each("then", call, expected_of)
 
     def test_no_password_verifies_where_the_text_is_not_read(self):
         for call in self.verifying():
@@ -140,16 +140,16 @@ class Answers(unittest.TestCase):
         limits = Limits(memory_cost=10, time_cost=11, parallelism=12, work=13)
         hashing = (b"word", b"somesalt", *SETTINGS)
         verifying = (TEXT.encode(), b"word", Type.ID)
-        for call, wanted, judged in (
-            (lambda **it: hash_secret_raw(*hashing, **it), f"raw {pieces}", f"check {settings} 4 8 3 4"),
-            (lambda **it: hash_secret(*hashing, **it), f"encoded {pieces}", f"check {settings} 4 8 3 4"),
-            (lambda **it: verify_secret(*verifying, **it), f"text {TEXT} word key data 0 0 0 0", None),
-            (lambda **it: verify_secret(*verifying, limits=limits, **it), f"text {TEXT} word key data 10 11 12 13",
-             None),
+        for call, expected, judged in (
+            (lambda **named: hash_secret_raw(*hashing, **named), f"raw {pieces}", f"check {settings} 4 8 3 4"),
+            (lambda **named: hash_secret(*hashing, **named), f"encoded {pieces}", f"check {settings} 4 8 3 4"),
+            (lambda **named: verify_secret(*verifying, **named), f"text {TEXT} word key data 0 0 0 0", None),
+            (lambda **named: verify_secret(*verifying, limits=limits, **named),
+             f"text {TEXT} word key data 10 11 12 13", None),
         ):
-            for named, lent in ((PIECES, -1), ({**PIECES, "memory": Memory()}, 0)):
+            for named, memory_len in ((PIECES, -1), ({**PIECES, "memory": Memory()}, 0)):
                 call(**named)
-                self.assertEqual((passed(COMPUTING), STUB.bytes_lent_to_the_last()), (wanted, lent))
+                self.assertEqual((passed(COMPUTING), STUB.memory_len_of_the_last()), (expected, memory_len))
                 self.assertIn(judged, (None, passed(JUDGING)))
         self.assertEqual(passed(TELLING), f"read {TEXT}")
         hash_secret(*hashing)
@@ -159,13 +159,13 @@ class Answers(unittest.TestCase):
         for keep_memory in (False, True):
             limits = Limits(10, 11, 12, 13)
             hasher = PasswordHasher(3, 64, 4, 5, 8, "utf-8", Type.I, limits=limits, keep_memory=keep_memory)
-            lent = 0 if keep_memory else -1
+            memory_len = 0 if keep_memory else -1
             hasher.hash("word", salt=b"somesalt")
-            found = (passed(COMPUTING), STUB.bytes_lent_to_the_last())
-            self.assertEqual(found, ("encoded word somesalt   1 19 64 3 4 5", lent))
+            found = (passed(COMPUTING), STUB.memory_len_of_the_last())
+            self.assertEqual(found, ("encoded word somesalt   1 19 64 3 4 5", memory_len))
             hasher.verify(TEXT, "word")
-            found = (passed(COMPUTING), STUB.bytes_lent_to_the_last())
-            self.assertEqual(found, (f"text {TEXT} word   10 11 12 13", lent))
+            found = (passed(COMPUTING), STUB.memory_len_of_the_last())
+            self.assertEqual(found, (f"text {TEXT} word   10 11 12 13", memory_len))
         for settings, limits in (((1, 1, 1), "7 8 9 10"), ((9, 8, 1), "8 9 9 72"), ((8, 7, 10), "7 8 10 56")):
             PasswordHasher(*settings).verify(TEXT, "word")
             self.assertEqual(passed(COMPUTING), f"text {TEXT} word   {limits}")
@@ -182,10 +182,10 @@ class Answers(unittest.TestCase):
                 set_answers(then=number)
                 with contextlib.suppress(Argon2Error):
                     call(memory)
-                wanted = 64 << 10 if number == OUT_OF_MEMORY else 0
-                self.assertEqual((STUB.bytes_lent_to_the_last(), memory._free[0].length), (wanted, wanted), number)
-                self.assertEqual(STUB.memories_that_are_there(), int(wanted > 0))
-                if wanted:
+                expected = 64 << 10 if number == OUT_OF_MEMORY else 0
+                self.assertEqual((STUB.memory_len_of_the_last(), memory._free[0].length), (expected, expected), number)
+                self.assertEqual(STUB.memories_that_are_there(), int(expected > 0))
+                if expected:
                     self.assertEqual(passed(TELLING), "memory 2 19 64 3 4 5")
                     before = STUB.memories_that_were_asked_for()
                     self.assertRaises(Argon2Error, call, memory)
@@ -202,7 +202,7 @@ class Answers(unittest.TestCase):
                 set_answers(then=OUT_OF_MEMORY)
                 with self.assertRaisesRegex(HashingError, said_of(OUT_OF_MEMORY)):
                     hash_secret(b"p", b"somesalt", *SETTINGS, memory=memory)
-                self.assertEqual((STUB.bytes_lent_to_the_last(), memory._free[0].length), (0, 0), number)
+                self.assertEqual((STUB.memory_len_of_the_last(), memory._free[0].length), (0, 0), number)
 
     def computing(self, **named):
         """The calls that can be told how far they are."""
@@ -219,16 +219,16 @@ class Answers(unittest.TestCase):
         def in_a_thread(call):
             with concurrent.futures.ThreadPoolExecutor(1) as pool:
                 pool.submit(call).result()
-            return STUB.told_to_the_last()
+            return STUB.progress_result_of_the_last()
 
         for call in self.computing():
             call()
-            self.assertEqual(STUB.told_to_the_last(), 0)
+            self.assertEqual(STUB.progress_result_of_the_last(), 0)
             self.assertEqual(in_a_thread(call), -1)
         seen = []
-        for call in self.computing(progress=lambda *told: seen.append(told)):
+        for call in self.computing(progress=lambda *progress: seen.append(progress)):
             call()
-            self.assertEqual((STUB.told_to_the_last(), seen), (0, [(1, 12)]))
+            self.assertEqual((STUB.progress_result_of_the_last(), seen), (0, [(1, 12)]))
             seen.clear()
             self.assertEqual((in_a_thread(call), seen), (0, [(1, 12)]))
             seen.clear()
@@ -244,10 +244,10 @@ class Answers(unittest.TestCase):
                     with self.assertRaises(type(error)) as raised:
                         call()
                     self.assertIs(raised.exception, error)
-                    self.assertNotEqual(STUB.told_to_the_last(), 0)
+                    self.assertNotEqual(STUB.progress_result_of_the_last(), 0)
 
     def test_there_are_as_many_threads_as_lanes_and_16_for_a_text(self):
-        for call, wanted in (
+        for call, expected in (
             (lambda: hash_secret(b"p", b"somesalt", 3, 640, 40, 5, Type.ID), 40),
             (lambda: hash_secret_raw(b"p", b"somesalt", *SETTINGS), 4),
             (lambda: PasswordHasher(parallelism=3).hash("p"), 3),
@@ -256,7 +256,7 @@ class Answers(unittest.TestCase):
             *((call, 16) for call in self.verifying()),
         ):
             call()
-            self.assertEqual(STUB.threads_of_the_last(), wanted)
+            self.assertEqual(STUB.threads_of_the_last(), expected)
 
     def test_the_default_limits_are_the_library_s(self):
         self.assertEqual(Limits(), Limits(memory_cost=7, time_cost=8, parallelism=9, work=10))

@@ -10,8 +10,8 @@ use std::panic::{catch_unwind, AssertUnwindSafe};
 extern "C" {
     fn set_answers(check: u32, then: u32, read: u32);
     fn threads_of_the_last() -> u32;
-    fn bytes_lent_to_the_last() -> i64;
-    fn told_to_the_last() -> i64;
+    fn memory_len_of_the_last() -> i64;
+    fn progress_result_of_the_last() -> i64;
     fn set_shortage(number: u32);
     fn memories_that_were_asked_for() -> u32;
     fn memories_that_are_there() -> u32;
@@ -88,28 +88,28 @@ fn holds<T: Debug + PartialEq + Clone>(
     let mut right = true;
     for number in numbers() {
         set(number);
-        let error = ERRORS.iter().find(|it| header(&spelled(it)) == number).cloned();
-        let wanted: Outcome<T> = match values.iter().find(|(it, _)| *it == number) {
+        let error = ERRORS.iter().find(|error| header(&header_name(error)) == number).cloned();
+        let expected: Outcome<T> = match values.iter().find(|(listed, _)| *listed == number) {
             Some((_, value)) => Some(Ok(value.clone())),
             None => error.map(Err),
         };
-        let given: Outcome<T> = catch_unwind(AssertUnwindSafe(&call)).ok();
-        if given != wanted {
-            println!("    {name}: {number} gives {given:?} in place of {wanted:?}");
+        let outcome: Outcome<T> = catch_unwind(AssertUnwindSafe(&call)).ok();
+        if outcome != expected {
+            println!("    {name}: {number} gives {outcome:?} in place of {expected:?}");
             right = false;
         }
     }
-    told(name, right)
+    report(name, right)
 }
 
 /// A line for a check.
-fn told(name: &str, right: bool) -> bool {
+fn report(name: &str, right: bool) -> bool {
     println!("{}: {name}", if right { "passed" } else { "FAILED" });
     right
 }
 
 /// The name of an error as the header spells it: `OUT_OF_MEMORY` for `OutOfMemory`.
-fn spelled(error: &Error) -> String {
+fn header_name(error: &Error) -> String {
     let mut name = String::new();
     for letter in format!("{error:?}").chars() {
         if letter.is_uppercase() && !name.is_empty() {
@@ -123,14 +123,16 @@ fn spelled(error: &Error) -> String {
 /// Each error, variant and version has the number that the header gives to its name.
 fn numbers_are_the_header_s() -> bool {
     let numbers = (1..=21).chain([130, 131]);
-    let errors = ERRORS.iter().zip(numbers).all(|(error, number)| header(&spelled(error)) == number);
+    let errors = ERRORS.iter().zip(numbers).all(|(error, number)| header(&header_name(error)) == number);
     let variants = [(Variant::Argon2d, "D"), (Variant::Argon2i, "I"), (Variant::Argon2id, "ID")]
         .into_iter()
-        .all(|(it, name)| it.as_u32() == header(name) && Variant::from_u32(header(name)) == Ok(it));
-    let versions = [(Version::Version10, "VERSION_10"), (Version::Version13, "VERSION_13")]
-        .into_iter()
-        .all(|(it, name)| it.as_u32() == header(name) && Version::from_u32(header(name)) == Ok(it));
-    told("errors, variants and versions have the header's numbers", errors && variants && versions)
+        .all(|(variant, name)| {
+            variant.as_u32() == header(name) && Variant::from_u32(header(name)) == Ok(variant)
+        });
+    let versions = [(Version::Version10, "VERSION_10"), (Version::Version13, "VERSION_13")].into_iter().all(
+        |(version, name)| version.as_u32() == header(name) && Version::from_u32(header(name)) == Ok(version),
+    );
+    report("errors, variants and versions have the header's numbers", errors && variants && versions)
 }
 
 /// The number stands in the place of what `check` answers, of what a call does that computes, or of what `read` answers.
@@ -165,7 +167,7 @@ type Computing = (fn(Option<&mut Memory>) -> bool, &'static str, u32);
 
 fn within(memory: Option<&mut Memory>) -> Result<bool, Unverified> {
     match memory {
-        Some(it) => argon2::verify_encoded_within_in(it, "text", b"word", b"key", b"data", &LIMITS),
+        Some(memory) => argon2::verify_encoded_within_in(memory, "text", b"word", b"key", b"data", &LIMITS),
         None => argon2::verify_encoded_within("text", b"word", b"key", b"data", &LIMITS),
     }
 }
@@ -180,28 +182,28 @@ const COMPUTING: [Computing; 5] = [
 
 fn raw(memory: Option<&mut Memory>) -> Result<Vec<u8>, Error> {
     match memory {
-        Some(it) => argon2::hash_raw_in(it, b"word", b"somesalt", &CONFIG),
+        Some(memory) => argon2::hash_raw_in(memory, b"word", b"somesalt", &CONFIG),
         None => argon2::hash_raw(b"word", b"somesalt", &CONFIG),
     }
 }
 
 fn text(memory: Option<&mut Memory>) -> Result<String, Error> {
     match memory {
-        Some(it) => argon2::hash_encoded_in(it, b"word", b"somesalt", &CONFIG),
+        Some(memory) => argon2::hash_encoded_in(memory, b"word", b"somesalt", &CONFIG),
         None => argon2::hash_encoded(b"word", b"somesalt", &CONFIG),
     }
 }
 
 fn verdict(memory: Option<&mut Memory>) -> Result<bool, Error> {
     match memory {
-        Some(it) => argon2::verify_raw_in(it, b"word", b"somesalt", b"hash", &CONFIG),
+        Some(memory) => argon2::verify_raw_in(memory, b"word", b"somesalt", b"hash", &CONFIG),
         None => argon2::verify_raw(b"word", b"somesalt", b"hash", &CONFIG),
     }
 }
 
 fn verdict_of_text(memory: Option<&mut Memory>) -> Result<bool, Error> {
     match memory {
-        Some(it) => argon2::verify_encoded_in(it, "text", b"word", b"key", b"data"),
+        Some(memory) => argon2::verify_encoded_in(memory, "text", b"word", b"key", b"data"),
         None => argon2::verify_encoded_ext("text", b"word", b"key", b"data"),
     }
 }
@@ -209,19 +211,19 @@ fn verdict_of_text(memory: Option<&mut Memory>) -> Result<bool, Error> {
 /// Each call passes what it is given in its place, and lends the memory that it is given and no other.
 fn arguments_are_in_their_places() -> bool {
     then(0);
-    let computing = COMPUTING.iter().all(|(call, wanted, _)| {
+    let computing = COMPUTING.iter().all(|(call, expected, _)| {
         let mut memory = Memory::new();
-        let without = call(None) && passed(0) == *wanted && unsafe { bytes_lent_to_the_last() } == -1;
+        let without = call(None) && passed(0) == *expected && unsafe { memory_len_of_the_last() } == -1;
         let over =
-            call(Some(&mut memory)) && passed(0) == *wanted && unsafe { bytes_lent_to_the_last() } == 0;
+            call(Some(&mut memory)) && passed(0) == *expected && unsafe { memory_len_of_the_last() } == 0;
         without && over
     });
-    let judged = raw(None).is_ok()
+    let checked = raw(None).is_ok()
         && passed(1) == "check 2 19 64 3 4 5 4 8 3 4"
         && text(None).is_ok()
         && passed(1) == "check 2 19 64 3 4 5 4 8 3 4"
         && passed(2) == "length 2 19 64 3 4 5 8";
-    let told_of = argon2::verify_encoded("text", b"word").is_ok()
+    let others = argon2::verify_encoded("text", b"word").is_ok()
         && passed(0) == "text text word   0 0 0 0"
         && argon2::read("text").is_ok()
         && passed(2) == "read text"
@@ -229,7 +231,7 @@ fn arguments_are_in_their_places() -> bool {
         && passed(2) == "rehash text 2 19 64 3 4 5"
         && argon2::encoded_len(Variant::Argon2d, 64, 3, 4, 9, 5) == 12
         && passed(2) == "length 0 19 64 3 4 5 9";
-    told("each call passes what it is given, in its place", computing && judged && told_of)
+    report("each call passes what it is given, in its place", computing && checked && others)
 }
 
 /// A memory is made where the library answers that it is too small, of what the settings or the text say, and only
@@ -242,24 +244,25 @@ fn memories_grow_where_they_are_too_small() -> bool {
             let mut memory = Memory::new();
             then(number);
             let _ = catch_unwind(AssertUnwindSafe(|| call(Some(&mut memory))));
-            let found = (unsafe { bytes_lent_to_the_last() }, memory.size(), there());
-            let asked_for = passed(2);
+            let found = (unsafe { memory_len_of_the_last() }, memory.size(), there());
+            let request = passed(2);
             let before = unsafe { memories_that_were_asked_for() };
             let _ = catch_unwind(AssertUnwindSafe(|| call(Some(&mut memory))));
-            let is_kept = found.1 == 0 || unsafe { memories_that_were_asked_for() } == before;
+            let is_reused = found.1 == 0 || unsafe { memories_that_were_asked_for() } == before;
             drop(memory);
-            let wanted = if number == header("OUT_OF_MEMORY") { (64 << 10, 64 << 10, 1) } else { (0, 0, 0) };
-            found == wanted
-                && is_kept
+            let expected =
+                if number == header("OUT_OF_MEMORY") { (64 << 10, 64 << 10, 1) } else { (0, 0, 0) };
+            found == expected
+                && is_reused
                 && there() == 0
-                && (wanted.2 == 0 || asked_for == format!("memory {settings}"))
+                && (expected.2 == 0 || request == format!("memory {settings}"))
         })
     });
-    told("a kept memory is made where the library says that it is too small", right)
+    report("a kept memory is made where the library says that it is too small", right)
 }
 
 /// A memory has nothing where the library refuses one, and the call is out of memory.
-fn memories_may_be_refused() -> bool {
+fn memories_may_be_denied() -> bool {
     let right = numbers().filter(|number| *number != header("OK")).all(|number| {
         unsafe { set_shortage(number) };
         then(header("OUT_OF_MEMORY"));
@@ -271,11 +274,11 @@ fn memories_may_be_refused() -> bool {
         })
     });
     unsafe { set_shortage(0) };
-    told("a kept memory has nothing where the library refuses one", right)
+    report("a kept memory has nothing where the library refuses one", right)
 }
 
 /// The calls of a run, which are given each piece in its place.
-fn each_of_a_run(run: &mut Run<'_>) -> Vec<(bool, String)> {
+fn calls_of_a_run(run: &mut Run<'_>) -> Vec<(bool, String)> {
     let mut passes = Vec::new();
     let mut note = |is_done: bool| passes.push((is_done, passed(0)));
     note(run.hash_raw(b"word", b"somesalt", &CONFIG).is_ok());
@@ -288,30 +291,30 @@ fn each_of_a_run(run: &mut Run<'_>) -> Vec<(bool, String)> {
 
 /// A call tells how far it is where it is asked, and nobody else; what it is told stops it, and so does a panic, which
 /// comes out of it.
-fn calls_tell_how_far_they_are() -> bool {
+fn calls_report_progress() -> bool {
     use std::ops::ControlFlow::{Break, Continue};
-    let to_the_last = || unsafe { told_to_the_last() };
+    let to_the_last = || unsafe { progress_result_of_the_last() };
     then(0);
-    let wanted: Vec<_> = COMPUTING.iter().map(|(_, passes, _)| (true, (*passes).to_owned())).collect();
+    let expected: Vec<_> = COMPUTING.iter().map(|(_, passes, _)| (true, (*passes).to_owned())).collect();
     let mut right = COMPUTING.iter().all(|(call, _, _)| call(None) && to_the_last() == -1);
-    right &= each_of_a_run(&mut Run::new()) == wanted && to_the_last() == -1;
+    right &= calls_of_a_run(&mut Run::new()) == expected && to_the_last() == -1;
     let mut seen = Vec::new();
-    let given = each_of_a_run(&mut Run::new().telling(|done, all| {
+    let outcomes = calls_of_a_run(&mut Run::new().telling(|done, all| {
         seen.push((done, all));
         Continue(())
     }));
-    right &= given == wanted && seen == [(1, 12); 5] && to_the_last() == 0;
-    right &= each_of_a_run(&mut Run::new().over(&mut Memory::new()).telling(|_, _| Break(()))) == wanted;
+    right &= outcomes == expected && seen == [(1, 12); 5] && to_the_last() == 0;
+    right &= calls_of_a_run(&mut Run::new().over(&mut Memory::new()).telling(|_, _| Break(()))) == expected;
     right &= to_the_last() == 1;
     let mut run = Run::new().telling(|_, _| panic!("on"));
     let panicked = catch_unwind(AssertUnwindSafe(|| run.hash_raw(b"word", b"somesalt", &CONFIG)));
     right &= panicked.is_err() && to_the_last() == 1;
-    told("a call tells how far it is where it is asked, and what it is told stops it", right)
+    report("a call tells how far it is where it is asked, and what it is told stops it", right)
 }
 
 /// Whether the default limits are those that the library answers.
 fn are_the_library_s() -> bool {
-    told(
+    report(
         "the default limits are the library's",
         Limits::default() == Limits { lanes: 9, mem_cost: 7, time_cost: 8, work: 10 },
     )
@@ -320,9 +323,9 @@ fn are_the_library_s() -> bool {
 /// Whether each call asks for as many threads as its settings or its text say.
 fn are_as_many_threads_as_the_mode_says() -> bool {
     then(0);
-    let asked = || unsafe { threads_of_the_last() };
+    let used = || unsafe { threads_of_the_last() };
     let fixed = COMPUTING.iter().all(|(call, _, threads)| {
-        call(None) && asked() == *threads && call(Some(&mut Memory::new())) && asked() == *threads
+        call(None) && used() == *threads && call(Some(&mut Memory::new())) && used() == *threads
     });
     let modes = [
         (ThreadMode::Sequential, 4, 1),
@@ -331,18 +334,18 @@ fn are_as_many_threads_as_the_mode_says() -> bool {
         (ThreadMode::AtMost(3), 2, 2),
     ];
     let calls: [fn(&Config<'_>) -> bool; 6] = [
-        |it| argon2::hash_raw(b"word", b"somesalt", it).is_ok(),
-        |it| argon2::hash_encoded(b"word", b"somesalt", it).is_ok(),
-        |it| argon2::verify_raw(b"word", b"somesalt", b"hash", it).is_ok(),
-        |it| argon2::hash_raw_in(&mut Memory::new(), b"word", b"somesalt", it).is_ok(),
-        |it| argon2::hash_encoded_in(&mut Memory::new(), b"word", b"somesalt", it).is_ok(),
-        |it| argon2::verify_raw_in(&mut Memory::new(), b"word", b"somesalt", b"hash", it).is_ok(),
+        |config| argon2::hash_raw(b"word", b"somesalt", config).is_ok(),
+        |config| argon2::hash_encoded(b"word", b"somesalt", config).is_ok(),
+        |config| argon2::verify_raw(b"word", b"somesalt", b"hash", config).is_ok(),
+        |config| argon2::hash_raw_in(&mut Memory::new(), b"word", b"somesalt", config).is_ok(),
+        |config| argon2::hash_encoded_in(&mut Memory::new(), b"word", b"somesalt", config).is_ok(),
+        |config| argon2::verify_raw_in(&mut Memory::new(), b"word", b"somesalt", b"hash", config).is_ok(),
     ];
-    let by_mode = modes.into_iter().all(|(thread_mode, lanes, wanted)| {
+    let by_mode = modes.into_iter().all(|(thread_mode, lanes, expected)| {
         let config = Config { thread_mode, lanes, ..CONFIG };
-        calls.iter().all(|call| call(&config) && asked() == wanted)
+        calls.iter().all(|call| call(&config) && used() == expected)
     });
-    told("a call asks for as many threads as its mode says, and 16 for a text", fixed && by_mode)
+    report("a call asks for as many threads as its mode says, and 16 for a text", fixed && by_mode)
 }
 
 /// What the calls give for each number: over a memory, or without one. `which` says that behind the names.
@@ -373,7 +376,7 @@ fn each_number_is_answered(which: &str, over: fn() -> Option<Memory>) -> bool {
         holds(&named("a text verifies within limits for OK alone"), &costly, then, a_bounded_verdict),
         holds(&named("a hash verifies for OK alone"), &verdicts, then, || verdict(over().as_mut())),
     ];
-    all.iter().all(|it| *it)
+    all.iter().all(|is_right| *is_right)
 }
 
 fn main() {
@@ -394,8 +397,8 @@ fn main() {
         each_number_is_answered(", over a kept memory", || Some(Memory::new())),
         arguments_are_in_their_places(),
         memories_grow_where_they_are_too_small(),
-        memories_may_be_refused(),
-        calls_tell_how_far_they_are(),
+        memories_may_be_denied(),
+        calls_report_progress(),
         are_the_library_s(),
         are_as_many_threads_as_the_mode_says(),
         holds("a text without a secret verifies for OK alone", &verdicts, then, || {
@@ -409,5 +412,5 @@ fn main() {
         ),
         holds("a text is read for OK alone", &[(header("OK"), stored)], reading, || argon2::read("x")),
     ];
-    assert!(all.iter().all(|it| *it));
+    assert!(all.iter().all(|is_right| *is_right));
 }

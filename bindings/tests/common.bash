@@ -19,11 +19,11 @@ skip() {
 
 # `refuses STATUS TEXT COMMAND..`: whether a command ends with this status and says this on standard error.
 refuses() {
-    local wanted=$1 text=$2 status=0 said
+    local expected=$1 text=$2 status=0 said
     shift 2
     said=$("$@" 2>&1 >/dev/null </dev/null) || status=$?
     printf '%s (status %s)\n' "$said" "$status"
-    [[ $status == "$wanted" && $said == *"$text"* ]]
+    [[ $status == "$expected" && $said == *"$text"* ]]
 }
 
 # `check_with COMMAND NAME COMMAND..`: a check, where the first command is there.

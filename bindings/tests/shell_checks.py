@@ -37,9 +37,9 @@ def require(holds, *seen):
         raise AssertionError(" ".join(map(repr, seen)))
 
 
-def piped(words, given=b"", command=None, **more):
+def piped(words, stdin=b"", command=None, **more):
     """The status, standard output and standard error of the words."""
-    done = subprocess.run([*(command or COMMAND), *words], input=given, capture_output=True, timeout=600, **more)
+    done = subprocess.run([*(command or COMMAND), *words], input=stdin, capture_output=True, timeout=600, **more)
     return done.returncode, done.stdout, done.stderr
 
 

@@ -28,8 +28,8 @@ class Lines(unittest.TestResult):
 
     def note(self, test, error):
         """Of a test, one of its parts, or what stands before a class or a module."""
-        told = self._exc_info_to_string(error, test).rstrip().splitlines()[-1]
-        print(f"    {told}", flush=True)
+        last_line = self._exc_info_to_string(error, test).rstrip().splitlines()[-1]
+        print(f"    {last_line}", flush=True)
         if not isinstance(test, unittest.TestCase):
             print(f"FAILED: {test}", flush=True)
 

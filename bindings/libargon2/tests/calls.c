@@ -72,7 +72,7 @@ int is_clear(const uint8_t *bytes, size_t count)
 
 static void give_back(uint8_t *memory, size_t bytes)
 {
-    noting->given_back++;
+    noting->freed++;
     noting->others += memory != noting->memory || bytes != noting->bytes
         || (noting->kind != MISALIGNED && !is_clear(memory, bytes));
     free(noting->start);
@@ -126,6 +126,6 @@ int is_same(const inputs *a, const inputs *b, int but_out)
         && memcmp(a->salt, b->salt, SIZE) == 0 && memcmp(a->secret, b->secret, SIZE) == 0
         && memcmp(a->ad, b->ad, SIZE) == 0 && memcmp(a->hash, b->hash, SIZE) == 0 && memcmp(a->text, b->text, TEXT) == 0
         && a->context.pwdlen == b->context.pwdlen && a->context.secretlen == b->context.secretlen
-        && a->noted.taken == b->noted.taken && a->noted.given_back == b->noted.given_back
-        && a->noted.bytes == b->noted.bytes && a->noted.others == b->noted.others;
+        && a->noted.taken == b->noted.taken && a->noted.freed == b->noted.freed && a->noted.bytes == b->noted.bytes
+        && a->noted.others == b->noted.others;
 }

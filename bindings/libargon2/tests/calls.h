@@ -35,7 +35,7 @@ enum callback { PLAIN, REFUSING, FAILING, MISALIGNED, CALLBACKS }; /* FAILING gi
 /* What a callback noted. */
 typedef struct notes {
     enum callback kind;
-    uint64_t taken, given_back, bytes, others; /* others: what was given back is not what was taken, or not cleared */
+    uint64_t taken, freed, bytes, others; /* others: what was freed is not what was taken, or not cleared */
     void *start;
     uint8_t *memory;
 } notes;
@@ -55,7 +55,7 @@ typedef struct inputs {
 void load(const char *path, library *to);
 
 /* Makes a call of a library, whose pointers lead into the inputs, and returns its answer. */
-int make_call(const library *from, enum call which, inputs *given);
+int make_call(const library *from, enum call which, inputs *i);
 
 int is_clear(const uint8_t *bytes, size_t count);
 

@@ -26,7 +26,7 @@ TEXTS = (HEAD, HEAD[:-1], '', '$argon2id$', HEAD + 'AAAA', HEAD + 'AAAAAAAA', HE
          HEAD.replace('m=64', 'm=+64') + 'AAAAAAAA', HEAD.replace('$a', '$A') + 'AAAAAAAA')
 
 
-def told(call, *words, **named):
+def outcome(call, *words, **named):
     try:
         return repr(call(*words, **named))
     except Exception as error:  # noqa: BLE001
@@ -45,11 +45,11 @@ def print_tags():
 
 def print_errors():
     for wrong, call in itertools.product(WRONG, (low_level.hash_secret, low_level.hash_secret_raw)):
-        print(told(call, **{**RIGHT, **wrong}))
+        print(outcome(call, **{**RIGHT, **wrong}))
     for code in range(-40, 3):
         print(low_level.error_to_str(code))
     for text in TEXTS:
-        print(told(argon2.PasswordHasher(1, 64, 2).verify, text, 'x'))
+        print(outcome(argon2.PasswordHasher(1, 64, 2).verify, text, 'x'))
 
 
 def print_contexts():
@@ -57,13 +57,13 @@ def print_contexts():
     ffi = low_level.ffi
     for flags in range(4):
         tag, password = ffi.new('uint8_t[]', 32), ffi.new('uint8_t[]', b'password')
-        salt, secret, data = (ffi.new('uint8_t[]', it) for it in (b'somesalt', b'pepper', b'user'))
+        salt, secret, data = (ffi.new('uint8_t[]', value) for value in (b'somesalt', b'pepper', b'user'))
         context = ffi.new('argon2_context*', {
             'version': 19, 'out': tag, 'outlen': 32, 'pwd': password, 'pwdlen': 8, 'salt': salt, 'saltlen': 8,
             'secret': secret, 'secretlen': 6, 'ad': data, 'adlen': 4, 't_cost': 2, 'm_cost': 64, 'lanes': 4,
             'threads': 2, 'allocate_cbk': ffi.NULL, 'free_cbk': ffi.NULL, 'flags': flags})
         print(low_level.core(context, Type.ID.value), context.pwdlen, context.secretlen,
-              *(bytes(ffi.buffer(it)).hex() for it in (tag, password, secret)))
+              *(bytes(ffi.buffer(buffer)).hex() for buffer in (tag, password, secret)))
 
 
 def make():
@@ -74,7 +74,7 @@ def make():
 def check(file):
     with open(file, encoding='ascii') as lines:
         for line in lines.read().split():
-            print(*(told(argon2.PasswordHasher().verify, line, it) for it in ('password', 'passwore')),
+            print(*(outcome(argon2.PasswordHasher().verify, line, password) for password in ('password', 'passwore')),
                   argon2.extract_parameters(line))
 
 

@@ -136,40 +136,40 @@ static void cut_rest(char *text)
     *at = 0;
 }
 
-static int is_of_the_rest(const inputs *given, int code)
+static int is_of_the_rest(const inputs *drawn, int code)
 {
     static inputs cut;
-    cut = *given;
+    cut = *drawn;
     cut_rest(cut.text);
     return is_judgement(code) && make_call(ours, VERIFY, &cut) == code;
 }
 
 /* Why ours refuses an encoded hash as one that cannot be decoded, and libargon2 answers otherwise. */
-static enum purpose purpose_of_text(const inputs *given, int its_code)
+static enum purpose purpose_of_text(const inputs *drawn, int its_code)
 {
-    const unsigned long version = version_of(given->text);
+    const unsigned long version = version_of(drawn->text);
     return version != ARGON2_VERSION_10 && version != ARGON2_VERSION_13 ? VERSION
-        : has_high_byte(given->text)                                    ? HIGH_BYTE
-        : is_of_the_rest(given, its_code)                               ? WHOLE_TEXT
+        : has_high_byte(drawn->text)                                    ? HIGH_BYTE
+        : is_of_the_rest(drawn, its_code)                               ? WHOLE_TEXT
                                                                         : NONE;
 }
 
 /* The difference on purpose that two answers have, where they differ. What is refused leaves all as it was. */
 static enum purpose is_on_purpose(
-    enum call which, const inputs *given, const inputs *a, int its_code, const inputs *b, int code)
+    enum call which, const inputs *drawn, const inputs *a, int its_code, const inputs *b, int code)
 {
-    const uint32_t version = given->context.version;
+    const uint32_t version = drawn->context.version;
     if (which == VERIFY) {
-        return code == ARGON2_DECODING_FAIL && is_same(given, b, 0) ? purpose_of_text(given, its_code) : NONE;
+        return code == ARGON2_DECODING_FAIL && is_same(drawn, b, 0) ? purpose_of_text(drawn, its_code) : NONE;
     }
     if (code == ARGON2_INCORRECT_PARAMETER && !is_judgement(its_code)) {
-        return version != ARGON2_VERSION_10 && version != ARGON2_VERSION_13 && is_same(given, b, 0) ? VERSION : NONE;
+        return version != ARGON2_VERSION_10 && version != ARGON2_VERSION_13 && is_same(drawn, b, 0) ? VERSION : NONE;
     }
-    if (code == ARGON2_MEMORY_ALLOCATION_ERROR && given->noted.kind == MISALIGNED && b->noted.taken == 1) {
-        const int is_as_it_was = b->noted.given_back == 1 && b->noted.others == 0
-            && memcmp(b->pwd, given->pwd, SIZE) == 0 && memcmp(b->secret, given->secret, SIZE) == 0
-            && b->context.pwdlen == given->context.pwdlen && memcmp(b->out, given->out, SIZE) == 0;
-        return its_code != ARGON2_MEMORY_ALLOCATION_ERROR && is_as_it_was ? ADDRESS : NONE;
+    if (code == ARGON2_MEMORY_ALLOCATION_ERROR && drawn->noted.kind == MISALIGNED && b->noted.taken == 1) {
+        const int is_unchanged = b->noted.freed == 1 && b->noted.others == 0 && memcmp(b->pwd, drawn->pwd, SIZE) == 0
+            && memcmp(b->secret, drawn->secret, SIZE) == 0 && b->context.pwdlen == drawn->context.pwdlen
+            && memcmp(b->out, drawn->out, SIZE) == 0;
+        return its_code != ARGON2_MEMORY_ALLOCATION_ERROR && is_unchanged ? ADDRESS : NONE;
     }
     return which == VERIFY_CTX && code == ARGON2_VERIFY_MISMATCH && its_code == code && is_same(a, b, 1)
             && is_clear(b->out, b->context.outlen)
@@ -178,25 +178,25 @@ static enum purpose is_on_purpose(
 }
 
 /* Makes a call of both, and tells where they differ. */
-static int compare(enum call which, const inputs *given)
+static int compare(enum call which, const inputs *drawn)
 {
     static inputs a, b;
-    a = b = *given;
+    a = b = *drawn;
     const int its_code = make_call(its, which, &a), code = make_call(ours, which, &b);
-    const int is_kept = b.noted.start != NULL;
+    const int is_leaked = b.noted.start != NULL;
     free(a.noted.start);
     free(b.noted.start);
     calls++;
     met[its_code > 0 || its_code < -62 ? 63 : -its_code]++;
-    if (its_code == code && is_same(&a, &b, 0) && !is_kept) {
+    if (its_code == code && is_same(&a, &b, 0) && !is_leaked) {
         return 1;
     }
-    const enum purpose purpose = is_kept ? NONE : is_on_purpose(which, given, &a, its_code, &b, code);
+    const enum purpose purpose = is_leaked ? NONE : is_on_purpose(which, drawn, &a, its_code, &b, code);
     met_on_purpose[purpose]++;
     if (purpose == NONE) {
         printf("FAILED: call %llu, kind %d: libargon2 answers %d, ours %d%s; callback %d, flags %x, version %u; %s\n",
             (unsigned long long)calls, which, its_code, code, is_same(&a, &b, 0) ? "" : ", and what is left differs",
-            given->noted.kind, given->context.flags, given->context.version, which == VERIFY ? given->text : "");
+            drawn->noted.kind, drawn->context.flags, drawn->context.version, which == VERIFY ? drawn->text : "");
     }
     return purpose != NONE;
 }
@@ -387,7 +387,7 @@ int main(int count, char **words)
 {
     static int (*const kinds[])(inputs *) = {
         compare_ctx, compare_verify_ctx, compare_hash, compare_hash, compare_verify, compare_verify, compare_names};
-    static inputs given;
+    static inputs drawn;
     uint64_t failed = 0;
     if (count != 5) {
         printf("usage: fuzz SEED COUNT LIBARGON2 OURS\n");
@@ -398,8 +398,8 @@ int main(int count, char **words)
     load(words[4], &both[1]);
     const uint64_t all = strtoull(words[2], NULL, 10);
     while (calls < all && failed < 20) {
-        draw_inputs(&given);
-        failed += !kinds[below(sizeof kinds / sizeof kinds[0])](&given);
+        draw_inputs(&drawn);
+        failed += !kinds[below(sizeof kinds / sizeof kinds[0])](&drawn);
     }
     failed += calls >= ENOUGH ? count_unmet() : 0;
     return tell(failed) == 0 ? 0 : 1;

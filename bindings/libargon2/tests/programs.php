@@ -33,9 +33,9 @@ function check(string $file): void
     foreach (file($file, FILE_IGNORE_NEW_LINES) as $line) {
         [$password, $hash] = explode(' ', $line);
         $password = base64_decode($password);
-        $told = password_get_info($hash);
-        echo json_encode([password_verify($password, $hash), password_verify($password . '!', $hash), $told,
-            password_needs_rehash($hash, $told['algo'], $told['options'])]), "\n";
+        $info = password_get_info($hash);
+        echo json_encode([password_verify($password, $hash), password_verify($password . '!', $hash), $info,
+            password_needs_rehash($hash, $info['algo'], $info['options'])]), "\n";
     }
 }
 
@@ -62,9 +62,9 @@ function errors(): void
 function sodium(): void
 {
     foreach (array_slice(PASSWORDS, 1) as $password) {
-        $its = sodium_crypto_pwhash_str($password, 3, 8 << 20);
+        $sodium = sodium_crypto_pwhash_str($password, 3, 8 << 20);
         $own = password_hash($password, PASSWORD_ARGON2ID, ['memory_cost' => 8 << 10, 'time_cost' => 3, 'threads' => 1]);
-        echo json_encode([password_verify($password, $its), password_verify($password . '!', $its),
+        echo json_encode([password_verify($password, $sodium), password_verify($password . '!', $sodium),
             sodium_crypto_pwhash_str_verify($own, $password), sodium_crypto_pwhash_str_verify($own, $password . '!'),
             sodium_crypto_pwhash_str_needs_rehash($own, 3, 8 << 20)]), "\n";
     }

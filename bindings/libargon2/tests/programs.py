@@ -25,7 +25,7 @@ LUKS_TYPES, LUKS_LANES = ('argon2i', 'argon2id'), ('1', '2', '4')
 LDAP_SETTINGS = [f'm={memory} t={passes} p={lanes}' for memory, passes, lanes in (
     (64, 1, 1), (1024, 3, 1), (4096, 2, 2), (4096, 2, 4), (7168, 5, 1), (65536, 1, 4))]
 LDAP_PASSWORD, INVALID_CREDENTIALS, NO_SERVER = 'correct horse', 49, 255
-COMMAND_SETTINGS = [list(it) for it in itertools.product(
+COMMAND_SETTINGS = [list(words) for words in itertools.product(
     (['-i'], ['-d'], ['-id'], []), (['-v', '10'], ['-v', '13']), (['-t', '1'], []),
     (['-m', '3'], ['-k', '99'], ['-p', '4']), (['-l', '4'], ['-l', '65'], []), (['-e'], ['-r'], []))]
 COMMAND_WRONG = [
@@ -38,8 +38,8 @@ COMMAND_WRONG = [
     ['somesalt', ''], ['somesalt', '-k', '99999999999999999999']]
 
 
-def note(what, holds, told=''):
-    print(f'{"passed" if holds else "FAILED"}: {what}' + ('' if holds or not told else f'\n    {told}'), flush=True)
+def note(what, holds, detail=''):
+    print(f'{"passed" if holds else "FAILED"}: {what}' + ('' if holds or not detail else f'\n    {detail}'), flush=True)
 
 
 def compare(what, its, own):
@@ -59,16 +59,16 @@ class Libraries:
         return {**os.environ, 'LD_LIBRARY_PATH': str(self.folder) if name == 'ours' else '',
                 **({'LD_PRELOAD': str(self.folder / 'libargon2.so.1')} if name == 'preloaded' else {})}
 
-    def run(self, name, *words, given=b''):
-        done = subprocess.run(words, input=given, env=self.environment(name), stdout=subprocess.PIPE,
+    def run(self, name, *words, stdin=b''):
+        done = subprocess.run(words, input=stdin, env=self.environment(name), stdout=subprocess.PIPE,
                               stderr=subprocess.STDOUT, check=False, timeout=600)
         return done.stdout.decode(), done.returncode
 
     def are_taken(self, what, file):
         """Whether a program or a module takes each library from where it is."""
-        told = [re.search(r'libargon2\.so\.1 => (\S+)', self.run(name, 'ldd', str(file))[0]) for name in BOTH]
-        are_ours = [it and Path(it.group(1)).resolve().is_relative_to(self.folder) for it in told]
-        note(f'{what} takes either library', are_ours == [False, True], told)
+        found = [re.search(r'libargon2\.so\.1 => (\S+)', self.run(name, 'ldd', str(file))[0]) for name in BOTH]
+        are_ours = [match and Path(match.group(1)).resolve().is_relative_to(self.folder) for match in found]
+        note(f'{what} takes either library', are_ours == [False, True], found)
 
 
 def both_ways(libraries, what, make, check):
@@ -170,7 +170,7 @@ def check_slapd(libraries):
         hashes = [libraries.run(maker, *words, '-o', f'module-load=argon2.so {settings}')[0]
                   for maker, settings in itertools.product(BOTH, LDAP_SETTINGS)]
         note(f'OpenLDAP: {len(hashes)} hashes are made',
-             all(it.startswith('{ARGON2}$argon2') for it in hashes) and len(set(hashes)) == len(hashes), hashes)
+             all(each.startswith('{ARGON2}$argon2') for each in hashes) and len(set(hashes)) == len(hashes), hashes)
         Path(folder, 'slapd.conf').write_text(ldap_server_of(hashes))
         for name in BOTH:
             with ldap_server(libraries, name, folder) as address:
@@ -181,20 +181,20 @@ def check_slapd(libraries):
                  statuses == [0, INVALID_CREDENTIALS] * len(hashes), statuses)
 
 
-def command_told(command, words, given):
+def command_outcome(command, words, password):
     """The output of a command, with no time in it, its error and its status."""
-    done = subprocess.run(['argon2', *words], executable=command, input=given, capture_output=True, check=False,
+    done = subprocess.run(['argon2', *words], executable=command, input=password, capture_output=True, check=False,
                           timeout=600)
     return re.sub(rb'(?m)^\d+\.\d{3} seconds$', b'seconds', done.stdout), done.stderr, done.returncode
 
 
 def check_command(libraries):
     its, own = shutil.which('argon2', path='/usr/bin'), str(libraries.folder / 'argon2')
-    cases = [(['somesalt', *itertools.chain(*it)], b'password') for it in COMMAND_SETTINGS]
+    cases = [(['somesalt', *itertools.chain(*settings)], b'password') for settings in COMMAND_SETTINGS]
     cases += [(words, b'password') for words in COMMAND_WRONG]
-    cases += [(['somesalt', '-k', '8'], given) for given in (b'', b'x' * 127, b'x' * 128, b'x' * 500, b'a\0b\n')]
-    same = [it for it in cases if command_told(its, *it) == command_told(own, *it)]
-    differing = [it for it in cases if it not in same]
+    cases += [(['somesalt', '-k', '8'], password) for password in (b'', b'x' * 127, b'x' * 128, b'x' * 500, b'a\0b\n')]
+    same = [case for case in cases if command_outcome(its, *case) == command_outcome(own, *case)]
+    differing = [case for case in cases if case not in same]
     note(f'argon2: {len(cases)} outputs, errors and statuses are the same to the byte', not differing, differing[:2])
 
 

@@ -30,7 +30,7 @@
 
 static const char password[] = "password", salt[] = "somesaltsomesalt";
 static unsigned denied, granted, most = ~0u; /* threads of a call */
-static unsigned taken, given_back;           /* memory of callbacks */
+static unsigned taken, freed;                /* memory of callbacks */
 static int is_misaligned;
 
 /* Stands in for the C library's, and denies all threads behind the first few. */
@@ -71,7 +71,7 @@ static int take(uint8_t **memory, size_t bytes)
 static void give_back(uint8_t *memory, size_t bytes)
 {
     (void)bytes;
-    given_back += memory != NULL;
+    freed += memory != NULL;
 }
 
 static argon2_context context_of(uint8_t *tag, char *own, uint32_t memory, uint32_t lanes)
@@ -147,8 +147,8 @@ static int is_right_without_memory(void)
 
 static int is_right_without_callbacks(void)
 {
-    const unsigned before = taken - given_back;
-    return is_denied(SMALL, 1) && taken - given_back == before + (is_misaligned ? 0 : 2);
+    const unsigned before = taken - freed;
+    return is_denied(SMALL, 1) && taken - freed == before + (is_misaligned ? 0 : 2);
 }
 
 static int stays_right(int (*is_right)(void))
@@ -163,7 +163,7 @@ static int stays_right(int (*is_right)(void))
     }
     const size_t after = size_of_process(), growth = after > before ? after - before : 0;
     printf("%d of %d right, %zu bytes of growth, %u threads denied, memory taken %u times and given back %u times\n",
-        count, TIMES + FIRST, growth, denied, taken, given_back);
+        count, TIMES + FIRST, growth, denied, taken, freed);
     return count == TIMES + FIRST && growth < MOST_GROWTH;
 }
 

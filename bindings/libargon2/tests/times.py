@@ -34,8 +34,8 @@ def measure(what, folder, runs, words, without, count):
     """Prints a row: the medians of a hash over both libraries, in milliseconds, and what they are to each other."""
     taken = {'': [], folder: []}
     for _ in range(runs):
-        for it, times in taken.items():
-            times.append((seconds(it, words) - seconds(it, without)) / count)
+        for library, times in taken.items():
+            times.append((seconds(library, words) - seconds(library, without)) / count)
     its, own = (1000 * statistics.median(times) for times in taken.values())
     print(f'| {what} | {its:.0f} | {own:.0f} | {own / its:.2f} |', flush=True)
 

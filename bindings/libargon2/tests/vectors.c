@@ -5,7 +5,7 @@
 #include <string.h>
 
 #define LENGTH 32
-#define ROOM 108
+#define CAPACITY 108
 #define WORDS(text) text, sizeof text - 1
 
 typedef struct vector {
@@ -89,10 +89,10 @@ static void write_hex(char *text, const uint8_t *bytes)
 static int is_made(const vector *v)
 {
     uint8_t tag[LENGTH];
-    char hex[2 * LENGTH + 1], encoded[ROOM];
+    char hex[2 * LENGTH + 1], encoded[CAPACITY];
     const size_t length = strlen(v->password);
     const int code = argon2_hash(v->passes, 1u << v->log_memory, v->lanes, v->password, length, v->salt,
-        strlen(v->salt), tag, LENGTH, encoded, ROOM, v->type, v->version);
+        strlen(v->salt), tag, LENGTH, encoded, CAPACITY, v->type, v->version);
     write_hex(hex, tag);
     return code == ARGON2_OK && strcmp(hex, v->tag) == 0
         && (v->version != ARGON2_VERSION_13 || strcmp(encoded, v->encoded) == 0)

@@ -9,10 +9,10 @@
 
 enum { LINE = 8192, BYTES = 2048, INPUTS = 4 };
 
-typedef struct inputs {
+struct inputs {
     uint8_t bytes[INPUTS][BYTES];
     size_t len[INPUTS];
-} inputs;
+};
 
 static size_t read_hex(const char *text, uint8_t *to)
 {
@@ -36,33 +36,34 @@ static uint32_t variant_of(const char *name)
                                         : PROVED_ARGON2_ID;
 }
 
-#define GIVEN(it) \
-    (it)->bytes[0], (it)->len[0], (it)->bytes[1], (it)->len[1], (it)->bytes[2], (it)->len[2], (it)->bytes[3], \
-        (it)->len[3]
+#define ALL_OF(inputs) \
+    (inputs)->bytes[0], (inputs)->len[0], (inputs)->bytes[1], (inputs)->len[1], (inputs)->bytes[2], (inputs)->len[2], \
+        (inputs)->bytes[3], (inputs)->len[3]
 
 /* Whether a call by some threads gives the tag, and finds that it is that one and no other. */
-static int gives(uint32_t threads, const inputs *it, const proved_argon2_settings *settings, const char *result)
+static int gives(
+    uint32_t threads, const struct inputs *inputs, const proved_argon2_settings *settings, const char *result)
 {
-    uint8_t tag[BYTES], wanted[BYTES];
+    uint8_t tag[BYTES], expected[BYTES];
     proved_argon2_options with = PROVED_ARGON2_OPTIONS;
     with.threads = threads;
-    const uint32_t code = proved_argon2_hash_raw_with(&with, GIVEN(it), settings, tag, settings->hash_length);
+    const uint32_t code = proved_argon2_hash_raw_with(&with, ALL_OF(inputs), settings, tag, settings->hash_length);
     if (strncmp(result, "ERR ", 4) == 0) {
         return is_error(code, result + 4);
     }
-    const size_t len = read_hex(result, wanted);
-    if (code != PROVED_ARGON2_OK || len != settings->hash_length || memcmp(tag, wanted, len) != 0
-        || proved_argon2_verify_raw_with(&with, GIVEN(it), settings, wanted, len) != PROVED_ARGON2_OK) {
+    const size_t len = read_hex(result, expected);
+    if (code != PROVED_ARGON2_OK || len != settings->hash_length || memcmp(tag, expected, len) != 0
+        || proved_argon2_verify_raw_with(&with, ALL_OF(inputs), settings, expected, len) != PROVED_ARGON2_OK) {
         return 0;
     }
-    wanted[len - 1] ^= 1;
-    return proved_argon2_verify_raw_with(&with, GIVEN(it), settings, wanted, len) == PROVED_ARGON2_MISMATCH;
+    expected[len - 1] ^= 1;
+    return proved_argon2_verify_raw_with(&with, ALL_OF(inputs), settings, expected, len) == PROVED_ARGON2_MISMATCH;
 }
 
 static int is_right_raw(char *line)
 {
     static char fields[INPUTS][LINE];
-    static inputs it;
+    static struct inputs inputs;
     char variant[9];
     int result = 0;
     proved_argon2_settings settings;
@@ -71,9 +72,9 @@ static int is_right_raw(char *line)
         fields[2], fields[3], &result);
     settings.variant = variant_of(variant);
     for (size_t i = 0; i < INPUTS; i++) {
-        it.len[i] = read_hex(fields[i], it.bytes[i]);
+        inputs.len[i] = read_hex(fields[i], inputs.bytes[i]);
     }
-    return read == 10 && gives(1, &it, &settings, line + result) && gives(2, &it, &settings, line + result);
+    return read == 10 && gives(1, &inputs, &settings, line + result) && gives(2, &inputs, &settings, line + result);
 }
 
 static int is_right_text(char *line)

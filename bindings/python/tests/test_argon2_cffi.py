@@ -21,25 +21,26 @@ OLDER = "$argon2i$m=256,t=2,p=1$c29tZXNhbHQ$/U3YPXYsSb3q9XxHvc0MLxur+GP960kN9j7e
 
 def hashing(secret=b"password", salt=b"somesalt", time=1, memory=64, lanes=2, length=16, type="ID", version=19):
     """A call of `hash_secret` and of `hash_secret_raw`."""
-    given = (secret, salt, time, memory, lanes, length)
+    arguments = (secret, salt, time, memory, lanes, length)
     return [
-        lambda it: it.low_level.hash_secret(*given, it.low_level.Type[type], version),
-        lambda it: it.low_level.hash_secret_raw(*given, it.low_level.Type[type], version),
+        lambda module: module.low_level.hash_secret(*arguments, module.low_level.Type[type], version),
+        lambda module: module.low_level.hash_secret_raw(*arguments, module.low_level.Type[type], version),
     ]
 
 
 def verifying(hash, secret, type="I"):
     """A call of `verify_secret` and of `PasswordHasher.verify`."""
     return [
-        lambda it: it.low_level.verify_secret(hash.encode(), secret, it.low_level.Type[type]),
-        lambda it: it.PasswordHasher().verify(hash, secret),
-        lambda it: it.PasswordHasher().verify(hash.encode(), secret),
+        lambda module: module.low_level.verify_secret(hash.encode(), secret, module.low_level.Type[type]),
+        lambda module: module.PasswordHasher().verify(hash, secret),
+        lambda module: module.PasswordHasher().verify(hash.encode(), secret),
     ]
 
 
 def hasher(**settings):
     """A call that makes a hasher, hashes and tells what the text has."""
-    return lambda it: it.extract_parameters(it.PasswordHasher(**{**SETTINGS, **settings}).hash("password")).salt_len
+    return lambda module: module.extract_parameters(
+        module.PasswordHasher(**{**SETTINGS, **settings}).hash("password")).salt_len
 
 
 # Each is called with both modules.
@@ -75,23 +76,24 @@ CALLS = [
     *verifying(STORED.replace("p=1", "p=0"), b"password"),
     *verifying(I + SALT, b"password"),
     *verifying("$argon2i$", b"password"),
-    lambda it: it.low_level.verify_secret(STORED.encode(), b"password", it.low_level.Type.ID),
-    lambda it: it.low_level.verify_secret(STORED, b"password", it.low_level.Type.I),
-    lambda it: it.low_level.verify_secret(STORED.encode(), "password", it.low_level.Type.I),
-    *[lambda it, hash=hash: it.PasswordHasher().verify(hash, "password")
+    lambda module: module.low_level.verify_secret(STORED.encode(), b"password", module.low_level.Type.ID),
+    lambda module: module.low_level.verify_secret(STORED, b"password", module.low_level.Type.I),
+    lambda module: module.low_level.verify_secret(STORED.encode(), "password", module.low_level.Type.I),
+    *[lambda module, hash=hash: module.PasswordHasher().verify(hash, "password")
       for hash in ("", "x", "$argon2x" + STORED[8:])],
-    *[lambda it, hash=hash: it.PasswordHasher().check_needs_rehash(hash) for hash in ("", "x", STORED, OLDER, ID)],
-    *[lambda it, hash=hash: it.extract_parameters(hash).memory_cost for hash in ("", "x", "$", STORED, OLDER)],
-    *[lambda it, name=name: getattr(it.extract_parameters(STORED), name) for name in (*SETTINGS, "version")],
-    lambda it: it.extract_parameters(STORED).type.name,
-    lambda it: it.extract_parameters(STORED) == it.extract_parameters(STORED),
-    lambda it: it.extract_parameters(STORED) != it.extract_parameters(OLDER),
-    lambda it: changed(it.extract_parameters(STORED)).salt_len,
+    *[lambda module, hash=hash: module.PasswordHasher().check_needs_rehash(hash)
+      for hash in ("", "x", STORED, OLDER, ID)],
+    *[lambda module, hash=hash: module.extract_parameters(hash).memory_cost for hash in ("", "x", "$", STORED, OLDER)],
+    *[lambda module, name=name: getattr(module.extract_parameters(STORED), name) for name in (*SETTINGS, "version")],
+    lambda module: module.extract_parameters(STORED).type.name,
+    lambda module: module.extract_parameters(STORED) == module.extract_parameters(STORED),
+    lambda module: module.extract_parameters(STORED) != module.extract_parameters(OLDER),
+    lambda module: changed(module.extract_parameters(STORED)).salt_len,
     *[hasher(**{name: value}) for name, value in (("salt_len", 8), ("salt_len", 7), ("hash_len", 3), ("time_cost", 0))],
     *[hasher(**{name: "1"}) for name in SETTINGS],
     hasher(encoding=1),
     hasher(type=1),
-    lambda it: it.PasswordHasher(**SETTINGS, encoding="latin-1").hash("\u20ac"),
+    lambda module: module.PasswordHasher(**SETTINGS, encoding="latin-1").hash("\u20ac"),
 ]
 
 
@@ -142,11 +144,11 @@ class Argon2Cffi(unittest.TestCase):
             self.assertFalse(theirs.check_needs_rehash(text))
 
     def test_both_give_the_same_raw_hash(self):
-        given = (b"password", b"somesalt", 2, 64, 2, 32)
+        arguments = (b"password", b"somesalt", 2, 64, 2, 32)
         for variant in proved_argon2.Type:
             self.assertEqual(
-                proved_argon2.low_level.hash_secret_raw(*given, variant),
-                argon2.low_level.hash_secret_raw(*given, argon2.Type(variant.value)),
+                proved_argon2.low_level.hash_secret_raw(*arguments, variant),
+                argon2.low_level.hash_secret_raw(*arguments, argon2.Type(variant.value)),
             )
 
     def test_each_call_gives_the_same(self):

@@ -60,7 +60,7 @@ class Objects(unittest.TestCase):
 
     def test_an_older_processor_is_refused_by_name(self):
         program = ("import os\nos.environ['PROVED_ARGON2_CPU'] = 'none'\n"
-                   "try:\n    import proved_argon2\nexcept ImportError as it:\n    print(it)")
+                   "try:\n    import proved_argon2\nexcept ImportError as error:\n    print(error)")
         self.assertIn("has no build for a processor as old as this one", fresh(program))
 
 

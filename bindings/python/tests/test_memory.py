@@ -65,8 +65,8 @@ def held(memory):
 
 def calls(memory_cost, lanes=1, time_cost=1, variant=Type.ID):
     """Each call over a memory, as a function of it, with what it gives."""
-    given = (b"password", b"somesalt", time_cost, memory_cost, lanes, 24, variant)
-    text, tag = hash_secret(*given), hash_secret_raw(*given)
+    arguments = (b"password", b"somesalt", time_cost, memory_cost, lanes, 24, variant)
+    text, tag = hash_secret(*arguments), hash_secret_raw(*arguments)
 
     def fails(memory):
         try:
@@ -76,8 +76,8 @@ def calls(memory_cost, lanes=1, time_cost=1, variant=Type.ID):
 
     limits = Limits(memory_cost=1 << 20, parallelism=100)
     return [
-        (lambda memory: hash_secret(*given, memory=memory), text),
-        (lambda memory: hash_secret_raw(*given, memory=memory), tag),
+        (lambda memory: hash_secret(*arguments, memory=memory), text),
+        (lambda memory: hash_secret_raw(*arguments, memory=memory), tag),
         (lambda memory: verify_secret(text, b"password", variant, memory=memory), True),
         (lambda memory: verify_secret(text, b"password", variant, limits=limits, memory=memory), True),
         (fails, "mismatch"),
@@ -94,14 +94,14 @@ def is_refused(call, memory):
 
 # Calls that are refused before anything is computed.
 REFUSED = [
-    lambda it: hash_secret(b"password", b"somesalt", 1, 7, 1, 16, Type.ID, memory=it),
-    lambda it: hash_secret_raw(b"password", b"somesalt", 0, 1 << 20, 1, 16, Type.ID, memory=it),
-    lambda it: hash_secret_raw(b"password", b"salt", 1, 1 << 20, 1, 16, Type.ID, memory=it),
-    lambda it: verify_secret(LARGE.replace("t=1", "t=0").encode(), b"password", Type.ID, memory=it),
-    lambda it: verify_secret(LARGE.replace("v=19", "v=18").encode(), b"password", Type.ID, memory=it),
-    lambda it: verify_secret(LARGE.replace("$AAAA", "$A*AA").encode(), b"password", Type.ID, memory=it),
-    lambda it: verify_secret(LARGE.encode(), b"password", Type.I, memory=it),
-    lambda it: verify_secret(LARGE.encode(), b"password", Type.ID, limits=Limits(memory_cost=9999), memory=it),
+    lambda memory: hash_secret(b"password", b"somesalt", 1, 7, 1, 16, Type.ID, memory=memory),
+    lambda memory: hash_secret_raw(b"password", b"somesalt", 0, 1 << 20, 1, 16, Type.ID, memory=memory),
+    lambda memory: hash_secret_raw(b"password", b"salt", 1, 1 << 20, 1, 16, Type.ID, memory=memory),
+    lambda memory: verify_secret(LARGE.replace("t=1", "t=0").encode(), b"password", Type.ID, memory=memory),
+    lambda memory: verify_secret(LARGE.replace("v=19", "v=18").encode(), b"password", Type.ID, memory=memory),
+    lambda memory: verify_secret(LARGE.replace("$AAAA", "$A*AA").encode(), b"password", Type.ID, memory=memory),
+    lambda memory: verify_secret(LARGE.encode(), b"password", Type.I, memory=memory),
+    lambda memory: verify_secret(LARGE.encode(), b"password", Type.ID, limits=Limits(memory_cost=9999), memory=memory),
 ]
 
 
@@ -110,24 +110,24 @@ class KeptMemory(unittest.TestCase):
         memory = Memory()
         shapes = ((64, 1), (4096, 4), (64, 2), (8192, 3), (8, 1), (1000, 5), (9000, 1), (320, 40), (8192, 1))
         for place, (memory_cost, lanes) in enumerate(shapes):
-            for call, wanted in calls(memory_cost, lanes, 2, list(Type)[place % 3]):
-                self.assertEqual(call(memory), wanted, (memory_cost, lanes))
+            for call, expected in calls(memory_cost, lanes, 2, list(Type)[place % 3]):
+                self.assertEqual(call(memory), expected, (memory_cost, lanes))
                 fill(memory)
 
     def test_the_vectors_over_one_kept_memory(self):
         memory = Memory()
         for line in (VECTORS / "raw.txt").read_text().splitlines():
             variant, *numbers, pwd, salt, secret, ad, answer = line.split(" ", 10)
-            pwd, salt, secret, ad = (b"" if it == "-" else bytes.fromhex(it) for it in (pwd, salt, secret, ad))
+            pwd, salt, secret, ad = (b"" if word == "-" else bytes.fromhex(word) for word in (pwd, salt, secret, ad))
             version, time_cost, memory_cost, lanes, length = map(int, numbers)
-            given = (pwd, salt, time_cost, memory_cost, lanes, length, TYPES[variant], version)
+            arguments = (pwd, salt, time_cost, memory_cost, lanes, length, TYPES[variant], version)
             named = {"key": secret, "associated_data": ad, "memory": memory}
             if answer.startswith("ERR "):
                 with self.assertRaisesRegex(HashingError, answer[4:]):
-                    hash_secret_raw(*given, **named)
+                    hash_secret_raw(*arguments, **named)
                 continue
-            self.assertEqual(hash_secret_raw(*given, **named).hex(), answer, line)
-            text = hash_secret(*given, **named)
+            self.assertEqual(hash_secret_raw(*arguments, **named).hex(), answer, line)
+            text = hash_secret(*arguments, **named)
             tag = text.decode().split("$")[-1]
             self.assertEqual(base64.b64decode(tag + "=" * (-len(tag) % 4)).hex(), answer, line)
             self.assertIs(verify_secret(text, pwd, TYPES[variant], **named), True, line)
@@ -138,8 +138,8 @@ class KeptMemory(unittest.TestCase):
         memories, memory = Memories(), Memory()
         with counted(memories):
             for memory_cost in (3000, 3000, 8, 2999, 1024, 3000):
-                for call, wanted in calls(memory_cost):
-                    self.assertEqual(call(memory), wanted)
+                for call, expected in calls(memory_cost):
+                    self.assertEqual(call(memory), expected)
                     self.assertEqual(memories.asked, 1)
         self.assertEqual(free_pages(memory).length, 3000 << 10)
 
@@ -155,13 +155,13 @@ class KeptMemory(unittest.TestCase):
     def test_a_buffer_that_no_call_used_for_a_minute_is_freed_when_another_call_ends(self):
         memory, now = Memory(), [1000.0]
         with mock.patch("time.monotonic", lambda: now[0]):
-            with memory.lent() as large, memory.lent() as small:
+            with memory.pages_for_call() as large, memory.pages_for_call() as small:
                 for pages, memory_cost in ((large, 9000), (small, 64)):
                     self.assertTrue(pages.grow(_library.Settings(2, 19, memory_cost, 1, 1, 32)))
-            for waited, kept in ((59, 2), (2, 1), (1000, 1)):
+            for waited, free in ((59, 2), (2, 1), (1000, 1)):
                 now[0] += waited
                 hash_secret_raw(b"password", b"somesalt", 1, 64, 1, 16, Type.ID, memory=memory)
-                self.assertEqual(len(memory._free), kept, waited)
+                self.assertEqual(len(memory._free), free, waited)
         self.assertEqual(sum(1 for pages in (large, small) if pages.length), 1)
 
     def test_each_call_clears_what_it_used_of_a_kept_memory(self):
@@ -169,21 +169,21 @@ class KeptMemory(unittest.TestCase):
             memory = Memory()
             hash_secret_raw(b"password", b"somesalt", 1, 5000, 1, 16, Type.ID, memory=memory)
             used = memory_cost // (4 * lanes) * 4 * lanes << 10
-            for call, wanted in calls(memory_cost, lanes):
+            for call, expected in calls(memory_cost, lanes):
                 fill(memory)
-                self.assertEqual(call(memory), wanted)
+                self.assertEqual(call(memory), expected)
                 self.assertEqual(held(memory), bytes(used) + b"\xa5" * ((5000 << 10) - used))
 
     def test_what_is_refused_leaves_a_kept_memory_as_it_is(self):
         memories, memory = Memories(), Memory()
-        wanted = [is_refused(call, None) for call in REFUSED]
-        self.assertNotIn(None, wanted)
+        expected = [is_refused(call, None) for call in REFUSED]
+        self.assertNotIn(None, expected)
         with counted(memories):
-            self.assertEqual([is_refused(call, memory) for call in REFUSED], wanted)
+            self.assertEqual([is_refused(call, memory) for call in REFUSED], expected)
             self.assertEqual((memories.asked, free_pages(memory).length), (0, 0))
             hash_secret_raw(b"password", b"somesalt", 1, 100, 1, 16, Type.ID, memory=memory)
             fill(memory)
-            self.assertEqual([is_refused(call, memory) for call in REFUSED], wanted)
+            self.assertEqual([is_refused(call, memory) for call in REFUSED], expected)
         self.assertEqual((memories.asked, held(memory)), (1, b"\xa5" * (100 << 10)))
 
     def test_where_memory_is_refused_a_kept_memory_serves_the_next_call(self):
@@ -200,22 +200,22 @@ class KeptMemory(unittest.TestCase):
                     with self.assertRaisesRegex((HashingError, VerificationError), "Out of memory"):
                         call()
                     self.assertEqual((free_pages(memory).length, memories.there), (0, 0))
-                for call, wanted in calls(1024):
-                    self.assertEqual(call(memory), wanted)
+                for call, expected in calls(1024):
+                    self.assertEqual(call(memory), expected)
 
     def test_calls_at_once_have_one_each(self):
         memory = Memory()
-        given = [(str(number).encode(), b"somesalt", 1, 512 + number, 2, 16, Type.ID) for number in range(64)]
-        wanted = [hash_secret_raw(*it) for it in given]
+        inputs = [(str(number).encode(), b"somesalt", 1, 512 + number, 2, 16, Type.ID) for number in range(64)]
+        expected = [hash_secret_raw(*arguments) for arguments in inputs]
         with ThreadPoolExecutor(8) as pool:
             for _ in range(5):
-                found = pool.map(lambda it: hash_secret_raw(*it, memory=memory), given)
-                self.assertEqual(list(found), wanted)
+                found = pool.map(lambda arguments: hash_secret_raw(*arguments, memory=memory), inputs)
+                self.assertEqual(list(found), expected)
         self.assertLessEqual(len(memory._free), 8)
 
     def test_a_call_that_is_at_work_lets_another_one_have_a_memory(self):
         memory, done = Memory(), threading.Event()
-        with memory.lent():
+        with memory.pages_for_call():
             other = threading.Thread(
                 target=lambda: (hash_secret_raw(b"p", b"somesalt", 1, 64, 1, 16, Type.ID, memory=memory), done.set())
             )
@@ -225,12 +225,12 @@ class KeptMemory(unittest.TestCase):
         self.assertEqual(len({*memory._free}), 2)
 
     def test_what_is_raised_in_between_leaves_the_memory_for_the_next_call(self):
-        memories, memory, given = Memories(), Memory(), (b"password", b"somesalt", 1, 64, 1, 16, Type.ID)
+        memories, memory, arguments = Memories(), Memory(), (b"password", b"somesalt", 1, 64, 1, 16, Type.ID)
         with counted(memories):
-            hash_secret_raw(*given, memory=memory)
-            with self.assertRaises(KeyboardInterrupt), memory.lent():
+            hash_secret_raw(*arguments, memory=memory)
+            with self.assertRaises(KeyboardInterrupt), memory.pages_for_call():
                 raise KeyboardInterrupt
-            hash_secret_raw(*given, memory=memory)
+            hash_secret_raw(*arguments, memory=memory)
         self.assertEqual((memories.asked, len(memory._free)), (1, 1))
 
     def test_a_copy_has_a_memory_of_its_own(self):
@@ -260,9 +260,9 @@ class KeptMemory(unittest.TestCase):
         memory = Memory()
         hash_secret_raw(b"password", b"somesalt", 1, 4096, 1, 16, Type.ID, memory=memory)
         start = f"{free_pages(memory).address:x}-"
-        told = Path("/proc/self/smaps").read_text().splitlines()
-        at = next(place for place, line in enumerate(told) if line.startswith(start))
-        flags = next(line for line in told[at:] if line.startswith("VmFlags:")).split()
+        lines = Path("/proc/self/smaps").read_text().splitlines()
+        at = next(place for place, line in enumerate(lines) if line.startswith(start))
+        flags = next(line for line in lines[at:] if line.startswith("VmFlags:")).split()
         self.assertIn("dd", flags)
 
 

@@ -29,16 +29,16 @@ TEXT = "$argon2id$v=19$m=64,t=4,p=1$c29tZXNhbHQ$AAAAAAAAAAAAAAAAAAAAAA"
 
 def hashing(settings):
     """The calls that hash with settings, where a hasher takes them too."""
-    given = (b"password", b"somesalt")
+    inputs = (b"password", b"somesalt")
     version = {} if "version" not in settings else {"version": settings["version"]}
     numbers = [settings[name] for name in SETTINGS]
-    yield lambda: hash_secret(*given, *numbers, Type.ID, **version)
-    yield lambda: hash_secret_raw(*given, *numbers, Type.ID, **version)
+    yield lambda: hash_secret(*inputs, *numbers, Type.ID, **version)
+    yield lambda: hash_secret_raw(*inputs, *numbers, Type.ID, **version)
     if not version:
         yield lambda: PasswordHasher(**settings).hash("password")
         yield lambda: PasswordHasher.from_parameters(of_settings(settings)).hash("password")
-        yield lambda: hash_password(*given, *numbers)
-        yield lambda: hash_password_raw(*given, *numbers)
+        yield lambda: hash_password(*inputs, *numbers)
+        yield lambda: hash_password_raw(*inputs, *numbers)
 
 
 def of_settings(settings):
@@ -130,7 +130,7 @@ class OfLimits(unittest.TestCase):
             dataclasses.replace(limits, time_cost=-1)
         self.assertEqual(dataclasses.asdict(limits), {"memory_cost": 1, "time_cost": 5, "parallelism": 3, "work": 4})
         self.assertTrue(dataclasses.is_dataclass(Parameters))
-        self.assertEqual([it.name for it in dataclasses.fields(Parameters)], list(Parameters.__slots__))
+        self.assertEqual([field.name for field in dataclasses.fields(Parameters)], list(Parameters.__slots__))
         self.assertEqual(dataclasses.replace(profiles.OWASP, time_cost=3).time_cost, 3)
         self.assertIn("memory_cost=19456, parallelism=1)", repr(profiles.OWASP))
         with self.assertRaises(TypeError):
@@ -186,14 +186,14 @@ class OwnSettings(unittest.TestCase):
         self.assertIs(hasher.verify(hasher.hash("password"), "password"), True)
 
     def test_the_default_limits_are_the_library_s_or_the_settings(self):
-        wanted = Limits(2097152, 10, 16, 4194304)
-        self.assertEqual(DEFAULT_LIMITS, wanted)
+        defaults = Limits(2097152, 10, 16, 4194304)
+        self.assertEqual(DEFAULT_LIMITS, defaults)
         small = {"memory_cost": 8, "time_cost": 1, "parallelism": 1}
         for name in small:
-            limit = getattr(wanted, name)
+            limit = getattr(defaults, name)
             for number, expected in ((1, limit), (limit, limit), (limit + 1, limit + 1), (0xFFFFFFFF, 0xFFFFFFFF)):
                 limits = PasswordHasher(**{**small, name: number}).limits
-                self.assertEqual(limits, dataclasses.replace(wanted, **{name: expected}, work=limits.work))
+                self.assertEqual(limits, dataclasses.replace(defaults, **{name: expected}, work=limits.work))
             self.assertEqual(getattr(PasswordHasher(**{**small, name: 1 << 40}).limits, name), 0xFFFFFFFF)
         for memory_cost, time_cost, work in (
             (419430, 10, 4194304), (419431, 10, 4194310), (2097152, 2, 4194304), (2097152, 3, 6291456),

@@ -37,18 +37,18 @@ SMALL = {"time_cost": 1, "memory_cost": 32, "parallelism": 2}
 
 class Secret(unittest.TestCase):
     def test_a_password_matches_with_the_secret_of_its_hash_alone(self):
-        given = {"secret": b"password", "salt": b"somesalt", "time_cost": 1, "memory_cost": 32, "parallelism": 2}
-        wanted = low_level.hash_secret(**given, hash_len=32, type=Type.ID, key=b"pepper").decode()
+        arguments = {"secret": b"password", "salt": b"somesalt", "time_cost": 1, "memory_cost": 32, "parallelism": 2}
+        expected = low_level.hash_secret(**arguments, hash_len=32, type=Type.ID, key=b"pepper").decode()
         for keep_memory in (False, True):
             hasher = PasswordHasher(**SMALL, secret=b"pepper", keep_memory=keep_memory)
-            self.assertEqual(hasher.hash("password", salt=b"somesalt"), wanted)
-            self.assertTrue(hasher.verify(wanted, "password"))
-            self.assertRaises(VerifyMismatchError, hasher.verify, wanted, "Password")
-            self.assertTrue(pickle.loads(pickle.dumps(hasher)).verify(wanted, "password"))
+            self.assertEqual(hasher.hash("password", salt=b"somesalt"), expected)
+            self.assertTrue(hasher.verify(expected, "password"))
+            self.assertRaises(VerifyMismatchError, hasher.verify, expected, "Password")
+            self.assertTrue(pickle.loads(pickle.dumps(hasher)).verify(expected, "password"))
         for secret in ({}, {"secret": b"Pepper"}):
-            self.assertRaises(VerifyMismatchError, PasswordHasher(**SMALL, **secret).verify, wanted, "password")
-        parameters = extract_parameters(wanted)
-        self.assertTrue(PasswordHasher.from_parameters(parameters, secret=b"pepper").verify(wanted, "password"))
+            self.assertRaises(VerifyMismatchError, PasswordHasher(**SMALL, **secret).verify, expected, "password")
+        parameters = extract_parameters(expected)
+        self.assertTrue(PasswordHasher.from_parameters(parameters, secret=b"pepper").verify(expected, "password"))
 
     def test_it_is_bytes_and_is_not_shown(self):
         self.assertNotIn("pepper", repr(PasswordHasher(secret=b"pepper")))
@@ -93,12 +93,12 @@ class Names(unittest.TestCase):
 
     def test_a_hasher_of_parameters_has_each_of_them(self):
         for variant in Type:
-            given = Parameters(
+            parameters = Parameters(
                 type=variant, version=19, salt_len=9, hash_len=5, time_cost=2, memory_cost=97, parallelism=3
             )
-            hasher = PasswordHasher.from_parameters(given)
-            self.assertEqual(hasher._parameters, given)
-            self.assertEqual(extract_parameters(hasher.hash("password")), given)
+            hasher = PasswordHasher.from_parameters(parameters)
+            self.assertEqual(hasher._parameters, parameters)
+            self.assertEqual(extract_parameters(hasher.hash("password")), parameters)
 
     def test_a_hasher_shows_its_settings_and_nothing_else(self):
         self.assertEqual(
@@ -194,11 +194,11 @@ class Deprecated(unittest.TestCase):
     """The calls that argon2-cffi had before `PasswordHasher`."""
 
     def test_they_hash_and_verify(self):
-        given = {"time_cost": 1, "memory_cost": 32, "parallelism": 2, "hash_len": 24}
+        settings = {"time_cost": 1, "memory_cost": 32, "parallelism": 2, "hash_len": 24}
         with warnings.catch_warnings():
             warnings.simplefilter("ignore")
-            text = hash_password(b"password", b"somesalt", **given, type=Type.ID)
-            raw = hash_password_raw(b"password", b"somesalt", **given, type=Type.ID)
+            text = hash_password(b"password", b"somesalt", **settings, type=Type.ID)
+            raw = hash_password_raw(b"password", b"somesalt", **settings, type=Type.ID)
             self.assertIs(verify_password(text, b"password", Type.ID), True)
             with self.assertRaises(VerifyMismatchError):
                 verify_password(text, b"Password", Type.ID)
@@ -208,10 +208,10 @@ class Deprecated(unittest.TestCase):
         self.assertEqual(text.decode().split("$")[5], base64.b64encode(raw).decode().rstrip("="))
 
     def test_they_have_the_arguments_and_defaults_of_argon2_cffi(self):
-        wanted = [None, 3, 65536, 4, 32, Type.I]
+        defaults = [None, 3, 65536, 4, 32, Type.I]
         for call in (hash_password, hash_password_raw):
             arguments = inspect.signature(call).parameters
-            self.assertEqual([it.default for it in list(arguments.values())[1:]], wanted)
+            self.assertEqual([argument.default for argument in list(arguments.values())[1:]], defaults)
             self.assertEqual(
                 list(arguments),
                 ["password", "salt", "time_cost", "memory_cost", "parallelism", "hash_len", "type"],
@@ -219,11 +219,11 @@ class Deprecated(unittest.TestCase):
         self.assertEqual(str(inspect.signature(verify_password)).split(" ->")[0].count("Type.I"), 1)
 
     def test_they_warn_in_the_words_of_argon2_cffi_where_they_are_called(self):
-        given = (b"password", b"somesalt", 1, 32, 2)
-        text = low_level.hash_secret(*given, 16, Type.I)
+        inputs = (b"password", b"somesalt", 1, 32, 2)
+        text = low_level.hash_secret(*inputs, 16, Type.I)
         for call, arguments in (
-            (hash_password, given),
-            (hash_password_raw, given),
+            (hash_password, inputs),
+            (hash_password_raw, inputs),
             (verify_password, (text, b"password")),
         ):
             with self.assertWarnsRegex(

@@ -22,12 +22,12 @@ TEXT = "$argon2id$v=19$m=8192,t=20000,p=2$c29tZXNhbHQ$AAAAAAAAAAAAAAAAAAAAAA"
 
 def calls(time_cost, memory_cost, lanes, **named):
     """The calls that can be told how far they are, each with what it gives."""
-    given = (b"password", b"somesalt", time_cost, memory_cost, lanes, 24, Type.ID)
-    text = hash_secret(*given)
+    arguments = (b"password", b"somesalt", time_cost, memory_cost, lanes, 24, Type.ID)
+    text = hash_secret(*arguments)
     hasher = PasswordHasher(time_cost=time_cost, memory_cost=memory_cost, parallelism=lanes, hash_len=24)
     return [
-        (lambda: hash_secret(*given, **named), text),
-        (lambda: hash_secret_raw(*given, **named), hash_secret_raw(*given)),
+        (lambda: hash_secret(*arguments, **named), text),
+        (lambda: hash_secret_raw(*arguments, **named), hash_secret_raw(*arguments)),
         (lambda: verify_secret(text, b"password", Type.ID, **named), True),
         (lambda: hasher.hash("password", salt=b"somesalt", progress=named["progress"]), text.decode()),
         (lambda: hasher.verify(text, "password", progress=named["progress"]), True),
@@ -37,9 +37,9 @@ def calls(time_cost, memory_cost, lanes, **named):
 def long_calls(**named):
     """The calls, with settings that take longer than a test has."""
     for lanes in (1, 2):
-        given = (b"password", b"somesalt", *LONG.values(), lanes, 24, Type.ID)
-        yield lambda: hash_secret(*given, **named)
-        yield lambda: hash_secret_raw(*given, memory=Memory(), **named)
+        arguments = (b"password", b"somesalt", *LONG.values(), lanes, 24, Type.ID)
+        yield lambda: hash_secret(*arguments, **named)
+        yield lambda: hash_secret_raw(*arguments, memory=Memory(), **named)
         hasher = PasswordHasher(**LONG, parallelism=lanes, keep_memory=True)
         yield lambda: hasher.hash("password", **named)
         yield lambda: hasher.verify(TEXT, "password", **named)
@@ -51,9 +51,9 @@ class Progress(unittest.TestCase):
         seen = []
         for memory in (None, Memory()):
             for time_cost, memory_cost, lanes in ((1, 8, 1), (3, 64, 1), (2, 640, 3), (5, 4096, 4)):
-                named = {"memory": memory, "progress": lambda *told: seen.append(told)}
-                for call, wanted in calls(time_cost, memory_cost, lanes, **named):
-                    self.assertEqual(call(), wanted)
+                named = {"memory": memory, "progress": lambda *progress: seen.append(progress)}
+                for call, answer in calls(time_cost, memory_cost, lanes, **named):
+                    self.assertEqual(call(), answer)
                     slices = 4 * time_cost
                     self.assertEqual(seen, [(done, slices) for done in range(1, slices + 1)])
                     seen.clear()
@@ -61,8 +61,8 @@ class Progress(unittest.TestCase):
     def test_it_is_told_in_the_caller_s_thread(self):
         seen = set()
         with ThreadPoolExecutor(4) as pool:
-            for call, wanted in calls(2, 640, 3, progress=lambda *_: seen.add(_thread.get_ident())):
-                self.assertEqual(pool.submit(lambda: (call(), seen == {_thread.get_ident()})).result(), (wanted, True))
+            for call, answer in calls(2, 640, 3, progress=lambda *_: seen.add(_thread.get_ident())):
+                self.assertEqual(pool.submit(lambda: (call(), seen == {_thread.get_ident()})).result(), (answer, True))
                 seen.clear()
 
     def test_what_it_raises_stops_the_call_and_the_next_one_is_right(self):
@@ -85,8 +85,8 @@ class Progress(unittest.TestCase):
             self.assertRaises(Enough, call)
         pages = memory._free[0]
         self.assertEqual(ctypes.string_at(pages.address, pages.length), bytes(8192 << 10))
-        for call, wanted in calls(4, 8192, 2, memory=memory, progress=None):
-            self.assertEqual(call(), wanted)
+        for call, answer in calls(4, 8192, 2, memory=memory, progress=None):
+            self.assertEqual(call(), answer)
 
     def test_the_end_of_a_generator_is_raised_as_any_other_exception(self):
         def ends(*_):
@@ -130,10 +130,10 @@ class Signals(unittest.TestCase):
     def test_a_handler_that_raises_nothing_stops_nothing(self):
         hits = []
         signal.signal(signal.SIGALRM, lambda *_: hits.append(1))
-        for call, wanted in calls(40, 1024, 1, progress=None):
+        for call, answer in calls(40, 1024, 1, progress=None):
             hits.clear()
             signal.setitimer(signal.ITIMER_REAL, 0.001, 0.001)
-            self.assertEqual(call(), wanted)
+            self.assertEqual(call(), answer)
             self.assertTrue(hits)
 
     def test_ctrl_c_stops_a_hash_in_a_program_of_threads(self):
@@ -162,11 +162,11 @@ class Signals(unittest.TestCase):
 
         signal.signal(signal.SIGALRM, handler)
         # (some hundreds of milliseconds, so that the alarm comes first on a fast machine too)
-        (call, wanted), *_ = calls(600, 2048, 1, progress=None)
+        (call, answer), *_ = calls(600, 2048, 1, progress=None)
         with ThreadPoolExecutor(1) as pool:
             found = pool.submit(call)
             self.stops(found.result, TimeoutError, 0.02)
-            self.assertEqual(found.result(), wanted)
+            self.assertEqual(found.result(), answer)
 
 
 if __name__ == "__main__":

@@ -116,9 +116,9 @@ assert result.wasSuccessful()
         self.assertEqual(done.returncode, 0, done.stderr)
 
     def test_passlib_reads_what_it_writes_with_argon2_cffi(self):
-        given = 'argon2.using(rounds=2, memory_cost=64, parallelism=2, type="{0}")'
+        template = 'argon2.using(rounds=2, memory_cost=64, parallelism=2, type="{0}")'
         for variant in ("I", "D", "ID"):
-            hasher = given.format(variant)
+            hasher = template.format(variant)
             ours = run(IN_PLACE, f"from passlib.hash import argon2; print({hasher}.hash('password'))").stdout.strip()
             self.assertTrue(ours.startswith(f"$argon2{variant.lower()}$v=19$m=64,t=2,p=2$"), ours)
             for place in (IN_PLACE, ""):

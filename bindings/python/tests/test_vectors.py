@@ -36,7 +36,7 @@ class Vectors(unittest.TestCase):
             variant, *numbers, pwd, salt, secret, ad, answer = line.split(" ", 10)
             version, time_cost, memory_cost, lanes, length = map(int, numbers)
             tag = answer_of(
-                lambda *given, **named: hash_secret_raw(*given, **named).hex(),
+                lambda *arguments, **named: hash_secret_raw(*arguments, **named).hex(),
                 bytes_of(pwd),
                 bytes_of(salt),
                 time_cost,
@@ -56,28 +56,28 @@ class Vectors(unittest.TestCase):
         for line in (VECTORS / "raw.txt").read_text().splitlines():
             variant, *numbers, pwd, salt, secret, ad, answer = line.split(" ", 10)
             version, time_cost, memory_cost, lanes, length = map(int, numbers)
-            given = (bytes_of(pwd), bytes_of(salt), time_cost, memory_cost, lanes, length, TYPES[variant], version)
+            arguments = (bytes_of(pwd), bytes_of(salt), time_cost, memory_cost, lanes, length, TYPES[variant], version)
             named = {"key": bytes_of(secret), "associated_data": bytes_of(ad)}
-            text = answer_of(hash_secret, *given, **named)
+            text = answer_of(hash_secret, *arguments, **named)
             if answer.startswith("ERR "):
                 self.assertEqual(text, answer, line)
                 continue
             tag = text.decode().split("$")[-1]
             self.assertEqual(base64.b64decode(tag + "=" * (-len(tag) % 4)).hex(), answer, line)
-            self.assertIs(verify_secret(text, given[0], TYPES[variant], **named), True, line)
+            self.assertIs(verify_secret(text, arguments[0], TYPES[variant], **named), True, line)
             others = {"key": named["associated_data"], "associated_data": named["key"]}
             if others != named:
                 with self.assertRaises(VerifyMismatchError):
-                    verify_secret(text, given[0], TYPES[variant], **others)
+                    verify_secret(text, arguments[0], TYPES[variant], **others)
 
     def test_each_text(self):
         lines = (VECTORS / "texts.txt").read_text().splitlines()
         for line in lines:
             text, answer = line.split("\t")
-            given = answer_of(
+            found = answer_of(
                 lambda text: str(verify_secret(text.encode(), b"password", type_of(text))).lower(), text
             )
-            self.assertEqual(given, answer, text)
+            self.assertEqual(found, answer, text)
         self.assertEqual(len(lines), 147)
 
 
@@ -89,9 +89,9 @@ class Standard(unittest.TestCase):
             (Type.ID, "0d640df58d78766c08c037a34a8b53c9d01ef0452d75b65eb52520e96b01e659"),
         ):
             named = {"key": b"\3" * 8, "associated_data": b"\4" * 12}
-            given = (b"\1" * 32, b"\2" * 16, 3, 32, 4, 32, variant, ARGON2_VERSION)
-            self.assertEqual(hash_secret_raw(*given, **named).hex(), tag)
-            text = hash_secret(*given, **named)
+            arguments = (b"\1" * 32, b"\2" * 16, 3, 32, 4, 32, variant, ARGON2_VERSION)
+            self.assertEqual(hash_secret_raw(*arguments, **named).hex(), tag)
+            text = hash_secret(*arguments, **named)
             self.assertIs(verify_secret(text, b"\1" * 32, variant, **named), True)
             with self.assertRaises(VerifyMismatchError):
                 verify_secret(text, b"\1" * 32, variant)

@@ -3,14 +3,14 @@
 //! The library is passed a pointer and a length of each slice. It reads what is passed as `*const`, writes
 //! what is passed as `*mut` within its length, and keeps no pointer. A slice's pointer is never null.
 
+mod buffer;
 mod calls;
-mod kept;
+mod progress;
 mod salt;
-mod telling;
 
-pub use kept::Kept;
+pub use buffer::Buffer;
+pub use progress::Progress;
 pub use salt::new_salt;
-pub use telling::Telling;
 
 use crate::{Config, Limits as LimitsOfCrate};
 use calls::*;
@@ -91,9 +91,9 @@ pub struct Options {
 
 /// What the caller provides: a memory, without which the call allocates one, and a progress
 /// callback.
-pub struct Lent<'lent, 'a> {
-    pub kept: Option<&'lent mut Kept>,
-    pub telling: Option<&'lent mut Telling<'a>>,
+pub struct Extras<'call, 'a> {
+    pub buffer: Option<&'call mut Buffer>,
+    pub progress: Option<&'call mut Progress<'a>>,
 }
 
 /// The most threads that the library uses for an encoded hash.
@@ -117,15 +117,16 @@ impl Options {
 
     /// Options of so many threads. They point to what the caller provides, which has to outlive
     /// them.
-    fn by(threads: u32, lent: Lent<'_, '_>) -> Options {
-        let (memory, memory_len) = lent.kept.map_or((null_mut(), 0), |kept| (kept.address(), kept.length()));
+    fn by(threads: u32, extras: Extras<'_, '_>) -> Options {
+        let (memory, memory_len) =
+            extras.buffer.map_or((null_mut(), 0), |buffer| (buffer.address(), buffer.length()));
         Options {
             size: size_of::<Options>(),
             threads,
             memory,
             memory_len,
-            tell: lent.telling.as_ref().map(|_| telling::told as _),
-            arg: lent.telling.map_or(null_mut(), |it| (it as *mut Telling<'_>).cast()),
+            tell: extras.progress.as_ref().map(|_| progress::report as _),
+            arg: extras.progress.map_or(null_mut(), |progress| (progress as *mut Progress<'_>).cast()),
             ..Options::NONE
         }
     }
@@ -147,16 +148,16 @@ impl Settings {
 /// Whether a hash with these settings is made of such inputs: of them the lengths alone are passed.
 pub fn check(pwd: &[u8], salt: &[u8], config: &Config<'_>) -> u32 {
     let settings = Settings::of(config);
-    let [pwd, salt, secret, ad] = [pwd, salt, config.secret, config.ad].map(|it| it.len() as u64);
+    let [pwd, salt, secret, ad] = [pwd, salt, config.secret, config.ad].map(|bytes| bytes.len() as u64);
     // SAFETY: the settings are read, and nothing is written.
     unsafe { proved_argon2_check(&settings, pwd, salt, secret, ad) }
 }
 
 /// Writes the tag to `out`, which has `config.hash_length` bytes.
 #[rustfmt::skip]
-pub fn hash_raw(pwd: &[u8], salt: &[u8], config: &Config<'_>, lent: Lent<'_, '_>, out: &mut [u8]) -> u32 {
+pub fn hash_raw(pwd: &[u8], salt: &[u8], config: &Config<'_>, extras: Extras<'_, '_>, out: &mut [u8]) -> u32 {
     let settings = Settings::of(config);
-    let options = Options::by(config.workers(), lent);
+    let options = Options::by(config.workers(), extras);
     // SAFETY: each pointer and length are those of a slice, and `out` is borrowed for this call alone. Threads that
     // the call starts end before it returns.
     unsafe {
@@ -174,9 +175,9 @@ pub fn hash_raw(pwd: &[u8], salt: &[u8], config: &Config<'_>, lent: Lent<'_, '_>
 
 /// Writes the encoded hash and then zeros to `text`, which has more bytes than the encoded hash.
 #[rustfmt::skip]
-pub fn hash_encoded(pwd: &[u8], salt: &[u8], config: &Config<'_>, lent: Lent<'_, '_>, text: &mut [u8]) -> u32 {
+pub fn hash_encoded(pwd: &[u8], salt: &[u8], config: &Config<'_>, extras: Extras<'_, '_>, text: &mut [u8]) -> u32 {
     let settings = Settings::of(config);
-    let options = Options::by(config.workers(), lent);
+    let options = Options::by(config.workers(), extras);
     // SAFETY: each pointer and length are those of a slice, and `text` is borrowed for this call alone. Threads that
     // the call starts end before it returns.
     unsafe {
@@ -194,9 +195,9 @@ pub fn hash_encoded(pwd: &[u8], salt: &[u8], config: &Config<'_>, lent: Lent<'_,
 
 /// Compares a hash with the tag of its length.
 #[rustfmt::skip]
-pub fn verify_raw(pwd: &[u8], salt: &[u8], hash: &[u8], config: &Config<'_>, lent: Lent<'_, '_>) -> u32 {
+pub fn verify_raw(pwd: &[u8], salt: &[u8], hash: &[u8], config: &Config<'_>, extras: Extras<'_, '_>) -> u32 {
     let settings = Settings::of(config);
-    let options = Options::by(config.workers(), lent);
+    let options = Options::by(config.workers(), extras);
     // SAFETY: each pointer and length are those of a slice, and nothing is written. Threads that the call starts end
     // before it returns.
     unsafe {
@@ -213,8 +214,8 @@ pub fn verify_raw(pwd: &[u8], salt: &[u8], hash: &[u8], config: &Config<'_>, len
 }
 
 /// Verifies a password against an encoded hash.
-pub fn verify_encoded(text: &str, pwd: &[u8], secret: &[u8], ad: &[u8], lent: Lent<'_, '_>) -> u32 {
-    verify_with(&Options::by(MOST_FOR_A_TEXT, lent), text, pwd, secret, ad)
+pub fn verify_encoded(text: &str, pwd: &[u8], secret: &[u8], ad: &[u8], extras: Extras<'_, '_>) -> u32 {
+    verify_with(&Options::by(MOST_FOR_A_TEXT, extras), text, pwd, secret, ad)
 }
 
 /// Verifies a password against an encoded hash that is within the limits.
@@ -224,11 +225,11 @@ pub fn verify_encoded_within(
     secret: &[u8],
     ad: &[u8],
     limits: &LimitsOfCrate,
-    lent: Lent<'_, '_>,
+    extras: Extras<'_, '_>,
 ) -> u32 {
     let LimitsOfCrate { lanes, mem_cost, time_cost, work } = *limits;
     let limits = Limits { mem_cost, time_cost, lanes, work };
-    verify_with(&Options { limits: &limits, ..Options::by(MOST_FOR_A_TEXT, lent) }, text, pwd, secret, ad)
+    verify_with(&Options { limits: &limits, ..Options::by(MOST_FOR_A_TEXT, extras) }, text, pwd, secret, ad)
 }
 
 #[rustfmt::skip]

@@ -1,4 +1,4 @@
-use crate::face::{self, Kept, Settings, OUT_OF_MEMORY};
+use crate::face::{self, Buffer, Settings, OUT_OF_MEMORY};
 use std::fmt;
 
 /// A reusable buffer: the memory of hashes, for the calls whose names end in `_in`, and for
@@ -22,7 +22,7 @@ use std::fmt;
 /// ```
 #[derive(Default)]
 pub struct Memory {
-    kept: Kept,
+    buffer: Buffer,
 }
 
 impl Memory {
@@ -35,21 +35,21 @@ impl Memory {
     /// How many bytes it holds.
     #[must_use]
     pub fn size(&self) -> usize {
-        self.kept.length()
+        self.buffer.length()
     }
 
     /// What a call returns that computes in this buffer. A call that finds it too small is repeated
     /// in one that fits its settings: only then are they known to be accepted.
-    pub(crate) fn lend(
+    pub(crate) fn call(
         &mut self,
         settings: impl FnOnce() -> Settings,
-        mut call: impl FnMut(&mut Kept) -> u32,
+        mut call: impl FnMut(&mut Buffer) -> u32,
     ) -> u32 {
-        let number = call(&mut self.kept);
+        let number = call(&mut self.buffer);
         if number != OUT_OF_MEMORY || !self.grow(&settings()) {
             return number;
         }
-        call(&mut self.kept)
+        call(&mut self.buffer)
     }
 
     /// Whether it held less than settings need, and was grown to that.
@@ -57,8 +57,8 @@ impl Memory {
         if self.size() as u64 >= face::memory_len(settings) {
             return false;
         }
-        self.kept = Kept::default();
-        self.kept = Kept::of(settings);
+        self.buffer = Buffer::default();
+        self.buffer = Buffer::of(settings);
         self.size() > 0
     }
 }

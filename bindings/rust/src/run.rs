@@ -1,4 +1,4 @@
-use crate::face::{self, Lent, Settings, Telling, MISMATCH, OK, TOO_COSTLY};
+use crate::face::{self, Extras, Progress, Settings, MISMATCH, OK, TOO_COSTLY};
 use crate::hashing::{tag_by, text_by};
 use crate::{Config, Error, Limits, Memory, Result, Unverified};
 use std::ops::ControlFlow;
@@ -27,7 +27,7 @@ use std::{fmt, result};
 #[derive(Default)]
 pub struct Run<'a> {
     memory: Option<&'a mut Memory>,
-    telling: Option<Telling<'a>>,
+    progress: Option<Progress<'a>>,
 }
 
 impl<'a> Run<'a> {
@@ -49,7 +49,7 @@ impl<'a> Run<'a> {
     /// call, which clears its memory and returns [`Error::Stopped`].
     #[must_use]
     pub fn telling(self, tell: impl FnMut(u64, u64) -> ControlFlow<()> + 'a) -> Run<'a> {
-        Run { telling: Some(Telling::to(tell)), ..self }
+        Run { progress: Some(Progress::new(tell)), ..self }
     }
 
     /// As [`hash_raw`](crate::hash_raw).
@@ -59,7 +59,7 @@ impl<'a> Run<'a> {
     /// As there, and [`Error::Stopped`].
     pub fn hash_raw(&mut self, pwd: &[u8], salt: &[u8], config: &Config<'_>) -> Result<Vec<u8>> {
         tag_by(pwd, salt, config, |tag| {
-            self.call(|| Settings::of(config), |lent| face::hash_raw(pwd, salt, config, lent, tag))
+            self.call(|| Settings::of(config), |extras| face::hash_raw(pwd, salt, config, extras, tag))
         })
     }
 
@@ -70,7 +70,7 @@ impl<'a> Run<'a> {
     /// As there, and [`Error::Stopped`].
     pub fn hash_encoded(&mut self, pwd: &[u8], salt: &[u8], config: &Config<'_>) -> Result<String> {
         text_by(pwd, salt, config, |text| {
-            self.call(|| Settings::of(config), |lent| face::hash_encoded(pwd, salt, config, lent, text))
+            self.call(|| Settings::of(config), |extras| face::hash_encoded(pwd, salt, config, extras, text))
         })
     }
 
@@ -81,7 +81,7 @@ impl<'a> Run<'a> {
     /// As there, and [`Error::Stopped`].
     pub fn verify_raw(&mut self, pwd: &[u8], salt: &[u8], hash: &[u8], config: &Config<'_>) -> Result<bool> {
         let settings = || Settings { hash_length: u32::MAX, ..Settings::of(config) };
-        verdict(self.call(settings, |lent| face::verify_raw(pwd, salt, hash, config, lent)))
+        verdict(self.call(settings, |extras| face::verify_raw(pwd, salt, hash, config, extras)))
     }
 
     /// As [`verify_encoded_ext`](crate::verify_encoded_ext).
@@ -91,7 +91,7 @@ impl<'a> Run<'a> {
     /// As there, and [`Error::Stopped`].
     pub fn verify_encoded(&mut self, encoded: &str, pwd: &[u8], secret: &[u8], ad: &[u8]) -> Result<bool> {
         let settings = || face::read(encoded).1.settings;
-        verdict(self.call(settings, |lent| face::verify_encoded(encoded, pwd, secret, ad, lent)))
+        verdict(self.call(settings, |extras| face::verify_encoded(encoded, pwd, secret, ad, extras)))
     }
 
     /// As [`verify_encoded_within`](crate::verify_encoded_within).
@@ -108,8 +108,8 @@ impl<'a> Run<'a> {
         limits: &Limits,
     ) -> result::Result<bool, Unverified> {
         let settings = || face::read(encoded).1.settings;
-        let number =
-            self.call(settings, |lent| face::verify_encoded_within(encoded, pwd, secret, ad, limits, lent));
+        let number = self
+            .call(settings, |extras| face::verify_encoded_within(encoded, pwd, secret, ad, limits, extras));
         if number == TOO_COSTLY {
             return Err(Unverified::TooCostly);
         }
@@ -121,17 +121,16 @@ impl<'a> Run<'a> {
     fn call(
         &mut self,
         settings: impl FnOnce() -> Settings,
-        mut call: impl FnMut(Lent<'_, 'a>) -> u32,
+        mut call: impl FnMut(Extras<'_, 'a>) -> u32,
     ) -> u32 {
-        let Run { memory, telling } = self;
+        let Run { memory, progress } = self;
         let number = match memory {
-            None => call(Lent { kept: None, telling: telling.as_mut() }),
-            Some(memory) => {
-                memory.lend(settings, |kept| call(Lent { kept: Some(kept), telling: telling.as_mut() }))
-            }
+            None => call(Extras { buffer: None, progress: progress.as_mut() }),
+            Some(memory) => memory
+                .call(settings, |buffer| call(Extras { buffer: Some(buffer), progress: progress.as_mut() })),
         };
-        if let Some(telling) = telling {
-            telling.end();
+        if let Some(progress) = progress {
+            progress.resume_panic();
         }
         number
     }
@@ -139,7 +138,7 @@ impl<'a> Run<'a> {
 
 impl fmt::Debug for Run<'_> {
     fn fmt(&self, f: &mut fmt::Formatter<'_>) -> fmt::Result {
-        f.debug_struct("Run").field("memory", &self.memory).field("tells", &self.telling.is_some()).finish()
+        f.debug_struct("Run").field("memory", &self.memory).field("tells", &self.progress.is_some()).finish()
     }
 }
 

@@ -81,7 +81,7 @@ impl TryFrom<&PasswordHash<'_>> for Params {
             return Err(HashError::ParamNameInvalid);
         }
         let cost = |name: &str| hash.params.get_decimal(name).ok_or(HashError::ParamNameInvalid);
-        let length = hash.hash.map(|it| it.len());
+        let length = hash.hash.map(|tag| tag.len());
         Ok(Params::new(cost("m")?, cost("t")?, cost("p")?, length)?)
     }
 }
@@ -222,8 +222,8 @@ impl PasswordHasher for Argon2<'_> {
             Some(name) => self.config_of(name, version, params)?,
         };
         let salt = salt.into();
-        let mut room = [0; MOST_OF_A_SALT];
-        let bytes = Encoding::B64.decode(salt.as_str(), &mut room)?;
+        let mut buffer = [0; MOST_OF_A_SALT];
+        let bytes = Encoding::B64.decode(salt.as_str(), &mut buffer)?;
         let tag = crate::hash_raw(password, bytes, &config)?;
         Ok(PasswordHash {
             algorithm: Ident::try_from(config.variant.as_lowercase_str())?,

@@ -102,11 +102,11 @@ fn the_examples_of_the_documentation() {
     assert_eq!(verify_raw(b"password", b"somesalt", &hash[..16], &Config::rfc9106_low_mem()), Ok(false));
 }
 
-/// A text that spells a hash, and what is wrong with each of its changes.
-const SPELLED: &str = "$argon2i$v=19$m=4096,t=3,p=1$c2FsdDEyMzQ$MTIzNDU2Nzg5MDEyMzQ1Njc4OTAxMjM0NTY3ODkwMTI";
+/// An encoded hash, and what is wrong with each of its changes.
+const ENCODED: &str = "$argon2i$v=19$m=4096,t=3,p=1$c2FsdDEyMzQ$MTIzNDU2Nzg5MDEyMzQ1Njc4OTAxMjM0NTY3ODkwMTI";
 
 #[test]
-fn texts_that_spell_nothing_are_refused() {
+fn strings_that_decode_to_nothing_are_rejected() {
     for (old, new) in [
         ("$c2FsdDEyMzQ", "c2FsdDEyMzQ"),
         ("$MTIz", "MTIz"),
@@ -131,41 +131,41 @@ fn texts_that_spell_nothing_are_refused() {
         ("$argon2i", "\n$argon2i"),
         ("ODkwMTI", "ODkwMTI "),
         ("ODkwMTI", "ODkwMTI\n"),
-        (SPELLED, ""),
-        (SPELLED, "$"),
+        (ENCODED, ""),
+        (ENCODED, "$"),
     ] {
-        let text = SPELLED.replacen(old, new, 1);
-        assert_ne!(text, SPELLED);
+        let text = ENCODED.replacen(old, new, 1);
+        assert_ne!(text, ENCODED);
         assert_eq!(verify_encoded(&text, b"password"), Err(Error::DecodingFail), "{text}");
         assert_eq!(needs_rehash(&text, &Config::default()), Err(Error::DecodingFail), "{text}");
         assert_eq!(read(&text), Err(Error::DecodingFail), "{text}");
     }
-    assert_eq!(verify_encoded(SPELLED, b"password"), Ok(false));
+    assert_eq!(verify_encoded(ENCODED, b"password"), Ok(false));
     let long = "$argon2i".repeat(131_072);
     assert_eq!(verify_encoded(&long, b"password"), Err(Error::DecodingFail));
 }
 
 #[test]
-fn settings_are_refused_in_their_order() {
+fn settings_are_rejected_in_their_order() {
     let mut config = Config { lanes: 0, mem_cost: 7, time_cost: 0, hash_length: 3, ..Config::default() };
-    let refusal = |config: &Config<'_>, salt: &[u8]| {
-        let refusal = hash_raw(b"password", salt, config).unwrap_err();
-        assert_eq!(hash_encoded(b"password", salt, config), Err(refusal.clone()));
-        refusal
+    let error_of = |config: &Config<'_>, salt: &[u8]| {
+        let error = hash_raw(b"password", salt, config).unwrap_err();
+        assert_eq!(hash_encoded(b"password", salt, config), Err(error.clone()));
+        error
     };
-    assert_eq!(refusal(&config, b"s"), Error::LanesTooFew);
+    assert_eq!(error_of(&config, b"s"), Error::LanesTooFew);
     config.lanes = 1;
-    assert_eq!(refusal(&config, b"s"), Error::MemoryTooLittle);
+    assert_eq!(error_of(&config, b"s"), Error::MemoryTooLittle);
     config.mem_cost = 8;
-    assert_eq!(refusal(&config, b"s"), Error::TimeTooSmall);
+    assert_eq!(error_of(&config, b"s"), Error::TimeTooSmall);
     config.time_cost = 1;
-    assert_eq!(refusal(&config, b"s"), Error::SaltTooShort);
-    assert_eq!(refusal(&config, b"somesalt"), Error::OutputTooShort);
+    assert_eq!(error_of(&config, b"s"), Error::SaltTooShort);
+    assert_eq!(error_of(&config, b"somesalt"), Error::OutputTooShort);
     config.hash_length = 0;
-    assert_eq!(refusal(&config, b"somesalt"), Error::OutputTooShort);
+    assert_eq!(error_of(&config, b"somesalt"), Error::OutputTooShort);
     config.hash_length = u32::MAX;
     config.lanes = 16_777_216;
-    assert_eq!(refusal(&config, b"somesalt"), Error::LanesTooMany);
+    assert_eq!(error_of(&config, b"somesalt"), Error::LanesTooMany);
     assert_eq!(verify_raw(b"password", b"somesalt", &[], &Config::default()), Err(Error::OutputTooShort));
 }
 
@@ -249,7 +249,7 @@ fn versions_from_and_to_numbers_and_names() {
         assert_eq!(Version::from_str(name), Ok(version));
         assert_eq!(version.to_string(), name);
     }
-    for number in (0..300).filter(|it| *it != 16 && *it != 19).chain([u32::MAX]) {
+    for number in (0..300).filter(|number| *number != 16 && *number != 19).chain([u32::MAX]) {
         assert_eq!(Version::from_u32(number), Err(Error::IncorrectVersion));
         assert_eq!(Version::from_str(&number.to_string()), Err(Error::DecodingFail));
     }
@@ -282,7 +282,7 @@ fn thread_modes_from_numbers_and_what_they_ask_for() {
 #[test]
 fn a_text_is_read() {
     let stored = read("$argon2d$v=16$m=4294967295,t=0,p=6$c29tZXNhbHQ$AAAAAAAAAAAAAAAA").unwrap();
-    let wanted = Stored {
+    let expected = Stored {
         hash_length: 12,
         lanes: 6,
         mem_cost: u32::MAX,
@@ -291,7 +291,7 @@ fn a_text_is_read() {
         variant: Argon2d,
         version: Version10,
     };
-    assert_eq!(stored, wanted);
+    assert_eq!(stored, expected);
     assert_eq!(read("$argon2id$m=8,t=1,p=1$$").unwrap().version, Version10);
     assert_eq!(read("x"), Err(Error::DecodingFail));
 }

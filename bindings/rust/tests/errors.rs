@@ -25,17 +25,17 @@ fn one_question_mark_serves_both_errors() {
 /// Strings whose salt is long: their 11 passes are one above the default limit.
 #[test]
 fn limits_hold_for_strings_of_any_length() {
-    let at = Limits { time_cost: 11, ..Limits::default() };
+    let limits = Limits { time_cost: 11, ..Limits::default() };
     for length in [200, 1000, 100_000] {
         let text = format!("$argon2id$v=19$m=8,t=11,p=1${}$AAAAAAA", "A".repeat(length - 36));
         assert_eq!(text.len(), length);
         assert_eq!(is_of(&text, b"password", &Limits::default()), Err(Unverified::TooCostly));
-        assert_eq!(is_of(&text, b"password", &at), Ok((false, 1)));
+        assert_eq!(is_of(&text, b"password", &limits), Ok((false, 1)));
     }
 }
 
 #[test]
-fn an_error_within_limits_has_the_refusal_as_its_source() {
+fn an_error_within_limits_has_the_error_without_them_as_its_source() {
     let refused = Unverified::from(Error::SaltTooShort);
     assert_eq!(refused, Unverified::Refused(Error::SaltTooShort));
     assert_eq!(refused.source().unwrap().downcast_ref(), Some(&Error::SaltTooShort));

@@ -49,7 +49,7 @@ fn run_over(memory: Option<&mut Memory>) -> Run<'_> {
 }
 
 #[test]
-fn each_slice_is_told_and_no_answer_is_another_one() {
+fn each_slice_is_reported_and_no_answer_changes() {
     for config in [
         settings(8, 1, 1, ThreadMode::Sequential),
         settings(640, 2, 3, ThreadMode::Parallel),
@@ -57,7 +57,7 @@ fn each_slice_is_told_and_no_answer_is_another_one() {
     ] {
         let tag = hash_raw(b"password", b"somesalt", &config).unwrap();
         let text = hash_encoded(b"password", b"somesalt", &config).unwrap();
-        let wanted = [
+        let expected = [
             Answer::Tag(tag.clone()),
             Answer::Text(text.clone()),
             Answer::Verdict(true),
@@ -71,11 +71,11 @@ fn each_slice_is_told_and_no_answer_is_another_one() {
                 seen.borrow_mut().push((done, all, thread::current().id()));
                 Continue(())
             });
-            let given: Vec<_> =
+            let answers: Vec<_> =
                 each_call(&mut run, &config, &tag, &text).into_iter().map(Result::unwrap).collect();
-            assert_eq!(given, wanted);
-            let told: Vec<_> = (1..=slices).map(|done| (done, slices, thread::current().id())).collect();
-            assert_eq!(*seen.borrow(), told.repeat(wanted.len()));
+            assert_eq!(answers, expected);
+            let reports: Vec<_> = (1..=slices).map(|done| (done, slices, thread::current().id())).collect();
+            assert_eq!(*seen.borrow(), reports.repeat(expected.len()));
         }
     }
 }
@@ -109,7 +109,7 @@ fn a_call_is_stopped_and_the_next_one_is_right() {
 }
 
 #[test]
-fn a_panic_of_what_is_told_stops_the_call_and_comes_out_of_it() {
+fn a_panic_in_the_callback_stops_the_call_and_comes_out_of_it() {
     let long = settings(8192, PASSES, 2, ThreadMode::Parallel);
     let mut memory = Memory::new();
     let mut run = Run::new().over(&mut memory).telling(|done, _| {

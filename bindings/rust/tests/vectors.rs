@@ -18,10 +18,10 @@ fn bytes_of(field: &str) -> Vec<u8> {
 /// Unpadded base64 (RFC 4648).
 fn base64_of(bytes: &[u8]) -> String {
     const LETTERS: &[u8; 64] = b"ABCDEFGHIJKLMNOPQRSTUVWXYZabcdefghijklmnopqrstuvwxyz0123456789+/";
-    let bits: Vec<u8> = bytes.iter().flat_map(|byte| (0..8).rev().map(move |at| byte >> at & 1)).collect();
+    let bits: Vec<u8> = bytes.iter().flat_map(|byte| (0..8).rev().map(move |bit| byte >> bit & 1)).collect();
     bits.chunks(6)
         .map(|six| {
-            let place = (0..6).fold(0, |place, at| 2 * place + six.get(at).copied().unwrap_or(0));
+            let place = (0..6).fold(0, |place, index| 2 * place + six.get(index).copied().unwrap_or(0));
             char::from(LETTERS[usize::from(place)])
         })
         .collect()
@@ -40,7 +40,7 @@ struct Row<'a> {
 impl Row<'_> {
     fn of(line: &str) -> Row<'_> {
         let fields: Vec<&str> = line.splitn(11, ' ').collect();
-        let number = |at: usize| fields[at].parse().unwrap();
+        let number = |index: usize| fields[index].parse().unwrap();
         Row {
             config: Config {
                 variant: Variant::from_str(fields[0]).unwrap(),
@@ -66,7 +66,7 @@ impl Row<'_> {
 }
 
 #[test]
-fn each_tag_and_refusal_is_that_of_the_vectors() {
+fn each_tag_and_error_is_that_of_the_vectors() {
     for line in RAW.lines() {
         let row = Row::of(line);
         let config = Config { secret: &row.secret, ad: &row.ad, ..row.config };
@@ -82,7 +82,7 @@ fn each_tag_and_refusal_is_that_of_the_vectors() {
 
 /// The same over one memory, whose size changes with the rows.
 #[test]
-fn each_tag_and_refusal_comes_over_one_memory() {
+fn each_tag_and_error_comes_over_one_memory() {
     let mut memory = Memory::new();
     for line in RAW.lines() {
         let row = Row::of(line);
@@ -116,7 +116,7 @@ fn each_tag_and_refusal_comes_over_one_memory() {
 
 /// The tags once more, in texts that verify with this secret and this associated data alone.
 #[test]
-fn each_tag_and_refusal_comes_in_a_text() {
+fn each_tag_and_error_comes_in_a_text() {
     for line in RAW.lines() {
         let row = Row::of(line);
         let config = Config { secret: &row.secret, ad: &row.ad, ..row.config };
@@ -144,7 +144,7 @@ fn each_text_verifies_as_in_the_vectors() {
         let verdicts =
             [verify_encoded(text, b"password"), verify_encoded_in(&mut memory, text, b"password", &[], &[])];
         for verdict in verdicts {
-            assert_eq!(Row::answer_of(verdict.map(|it| it.to_string())), answer, "{text}");
+            assert_eq!(Row::answer_of(verdict.map(|is_match| is_match.to_string())), answer, "{text}");
         }
     }
     assert_eq!(TEXTS.lines().count(), 147);

@@ -51,10 +51,10 @@ static void log_in_once(unsigned turn)
     const int is_right = turn % 3 == 0, is_unreadable = turn % 7 == 0;
     strcpy(stored, is_unreadable ? unreadable : older);
     const enum verdict verdict = log_in(&places, "somebody", is_right ? "password" : "Password", stored);
-    const enum verdict wanted = is_unreadable ? ERROR : is_right ? MATCHES : DIFFERS;
+    const enum verdict expected = is_unreadable ? ERROR : is_right ? MATCHES : DIFFERS;
     const int is_renewed = strstr(stored, "m=19456,t=2,p=1") != NULL;
     seen[verdict]++;
-    wrong += (verdict != wanted && verdict != BUSY) || is_renewed != (verdict == MATCHES);
+    wrong += (verdict != expected && verdict != BUSY) || is_renewed != (verdict == MATCHES);
 }
 
 static void *log_in_often(void *arg)

@@ -29,8 +29,8 @@ def logs_in(seed, end):
         stored = draw.choice((older, older.replace("argon2id", "argon3")))
         verdict, renewed = log_in("somebody", password, stored)  # noqa: F821 (it is the page's)
         seen[verdict] += 1
-        wanted = (None,) if stored != older else (password == "password", None)
-        if verdict not in wanted or (renewed != stored) != bool(verdict) or (verdict and "t=3" not in renewed):
+        allowed = (None,) if stored != older else (password == "password", None)
+        if verdict not in allowed or (renewed != stored) != bool(verdict) or (verdict and "t=3" not in renewed):
             wrong.append((password, stored, verdict, renewed))
 
 

@@ -14,7 +14,7 @@ include!("log_in.rs");
 /// The most memory that this process has had, in KiB.
 fn peak_kib() -> usize {
     let status = std::fs::read_to_string("/proc/self/status").unwrap();
-    let line = status.lines().find(|it| it.starts_with("VmHWM:")).unwrap();
+    let line = status.lines().find(|line| line.starts_with("VmHWM:")).unwrap();
     line.split_whitespace().nth(1).unwrap().parse().unwrap()
 }
 
@@ -46,7 +46,7 @@ fn main() {
         }
     });
     assert!(log_in(&free, "somebody", b"password", "$argon2id$").is_none());
-    assert!(seen.iter().all(|it| it.load(SeqCst) > 0), "{seen:?}");
+    assert!(seen.iter().all(|count| count.load(SeqCst) > 0), "{seen:?}");
     let most = PLACES * argon2::Config::default().mem_cost as usize + SLACK_KIB;
     assert!(peak_kib() - before <= most, "{} of {most} KiB", peak_kib() - before);
 }

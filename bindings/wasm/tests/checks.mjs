@@ -14,7 +14,7 @@ const STORED = Array(16).fill(0), JOB = Array(22).fill(0);  // rooms of 32-bit n
 
 const bytesOf = (hex) => Uint8Array.from(hex === '-' ? [] : hex.match(/../g), (pair) => parseInt(pair, 16));
 const hexOf = (bytes) => [...bytes].map((byte) => byte.toString(16).padStart(2, '0')).join('');
-const same = (found, wanted) => JSON.stringify(found) === JSON.stringify(wanted);
+const same = (found, expected) => JSON.stringify(found) === JSON.stringify(expected);
 
 function check(name, test) {
     let why = '';
@@ -29,14 +29,15 @@ function check(name, test) {
 
 // ---- what goes in and out
 
-const importsOf = (module) => WebAssembly.Module.imports(module).map((it) => `${it.kind} ${it.module}.${it.name}`);
-const exportsOf = (module) => WebAssembly.Module.exports(module).map((it) => `${it.kind} ${it.name}`).sort();
-const wanted = (...more) => [...calls.map((name) => `function ${name}`), 'global __heap_base', ...more].sort();
+const importsOf = (module) =>
+    WebAssembly.Module.imports(module).map((entry) => `${entry.kind} ${entry.module}.${entry.name}`);
+const exportsOf = (module) => WebAssembly.Module.exports(module).map((entry) => `${entry.kind} ${entry.name}`).sort();
+const expectedExports = (...more) => [...calls.map((name) => `function ${name}`), 'global __heap_base', ...more].sort();
 
 const importsNothing = (module) => same(importsOf(module), []);
 const importsAMemory = (module) => same(importsOf(module), ['memory env.memory']);
-const exportsItsCalls = (module) => same(exportsOf(module), wanted('memory memory'));
-const exportsItsCallsAndStack = (module) => same(exportsOf(module), wanted('global __stack_pointer'));
+const exportsItsCalls = (module) => same(exportsOf(module), expectedExports('memory memory'));
+const exportsItsCallsAndStack = (module) => same(exportsOf(module), expectedExports('global __stack_pointer'));
 
 // ---- tags
 
@@ -167,9 +168,9 @@ function answersOddTexts(module, texts) {
 // What is beyond the memory traps, and so does each call behind it: half of a write may stand there.
 function trapsForGood(module) {
     const instance = new Instance(module), stored = instance.numbers(STORED);
-    const traps = (...given) => {
+    const traps = (...values) => {
         try {
-            instance.call(...given);
+            instance.call(...values);
         } catch (error) {
             return error instanceof WebAssembly.RuntimeError;
         }

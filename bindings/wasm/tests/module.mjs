@@ -73,7 +73,7 @@ export class Instance {
         return [big(at), big(count)];
     }
 
-    call(name, ...given) {
-        return this.exports[`proved_argon2_${name}`](...given.flat());
+    call(name, ...values) {
+        return this.exports[`proved_argon2_${name}`](...values.flat());
     }
 }

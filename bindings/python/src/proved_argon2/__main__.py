@@ -33,29 +33,29 @@ def _parser() -> argparse.ArgumentParser:
     return parser
 
 
-def _hasher(given: argparse.Namespace) -> PasswordHasher:
-    if given.profile is not None:
-        return PasswordHasher.from_parameters(getattr(profiles, given.profile))
-    return PasswordHasher(time_cost=given.t, memory_cost=given.m, parallelism=given.p, hash_len=given.l)
+def _hasher(arguments: argparse.Namespace) -> PasswordHasher:
+    if arguments.profile is not None:
+        return PasswordHasher.from_parameters(getattr(profiles, arguments.profile))
+    return PasswordHasher(time_cost=arguments.t, memory_cost=arguments.m, parallelism=arguments.p, hash_len=arguments.l)
 
 
 def main(words: "Optional[List[str]]" = None) -> None:
     """Verify a password with these settings so many times, and print the mean."""
     parser = _parser()
-    given = parser.parse_args(words)
-    hasher = _hasher(given)
+    arguments = parser.parse_args(words)
+    hasher = _hasher(arguments)
     try:
         text = hasher.hash("secret")
     except HashingError as error:
         parser.error(str(error))
-    print(f"Running Argon2id {given.n} times with:")
+    print(f"Running Argon2id {arguments.n} times with:")
     units = {"hash_len": "bytes", "memory_cost": "KiB", "parallelism": "lanes", "time_cost": "passes"}
     for name, unit in units.items():
         print(f"{name}: {getattr(hasher, name)} {unit}")
     begun = time.perf_counter()
-    for _ in range(given.n):
+    for _ in range(arguments.n):
         hasher.verify(text, "secret")
-    print(f"\n{(time.perf_counter() - begun) / given.n * 1000:.1f}ms per password verification")
+    print(f"\n{(time.perf_counter() - begun) / arguments.n * 1000:.1f}ms per password verification")
 
 
 if __name__ == "__main__":

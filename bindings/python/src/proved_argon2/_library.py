@@ -152,12 +152,12 @@ def _load() -> ctypes.CDLL:
 _library = _load()
 
 
-def require_number(name: str, number: object, refusal: "Type[Exception]", bits: int = 32) -> None:
+def require_number(name: str, number: object, error: "Type[Exception]", bits: int = 32) -> None:
     """Raise if a number is no integer, or has more bits: `ctypes` would pass its lowest ones."""
     if not isinstance(number, int) or isinstance(number, bool):
         raise TypeError(f"'{name}' must be int, not {number.__class__.__name__}")
     if not 0 <= number < 1 << bits:
-        raise refusal(f"{name} is {number}: no number of {bits} bits")
+        raise error(f"{name} is {number}: no number of {bits} bits")
 
 
 def _slices(*pieces: bytes) -> "List[Union[bytes, int]]":
@@ -173,7 +173,7 @@ def _require(number: int) -> None:
         raise Refused(number)
 
 
-def _room(length: int) -> "ctypes.Array[ctypes.c_char]":
+def _buffer(length: int) -> "ctypes.Array[ctypes.c_char]":
     """So many zeros to write to."""
     try:
         return ctypes.create_string_buffer(length)
@@ -220,7 +220,7 @@ def _over_memory(call: "Callable[[Optional[Pages]], Any]", settings: Settings, m
     if memory is None:
         number = call(None)
         return number
-    with memory.lent() as pages:
+    with memory.pages_for_call() as pages:
         number = call(pages)
         if number == OUT_OF_MEMORY and pages.grow(settings):
             number = call(pages)
@@ -237,11 +237,11 @@ def hash_raw(
     progress: "Optional[Progress]" = None,
 ) -> bytes:
     """The tag, computed by a thread a lane. The settings are checked first, before any memory is allocated."""
-    given = [*_slices(pwd, salt, secret, ad), settings]
+    arguments = [*_slices(pwd, salt, secret, ad), settings]
     _require(_library.proved_argon2_check(settings, len(pwd), len(salt), len(secret), len(ad)))
-    tag = _room(settings.hash_length)
+    tag = _buffer(settings.hash_length)
     _compute(
-        lambda options: _library.proved_argon2_hash_raw_with(options, *given, tag, len(tag)),
+        lambda options: _library.proved_argon2_hash_raw_with(options, *arguments, tag, len(tag)),
         settings.lanes,
         settings,
         memory,
@@ -262,11 +262,11 @@ def hash_encoded(
     """The encoded hash, computed by a thread a lane. The settings are checked first, before any memory is
     allocated.
     """
-    given = [*_slices(pwd, salt, secret, ad), settings]
+    arguments = [*_slices(pwd, salt, secret, ad), settings]
     _require(_library.proved_argon2_check(settings, len(pwd), len(salt), len(secret), len(ad)))
-    text = _room(_library.proved_argon2_encoded_len(settings, len(salt)) + 1)
+    text = _buffer(_library.proved_argon2_encoded_len(settings, len(salt)) + 1)
     _compute(
-        lambda options: _library.proved_argon2_hash_encoded_with(options, *given, text, len(text)),
+        lambda options: _library.proved_argon2_hash_encoded_with(options, *arguments, text, len(text)),
         settings.lanes,
         settings,
         memory,
@@ -288,9 +288,9 @@ def verify_encoded(
     """Return if the encoded hash of these settings matches the password and is within the limits, and otherwise raise
     `Refused`. There are as many threads as the hash has lanes, and at most 16.
     """
-    given = _slices(text, pwd, secret, ad)
+    arguments = _slices(text, pwd, secret, ad)
     _compute(
-        lambda options: _library.proved_argon2_verify_encoded_with(options, *given),
+        lambda options: _library.proved_argon2_verify_encoded_with(options, *arguments),
         MOST_FOR_A_TEXT,
         settings,
         memory,

@@ -64,12 +64,12 @@ class Memory:
     def __reduce__(self) -> "Tuple[Type[Memory], Tuple[()]]":
         return Memory, ()
 
-    def lent(self) -> "_Lent":
+    def pages_for_call(self) -> "_CallPages":
         """For `with`: pages that no other call uses meanwhile."""
-        return _Lent(self._free)
+        return _CallPages(self._free)
 
 
-class _Lent:
+class _CallPages:
     """Pages that are taken from the free ones, and put back."""
 
     __slots__ = ("_free", "_pages")

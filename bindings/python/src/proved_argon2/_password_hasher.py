@@ -27,9 +27,9 @@ _BEGINNINGS = (b"$argon2i$", b"$argon2d$", b"$argon2id")
 def _require_types(settings: "Dict[str, Tuple[Any, Any]]") -> None:
     """Name all settings of another type than theirs. A bool is no number."""
     wrong = [
-        f"'{name}' must be {wanted.__name__}, not {value.__class__.__name__}"
-        for name, (value, wanted) in settings.items()
-        if not isinstance(value, wanted) or (wanted is int and isinstance(value, bool))
+        f"'{name}' must be {kind.__name__}, not {value.__class__.__name__}"
+        for name, (value, kind) in settings.items()
+        if not isinstance(value, kind) or (kind is int and isinstance(value, bool))
     ]
     if wrong:
         raise TypeError(", ".join(wrong))

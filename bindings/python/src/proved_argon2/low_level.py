@@ -84,8 +84,8 @@ def _settings(
     return Settings(Type(type).value, *numbers)
 
 
-def _require_bytes(**given: bytes) -> None:
-    for name, piece in given.items():
+def _require_bytes(**pieces: bytes) -> None:
+    for name, piece in pieces.items():
         if not isinstance(piece, bytes):
             raise TypeError(f"'{name}' must be bytes, not {piece.__class__.__name__}")
 

@@ -23,11 +23,11 @@ mod system {
     pub fn fill(bytes: &mut [u8]) -> bool {
         loop {
             // SAFETY: the pointer and the length are those of a slice that this function may write to.
-            let given = unsafe { getrandom(bytes.as_mut_ptr().cast(), bytes.len(), 0) };
-            if usize::try_from(given) == Ok(bytes.len()) {
+            let count = unsafe { getrandom(bytes.as_mut_ptr().cast(), bytes.len(), 0) };
+            if usize::try_from(count) == Ok(bytes.len()) {
                 return true;
             }
-            if given >= 0 || io::Error::last_os_error().kind() != io::ErrorKind::Interrupted {
+            if count >= 0 || io::Error::last_os_error().kind() != io::ErrorKind::Interrupted {
                 return false;
             }
         }

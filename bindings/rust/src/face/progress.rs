@@ -6,22 +6,22 @@ use std::panic::{catch_unwind, resume_unwind, AssertUnwindSafe};
 
 /// The progress callback: it is passed how many slices of all are filled, and returns whether the
 /// call goes on.
-type Tell<'a> = dyn FnMut(u64, u64) -> ControlFlow<()> + 'a;
+type Callback<'a> = dyn FnMut(u64, u64) -> ControlFlow<()> + 'a;
 
 /// The progress callback of a call. A panic in it stops the call, and goes on once the call has
 /// returned: none passes through C.
-pub struct Telling<'a> {
-    tell: Box<Tell<'a>>,
+pub struct Progress<'a> {
+    callback: Box<Callback<'a>>,
     panic: Option<Box<dyn Any + Send>>,
 }
 
-impl<'a> Telling<'a> {
-    pub fn to(tell: impl FnMut(u64, u64) -> ControlFlow<()> + 'a) -> Telling<'a> {
-        Telling { tell: Box::new(tell), panic: None }
+impl<'a> Progress<'a> {
+    pub fn new(callback: impl FnMut(u64, u64) -> ControlFlow<()> + 'a) -> Progress<'a> {
+        Progress { callback: Box::new(callback), panic: None }
     }
 
     /// Resumes the panic, if one has stopped the call.
-    pub fn end(&mut self) {
+    pub fn resume_panic(&mut self) {
         if let Some(panic) = self.panic.take() {
             resume_unwind(panic);
         }
@@ -29,15 +29,15 @@ impl<'a> Telling<'a> {
 }
 
 /// `proved_argon2_tell` of the header.
-pub(super) extern "C" fn told(arg: *mut c_void, done: u64, all: u64) -> c_int {
+pub(super) extern "C" fn report(arg: *mut c_void, done: u64, all: u64) -> c_int {
     // SAFETY: `Options::by` passes this with its argument, which is borrowed for the call alone.
     // The library calls it in the caller's thread, and never twice at once.
-    let telling = unsafe { &mut *arg.cast::<Telling<'_>>() };
-    match catch_unwind(AssertUnwindSafe(|| (telling.tell)(done, all))) {
+    let progress = unsafe { &mut *arg.cast::<Progress<'_>>() };
+    match catch_unwind(AssertUnwindSafe(|| (progress.callback)(done, all))) {
         Ok(ControlFlow::Continue(())) => 0,
         Ok(ControlFlow::Break(())) => 1,
         Err(panic) => {
-            telling.panic = Some(panic);
+            progress.panic = Some(panic);
             1
         }
     }

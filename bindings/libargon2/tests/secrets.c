@@ -88,13 +88,13 @@ static int does_verify_ctx(uint8_t *out)
                                                                                   : ARGON2_INCORRECT_PARAMETER;
 }
 
-typedef struct row {
+struct row {
     const char *name;
     int (*does)(uint8_t *out);
     int code;
-} row;
+};
 
-static const row rows[] = {{"a hash", does_hash, ARGON2_OK}, {"an encoded hash", does_hash_encoded, ARGON2_OK},
+static const struct row rows[] = {{"a hash", does_hash, ARGON2_OK}, {"an encoded hash", does_hash_encoded, ARGON2_OK},
     {"a verified one", does_verify, ARGON2_OK}, {"a context", does_ctx, ARGON2_OK},
     {"a verified context", does_verify_ctx, ARGON2_OK},
     {"a hash without memory", does_hash, ARGON2_MEMORY_ALLOCATION_ERROR},
@@ -108,20 +108,20 @@ static bool is_called_behind;
 static void *call(void *arg)
 {
     static uint8_t out[sizeof encoded];
-    const row *const it = arg;
+    const struct row *const row = arg;
     is_noting = 1;
-    is_out_of_memory = it->code != ARGON2_OK;
-    const int code = it->does(out);
+    is_out_of_memory = row->code != ARGON2_OK;
+    const int code = row->does(out);
     if (is_called_behind) {
         (void)!getpgrp();
     }
     NOTE_ALL();
     is_noting = is_out_of_memory = 0;
-    return code == it->code ? arg : NULL;
+    return code == row->code ? arg : NULL;
 }
 
 /* Makes a call over a stack of its own, and keeps what it leaves. */
-static int is_done(const row *it)
+static int is_done(const struct row *row)
 {
     pthread_t thread;
     pthread_attr_t attributes;
@@ -131,7 +131,8 @@ static int is_done(const row *it)
     memset(seen, 0, sizeof seen);
     pthread_attr_init(&attributes);
     const int is_made = pthread_attr_setstack(&attributes, stack, STACK) == 0
-        && pthread_create(&thread, &attributes, call, (void *)(uintptr_t)it) == 0 && pthread_join(thread, &result) == 0;
+        && pthread_create(&thread, &attributes, call, (void *)(uintptr_t)row) == 0
+        && pthread_join(thread, &result) == 0;
     memcpy(seen, stack, STACK);
     memcpy(seen + STACK + FREED, registers, sizeof registers);
     return is_made && result != NULL;
@@ -148,16 +149,16 @@ static int found(const uint8_t *bytes, size_t len)
 }
 
 /* Whether a call leaves nothing, in a process of its own, since a name is bound once. */
-static int leaves_nothing(const row *it, const proved_argon2_job *job)
+static int leaves_nothing(const struct row *row, const proved_argon2_job *job)
 {
     int status = 1;
     const pid_t child = fork();
     if (child != 0) {
         return child > 0 && waitpid(child, &status, 0) == child && status == 0;
     }
-    const int is_made = is_done(it), of_job = found(job->prehash, sizeof job->prehash), of_tag = found(tag, LENGTH);
+    const int is_made = is_done(row), of_job = found(job->prehash, sizeof job->prehash), of_tag = found(tag, LENGTH);
     printf(
-        "%s leaves %d pieces of H0 and %d of the tag, in %zu bytes that it freed\n", it->name, of_job, of_tag, freed);
+        "%s leaves %d pieces of H0 and %d of the tag, in %zu bytes that it freed\n", row->name, of_job, of_tag, freed);
     fflush(stdout);
     _exit(is_made && of_job == 0 && of_tag == 0 ? 0 : 1);
 }
