@@ -81,10 +81,10 @@ void *realloc(void *block, size_t bytes)
     return request(block, bytes);
 }
 
-static void *run_late(void *given)
+static void *run_late(void *argument)
 {
-    const struct start start = *(struct start *)given;
-    __libc_free(given);
+    const struct start start = *(struct start *)argument;
+    __libc_free(argument);
     usleep(start.wait);
     void *const result = start.run(start.argument);
     usleep(start.wait);

@@ -41,18 +41,18 @@ class Came:
         said = (errors or b'').decode(errors='replace').splitlines(keepends=True)
         self.status, self.output, self.seen = status, (output or b'').decode(errors='replace'), seen
         self.notes = [line.split()[0] for line in said if NOTE.fullmatch(line)]
-        self.met, self.told = Counter(self.notes), ''.join(line for line in said if not NOTE.fullmatch(line))
+        self.met, self.errors = Counter(self.notes), ''.join(line for line in said if not NOTE.fullmatch(line))
         self.peak = next((int(line.split()[1]) for line in said if line.startswith('VmHWM:')), 0)
 
-    def end(self, status, output, told=''):
+    def end(self, status, output, errors=''):
         """`VALUE` if it came to this, a refusal, or what else it came to."""
-        if (self.status, self.output, self.told) == (status, output, told):
+        if (self.status, self.output, self.errors) == (status, output, errors):
             return VALUE
-        is_refused = (self.status, self.output) == (2, '') and self.told in (NO_MEMORY, NO_WORKER)
-        return self.told if is_refused else f'status {self.status}, {self.output!r:.500}, {self.told!r:.4000}'
+        is_refused = (self.status, self.output) == (2, '') and self.errors in (NO_MEMORY, NO_WORKER)
+        return self.errors if is_refused else f'status {self.status}, {self.output!r:.500}, {self.errors!r:.4000}'
 
 
-def run(words, library='', before=None, meanwhile=lambda process: None, given=PASSWORD, how=None, **variables):
+def run(words, library='', before=None, meanwhile=lambda process: None, input_bytes=PASSWORD, how=None, **variables):
     """Runs a command with the password on its standard input, and stops it where it hangs. `before` is called with the
     process while it waits for its input, or else `meanwhile` beside it; `how` is for subprocess, and the variables are
     for faults.c."""
@@ -62,7 +62,7 @@ def run(words, library='', before=None, meanwhile=lambda process: None, given=PA
     with subprocess.Popen(words, **how) as process, ThreadPoolExecutor(1) as beside:
         seen = before(process) if before else beside.submit(meanwhile, process)
         try:
-            said = process.communicate(given, timeout=SECONDS)
+            said = process.communicate(input_bytes, timeout=SECONDS)
         except subprocess.TimeoutExpired:
             process.kill()
             said = process.communicate()
@@ -96,9 +96,10 @@ class Hash(NamedTuple):
     def output(self):
         """What is written, by libargon2."""
         tag, text = ctypes.create_string_buffer(self.length), ctypes.create_string_buffer(2 * self.length + 200)
-        given = [it for data in (PASSWORD, self.salt, tag, text) for it in (data, ctypes.c_size_t(len(data)))]
+        arguments = [argument for data in (PASSWORD, self.salt, tag, text)
+                     for argument in (data, ctypes.c_size_t(len(data)))]
         kind = VARIANTS.index(self.variant), self.version
-        code = PEER.argon2_hash(self.passes, self.memory, self.lanes, *given, *kind)
+        code = PEER.argon2_hash(self.passes, self.memory, self.lanes, *arguments, *kind)
         return f'{tag.raw.hex()}\n{text.value.decode()}\n' if code == 0 else f'libargon2 answers {code}'
 
     def text(self):
@@ -112,8 +113,8 @@ def is_ours(checks, binary):
 
 def tests(checks):
     """The binary and the name of each test. A binary that is not built is named all the same."""
-    files = (it for it in TOP.glob('crates/*/src/**/*.rt') if '#[test]' in it.read_text(encoding='utf-8'))
-    for crate in sorted({it.relative_to(TOP).parts[1] for it in files}):
+    files = (path for path in TOP.glob('crates/*/src/**/*.rt') if '#[test]' in path.read_text(encoding='utf-8'))
+    for crate in sorted({path.relative_to(TOP).parts[1] for path in files}):
         binary = TOP / f'crates/{crate}/out/{crate}_tests'
         if is_ours(checks, binary):
             yield from ((binary, name) for name in re.findall(r'^(.*): test$', run([binary, '--list']).output, re.M))
@@ -122,10 +123,12 @@ def tests(checks):
 def judge(judged, *programs, words=()):
     """Has `judged` judge copies of the programs among the words, or else of these, if they are of these sources: by
     checks, faults.c in a folder, the copies, and the number among the words. Gives the script's status."""
-    checks, others = Checks(), [Path(it) for it in words if not it.isdigit()]
-    if others or all([is_ours(checks, it) for it in programs]):
-        with tempfile.TemporaryDirectory() as room:
-            os.chmod(room, 0o711)  # (for users who are not root)
-            copies = [Path(shutil.copy(it, f'{room}/{at}.{it.name}')) for at, it in enumerate(others or programs)]
-            judged(checks, build_preloaded('faults/faults', room), copies, *(int(it) for it in words if it.isdigit()))
+    checks, others = Checks(), [Path(word) for word in words if not word.isdigit()]
+    if others or all([is_ours(checks, program) for program in programs]):
+        with tempfile.TemporaryDirectory() as folder:
+            os.chmod(folder, 0o711)  # (for users who are not root)
+            copies = [Path(shutil.copy(program, f'{folder}/{at}.{program.name}'))
+                      for at, program in enumerate(others or programs)]
+            judged(checks, build_preloaded('faults/faults', folder), copies,
+                   *(int(word) for word in words if word.isdigit()))
     return checks.close()

@@ -16,10 +16,11 @@ def face_of(text):
     """The lines of a file without comments and without the bodies of its functions, of which no proof of another crate
     knows, but of constant functions."""
     lines = text.split('\n')
-    for it in (it for it in functions_in(text) if not it.is_const):
-        opens = re.compile(rf'{it.indent}(\S.*)?\{{')
-        body = next((at for at in range(it.first, it.last) if opens.fullmatch(lines[at - 1])), it.last)
-        lines[body:it.last] = [''] * (it.last - body)
+    for function in (function for function in functions_in(text) if not function.is_const):
+        opens = re.compile(rf'{function.indent}(\S.*)?\{{')
+        body = next((at for at in range(function.first, function.last) if opens.fullmatch(lines[at - 1])),
+                    function.last)
+        lines[body:function.last] = [''] * (function.last - body)
     return [line for line in lines if line and not line.lstrip().startswith('//')]
 
 
@@ -30,8 +31,8 @@ def git(*words, **how):
 
 def tree_of_now():
     """All files as they are, as a tree of git: those too that it does not know yet."""
-    with tempfile.TemporaryDirectory() as room:
-        how = {'env': {**os.environ, 'GIT_INDEX_FILE': f'{room}/index'}}
+    with tempfile.TemporaryDirectory() as folder:
+        how = {'env': {**os.environ, 'GIT_INDEX_FILE': f'{folder}/index'}}
         git('add', '--all', **how)
         return git('write-tree', **how).strip()
 
@@ -55,7 +56,8 @@ class Changes:
 
     def of(self, folder, *below):
         """The paths in a folder of the repository, or in these parts of it."""
-        return [it for it in sorted(self.paths) if it.startswith(tuple(f'{folder}/{part}' for part in below or ('',)))]
+        return [path for path in sorted(self.paths)
+                if path.startswith(tuple(f'{folder}/{part}' for part in below or ('',)))]
 
     def before(self, path):
         """A file's text when all was good."""
@@ -63,13 +65,14 @@ class Changes:
 
     def has_other_face(self, folder):
         """Whether another crate's proofs can know of what has changed of a crate: specs, or code without bodies."""
-        texts = ((self.before(it), (TOP / it).read_text(encoding='utf-8') if (TOP / it).exists() else '')
-                 for it in self.of(folder, 'src/'))
+        texts = ((self.before(path), (TOP / path).read_text(encoding='utf-8') if (TOP / path).exists() else '')
+                 for path in self.of(folder, 'src/'))
         return bool(self.of(folder, 'specs/')) or any(face_of(old) != face_of(new) for old, new in texts)
 
     def touches(self, folder, edit):
         """Whether an edit of a crate is new, or changes a function whose file or proofs are others."""
         own = self.of(folder, f'must-fail/{edit.name}.edit' if edit.is_tried_alone else 'mutants.txt')
         touched = [file.relative_to(TOP / folder).as_posix() for file, _, _ in edit.pairs]
-        touched += ['/'.join(['proofs', *it.folders, it.name, '']) for it in edit.functions if it]
-        return bool(self.of(folder, *touched)) or any(edit.text not in self.before(it) for it in own)
+        touched += ['/'.join(['proofs', *function.folders, function.name, ''])
+                    for function in edit.functions if function]
+        return bool(self.of(folder, *touched)) or any(edit.text not in self.before(path) for path in own)

@@ -7,7 +7,7 @@ import re
 import subprocess
 
 from shared import TOP
-from shared.blocks import lines, rows
+from shared.tables import lines, rows
 
 GATE = TOP / '.ci/gate'
 SKIPPED = re.compile(r'skipped: (.*?)(: all (\d+) checks)?(?: \((?:there is no (\S+)\)|.*))?')
@@ -18,7 +18,7 @@ OF_PACKAGES = r'\.ci/(?:gate/packages: the package|release/libargon2:) {}(?: ove
 def packages(*kinds):
     """Each of Debian's packages in packages.txt that is `needed` or `wanted`, with a program of it."""
     for kind, *names in map(str.split, lines(GATE / 'packages.txt')):
-        for name, _, program in (it.partition(':') for it in names if kind in kinds):
+        for name, _, program in (entry.partition(':') for entry in names if kind in kinds):
             yield name, program or name
 
 
@@ -30,13 +30,13 @@ def succeeds(command):
 
 def judged(step, said):
     """What a step skips, with what is wrong with that, or None."""
-    wanted = dict(packages('wanted'))
+    optional = dict(packages('wanted'))
     listed = [*rows(GATE / 'skips.txt'), *((OF_PACKAGES.format(re.escape(name)), f'has_package {name} {program}')
-                                           for name, program in wanted.items())]
-    for what, is_all, _, program in (it.groups() for it in map(SKIPPED.fullmatch, said) if it):
+                                           for name, program in optional.items())]
+    for what, is_all, _, program in (match.groups() for match in map(SKIPPED.fullmatch, said) if match):
         check = f'{step}: {what}' + (': all' if is_all else '')
         found = [(re.fullmatch(pattern, check), command) for pattern, command in listed]
         commands = [match.expand(command) for match, command in found if match]
-        commands += [f'command -v {program}'] if program in wanted.values() else []
+        commands += [f'command -v {program}'] if program in optional.values() else []
         why = f'it is skipped, and {commands[0]} succeeds' if commands else 'it may not be skipped'
         yield check, f'{why}: {check}' if all(map(succeeds, commands)) else None

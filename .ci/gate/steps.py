@@ -8,16 +8,16 @@ import time
 
 from gate.skips import GATE, SKIPPED, judged
 from shared import TOP
-from shared.blocks import rows
+from shared.tables import rows
 
 # The steps that compare documents with the sources and, but for `readme`, need no build.
-PAGES = [f'.ci/pages/{it}' for it in ('definitions', 'cycles', 'layout', 'promises', 'presets', 'layers', 'peers',
-                                      'references', 'names', 'places', 'measured', 'verdicts', 'theorem')]
+PAGES = [f'.ci/pages/{name}' for name in ('definitions', 'cycles', 'layout', 'promises', 'presets', 'layers', 'peers',
+                                          'docstrings', 'names', 'places', 'measured', 'verdicts', 'theorem')]
 COUNTS = re.compile(r'(\d+) passed, (\d+) failed(?:, (\d+) skipped)?')
 PROVED = re.compile(r'^(?:fn|struct|enum|impl|trait) \S+: proved')
 # How many checks a step of .ci/run makes: so many, or `N or more`, where what it looks at may grow.
-WANTED = dict(it.rsplit(': ', 1) for runner, counts in rows(GATE / 'counts.txt') if runner == '.ci/run'
-              for it in counts.split('; '))
+EXPECTED_COUNTS = dict(entry.rsplit(': ', 1) for runner, counts in rows(GATE / 'counts.txt') if runner == '.ci/run'
+                       for entry in counts.split('; '))
 printing = threading.Lock()
 # Within so many seconds all steps have ended, or else those that have not are stopped and named: CI may have three
 # hours, and names nothing when they are over.
@@ -63,7 +63,7 @@ class Step(threading.Thread):
                 self.judge(self.run_command())
         except Exception as error:  # (a thread that died would be a step that did not fail)
             self.fail(f'it could not be run or judged: {error}')
-        for line in (it for it in self.left_out if self.failed and 'error' in it):
+        for line in (line for line in self.left_out if self.failed and 'error' in line):
             self.tell(line)
 
     def run_command(self):
@@ -85,10 +85,10 @@ class Step(threading.Thread):
 
     def read(self, said):
         """Takes its lines. The last one that counts is the step's."""
-        for line in (it.rstrip('\n') for it in said):
+        for line in (line.rstrip('\n') for line in said):
             counts = COUNTS.fullmatch(line)
             if counts:
-                self.counts = [int(it or 0) for it in counts.groups()]
+                self.counts = [int(count or 0) for count in counts.groups()]
             if SKIPPED.fullmatch(line):
                 self.skipped.append(line)
             if self.quiet and self.quiet.search(line):
@@ -118,10 +118,10 @@ class Step(threading.Thread):
     def compare_count(self, reached):
         """A step that ends early, or compares less than it did, would else pass with fewer checks. (What may be skipped
         can stand for several.)"""
-        wanted = WANTED.get(self.name, f'{reached}') if not self.skipped else f'{reached}'
-        least, _, more = wanted.partition(' ')
+        expected = EXPECTED_COUNTS.get(self.name, f'{reached}') if not self.skipped else f'{reached}'
+        least, _, more = expected.partition(' ')
         if reached < int(least) or reached > int(least) and not more:
-            self.fail(f'it made {reached} checks, and .ci/gate/counts.txt has {wanted}')
+            self.fail(f'it made {reached} checks, and .ci/gate/counts.txt has {expected}')
 
 
 def close(steps, begun):
@@ -129,14 +129,14 @@ def close(steps, begun):
     whether some passed and none failed."""
     for step in steps:
         step.join()
-    sums = [sum(it.counts[at] for it in steps) for at in range(3)]
+    sums = [sum(step.counts[at] for step in steps) for at in range(3)]
     of_all = (f'all, on {len(os.sched_getaffinity(0))} processors', time.monotonic() - begun,
-              sum(it.of_processors for it in steps), sums)
-    rows = [(it.name, it.seconds, it.of_processors, it.counts) for it in steps] + [of_all]
-    width = max(len(it[0]) for it in rows) + 2
+              sum(step.of_processors for step in steps), sums)
+    rows = [(step.name, step.seconds, step.of_processors, step.counts) for step in steps] + [of_all]
+    width = max(len(row[0]) for row in rows) + 2
     print(f'{"step":{width}}{"seconds":>8}{"of processors":>15}{"passed":>8}{"failed":>8}{"skipped":>8}')
     for name, seconds, of_processors, counts in rows:
-        print(f'{name:{width}}{seconds:8.0f}{of_processors:15.0f}' + ''.join(f'{it:8}' for it in counts))
+        print(f'{name:{width}}{seconds:8.0f}{of_processors:15.0f}' + ''.join(f'{count:8}' for count in counts))
     for step, line in ((step, line) for step in steps for line in step.faults):
         print(f'{step.name}: {line}')
     names = '; '.join(name for step in steps for name in step.names)

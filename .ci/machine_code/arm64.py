@@ -17,13 +17,14 @@ SHIFTS = {'lsl': left, 'lsr': right, 'ror': rotated}
 
 
 class Arm64(Machine):
-    arguments, stack_pointer = tuple(f'x{it}' for it in range(5)), 'sp'
-    saved, entries = (*(f'x{it}' for it in range(19, 30)), *(f'd{it}' for it in range(8, 16))), (0, 16, 32, 48)
+    arguments, stack_pointer = tuple(f'x{number}' for number in range(5)), 'sp'
+    saved, entries = (*(f'x{number}' for number in range(19, 30)), *(f'd{number}' for number in range(8, 16))), \
+        (0, 16, 32, 48)
 
     @staticmethod
     def fresh(when):
         """The lower halves of vectors, of which some are kept, have names of their own: d0, and h0 is the upper one."""
-        return {f'{kind}{it}': variable(f'{when} {kind}{it}') for kind in 'xdh' for it in range(32)}
+        return {f'{kind}{number}': variable(f'{when} {kind}{number}') for kind in 'xdh' for number in range(32)}
 
     def enter(self, address, *arguments, flag):
         """Begins a function, which is passed the flag as 32 bits."""
@@ -63,8 +64,8 @@ def readers(words):
     """What reads operands, of which the last may say how the one before is shifted."""
     shift, _, count = words[-1].partition(' ')
     if shift not in SHIFTS:
-        return [operand(it)[0] for it in words]
-    *plain, last = (operand(it)[0] for it in words[:-1])
+        return [operand(word)[0] for word in words]
+    *plain, last = (operand(word)[0] for word in words[:-1])
     return [*plain, lambda machine: SHIFTS[shift](last(machine), int(count.removeprefix('#')))]
 
 
@@ -99,12 +100,12 @@ def loaded(registers, is_vector, size):
 
 def moved(mnemonic, words):
     """Loads and stores of one register or two. The address may be left in its base, or the base be moved afterwards."""
-    index = next((index for index, it in enumerate(words) if it.startswith('[')), len(words) - 1)
+    index = next((index for index, word in enumerate(words) if word.startswith('[')), len(words) - 1)
     found, behind, kind = PLACE.fullmatch(words[index]), words[index + 1:], words[0][0]
     if not found or len(behind) > (not found[2]) or kind not in 'xdq':
         raise Fault(f'the operands {words} of {mnemonic} are not known')
     base, offset, size = found[1], int(found[2] or 0), 2 if kind == 'q' else 1
-    registers = [operand(it) if kind == 'x' else vector(it[1:], size) for it in words[:index]]
+    registers = [operand(word) if kind == 'x' else vector(word[1:], size) for word in words[:index]]
     access = stored(registers, kind in 'dq') if mnemonic[0] == 's' else loaded(registers, kind in 'dq', size)
 
     def step(machine):
@@ -157,7 +158,7 @@ def inverted_if(condition, source, target):
 def control(mnemonic, words):
     """What has operands of its own kind, or none."""
     name, _, condition = mnemonic.partition('.')
-    sources = [operand(it)[0] for it in words if not it.startswith('lsl #') and it not in CONDITIONS]
+    sources = [operand(word)[0] for word in words if not word.startswith('lsl #') and word not in CONDITIONS]
     match name, len(words):
         case 'ret', 0:
             return Arm64.return_address
@@ -168,7 +169,7 @@ def control(mnemonic, words):
         case 'cbz', 2:
             return jump_if_zero(*sources)
         case 'cmp', 2:
-            return lambda machine: machine.compare(*(it(machine) for it in sources))
+            return lambda machine: machine.compare(*(source(machine) for source in sources))
         case 'cinv', 3:
             return inverted_if(CONDITIONS.get(words[2]), sources[1], operand(words[0])[1])
         case 'usra', 3:
@@ -182,15 +183,15 @@ def control(mnemonic, words):
 def decode(text):
     """The step that an instruction is."""
     mnemonic, _, rest = text.partition('\t')
-    words = [it.strip() for it in PARTS.findall(rest)]
+    words = [part.strip() for part in PARTS.findall(rest)]
     if mnemonic == 'nop':
         return lambda machine: None
     if re.fullmatch('(ld|st)(p|u?r)', mnemonic) and words:
         return moved(mnemonic, words)
-    divided = [it.partition('.')[2] for it in words if it.startswith('v')]
+    divided = [word.partition('.')[2] for word in words if word.startswith('v')]
     function = VECTOR.get(' '.join((mnemonic, *divided))) if divided else GENERAL.get(mnemonic)
-    is_shifted = any(it.partition(' ')[0] in SHIFTS for it in (mnemonic, *words))  # (by a number, all 64 bits)
-    is_known = divided or not is_shifted or '#' in words[-1] and not any(it.startswith('w') for it in words)
+    is_shifted = any(word.partition(' ')[0] in SHIFTS for word in (mnemonic, *words))  # (by a number, all 64 bits)
+    is_known = divided or not is_shifted or '#' in words[-1] and not any(word.startswith('w') for word in words)
     if function and len(words) > 1 and is_known:
         return computed(function, readers(words[1:]), operand(words[0])[1])
     return control(mnemonic, words)

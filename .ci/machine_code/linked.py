@@ -72,8 +72,8 @@ class Code:
                 begin = int(found[1], 16)
                 self.names[begin], body = found[2], self.bodies.setdefault(begin, {})
             elif found := SECTION.match(line):
-                self.sections.append([int(it, 16) for it in found.groups()])
-        self.instructions = {at: it for body in self.bodies.values() for at, it in body.items()}
+                self.sections.append([int(digits, 16) for digits in found.groups()])
+        self.instructions = {at: instruction for body in self.bodies.values() for at, instruction in body.items()}
         self.clears = {OUTSIDE, *(begin for begin, name in self.names.items() if name in CLEARS)}
 
     def validate(self):
@@ -96,7 +96,7 @@ class Code:
                      if begin and 0 <= address - begin < size), None)
 
     def constant(self, address):
-        places = [self.place(address + it) for it in range(WORD)]
+        places = [self.place(address + index) for index in range(WORD)]
         if None in places:
             raise Fault(f'it reads at {address:#x}')
         return int.from_bytes(self.content[places[0]:places[0] + WORD], 'little')

@@ -64,7 +64,7 @@ class Machine:
             if pointer is None:
                 raise Fault('its stack pointer is no address')
             self.below += at < pointer
-        return [(region, at + WORD * it) for it in range(count)]
+        return [(region, at + WORD * index) for index in range(count)]
 
     def word_at(self, region, at):
         if region == 'stack' and (region, at) not in self.memory:
@@ -73,9 +73,9 @@ class Machine:
 
     def load(self, address, count, unit=WORD):
         if not isinstance(address, int):
-            return tuple(self.word_at(*it) for it in self.places(address, count, unit))
+            return tuple(self.word_at(*place) for place in self.places(address, count, unit))
         self.constants.update(range(address, address + WORD * count))
-        return tuple(self.code.constant(address + WORD * it) for it in range(count))
+        return tuple(self.code.constant(address + WORD * index) for index in range(count))
 
     def store(self, address, words, unit=WORD):
         places = self.places(address, len(words), unit)
@@ -91,10 +91,10 @@ class Machine:
 
     def clear_words(self):
         """A call of memset, which may leave in the other registers what it likes."""
-        self.clear(*(self.registers[it] for it in self.arguments[:3]))
+        self.clear(*(self.registers[name] for name in self.arguments[:3]))
         back, self.flags = self.return_address(), None
-        kept = *self.saved, self.stack_pointer
-        self.registers |= {name: it for name, it in self.fresh('left').items() if name not in kept}
+        preserved = *self.saved, self.stack_pointer
+        self.registers |= {name: word for name, word in self.fresh('left').items() if name not in preserved}
         return back
 
     def masked(self, word, mask):
@@ -116,7 +116,7 @@ class Machine:
     def fault(self, words):
         """What is wrong with what a function left, which had to be words in the region that is written."""
         wrong = [at for at, word in enumerate(words) if self.word_at(self.written, WORD * at) != word]
-        changed = [it for it in (*self.saved, self.stack_pointer) if self.registers[it] != self.before[it]]
+        changed = [name for name in (*self.saved, self.stack_pointer) if self.registers[name] != self.before[name]]
         return (f'{len(wrong)} of {len(words)} words are other ones' if wrong else
                 f'it leaves another {", ".join(changed)}' if changed else None)
 
@@ -134,7 +134,7 @@ def register(name, mask):
 
 def computed(function, sources, target):
     """The step that writes what a function makes of operands."""
-    return lambda machine: target(machine, function(*(it(machine) for it in sources)))
+    return lambda machine: target(machine, function(*(source(machine) for source in sources)))
 
 
 def jump_if(condition, to):
@@ -144,7 +144,8 @@ def jump_if(condition, to):
 def each(function):
     """A function for all words of its operands, or with the same number for all of the first one's."""
     def done(words, other):
-        return tuple(function(*it) for it in zip(words, other if isinstance(other, tuple) else (other,) * len(words)))
+        return tuple(function(*pair) for pair in zip(
+            words, other if isinstance(other, tuple) else (other,) * len(words)))
     return done
 
 

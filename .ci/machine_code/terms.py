@@ -26,13 +26,13 @@ class Term:
         if 'bits' == self.kind == getattr(other, 'kind', '') and (whole := merged(self, other)):
             return whole
         (number, terms), (more, others) = linear(self), linear(other)
-        return total(number + more, {it: terms.get(it, 0) + others.get(it, 0) for it in terms | others})
+        return total(number + more, {term: terms.get(term, 0) + others.get(term, 0) for term in terms | others})
 
     @functools.cache
     def __mul__(self, other):
         if isinstance(other, int):
             number, terms = linear(self)
-            return total(number * other, {it: factor * other for it, factor in terms.items()})
+            return total(number * other, {term: factor * other for term, factor in terms.items()})
         (left, first), (right, second) = factored(self), factored(other)
         return total(0, {make('product', frozenset((left, right))): first * second})
 
@@ -77,7 +77,7 @@ def variable(name):
 
 def forget():
     """Frees all terms: those that are still held are no longer the ones that `make` gives."""
-    for cached in (make, cut, *(it for it in vars(Term).values() if hasattr(it, 'cache_clear'))):
+    for cached in (make, cut, *(method for method in vars(Term).values() if hasattr(method, 'cache_clear'))):
         cached.cache_clear()
 
 
@@ -90,13 +90,13 @@ def linear(word):
     if word.kind == 'bits' and word.parts[0][0] == 0:  # it was shifted
         (_, _, count), (shifted, *rest), *_ = word.parts
         number, terms = linear(shifted) if rest == [0, BITS - count] else (0, {word >> count: 1})
-        return number << count, {it: factor << count for it, factor in terms.items()}
+        return number << count, {term: factor << count for term, factor in terms.items()}
     return 0, {word: 1}
 
 
 def total(number, terms):
     """The sum of a number and of terms by their factors."""
-    number, terms = number & MASK, {it: factor & MASK for it, factor in terms.items() if factor & MASK}
+    number, terms = number & MASK, {term: factor & MASK for term, factor in terms.items() if factor & MASK}
     if number == 0 and len(terms) == 1:
         (term, factor), = terms.items()
         if factor & (factor - 1) == 0:
@@ -138,7 +138,7 @@ def cut(word, first, width):
 def joined(*pieces):
     """The word that pieces make. Of pieces of one exclusive or it is that of the same pieces of its terms."""
     found = []
-    for word, first, width in (it for it in pieces if it[2]):
+    for word, first, width in (piece for piece in pieces if piece[2]):
         last, begin, size = found[-1] if found else (None, 0, 0)
         if isinstance(word, int) and isinstance(last, int):
             found[-1] = last | word << size, 0, size + width
@@ -149,19 +149,19 @@ def joined(*pieces):
     word = found[0][0]
     if len(found) == 1:
         return word
-    if isinstance(word, int) or word.kind != 'xor' or any(it[0] is not word for it in found):
+    if isinstance(word, int) or word.kind != 'xor' or any(piece[0] is not word for piece in found):
         return make('bits', *found)
     number, terms = word.parts
-    return exclusive_or(*(joined(*(piece for _, *place in found for piece in cut(it, *place)))
-                          for it in (number, *terms)))
+    return exclusive_or(*(joined(*(piece for _, *place in found for piece in cut(term, *place)))
+                          for term in (number, *terms)))
 
 
 def merged(one, other):
     """The word whose bits are those of two words that have none in common, or None."""
     pieces = []
-    ends = {end for word in (one, other) for end in accumulate(it[2] for it in cut(word, 0, BITS))}
+    ends = {end for word in (one, other) for end in accumulate(piece[2] for piece in cut(word, 0, BITS))}
     for begin, end in pairwise(sorted({0, *ends})):
-        (first,), (second,) = (cut(it, begin, end - begin) for it in (one, other))
+        (first,), (second,) = (cut(word, begin, end - begin) for word in (one, other))
         if first[0] != 0 and second[0] != 0:
             return None
         pieces.append(second if first[0] == 0 else first)

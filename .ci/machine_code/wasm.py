@@ -13,8 +13,8 @@ SIGNATURE = re.compile(r' - func\[(\d+)\] sig=(\d+)')
 HEAD = re.compile(r'[0-9a-f]+ func\[(\d+)\](?: <.*>)?:')
 LINE = re.compile(r' ([0-9a-f]+):((?: [0-9a-f]{2})+) +\| *(.*)')
 OPENS, LOW = ('block', 'loop'), (1 << 32) - 1
-# The global that is the stack pointer, how much room a function asks for on the stack, and that this is not there.
-STACK_POINTER, LEAST_ROOM, NO_ROOM = '0', 16, variable('the stack has no room')
+# The global that is the stack pointer, how much of the stack a function asks for, and that this is not there.
+STACK_POINTER, LEAST_STACK, NO_STACK = '0', 16, variable('the stack has no room')
 
 
 class Module:
@@ -24,8 +24,8 @@ class Module:
     def __init__(self, path):
         self.kind, self.path, self.content = Wasm, path, path.read_bytes()
         lines = run(need('wasm-objdump'), '-x', '-d', path).splitlines()
-        counts = {it[1]: len(it[2].split()) for it in map(TYPE.fullmatch, lines) if it}
-        self.arguments = {it[1]: counts[it[2]] for it in map(SIGNATURE.match, lines) if it}
+        counts = {found[1]: len(found[2].split()) for found in map(TYPE.fullmatch, lines) if found}
+        self.arguments = {found[1]: counts[found[2]] for found in map(SIGNATURE.match, lines) if found}
         self.bodies, body, at = {}, {}, 0
         for head, found in ((HEAD.fullmatch(line), LINE.fullmatch(line)) for line in lines):
             if head:
@@ -34,7 +34,7 @@ class Module:
                 at, body[at] = int(found[1], 16), (found[3].split(' <')[0], len(found[2].split()))
             elif found:  # (the rest of the bytes of the instruction before)
                 body[at] = body[at][0], body[at][1] + len(found[2].split())
-        self.instructions = {at: it for body in self.bodies.values() for at, it in led(body)}
+        self.instructions = {at: instruction for body in self.bodies.values() for at, instruction in led(body)}
 
     def at(self, address):
         text, size, to = self.instructions[address]
@@ -66,7 +66,7 @@ class Module:
 
 def led(body):
     """The instructions of a function, each with where a jump leads, and the last one with RETURN."""
-    body = {at: it for at, it in body.items() if not it[0].startswith('local[')}
+    body = {at: instruction for at, instruction in body.items() if not instruction[0].startswith('local[')}
     begun, targets, jumps, last = [], {}, {}, [*body][-1]
     for at, (text, _) in body.items():
         name, *words = text.split()
@@ -97,8 +97,8 @@ class Wasm(Machine):
     def enter(self, number, *arguments, flag=None):
         """Begins a function, which is passed the flag last."""
         self.frames.append((self.local, self.operands, self.after))
-        given = (*arguments, *([] if flag is None else [flag]))
-        self.local, self.operands = {str(index): it for index, it in enumerate(given)}, []
+        passed = (*arguments, *([] if flag is None else [flag]))
+        self.local, self.operands = {str(index): word for index, word in enumerate(passed)}, []
         return next(at for at, (text, _) in self.code.bodies[number].items() if not text.startswith('local['))
 
     def leave(self):
@@ -163,11 +163,11 @@ class Wasm(Machine):
         """Its lowest 32 bits."""
         return word if self.find(word) else word & LOW
 
-    def has_no_room(self, least, at):
+    def lacks_stack(self, least, at):
         """It is asked before anything else whether the stack has room, which is so."""
-        if least != LEAST_ROOM or (self.find(at) or [''])[0] != 'stack':
+        if least != LEAST_STACK or (self.find(at) or [''])[0] != 'stack':
             raise Fault('it compares data')
-        return NO_ROOM
+        return NO_STACK
 
     def compared(self, other, one, condition):
         self.compare(one, other)
@@ -181,7 +181,7 @@ class Wasm(Machine):
     def jump(self, to):
         """Whether it jumps, which it would to a trap if the stack had no room."""
         chooses = self.pop()
-        if chooses is NO_ROOM and self.code.traps(to):
+        if chooses is NO_STACK and self.code.traps(to):
             return None
         return to if self.chosen(chooses) else None
 
@@ -190,7 +190,7 @@ BINARY = {f'i64.{name}': function for name, function in {
     'add': lambda _, x, y: add(x, y), 'sub': lambda _, x, y: x - y & MASK, 'mul': lambda _, x, y: x * y & MASK,
     'xor': lambda _, x, y: x ^ y, 'or': lambda _, x, y: x | y, 'and': Machine.masked,
     'shl': lambda _, x, count: left(x, count % BITS), 'shr_u': lambda _, x, count: right(x, count % BITS),
-    'rotl': lambda _, x, count: rotated(x, -count % BITS), 'lt_s': lambda machine, x, y: machine.has_no_room(y, x),
+    'rotl': lambda _, x, count: rotated(x, -count % BITS), 'lt_s': lambda machine, x, y: machine.lacks_stack(y, x),
     'lt_u': lambda machine, x, y: machine.compared(y, x, 'b'),
     'gt_u': lambda machine, x, y: machine.compared(y, x, 'a')}.items()}
 

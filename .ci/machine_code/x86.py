@@ -11,9 +11,9 @@ from terms import BITS, Fault, picked, variable
 
 OLD = 'ax', 'bx', 'cx', 'dx', 'si', 'di', 'bp', 'sp'
 # The registers for integers, the names of their lower halves, those for vectors, and sizes in words.
-WHOLE = [f'r{it}' for it in (*OLD, *range(8, 16))]
-LOWER = dict(zip([*(f'e{it}' for it in OLD), *(f'r{it}d' for it in range(8, 16))], WHOLE))
-VECTORS = [f'mm{it}' for it in range(16)]
+WHOLE = [f'r{name}' for name in (*OLD, *range(8, 16))]
+LOWER = dict(zip([*(f'e{name}' for name in OLD), *(f'r{number}d' for number in range(8, 16))], WHOLE))
+VECTORS = [f'mm{number}' for number in range(16)]
 SIZES = {'x': 2, 'y': 4, 'QWORD': 1, 'XMMWORD': 2, 'YMMWORD': 4}
 PLACE = re.compile(r'(?:(\w+) PTR )?\[(\w+)(?:\+(\w+)\*(\d))?([+-]0x[0-9a-f]+)?\]')
 PARTS = re.compile(r'(?:[^,\[]|\[[^\]]*\])+')
@@ -26,8 +26,8 @@ class X86(Machine):
 
     @staticmethod
     def fresh(when):
-        return {it: variable(f'{when} {it}') for it in WHOLE} | \
-            {it: tuple(variable(f'{when} {it} {at}') for at in range(4)) for it in VECTORS}
+        return {name: variable(f'{when} {name}') for name in WHOLE} | \
+            {name: tuple(variable(f'{when} {name} {at}') for at in range(4)) for name in VECTORS}
 
     def enter(self, address, *arguments, flag):
         """Begins a function, which is passed the flag as 32 bits."""
@@ -91,18 +91,19 @@ def operand(text, mnemonic):
 def by_lanes(function):
     """A function of two words each of vectors, and of a number."""
     def done(*operands):
-        vectors, rest = [it for it in operands if isinstance(it, tuple)], [it for it in operands if isinstance(it, int)]
-        lanes = ([it[at:at + 2] for it in vectors] for at in range(0, len(vectors[0]), 2))
-        return tuple(chain.from_iterable(function(*it, *rest) for it in lanes))
+        vectors, rest = ([value for value in operands if isinstance(value, tuple)],
+                         [value for value in operands if isinstance(value, int)])
+        lanes = ([words[at:at + 2] for words in vectors] for at in range(0, len(vectors[0]), 2))
+        return tuple(chain.from_iterable(function(*lane, *rest) for lane in lanes))
     return done
 
 
 def places(words, width, count):
     """The elements of words that are numbers, each of them a place. In the upper half of a vector LLVM counts on."""
     found = [word >> at & (1 << width) - 1 for word in words if isinstance(word, int) for at in range(0, BITS, width)]
-    if len(found) < len(words) * BITS // width or {it // count for it in found} not in ({0}, {1}):
+    if len(found) < len(words) * BITS // width or {place // count for place in found} not in ({0}, {1}):
         raise Fault('it shuffles by other than places')
-    return tuple(it % count for it in found)
+    return tuple(place % count for place in found)
 
 
 def below_size(count):
@@ -112,7 +113,7 @@ def below_size(count):
 
 
 def four_of(order):
-    return tuple(order >> 2 * it & 3 for it in range(4))
+    return tuple(order >> 2 * index & 3 for index in range(4))
 
 
 # What instructions make of the operands that they read. For old ones of vectors the first is the one that is written.
@@ -133,7 +134,7 @@ FROM = {
     'vextracti128': lambda words, upper: words[2:] if upper else words[:2],
     'vpermq': lambda words, order: picked(words, four_of(order), 64),
     'vpermd': lambda order, words: picked(words, places(order, 32, 8), 32)}
-VECTOR = FROM | ONTO | {f'v{name}': it for name, it in (FROM | ONTO).items() if name[0] != 'v'}
+VECTOR = FROM | ONTO | {f'v{name}': function for name, function in (FROM | ONTO).items() if name[0] != 'v'}
 PLAIN = {**dict.fromkeys(('mov', 'movabs', 'lea'), lambda x: x), 'rorx': lambda x, count: rotated(x, below_size(count))}
 WITH_FLAGS = {
     'add': add, 'sub': lambda x, y: x - y & MASK, 'xor': lambda x, y: x ^ y,
@@ -157,18 +158,19 @@ def call(to):
 
 
 def clear_upper(machine):
-    machine.registers |= {it: (*machine.registers[it][:2], 0, 0) for it in VECTORS}
+    machine.registers |= {name: (*machine.registers[name][:2], 0, 0) for name in VECTORS}
 
 
 def control(mnemonic, sources, target):
     """What has operands of its own kind, or none."""
     match mnemonic, len(sources):
         case 'cmp', 2:
-            return lambda machine: machine.compare(*(it(machine) for it in sources))
+            return lambda machine: machine.compare(*(source(machine) for source in sources))
         case 'test', 2:
             return lambda machine: machine.compare(sources[0](machine) & sources[1](machine), 0)
         case 'and', 2:
-            return without_flags(lambda machine: target(machine, machine.masked(*(it(machine) for it in sources))))
+            return without_flags(
+                lambda machine: target(machine, machine.masked(*(source(machine) for source in sources))))
         case 'push', 1:
             return lambda machine: machine.push(sources[0](machine))
         case 'pop', 1:
@@ -194,10 +196,11 @@ def decode(text):
     mnemonic, _, rest = text.partition(' ')
     if re.match('(data16 |cs )*(nop|endbr64)', text):
         return lambda machine: None
-    words = [it.strip() for it in PARTS.findall(rest)]
-    operands = [operand(it, mnemonic) for it in words]
+    words = [part.strip() for part in PARTS.findall(rest)]
+    operands = [operand(word, mnemonic) for word in words]
     sources, target = [read for read, _ in operands], operands[0][1] if operands else None
-    if mnemonic in VECTOR and any(it[1:] in VECTORS for it in (words if mnemonic.strip('v') in MOVES else words[:1])):
+    if mnemonic in VECTOR and any(word[1:] in VECTORS
+                                  for word in (words if mnemonic.strip('v') in MOVES else words[:1])):
         return computed(VECTOR[mnemonic], sources if mnemonic in ONTO else sources[1:], target)
     if mnemonic in PLAIN and len(sources) > 1:
         return computed(PLAIN[mnemonic], sources[1:], target)

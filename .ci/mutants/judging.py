@@ -10,13 +10,13 @@ import tempfile
 import threading
 from pathlib import Path
 
-from beside import linked, wait_for
-from copies import Copy, Report, can_be_copied, clause_of, texts_with
-from shared.toolchain import checks_at_once, kept_work
+from function_copies import Copy, Report, can_be_copied, clause_of, texts_with
+from running_proofs import linked, wait_for
+from shared.toolchain import cache_of, checks_at_once
 from toolchain import load_rt
 
 rt = load_rt()
-room = tempfile.mkdtemp(prefix='edits-')
+temporary_folder = tempfile.mkdtemp(prefix='edits-')
 saying = threading.Lock()
 turns = threading.Semaphore(checks_at_once(rt))
 
@@ -32,20 +32,20 @@ class Crate:
 
     def __init__(self, crate, found, jobs, proofs=None):
         self.crate, self.found, self.jobs, self.proofs = crate, found, jobs, proofs
-        self.folder, self.kept = Path(crate.folder), f'{room}/{crate.name}'
+        self.folder, self.cache = Path(crate.folder), f'{temporary_folder}/{crate.name}'
 
-    def checked(self, texts, kept=None, turn=turns):
-        """What the checker says of a copy of the crate with these texts in it, over the work in `kept`, which it adds
+    def checked(self, texts, cache=None, turn=turns):
+        """What the checker says of a copy of the crate with these texts in it, over the work in `cache`, which it adds
         to, or else over a copy of what is kept."""
-        with tempfile.TemporaryDirectory(dir=room) as at:
-            for part in (it for it in rt.rtlib.PARTS if (self.folder / it).is_dir()):
+        with tempfile.TemporaryDirectory(dir=temporary_folder) as at:
+            for part in (part for part in rt.rtlib.PARTS if (self.folder / part).is_dir()):
                 shutil.copytree(self.folder / part, f'{at}/{part}')
             write(Path(at), texts)
-            if not kept:
-                kept = f'{at}/kept'
-                linked(self.kept, kept)
+            if not cache:
+                cache = f'{at}/kept'
+                linked(self.cache, cache)
             words = self.crate.words(['--jobs', str(self.jobs)], keeps=False)
-            words = [*rt.rtlib.guarded(), rt.rtlib.RATTLE, 'check', *words, '--incremental', kept]
+            words = [*rt.rtlib.guarded(), rt.rtlib.RATTLE, 'check', *words, '--incremental', cache]
             how = {'cwd': at, 'stdin': subprocess.DEVNULL, 'stdout': subprocess.PIPE, 'stderr': subprocess.STDOUT}
             with turn:
                 ran = subprocess.run(words, errors='replace', check=False, **how)
@@ -61,23 +61,23 @@ class Crate:
         copies = [Copy(edit) for edit in self.found if can_be_copied(edit, self.folder)]
         in_place = [edit for edit in self.found if not can_be_copied(edit, self.folder)]
         return [*(self.judged_in_copies(copies) if copies else ()),
-                *(it for group in apart(in_place) for it in self.judged_in_place(group))]
+                *(result for group in apart(in_place) for result in self.judged_in_place(group))]
 
     def start(self):
         """Takes what is kept of the crate, or proves it. Gives the crate's fault, or None."""
         if self.proofs:
             # `rt ci` keeps what it proves of a crate where it tries more than one edit of it.
             has_seed = sum(edit.is_tried_alone for edit in self.found) > 1
-            below = [it.name for it in self.crate.below()]
-            lacking = wait_for(self.proofs, self.crate.name, below, has_seed, self.kept)
+            below = [crate.name for crate in self.crate.below()]
+            lacking = wait_for(self.proofs, self.crate.name, below, has_seed, self.cache)
             if lacking:
                 return f'{lacking} is not proved'
-        elif kept_work(rt, self.crate):
+        elif cache_of(rt, self.crate):
             try:
-                shutil.copytree(kept_work(rt, self.crate), self.kept)
+                shutil.copytree(cache_of(rt, self.crate), self.cache)
             except (OSError, shutil.Error):  # another checkout writes into it
-                shutil.rmtree(self.kept)
-        return None if os.path.isdir(self.kept) else self.prove()
+                shutil.rmtree(self.cache)
+        return None if os.path.isdir(self.cache) else self.prove()
 
     def prove(self):
         """Proves the crate without its mutants, and keeps that in its folder where nothing is. Gives the crate's fault,
@@ -85,14 +85,14 @@ class Crate:
         say(f'{self.crate.name}: is proved from nothing')
         # Those who build the archive for C wait for what is kept of its crate.
         turn = contextlib.nullcontext() if self.crate.is_static else turns
-        os.mkdir(self.kept)
-        report, to = self.checked({}, self.kept, turn), self.folder / 'out/incremental'
+        os.mkdir(self.cache)
+        report, to = self.checked({}, self.cache, turn), self.folder / 'out/incremental'
         if not report.last.startswith('logic=proved'):
             return fault_of_the_rest(report, []) or f'the crate is not proved without its edits: {report.last}'
         if not to.exists():
             to.parent.mkdir(parents=True, exist_ok=True)
             part = tempfile.mkdtemp(dir=to.parent, prefix='.')
-            shutil.copytree(self.kept, part, dirs_exist_ok=True)
+            shutil.copytree(self.cache, part, dirs_exist_ok=True)
             os.rename(part, to)
         return None
 
@@ -100,15 +100,15 @@ class Crate:
         """Judges copies by one check, and those that compile by another, where some do not."""
         texts = texts_with(copies, self.folder)
         report = self.checked(texts)
-        blamed = {} if report.is_told else blamed_by(report, copies, texts)
+        blamed = {} if report.is_complete else blamed_by(report, copies, texts)
         if blamed:
-            well = [it for it in copies if it not in blamed]
-            return [*((it.edit, False, f'it does not compile: {why}') for it, why in blamed.items()),
+            well = [copy for copy in copies if copy not in blamed]
+            return [*((copy.edit, False, f'it does not compile: {why}') for copy, why in blamed.items()),
                     *(self.judged_in_copies(well) if well else ())]
         fault = fault_of_the_rest(report, copies)
         if fault:
-            return [(it.edit, False, fault) for it in copies]
-        return [(it.edit, *judge(it.edit, [*filter(it.is_called, report.verdicts)], report)) for it in copies]
+            return [(copy.edit, False, fault) for copy in copies]
+        return [(copy.edit, *judge(copy.edit, [*filter(copy.is_called, report.verdicts)], report)) for copy in copies]
 
     def judged_in_place(self, edits):
         """Judges some that no copy shows by one check, and then those that do not pass so by one each: where one breaks
@@ -120,10 +120,11 @@ class Crate:
         report = self.checked(texts)
         places = {edit: places_of(edit, report) for edit in edits}
         stray = {*filter(report.is_refused, report.verdicts)}.difference(*places.values())
-        fault = None if report.is_told else f'it does not compile: {report.first_error()}'
+        fault = None if report.is_complete else f'it does not compile: {report.first_error()}'
         fault = f'another function is refused: {min(stray)}' if stray else fault
         came = [(edit, *((False, fault) if fault else judge(edit, places[edit], report))) for edit in edits]
-        return came if len(edits) == 1 else [it if it[1] else self.judged_in_place(it[:1])[0] for it in came]
+        return came if len(edits) == 1 else [
+            result if result[1] else self.judged_in_place(result[:1])[0] for result in came]
 
 
 def apart(edits):
@@ -131,8 +132,9 @@ def apart(edits):
     groups = []
     for edit in edits:
         own = {*edit.functions}
-        group = next((it for it in groups if None not in own and own.isdisjoint(f for one in it for f in one.functions)
-                      and None not in it[0].functions), None)
+        group = next((group for group in groups if None not in own
+                      and own.isdisjoint(f for one in group for f in one.functions)
+                      and None not in group[0].functions), None)
         if group:
             group.append(edit)
         else:
@@ -144,7 +146,7 @@ def places_of(edit, report):
     """What the checker calls the functions of an edit; one outside a function's body may break any."""
     if None in edit.functions:
         return [*filter(report.is_refused, report.verdicts)]
-    return [place for place in report.verdicts if any(it.is_called(place) for it in edit.functions)]
+    return [place for place in report.verdicts if any(function.is_called(place) for function in edit.functions)]
 
 
 def write(folder, texts):
@@ -165,7 +167,7 @@ def blamed_by(report, copies, texts):
 
 def fault_of_the_rest(report, copies):
     """What is not proved of a crate beside the copies, or None."""
-    if not report.is_told:
+    if not report.is_complete:
         return f'the crate is not read without its edits: {report.first_error()}'
     faults = (f'{place}: {said}' for place, said in report.verdicts.items()
               if not said.startswith(('proved', 'assumed')) and not any(copy.is_called(place) for copy in copies))
@@ -178,7 +180,7 @@ def judge(edit, places, report):
     refused = [*filter(report.is_refused, places)]
     said = '; '.join(report.verdicts[place] for place in places) or 'the check refuses no function'
     if edit.is_equal:
-        return bool(places) and all(report.verdicts[it].startswith('proved') for it in places), said
+        return bool(places) and all(report.verdicts[place].startswith('proved') for place in places), said
     if not refused:
         return False, f'not refused: {"all its goals are proved" if any(map(report.has_fault, places)) else said}'
     left, gone = {}, {}

@@ -37,6 +37,11 @@ def quoted(names):
     return ', '.join(f'`{name}`' for name in names)
 
 
+def link(name, path, line):
+    """A name in a page of docs/, as a link to its file and line."""
+    return f'[`{name}`](../{Path(path).relative_to(TOP)}#L{line})'
+
+
 def row(*cells):
     """A row of a page's table."""
     return f'| {" | ".join(map(str, cells))} |'.replace('|  |', '| |')

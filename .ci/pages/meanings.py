@@ -52,22 +52,22 @@ class Definition:
 @functools.cache
 def views():
     """The view of each type of the repository that has one."""
-    return {it[1]: Definition(it[1], f'Rattle.{crate}.src', '', it[0], imports_of(text))
-            for crate, texts in CODE.items() for text in texts for it in MODEL.finditer(text)}
+    return {match[1]: Definition(match[1], f'Rattle.{crate}.src', '', match[0], imports_of(text))
+            for crate, texts in CODE.items() for text in texts for match in MODEL.finditer(text)}
 
 
 @functools.cache
 def declared():
     """The words of each type's fields, or of what it stands for."""
     words = defaultdict(set)
-    for name, text in (it for texts in CODE.values() for code in texts for it in DECLARED.findall(code)):
+    for name, text in (pair for texts in CODE.values() for code in texts for pair in DECLARED.findall(code)):
         words[name].update(re.findall(r'\w+', re.sub('//.*', '', text)))
     return words
 
 
 def imports_of(code):
     """What the ghost imports of a file of code bring in."""
-    return tuple(it for line in re.findall(r'^ *ghost use [^;]*;', code, re.M) for it in entries(line))
+    return tuple(entry for line in re.findall(r'^ *ghost use [^;]*;', code, re.M) for entry in entries(line))
 
 
 def is_used(name, words):
@@ -165,13 +165,13 @@ class Meanings:
 
     def closure(self, texts):
         """All definitions on which texts with imports rest."""
-        seen, waiting = {}, [it for text in texts for it in self.reached_by(*text)]
+        seen, waiting = {}, [definition for text in texts for definition in self.reached_by(*text)]
         while waiting:
-            it = waiting.pop()
-            if it and it not in seen:
-                seen[it], words, file = it, words_of(it.text), file_of(it.module)
+            definition = waiting.pop()
+            if definition and definition not in seen:
+                seen[definition], words, file = definition, words_of(definition.text), file_of(definition.module)
                 waiting += (other for other in file.definitions.values() if is_used(other.name, words))
-                waiting += self.reached_by(it.text, file.imports)
+                waiting += self.reached_by(definition.text, file.imports)
         return [*seen]
 
 

@@ -4,24 +4,24 @@
 set -Eeuo pipefail
 trap 'echo "line $LINENO ended with status $?: $BASH_COMMAND" >&2' ERR
 cd /packages
-room=$(mktemp -d)
+scratch=$(mktemp -d)
 
 # Whether nothing is there now that was not, and nothing is gone, but for what the system notes for itself. /new has
 # what was written since, and /former all that was there before.
 leaves_nothing() {
-    local kind path told=
+    local kind path changes=
     while read -r kind path; do
         case $path in
         packages* | new | former | tmp* | root/.c* | var/log/* | var/cache/* | var/lib/dpkg/*-old) continue ;;
         esac
         if [[ $kind == c && -e /former/$path ]]; then
-            told+="gone: $path"$'\n'
+            changes+="gone: $path"$'\n'
         elif [[ $kind != c && ! -e /former/$path && ! -L /former/$path ]]; then
-            told+="left: $path"$'\n'
+            changes+="left: $path"$'\n'
         fi
     done < <(find /new -mindepth 1 -printf '%y %P\n')
-    printf %s "$told"
-    [[ -z $told ]]
+    printf %s "$changes"
+    [[ -z $changes ]]
 }
 
 sees_nothing() {
@@ -43,16 +43,16 @@ first_lines_of_the_shell() {
 builds() {
     local flags
     read -ra flags < <(pkg-config --cflags --libs "$2")
-    cc "$1" "${flags[@]}" -o "$room/built"
-    "$room/built"
-    cc "$1" "${flags[@]}" -o "$room/built-static" -Wl,-Bstatic "-l$3" -Wl,-Bdynamic "${@:4}"
-    "$room/built-static"
+    cc "$1" "${flags[@]}" -o "$scratch/built"
+    "$scratch/built"
+    cc "$1" "${flags[@]}" -o "$scratch/built-static" -Wl,-Bstatic "-l$3" -Wl,-Bdynamic "${@:4}"
+    "$scratch/built-static"
 }
 
 first_lines_of_c() {
-    builds first/begin.c proved_argon2 proved_argon2
+    builds first/quick_start.c proved_argon2 proved_argon2
     # (whole, since a reader that stops early can end ldd)
-    [[ $(ldd "$room/built") == *'libproved_argon2.so.1 => /'* ]]
+    [[ $(ldd "$scratch/built") == *'libproved_argon2.so.1 => /'* ]]
 }
 
 tarball() {
@@ -83,14 +83,14 @@ debian() {
 # What needs libargon2: a hash and a verdict of PHP, a header of cryptsetup, and a program that is built with it.
 works_with() {
     [[ $(php -r 'echo json_encode(password_verify("pw", password_hash("pw", PASSWORD_ARGON2ID)));') == true ]]
-    printf secret >"$room/key" && truncate -s 20M "$room/image"
+    printf secret >"$scratch/key" && truncate -s 20M "$scratch/image"
     /usr/sbin/cryptsetup luksFormat -q --type luks2 --pbkdf argon2id --pbkdf-force-iterations 4 --pbkdf-memory 4096 \
-        "$room/image" --key-file "$room/key"
-    /usr/sbin/cryptsetup open --test-passphrase --key-file "$room/key" "$room/image"
+        "$scratch/image" --key-file "$scratch/key"
+    /usr/sbin/cryptsetup open --test-passphrase --key-file "$scratch/key" "$scratch/image"
     printf '%s\n' '#include <argon2.h>' '#include <stdio.h>' 'int main(void) { char text[200];' \
         'return argon2id_hash_encoded(1, 64, 1, "pw", 2, "somesalt", 8, 32, text, 200)' \
-        '|| argon2id_verify(text, "pw", 2); }' >"$room/built.c"
-    builds "$room/built.c" libargon2 argon2 -pthread
+        '|| argon2id_verify(text, "pw", 2); }' >"$scratch/built.c"
+    builds "$scratch/built.c" libargon2 argon2 -pthread
     [[ $(dpkg -S "$(readlink -f "/usr/lib/$(cc -dumpmachine)/libargon2.so.1")") == "$1"* ]]
     [[ -z $(dpkg --audit) ]]
     apt-get check -qq
@@ -172,14 +172,14 @@ keeps_its_place() {
 }
 
 wheel() {
-    local in=$room/environment/bin
-    /usr/bin/python3 -m venv "$room/environment" || python3 -m venv "$room/environment"
-    (cd "$room/environment" && find . | sort) >"$room/before"
+    local in=$scratch/environment/bin
+    /usr/bin/python3 -m venv "$scratch/environment" || python3 -m venv "$scratch/environment"
+    (cd "$scratch/environment" && find . | sort) >"$scratch/before"
     "$in/pip" install --no-index --disable-pip-version-check proved_argon2-*_x86_64.whl
     "$in/python" first/PYTHON
     PROVED_ARGON2_CPU=x86-64-v2 "$in/python" first/PYTHON
     "$in/pip" uninstall -y proved-argon2
-    diff "$room/before" <(cd "$room/environment" && find . | sort)
+    diff "$scratch/before" <(cd "$scratch/environment" && find . | sort)
 }
 
 crate() {
@@ -189,14 +189,14 @@ crate() {
     PROVED_ARGON2_CPU=x86-64-v2 cargo run --offline --quiet
     rm "/packages/proved-argon2-$VERSION/lib/x86_64/libproved_argon2.a"
     cargo clean -q
-    if cargo run --offline --quiet 2>"$room/said"; then return 1; fi
-    grep 'the crate is not whole' "$room/said"
+    if cargo run --offline --quiet 2>"$scratch/said"; then return 1; fi
+    grep 'the crate is not whole' "$scratch/said"
 }
 
 javascript() {
-    local npm=(--offline --no-audit --no-fund --cache "$room/cache")
-    mkdir "$room/site"
-    cd "$room/site"
+    local npm=(--offline --no-audit --no-fund --cache "$scratch/cache")
+    mkdir "$scratch/site"
+    cd "$scratch/site"
     npm install "${npm[@]}" "/packages/proved-argon2-$VERSION.tgz"
     [[ $(ls node_modules) == proved-argon2 ]]
     cp /packages/first/JAVASCRIPT first.mjs

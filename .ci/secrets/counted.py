@@ -31,9 +31,9 @@ def counts(variant, length):
     differ from it in the first byte, in the last one, and in all; and what hashing a longer one takes."""
     words = [f'{variant} 19 2 64 2 {length} seq {password.hex()} {b"some-salt".hex()} {secret.hex()} -'
              for password, secret in (*SECRETS, LONGER)]
-    *hashing, longer = [taken_by(HASHES, f'hash_raw {it}') for it in words]
+    *hashing, longer = [taken_by(HASHES, f'hash_raw {line}') for line in words]
     bits, changes = int(hashing[0][1] or '0', 16), (0, 1 << 8 * length - 1, 1, (1 << 8 * length) - 1)
-    verifying = [taken_by(VERDICTS, f'verify_raw {words[0]} {bits ^ it:0{2 * length}x}') for it in changes]
+    verifying = [taken_by(VERDICTS, f'verify_raw {words[0]} {bits ^ change:0{2 * length}x}') for change in changes]
     return hashing, verifying, longer[0]
 
 

@@ -6,7 +6,7 @@ longer for some data."""
 import re
 from collections import Counter
 
-from leak import run
+from plant_leak import run
 
 X86 = re.compile(
     r'v?p((add|sub)[bdwq]|and|xor|or|mul(udq|ld)|maddwd|(max|min)ud|cmp(eq|gt)[bdq]|s[rl][la]v?[dwq]|shuf[bd]'
@@ -32,7 +32,7 @@ NEVER_STEADY = 'div divl idiv idivq divsd sqrtsd vdivps udiv sdiv fdiv frecpe fs
 PRODUCT = re.compile('v?pmuludq|um(ull|lal)2?')
 # The other instructions of what is proved, with how many there are: divisions by numbers of the settings. Those of a
 # segment have the lane that a block draws, which the address of the next one tells anyhow.
-DIVIDING = {'accepted_context': 1, 'proved_argon2_memory_len': 1, 'fill_lent_segment': 3}
+DIVIDING = {'accepted_context': 1, 'proved_argon2_memory_len': 1, 'fill_caller_segment': 3}
 # What the calls of a build begin with, in the archive that has both.
 OF_BUILD = re.compile(r'^proved_(?:x86_64_v[23]|armv8_a)_')
 
@@ -60,7 +60,7 @@ def hold_list(checks, label, steady):
 def hold_instructions(checks, label, found, steady, division):
     """Whether what is proved divides where it is named alone."""
     others = unsteady(found, steady)
-    wanted = Counter({(function, division): count for function, count in DIVIDING.items()})
-    if checks.hold(f'{label}: instructions', others == wanted, f'not on the list: {dict(others)}'):
+    expected = Counter({(function, division): count for function, count in DIVIDING.items()})
+    if checks.hold(f'{label}: instructions', others == expected, f'not on the list: {dict(others)}'):
         kinds = len({kind for _, kind in found})
         print(f'{label}: {sum(found.values())} instructions of {kinds} kinds, {sum(others.values())} of them divisions')

@@ -43,5 +43,5 @@ check_tests_in_c() {
         [[ " $* " == *" $name "* ]] || continue
         eval "flags=($flags)"
         check "$name.c" passes_test "$name" "$count" "${flags[@]}"
-    done < <(sed -nE 's/^hold_program ([a-z]+ [0-9]+) ?(.*)/\1 \2/p' "$run")
+    done < <(sed -nE 's/^hold_program ([a-z0-9_]+ [0-9]+) ?(.*)/\1 \2/p' "$run")
 }

@@ -64,7 +64,7 @@ class Function:
         self.of = re.sub('<.*', '', owner['owner'].strip()) if owner and self.indent else ''
         self.owner = f'{self.what} for {self.of}' if self.what else self.of
         head = found['rest'].partition(f'\n{self.indent}{{\n')[0]  # (a closure in the body may have clauses too)
-        self.clauses = [*(ghosts if self.what else ()), *(it.groups() for it in CLAUSE.finditer(head))]
+        self.clauses = [*(ghosts if self.what else ()), *(clause.groups() for clause in CLAUSE.finditer(head))]
 
     @property
     def crate(self):
@@ -107,9 +107,9 @@ class Module:
         self.is_test = 'tests' in path[1:]
         self.inner = [Module((*path, name), textwrap.dedent(inside)) for name, inside in INNER.findall(text)]
         self.types = {name: derives for derives, name in TYPE.findall(text)}
-        passed_on = (it for at, names in RE_EXPORT.findall(text.replace('pub use crate::', f'pub use {path[0]}::'))
-                     for it in [f'{at}::{name}' for name in re.findall(r'\w+', names)] or [at])
-        self.exports = {it.split('::')[-1]: tuple(it.split('::')) for it in passed_on}
+        passed_on = (item for at, names in RE_EXPORT.findall(text.replace('pub use crate::', f'pub use {path[0]}::'))
+                     for item in [f'{at}::{name}' for name in re.findall(r'\w+', names)] or [at])
+        self.exports = {item.split('::')[-1]: tuple(item.split('::')) for item in passed_on}
         self.functions = [*functions_in(text, self)] if file else []
         functions = (f.name for f in self.functions if f.is_public and not f.owner)
         self.names = {*self.types, *self.exports, *re.findall(r'^pub mod (\w+)(?:;| \{)', text, re.M), *functions}
@@ -199,13 +199,13 @@ class Edit:
         does."""
         if 'src' not in file.relative_to(TOP / 'crates' / self.crate).parts:
             return f'it changes {file.relative_to(TOP)}, which has no bodies'
-        before, after = (Counter(map(str.strip, promises(it))) for it in (file.read_text(encoding='utf-8'), text))
-        return next((f'it changes more than bodies: {it}' for it in before - after), None)
+        before, after = (Counter(map(str.strip, promises(code))) for code in (file.read_text(encoding='utf-8'), text))
+        return next((f'it changes more than bodies: {promise}' for promise in before - after), None)
 
 
 def promises(text):
     """The clauses and ghost items of a file."""
-    return [it[0] for it in PROMISE.finditer(text)]
+    return [promise[0] for promise in PROMISE.finditer(text)]
 
 
 def blocks_of_edits(crate):

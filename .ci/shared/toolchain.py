@@ -6,7 +6,7 @@ import subprocess
 from shared import TOP
 
 
-def kept_work(rt, crate):
+def cache_of(rt, crate):
     """The folder of kept work that a check of a crate best begins with, or None: that of another checkout too, where
     the kit knows of them."""
     if hasattr(rt, 'work_for'):

@@ -21,7 +21,7 @@ enum {
     MOST_PIECES = 512,
     MOST_PLACES = 1024,
     MOST_OF_MAPS = 1 << 20,
-    ROOM = 1 << 16,
+    STACK_SIZE = 1 << 16,
     BELOW = 1 << 15,
     ABOVE = 1 << 16,
     PAGE = 4096,
@@ -34,7 +34,7 @@ extern void *const __libc_stack_end;
 
 /* A stack to look from, and the plan, whose places end with 0: what is here is no memory of the program. */
 static struct {
-    uint8_t room[ROOM];
+    uint8_t stack[STACK_SIZE];
     struct {
         uint32_t dropped[MOST_PLACES], stops[MOST_PLACES];
         uint8_t pieces[MOST_PIECES][PIECE];
@@ -104,7 +104,7 @@ static void stop(int signal, siginfo_t *information, void *context)
     (void)information;
     while (program + own.plan.stops[number] != (uint8_t *)words[REG_RIP] - 1)
         number += 1;
-    if ((uint8_t *)&signal >= own.room && (uint8_t *)&signal < own.room + ROOM) {
+    if ((uint8_t *)&signal >= own.stack && (uint8_t *)&signal < own.stack + STACK_SIZE) {
         look(top - BELOW, top, AT_STOPS + number);
         look(top, top + ABOVE < end ? top + ABOVE : end, IN_CALLERS);
     }
@@ -141,7 +141,7 @@ static int keep_first(struct dl_phdr_info *information, size_t length, void *unu
 
 __attribute__((constructor)) static void begin(void)
 {
-    const stack_t stack = {.ss_sp = own.room, .ss_size = ROOM};
+    const stack_t stack = {.ss_sp = own.stack, .ss_size = STACK_SIZE};
     const struct sigaction at_breakpoint = {.sa_sigaction = stop, .sa_flags = SA_ONSTACK | SA_SIGINFO};
     const int file = open(getenv("PLAN"), O_RDONLY);
     count = ((size_t)read(file, &own.plan, sizeof own.plan) - sizeof own.plan.dropped - sizeof own.plan.stops) / PIECE;

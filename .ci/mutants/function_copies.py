@@ -34,7 +34,7 @@ class Copy:
         """The texts of its proofs by their paths in the crate, made from those of its function."""
         begin, name = self.function.folders, self.function.name
         found = folder.joinpath('proofs', *begin, name)
-        old, new = ('.'.join([rf'Rattle.{self.edit.crate}.proofs', *begin, it, '']) for it in (name, self.name))
+        old, new = ('.'.join([rf'Rattle.{self.edit.crate}.proofs', *begin, part, '']) for part in (name, self.name))
         texts = {}
         for path in sorted(found.rglob('*.antt')):
             text = path.read_text(encoding='utf-8').replace(old, new)
@@ -55,7 +55,7 @@ def can_be_copied(edit, folder):
 def texts_with(copies, folder):
     """The texts of a crate's files with copies in them, by their paths in the crate."""
     texts = {path: text for copy in copies for path, text in copy.proofs(folder).items()}
-    for copy in sorted(copies, key=lambda it: -it.function.last):
+    for copy in sorted(copies, key=lambda copy: -copy.function.last):
         path = copy.module.file.relative_to(folder).as_posix()
         lines = texts.get(path, copy.module.text).split('\n')
         lines[copy.function.last:copy.function.last] = ['', *copy.text.split('\n')]
@@ -67,12 +67,12 @@ class Report:
     """What a check wrote: the verdict of each function, and its errors, each joined to one line."""
 
     def __init__(self, output):
-        told = VERDICT.split(output)  # the notes on a function stand right above its verdict
-        self.verdicts = dict(zip(told[1::3], told[2::3]))
-        self.unproved = {place: UNPROVED.findall(notes) for notes, place in zip(told[::3], told[1::3])}
+        parts = VERDICT.split(output)  # the notes on a function stand right above its verdict
+        self.verdicts = dict(zip(parts[1::3], parts[2::3]))
+        self.unproved = {place: UNPROVED.findall(notes) for notes, place in zip(parts[::3], parts[1::3])}
         self.errors = [(path, int(line), re.sub(r'\n +', ' ', said)) for path, line, said in ERROR.findall(output)]
         self.last = output.rstrip('\n').rpartition('\n')[2]
-        self.is_told = self.last.startswith('logic=')
+        self.is_complete = self.last.startswith('logic=')
 
     def first_error(self):
         return '{}:{}: {}'.format(*self.errors[0]) if self.errors else self.last
@@ -87,7 +87,7 @@ class Report:
         """What is said of a function's proofs: one that calls itself has a mark before its name."""
         *folders, name = place.split('::')[1:]
         folders = tuple('/'.join(['proofs', *folders, mark + name, '']) for mark in ('', '+'))
-        return [it for it in self.errors if it[0].startswith(folders)]
+        return [error for error in self.errors if error[0].startswith(folders)]
 
     def has_fault(self, place):
         """Whether its answers have the fault that is put there."""
@@ -98,8 +98,8 @@ class Report:
         left, named = dict.fromkeys(self.unproved.get(place, []), 'it is not proved'), {}
         for goals in SEARCHED.findall(self.verdicts.get(place, '')):
             left.update(dict.fromkeys(re.findall(r'`([^`]+)`', goals), 'search did not prove it'))
-        told = [re.match(r'`([^`]+)`: (.*)', it[2]) for it in self.errors_of(place) if not is_put_there(it)]
-        for goal, why in (it.groups() for it in told if it):
+        matches = [re.match(r'`([^`]+)`: (.*)', error[2]) for error in self.errors_of(place) if not is_put_there(error)]
+        for goal, why in (match.groups() for match in matches if match):
             (named if NAMES.search(why[:400]) else left).setdefault(goal, why)
         return left, {goal: why for goal, why in named.items() if goal not in left}
 

@@ -74,16 +74,17 @@ class Question(NamedTuple):
     vector: Vector
     code: int = OK
     branches: int = 0
-    given: bytes = b''
+    verified: bytes = b''
     written: bytes = b''
     open: int = 0
     is_hiding: bool = True
 
     def packed(self):
-        it = self.vector
-        fields = it.password, it.salt, it.secret, it.data, self.given
-        return ASKED.pack(self.call, self.is_hiding, min(self.open, len(self.given)), it.variant, it.version, it.memory,
-                          it.passes, it.lanes, it.length) + b''.join(struct.pack('<I', len(at)) + at for at in fields)
+        vector = self.vector
+        fields = vector.password, vector.salt, vector.secret, vector.data, self.verified
+        return ASKED.pack(self.call, self.is_hiding, min(self.open, len(self.verified)), vector.variant, vector.version,
+                          vector.memory, vector.passes, vector.lanes, vector.length) + b''.join(
+                              struct.pack('<I', len(field)) + field for field in fields)
 
     def references(self):
         return self.vector.references() if self.is_hiding else 0
@@ -91,7 +92,7 @@ class Question(NamedTuple):
     def is_right(self, came, reads):
         """A verdict is hidden, but not that a text is none. A tag is to its last bit, and each letter of a text's hash
         in some bit, and nothing else is. Each reference is read at so many places."""
-        is_hidden = self.is_hiding and self.given != b'' and self.code != DECODING_FAIL
+        is_hidden = self.is_hiding and self.verified != b'' and self.code != DECODING_FAIL
         if came[:3] != (self.branches + reads * self.references(), is_hidden, self.code):
             return False
         text, bits = came.out.rstrip(b'\0') if self.call != HASH_RAW else came.out, came.bits
@@ -136,11 +137,12 @@ def vectors(variant, version):
     SALT SECRET DATA TAG`: those that write few blocks, and one over a memory that the library maps, if there is one by
     threads."""
     rows = [line.split() for line in (VECTORS / 'raw.txt').read_text(encoding='utf-8').splitlines()]
-    found = [Vector(VARIANTS.index(variant), *map(int, row[1:6]), *(bytes.fromhex(it.strip('-')) for it in row[6:]))
+    found = [Vector(VARIANTS.index(variant), *map(int, row[1:6]),
+                    *(bytes.fromhex(digits.strip('-')) for digits in row[6:]))
              for row in rows if row[:2] == [variant, version] and len(row) == 11 and (row[6], row[8]) != ('-', '-')]
-    mapped = [it for it in found if it.blocks() > FEW_BLOCKS and it.memory > MAPPED_BLOCKS]
+    mapped = [vector for vector in found if vector.blocks() > FEW_BLOCKS and vector.memory > MAPPED_BLOCKS]
     mapped = [*filter(has_threads, mapped), *mapped][:1]
-    return [it for it in found if it.blocks() <= FEW_BLOCKS or it in mapped]
+    return [vector for vector in found if vector.blocks() <= FEW_BLOCKS or vector in mapped]
 
 
 def texts(variant):
@@ -152,58 +154,60 @@ def texts(variant):
 
 # ---- the cases: of each vector some questions, of which the first two are asked where blocks are drawn from blocks
 
-def hash_raw(it):
-    return [Question(HASH_RAW, it, written=it.tag, is_hiding=is_hiding) for is_hiding in (True, False)]
+def hash_raw(vector):
+    return [Question(HASH_RAW, vector, written=vector.tag, is_hiding=is_hiding) for is_hiding in (True, False)]
 
 
-def hash_text(it):
-    return [Question(HASH_ENCODED, it, written=it.text(), open=len(it.head()))]
+def hash_text(vector):
+    return [Question(HASH_ENCODED, vector, written=vector.text(), open=len(vector.head()))]
 
 
-def wrong_hashes(it, places):
-    return [with_byte(it.tag, at, it.tag[at] ^ 1 << at % 8) for at in places]
+def wrong_hashes(vector, places):
+    return [with_byte(vector.tag, at, vector.tag[at] ^ 1 << at % 8) for at in places]
 
 
-def verify(it):
+def verify(vector):
     """Of hashes that differ in the first, the last and a drawn byte, or in each where a verdict is cheap; in all; and
     of drawn ones."""
-    draw = random.Random(it.salt)
-    places = range(it.length) if it.length * it.blocks() <= CHEAP else (0, it.length - 1, draw.randrange(it.length))
-    wrong = [*wrong_hashes(it, places), bytes(byte ^ 1 for byte in it.tag), draw.randbytes(it.length)]
-    return [Question(VERIFY_RAW, it, MISMATCH if given in wrong else OK, given=given) for given in (it.tag, *wrong)]
+    draw = random.Random(vector.salt)
+    places = range(vector.length) if vector.length * vector.blocks() <= CHEAP else (
+        0, vector.length - 1, draw.randrange(vector.length))
+    wrong = [*wrong_hashes(vector, places), bytes(byte ^ 1 for byte in vector.tag), draw.randbytes(vector.length)]
+    return [Question(VERIFY_RAW, vector, MISMATCH if tag in wrong else OK, verified=tag)
+            for tag in (vector.tag, *wrong)]
 
 
-def verify_own_text(it):
+def verify_own_text(vector):
     """Of texts of hashes that differ in the first, the last and a drawn byte, and of texts in whose hash a byte is no
     letter: the first, the last but one and a drawn one."""
-    text, at, draw = it.text(), len(it.head()), random.Random(it.salt)
+    text, at, draw = vector.text(), len(vector.head()), random.Random(vector.salt)
     ends, places = [(text, OK, OF_A_TEXT)], (at, len(text) - 2, draw.randrange(at, len(text) - 1))
-    for wrong in wrong_hashes(it, (0, it.length - 1, draw.randrange(it.length))):
-        ends.append((it._replace(tag=wrong).text(), MISMATCH, OF_A_TEXT))
+    for wrong in wrong_hashes(vector, (0, vector.length - 1, draw.randrange(vector.length))):
+        ends.append((vector._replace(tag=wrong).text(), MISMATCH, OF_A_TEXT))
     ends += [(with_byte(text, place, byte), DECODING_FAIL, 2) for place in places for byte in b'$=']
-    return [Question(VERIFY_ENCODED, it, code, branches, given, open=at) for given, code, branches in ends]
+    return [Question(VERIFY_ENCODED, vector, code, branches, stored, open=at) for stored, code, branches in ends]
 
 
-def verify_text(it):
-    text, code = it
+def verify_text(text_and_code):
+    text, code = text_and_code
     inputs = Vector(VARIANTS.index('argon2i'), 0, 0, 0, 1, 0, b'password')
     return [Question(VERIFY_ENCODED, inputs, code, OF_A_TEXT, text, open=text.rindex(b'$') + 1)]
 
 
-def password(it):
+def password(vector):
     """A text that is written for a password alone, and verdicts on one of libargon2's."""
     text = ctypes.create_string_buffer(128)
-    PEER.argon2id_hash_encoded(it.passes, it.memory, it.lanes, it.password, SIZE(len(it.password)), it.salt,
-                               SIZE(len(it.salt)), SIZE(it.length), text, SIZE(len(text)))
-    ends = (it, OK), (it._replace(password=it.password[:-1]), MISMATCH)
-    return [Question(PASSWORD_HASH, it, open=len(it.head())),
-            *(Question(PASSWORD_VERIFY, vector, code, given=text.value, open=len(text.value)) for vector, code in ends)]
+    PEER.argon2id_hash_encoded(vector.passes, vector.memory, vector.lanes, vector.password, SIZE(len(vector.password)),
+                               vector.salt, SIZE(len(vector.salt)), SIZE(vector.length), text, SIZE(len(text)))
+    ends = (vector, OK), (vector._replace(password=vector.password[:-1]), MISMATCH)
+    return [Question(PASSWORD_HASH, vector, open=len(vector.head())),
+            *(Question(PASSWORD_VERIFY, one, code, verified=text.value, open=len(text.value)) for one, code in ends)]
 
 
 def asked(case, variant, version):
     """The vectors of a case, each with its questions."""
     if case == password:  # of the settings of password_hash (proved_argon2_owasp2)
-        it = Vector(VARIANTS.index(variant), int(version), 2, 19456, 1, 32, b'a password', b'of sixteen bytes')
-        return [password(it)]
+        vector = Vector(VARIANTS.index(variant), int(version), 2, 19456, 1, 32, b'a password', b'of sixteen bytes')
+        return [password(vector)]
     found = texts(variant) if case == verify_text else vectors(variant, version)
-    return [case(it)[:None if variant == 'argon2i' else 2] for it in found]
+    return [case(vector)[:None if variant == 'argon2i' else 2] for vector in found]

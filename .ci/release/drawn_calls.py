@@ -1,6 +1,6 @@
 """What the library answers to settings and inputs that are drawn from a seed, so that two builds of it can be compared:
 
-    PROVED_ARGON2_LIBRARY=FILE drawn.py SEED COUNT
+    PROVED_ARGON2_LIBRARY=FILE drawn_calls.py SEED COUNT
 
 A line for each call: the settings, the numbers that calls return, the tag and the string. The status is 0 where each
 string is that of its password, and of no other: so is that of another build, if that prints the same.
@@ -11,7 +11,7 @@ import sys
 
 from proved_argon2._library import MISMATCH, OK, TOO_COSTLY, NumberLimits, Options, Settings, _library
 
-MOST, ROOM, ANY, MOST_LANES, BY_THREADS = 96, 512, (1 << 32) - 1, 8, 25
+MOST, CAPACITY, ANY, MOST_LANES, BY_THREADS = 96, 512, (1 << 32) - 1, 8, 25
 
 
 def threads_of(number):
@@ -37,23 +37,23 @@ def draw(numbers, threads):
 
 def call(name, *arguments):
     """The number that a call returns. Bytes go with their length."""
-    given = [it for argument in arguments for it in (
+    values = [value for argument in arguments for value in (
         (argument, ctypes.c_size_t(len(argument))) if isinstance(argument, (bytes, ctypes.Array)) else (argument,))]
-    return getattr(_library, f'proved_argon2_{name}')(*given)
+    return getattr(_library, f'proved_argon2_{name}')(*values)
 
 
 def is_right(settings, inputs, threads):
     """Makes the calls of one drawing, and prints what they give."""
     length, (pwd, _, *others) = min(settings.hash_length, MOST), inputs
-    tag, same, room = (ctypes.create_string_buffer(it) for it in (length, length, ROOM))
+    tag, same, encoded = (ctypes.create_string_buffer(size) for size in (length, length, CAPACITY))
     by, options = ctypes.byref(settings), ctypes.byref(Options(ctypes.sizeof(Options), threads))
     made = [call('hash_raw', *inputs, by, tag), call('hash_raw_with', options, *inputs, by, same),
-            call('hash_encoded', *inputs, by, room)]
+            call('hash_encoded', *inputs, by, encoded)]
     print(*(getattr(settings, name) for name, _ in Settings._fields_), threads, *made, end=' ')
     if made[0] != OK:
         print()
         return True
-    text, wrong = room.value, bytes([*tag.raw[:-1], tag.raw[-1] ^ 128])
+    text, wrong = encoded.value, bytes([*tag.raw[:-1], tag.raw[-1] ^ 128])
     most = ctypes.byref(NumberLimits(settings.mem_cost - 1, ANY, ANY, ANY << 32))
     verdicts = [call('verify_raw', *inputs, by, tag.raw), call('verify_encoded_with', options, text, pwd, *others),
                 call('verify_encoded_within', text, pwd, *others, most),

@@ -31,21 +31,23 @@ class Function:
     regions: dict
     words: tuple
     written: str
-    wanted: Callable
+    definition: Callable
     only: tuple
 
     def run(self, code, begin, flag, entry, values=None):
         """A machine after a run over values, or else a variable for each word; and what is wrong with it, or None."""
         sizes = {name: WORD * size for name, size in self.regions.items()}
         machine = code.kind(code, sizes, self.written, entry)
-        regions = {name: [variable(f'{name}{it}') for it in range(size)] for name, size in self.regions.items()}
+        regions = {name: [variable(f'{name}{index}') for index in range(size)] for name, size in self.regions.items()}
         words = [*map(variable, self.words)]
         if values:
-            regions, words = {name: [values() for _ in it] for name, it in regions.items()}, [values() for _ in words]
-            machine.memory = {(name, WORD * at): word for name, it in regions.items() for at, word in enumerate(it)}
+            regions, words = ({name: [values() for _ in region] for name, region in regions.items()},
+                              [values() for _ in words])
+            machine.memory = {(name, WORD * at): word
+                              for name, region in regions.items() for at, word in enumerate(region)}
         try:
             machine.run(machine.enter(begin, *map(variable, regions), *words, flag=flag))
-            return machine, machine.fault(self.wanted(flag, *regions.values(), *([words] if words else [])))
+            return machine, machine.fault(self.definition(flag, *regions.values(), *([words] if words else [])))
         except (Fault, TypeError, ValueError, LookupError, AttributeError) as fault:
             # (a changed instruction can make anything of an operand; what cannot be run is wrong)
             return machine, f'{fault} ({machine.after:#x})'

@@ -21,23 +21,23 @@ def linked(folder, to):
     shutil.copytree(folder, to, copy_function=copy)
 
 
-def checks_of(crate, room):
+def checks_of(crate, temporary_folder):
     """The checks that run over what `rt ci` keeps of a crate: the folder with that, and the one in which it runs."""
-    for process in glob.glob('/proc/[0-9]*') if glob.glob(f'{room}/rt-edits-*') else ():
+    for process in glob.glob('/proc/[0-9]*') if glob.glob(f'{temporary_folder}/rt-edits-*') else ():
         try:
             words = Path(process, 'cmdline').read_text(encoding='utf-8', errors='replace').split('\0')
-            kept = words[words.index('--incremental') + 1]
-            if kept.startswith(f'{room}/rt-edits-') and words[words.index('--crate-name') + 1] == crate:
-                yield kept, os.readlink(f'{process}/cwd')
+            cache = words[words.index('--incremental') + 1]
+            if cache.startswith(f'{temporary_folder}/rt-edits-') and words[words.index('--crate-name') + 1] == crate:
+                yield cache, os.readlink(f'{process}/cwd')
         except (OSError, ValueError):
             pass  # it has ended, or is another
 
 
-def copy_seed(kept, to):
+def copy_seed(cache, to):
     """Whether it could be copied before it is removed. A release of the kit tries each edit over a copy of the seed."""
-    seed = f'{os.path.dirname(kept)}/seed'
+    seed = f'{os.path.dirname(cache)}/seed'
     try:
-        linked(seed if os.path.isdir(seed) else kept, to)
+        linked(seed if os.path.isdir(seed) else cache, to)
     except (OSError, shutil.Error):
         shutil.rmtree(to, ignore_errors=True)
     return os.path.isdir(to)
@@ -51,13 +51,13 @@ def wait_for(proofs, crate, below, has_seed, to):
 
     first = None
     while True:
-        process, _, room = text_of('run').partition(' ')
+        process, _, temporary_folder = text_of('run').partition(' ')
         # (asked first, since what is said is whole then)
         has_ended = bool(process) and not os.path.exists(f'/proc/{process}')
         said = dict(SAID.findall(text_of('said')))
-        refused = [it for it in (*below, crate) if said.get(it) == 'NOT PROVED']
-        lacking = [it for it in below if it not in said]
-        for check in checks_of(crate, room) if has_seed else ():
+        refused = [name for name in (*below, crate) if said.get(name) == 'NOT PROVED']
+        lacking = [name for name in below if name not in said]
+        for check in checks_of(crate, temporary_folder) if has_seed else ():
             first = first or check
             # The first check proves the crate, over the seed that others then copy or take themselves.
             has_seed = has_seed and (check == first or not copy_seed(check[0], to))

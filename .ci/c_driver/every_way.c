@@ -26,7 +26,7 @@ enum { LONG = 4 * KIB }; /* blocks of a lane in a slice, which only its own thre
 
 static struct {
     uint32_t lanes, threads, passes, switches, segment;
-    bool is_large, is_lent, is_verdict, is_told, has_pool, is_long;
+    bool is_large, is_callers, is_verdict, has_progress, has_pool, is_long;
 } asked;
 
 /* ---- choices */
@@ -60,9 +60,9 @@ static bool has_another_run(void)
 static void must(bool holds, const char *what)
 {
     if (!holds) {
-        printf("fault: %s;%s%s%s%s%s%s, at", what, asked.is_large ? " large" : "", asked.is_lent ? " lent" : "",
-            asked.is_verdict ? " verdict" : "", asked.is_told ? " told" : "", asked.has_pool ? " pool" : "",
-            asked.is_long ? " long" : "");
+        printf("fault: %s;%s%s%s%s%s%s, at", what, asked.is_large ? " large" : "",
+            asked.is_callers ? " caller's memory" : "", asked.is_verdict ? " verdict" : "",
+            asked.has_progress ? " progress" : "", asked.has_pool ? " pool" : "", asked.is_long ? " long" : "");
         for (size_t i = 0; i < depth; i++) {
             printf(" %u", choices[i].way);
         }
@@ -79,10 +79,10 @@ static _Alignas(64) block arena[4 * MOST_THREADS * LONG]; /* of which the first 
 enum kind { LINES, PAGES, BYTES, WORKERS };
 
 static struct run {
-    uint32_t code;          /* how the call is to end: nothing fails behind the first failure */
-    uint32_t begun, filled; /* lanes, a bit for each */
-    uint64_t stage, told;   /* slices that are filled, or are being filled, and those that were told */
-    bool is_finished, is_dirty, is_forked, is_kept, is_pool_wrong;
+    uint32_t code;            /* how the call is to end: nothing fails behind the first failure */
+    uint32_t begun, filled;   /* lanes, a bit for each */
+    uint64_t stage, reported; /* slices that are filled, or are being filled, and those that were reported */
+    bool is_finished, is_dirty, is_forked, is_caller_saved, is_pool_wrong;
     uint32_t switches; /* how often another thread went on than had to */
     size_t there;      /* bytes that were populated */
     struct {
@@ -187,13 +187,13 @@ static void run_member(void)
 
 static void begin_member(uint32_t number)
 {
-    struct thread *const it = &threads[number];
-    __asan_unpoison_memory_region(it->stack, sizeof it->stack);
-    getcontext(&it->context);
-    it->context.uc_stack = (stack_t){.ss_sp = it->stack, .ss_size = sizeof it->stack};
-    makecontext(&it->context, run_member, 0);
-    it->state = READY;
-    it->woken = it->waited = 0;
+    struct thread *const thread = &threads[number];
+    __asan_unpoison_memory_region(thread->stack, sizeof thread->stack);
+    getcontext(&thread->context);
+    thread->context.uc_stack = (stack_t){.ss_sp = thread->stack, .ss_size = sizeof thread->stack};
+    makecontext(&thread->context, run_member, 0);
+    thread->state = READY;
+    thread->woken = thread->waited = 0;
 }
 
 team *start_team(uint32_t count, void (*runs)(void *arg, team *own, uint32_t number), void *arg)
@@ -246,10 +246,10 @@ void await(team *own, uint32_t number)
 }
 
 /* All are woken for each step and at the end. */
-static void look_at_member(const struct thread *it)
+static void look_at_member(const struct thread *thread)
 {
-    must(it->state == DONE, "all threads are joined");
-    must(run.code != PROVED_ARGON2_OK || it->woken == 4 * asked.passes + 2, "a thread is woken for each step");
+    must(thread->state == DONE, "all threads are joined");
+    must(run.code != PROVED_ARGON2_OK || thread->woken == 4 * asked.passes + 2, "a thread is woken for each step");
 }
 
 void end_team(team *own)
@@ -274,14 +274,14 @@ void end_team(team *own)
 
 caller keep_caller(void)
 {
-    run.is_kept = true;
+    run.is_caller_saved = true;
     return (caller){.error = errno, .cancel = 5};
 }
 
-void restore_caller(caller kept)
+void restore_caller(caller saved)
 {
-    must(kept.cancel == 5, "what was kept of the caller is restored");
-    errno = kept.error;
+    must(saved.cancel == 5, "what was saved of the caller is restored");
+    errno = saved.error;
 }
 
 static void *take(void *at, size_t len, enum kind kind)
@@ -302,13 +302,13 @@ static size_t give_back(void *at, enum kind kind)
             return run.taken[i].len;
         }
     }
-    must(false, "what is given back was taken, and so");
+    must(false, "what is freed was taken, and so");
     return 0;
 }
 
 void *take_lines(size_t bytes)
 {
-    must(!asked.is_large && !asked.is_lent && bytes == arena_len(), "a little memory is the heap's");
+    must(!asked.is_large && !asked.is_callers && bytes == arena_len(), "a little memory is the heap's");
     return fails(PROVED_ARGON2_OUT_OF_MEMORY) ? NULL : take(arena, bytes, LINES);
 }
 
@@ -320,7 +320,7 @@ void free_lines(void *lines)
 
 void *map_pages(size_t bytes)
 {
-    must(asked.is_large && !asked.is_lent && bytes == arena_len(), "much memory is mapped");
+    must(asked.is_large && !asked.is_callers && bytes == arena_len(), "much memory is mapped");
     return fails(PROVED_ARGON2_OUT_OF_MEMORY) ? NULL : take(arena, bytes, PAGES);
 }
 
@@ -334,7 +334,7 @@ bool populate_pages(void *pages, size_t bytes)
 {
     const size_t from = (size_t)((char *)pages - (char *)arena);
     go_on();
-    must(!asked.is_lent && asked.is_large && bytes != 0 && from + bytes <= arena_len(), "pages of the call's own");
+    must(!asked.is_callers && asked.is_large && bytes != 0 && from + bytes <= arena_len(), "pages of the call's own");
     run.there += bytes;
     return !fails(PROVED_ARGON2_OUT_OF_MEMORY);
 }
@@ -381,9 +381,9 @@ void __wrap_free(void *at)
 
 #define SLICE(number) (arena + (number)*slice_len())
 
-static void look_at_job(const proved_argon2_job *it)
+static void look_at_job(const proved_argon2_job *passed_job)
 {
-    must(memcmp(it, &job, sizeof job) == 0, "a step of this job");
+    must(memcmp(passed_job, &job, sizeof job) == 0, "a step of this job");
     must(run.code == PROVED_ARGON2_OK, "no step behind a failure");
 }
 
@@ -397,19 +397,19 @@ static void look_at_lane(uint32_t *lanes, uint32_t lane, uint32_t slice, block *
     own->words[0] = 1;
 }
 
-uint32_t proved_argon2_job_begin(const proved_argon2_job *it, uint32_t lane, block *own, size_t own_len)
+uint32_t proved_argon2_job_begin(const proved_argon2_job *passed_job, uint32_t lane, block *own, size_t own_len)
 {
     go_on();
     if (run.code != PROVED_ARGON2_OK) {
         return PROVED_ARGON2_OK; /* (what other threads do behind a failure is nobody's) */
     }
-    look_at_job(it);
+    look_at_job(passed_job);
     must(run.stage == 0, "first blocks come first");
     look_at_lane(&run.begun, lane, 0, own, own_len);
     return fails(PROVED_ARGON2_NO_JOB) ? PROVED_ARGON2_NO_JOB : PROVED_ARGON2_OK;
 }
 
-uint32_t proved_argon2_job_fill(const proved_argon2_job *it, uint32_t pass, uint32_t slice, uint32_t lane,
+uint32_t proved_argon2_job_fill(const proved_argon2_job *passed_job, uint32_t pass, uint32_t slice, uint32_t lane,
     const block *first, size_t first_len, const block *second, size_t second_len, const block *third, size_t third_len,
     block *own, size_t own_len)
 {
@@ -418,7 +418,7 @@ uint32_t proved_argon2_job_fill(const proved_argon2_job *it, uint32_t pass, uint
     if (run.code != PROVED_ARGON2_OK) {
         return PROVED_ARGON2_OK;
     }
-    look_at_job(it);
+    look_at_job(passed_job);
     if (run.stage == 0 || run.filled == all_lanes()) {
         must(run.begun == all_lanes(), "a slice begins once the step before it is done");
         run.stage++;
@@ -450,18 +450,18 @@ static bool is_filled(const block *last, size_t last_len)
 }
 
 uint32_t proved_argon2_job_finish(
-    const proved_argon2_job *it, const block *last, size_t last_len, uint8_t *out, size_t out_len)
+    const proved_argon2_job *passed_job, const block *last, size_t last_len, uint8_t *out, size_t out_len)
 {
-    look_at_job(it);
+    look_at_job(passed_job);
     return finish(!asked.is_verdict && is_filled(last, last_len), out, out_len, PROVED_ARGON2_WRONG_LENGTH);
 }
 
 static const uint8_t hash[TAG] = {1, 2, 3, 4};
 
-uint32_t proved_argon2_job_verify(const proved_argon2_job *it, const block *last, size_t last_len,
+uint32_t proved_argon2_job_verify(const proved_argon2_job *passed_job, const block *last, size_t last_len,
     const uint8_t *verified, size_t verified_len, uint8_t *tag, size_t tag_len)
 {
-    look_at_job(it);
+    look_at_job(passed_job);
     must(verified == hash && verified_len == TAG, "the hash that is verified");
     return finish(asked.is_verdict && is_filled(last, last_len), tag, tag_len, PROVED_ARGON2_MISMATCH);
 }
@@ -473,16 +473,16 @@ static bool is_whole(const block *blocks, size_t blocks_len)
 }
 
 uint32_t proved_argon2_job_hash_over(
-    const proved_argon2_job *it, block *blocks, size_t blocks_len, uint8_t *out, size_t out_len)
+    const proved_argon2_job *passed_job, block *blocks, size_t blocks_len, uint8_t *out, size_t out_len)
 {
-    look_at_job(it);
+    look_at_job(passed_job);
     return finish(!asked.is_verdict && is_whole(blocks, blocks_len), out, out_len, PROVED_ARGON2_WRONG_LENGTH);
 }
 
-uint32_t proved_argon2_job_verify_over(const proved_argon2_job *it, block *blocks, size_t blocks_len,
+uint32_t proved_argon2_job_verify_over(const proved_argon2_job *passed_job, block *blocks, size_t blocks_len,
     const uint8_t *verified, size_t verified_len, uint8_t *tag, size_t tag_len)
 {
-    look_at_job(it);
+    look_at_job(passed_job);
     must(verified == hash && verified_len == TAG, "the hash that is verified");
     return finish(asked.is_verdict && is_whole(blocks, blocks_len), tag, tag_len, PROVED_ARGON2_MISMATCH);
 }
@@ -492,8 +492,8 @@ uint32_t proved_argon2_job_verify_over(const proved_argon2_job *it, block *block
 /* Goes on, stops, or goes on in a child that was forked here, where there are no other threads. */
 static int tell(void *arg, uint64_t done, uint64_t all)
 {
-    must(arg == &asked && run.code == PROVED_ARGON2_OK && done == ++run.told && all == 4 * (uint64_t)asked.passes,
-        "each slice is told once");
+    must(arg == &asked && run.code == PROVED_ARGON2_OK && done == ++run.reported && all == 4 * (uint64_t)asked.passes,
+        "each slice is reported once");
     must(run.filled == all_lanes() && run.stage == done && current == 0, "it is filled then");
     errno = 5;
     go_on();
@@ -530,25 +530,25 @@ static int run_tasks(void *pool, uint32_t tasks, void (*task)(void *arg, uint32_
 
 static uint32_t make_call(uint8_t *tag)
 {
-    call it;
+    struct call call;
     options with = PROVED_ARGON2_OPTIONS;
     with.threads = asked.threads;
-    with.memory = asked.is_lent ? arena : NULL;
-    with.memory_len = asked.is_lent ? arena_len() : 0;
+    with.memory = asked.is_callers ? arena : NULL;
+    with.memory_len = asked.is_callers ? arena_len() : 0;
     with.run = asked.has_pool ? run_tasks : NULL;
     with.pool = &job;
-    with.tell = asked.is_told ? tell : NULL;
+    with.tell = asked.has_progress ? tell : NULL;
     with.arg = &asked;
-    uint32_t code = begin_call(&it, &with, false);
-    it.job = job;
+    uint32_t code = begin_call(&call, &with, false);
+    call.job = job;
     if (!asked.is_verdict) {
-        code = compute(&it, NULL, tag);
-    } else if ((code = take_bytes(&it, TAG)) == PROVED_ARGON2_OK) {
-        code = compute(&it, hash, it.bytes);
+        code = compute(&call, NULL, tag);
+    } else if ((code = take_bytes(&call, TAG)) == PROVED_ARGON2_OK) {
+        code = compute(&call, hash, call.bytes);
     }
-    code = end_call(&it, code);
-    for (size_t i = 0; i < sizeof it; i++) {
-        must(((const unsigned char *)&it)[i] == 0, "the call is cleared");
+    code = end_call(&call, code);
+    for (size_t i = 0; i < sizeof call; i++) {
+        must(((const unsigned char *)&call)[i] == 0, "the call is cleared");
     }
     return code;
 }
@@ -558,13 +558,14 @@ static void look_at_end(uint32_t code, const uint8_t *tag)
     const bool is_written = code == PROVED_ARGON2_OK && !asked.is_verdict;
     must(code == run.code, "the call returns what failed first");
     must(run.is_finished || code != PROVED_ARGON2_OK, "a result is one of a proved call");
-    must(!asked.is_told || code != PROVED_ARGON2_OK || run.told == 4 * (uint64_t)asked.passes, "each slice is told");
+    must(!asked.has_progress || code != PROVED_ARGON2_OK || run.reported == 4 * (uint64_t)asked.passes,
+        "each slice is reported");
     must(tag[0] == (is_written ? 3 : 9) && tag[TAG - 1] == tag[0], "a tag is written, or nothing");
     must(!run.is_dirty, "the blocks are cleared");
-    must(errno == ERROR_BEFORE && run.is_kept && !is_team && current == 0, "the caller's thread is as it was");
-    must(code != PROVED_ARGON2_OK || asked.is_lent || !asked.is_large || run.there == arena_len(), "all pages came");
+    must(errno == ERROR_BEFORE && run.is_caller_saved && !is_team && current == 0, "the caller's thread is as it was");
+    must(code != PROVED_ARGON2_OK || asked.is_callers || !asked.is_large || run.there == arena_len(), "all pages came");
     for (size_t i = 0; i < run.count; i++) {
-        must(!run.taken[i].is_live, "what was taken is given back");
+        must(!run.taken[i].is_live, "what was taken is freed");
     }
 }
 
@@ -584,14 +585,14 @@ static uint64_t run_all(void)
     return runs;
 }
 
-/* A kind of call: large or not, over lent memory or its own, a verdict or a hash, told or not, by a pool or not, and by
- * threads in long parts or not. */
+/* A kind of call: large or not, over the caller's memory or its own, a verdict or a hash, with progress or not, by a
+ * pool or not, and by threads in long parts or not. */
 static uint64_t run_kind(unsigned kind)
 {
     asked.is_large = kind & 1;
-    asked.is_lent = kind >> 1 & 1;
+    asked.is_callers = kind >> 1 & 1;
     asked.is_verdict = kind >> 2 & 1;
-    asked.is_told = kind >> 3 & 1;
+    asked.has_progress = kind >> 3 & 1;
     asked.has_pool = kind >> 4 & 1;
     asked.is_long = kind >> 5 & 1;
     if (asked.is_long && (!asked.is_large || asked.has_pool || asked.lanes == 1 || asked.threads == 1)) {

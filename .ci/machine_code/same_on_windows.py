@@ -20,17 +20,17 @@ class Carried:
         self.addresses = {name: at for at, name in code.names.items()}
         self.symbols = [*self.elf.get_section_by_name('.symtab').iter_symbols()]
         self.lay_out()
-        first = next(it for it in self.symbols if it.name == f'proved_argon2_{FIRST_CALL}')
+        first = next(symbol for symbol in self.symbols if symbol.name == f'proved_argon2_{FIRST_CALL}')
         self.bases = {True: self.addresses[prefix + FIRST_CALL] - self.offsets[first['st_shndx']] - first['st_value']}
 
     def lay_out(self):
         """Where code and constants are, each from where the first of its kind begins: one behind the other."""
         ends, self.sections, self.offsets = {True: 0, False: 0}, {}, {}
-        for index, it in enumerate(self.elf.iter_sections()):
-            if it['sh_flags'] & SH_FLAGS.SHF_ALLOC:
-                kind, align = self.is_code(it), it['sh_addralign']
-                self.sections[index], self.offsets[index] = it, -(-ends[kind] // align) * align
-                ends[kind] = self.offsets[index] + it['sh_size']
+        for index, section in enumerate(self.elf.iter_sections()):
+            if section['sh_flags'] & SH_FLAGS.SHF_ALLOC:
+                kind, align = self.is_code(section), section['sh_addralign']
+                self.sections[index], self.offsets[index] = section, -(-ends[kind] // align) * align
+                ends[kind] = self.offsets[index] + section['sh_size']
 
     @staticmethod
     def is_code(section):
@@ -55,20 +55,21 @@ class Carried:
     def linked(self, index):
         """A section's bytes, as they have to be at its address."""
         content, address = bytearray(self.sections[index].data()), self.address(index)
-        for it in self.relocations(index):
-            begin, (width, is_relative) = it['r_offset'], FIELDS[it['r_info_type']]
-            own = (address + begin if is_relative else 0) - it['r_addend']
+        for relocation in self.relocations(index):
+            begin, (width, is_relative) = relocation['r_offset'], FIELDS[relocation['r_info_type']]
+            own = (address + begin if is_relative else 0) - relocation['r_addend']
             field = int.from_bytes(self.found(address + begin, width), 'little', signed=True)
-            target = self.target(self.symbols[it['r_info_sym']], field + own)
+            target = self.target(self.symbols[relocation['r_info_sym']], field + own)
             content[begin:begin + width] = (target - own).to_bytes(width, 'little', signed=True)
         return content
 
     def relocations(self, index):
-        tables = [it for it in self.elf.iter_sections() if isinstance(it, RelocationSection) and it['sh_info'] == index]
-        return [it for table in tables for it in table.iter_relocations()]
+        tables = [section for section in self.elf.iter_sections()
+                  if isinstance(section, RelocationSection) and section['sh_info'] == index]
+        return [relocation for table in tables for relocation in table.iter_relocations()]
 
     def differences(self):
         """The sections that are not there as they have to be: code first, which leads to constants."""
-        order = sorted(self.sections, key=lambda it: not self.is_code(self.sections[it]))
-        return [self.sections[it].name for it in order
-                if self.linked(it) != self.found(self.address(it), self.sections[it]['sh_size'])]
+        order = sorted(self.sections, key=lambda index: not self.is_code(self.sections[index]))
+        return [self.sections[index].name for index in order
+                if self.linked(index) != self.found(self.address(index), self.sections[index]['sh_size'])]
