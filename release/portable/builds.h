@@ -12,7 +12,7 @@
 #ifdef ONLY_BUILD /* (where there is no other) */
 
 #define DECLARED(answer, name, taken) answer IN_BUILD(ONLY_BUILD, name) taken;
-#define MADE(name, given, refusal) return IN_BUILD(ONLY_BUILD, name) given;
+#define MADE(name, arguments, otherwise) return IN_BUILD(ONLY_BUILD, name) arguments;
 
 #else
 
@@ -20,11 +20,11 @@
 #define DECLARED(answer, name, taken) \
     __attribute__((sysv_abi)) answer IN_BUILD(x86_64_v2, name) taken; \
     __attribute__((sysv_abi)) answer IN_BUILD(x86_64_v3, name) taken;
-#define MADE(name, given, refusal) \
+#define MADE(name, arguments, otherwise) \
     switch (build_here()) { \
-    case X86_64_V3: return IN_BUILD(x86_64_v3, name) given; \
-    case X86_64_V2: return IN_BUILD(x86_64_v2, name) given; \
-    default: return refusal; \
+    case X86_64_V3: return IN_BUILD(x86_64_v3, name) arguments; \
+    case X86_64_V2: return IN_BUILD(x86_64_v2, name) arguments; \
+    default: return otherwise; \
     }
 
 /* The builds, the newest last. */

@@ -33,12 +33,12 @@ typedef struct worker {
 } worker;
 
 /* A call, from its options to what is cleared. */
-typedef struct call {
+struct call {
     options with;
     proved_argon2_job job;
     uint8_t *bytes; /* malloc's, for a hash, a tag and a salt */
     size_t len;
-    caller kept;
+    caller saved;
     block *blocks;
     size_t slice; /* how many blocks one of their four slices has */
     worker *workers;
@@ -47,7 +47,7 @@ typedef struct call {
     uint64_t step;         /* step 0 writes the first blocks, and step n + 1 fills slice number n, over all passes */
     atomic_bool is_over;   /* there is no step any more */
     atomic_bool is_astray; /* a task was run that is not there, or once too often */
-} call;
+};
 
 /* How many bytes the blocks of a job have: with addresses of 32 bits, where they are more than there are, so many that no
  * memory has them. */
@@ -67,16 +67,16 @@ static inline size_t bytes_of(const proved_argon2_job *job)
 #pragma GCC visibility push(hidden)
 
 /* Begins a call with options, whose later fields are none. That a pointer is missing comes before all else. */
-uint32_t begin_call(call *it, const options *with, int is_missing);
+uint32_t begin_call(struct call *call, const options *with, int is_missing);
 
 /* Memory of malloc for so many bytes, which the end of the call clears and frees. */
-uint32_t take_bytes(call *it, size_t len);
+uint32_t take_bytes(struct call *call, size_t len);
 
 /* Writes the tag of a job that the library has checked, or returns whether a hash is it; the tag is then there. */
-uint32_t compute(call *it, const uint8_t *hash, uint8_t *tag);
+uint32_t compute(struct call *call, const uint8_t *hash, uint8_t *tag);
 
 /* Ends a call with its result: clears its bytes, its job, the stack and the registers. */
-CLEARS_REGISTERS uint32_t end_call(call *it, uint32_t code);
+CLEARS_REGISTERS uint32_t end_call(struct call *call, uint32_t code);
 
 /* Memory for blocks, or null: malloc's, or a mapping, in huge pages where the system has them and in no core dump. */
 void *take_blocks(size_t bytes);

@@ -33,7 +33,7 @@ static inline u32 I64_CTZ(u64 word)
 
 /* ---- memory: an address is that of the C program's own */
 
-#define ADDRESS(it) ((u64)(uintptr_t)(it))
+#define ADDRESS(pointer) ((u64)(uintptr_t)(pointer))
 
 static inline void *place(u64 address, u64 offset)
 {

@@ -96,15 +96,15 @@ typedef struct Z_proved_instance_t {
   u32 w2c_is_in_call;
 } Z_proved_instance_t;
 
-static void w2c_argon2_c__over__hash(Z_proved_instance_t*, u64, u64, u64, u64, u64, u64, u64, u64, u64, u64, u64, u64, u64, u64);
+static void w2c_argon2_c__caller_blocks__hash(Z_proved_instance_t*, u64, u64, u64, u64, u64, u64, u64, u64, u64, u64, u64, u64, u64, u64);
 static void w2c_argon2_standard__context__accepted_context(Z_proved_instance_t*, u64, u64, u64, u64, u64, u64);
-static void w2c_argon2_fill__lent__hash_lent_job(Z_proved_instance_t*, u64, u64, u64, u64, u64);
+static void w2c_argon2_fill__caller_blocks__hash_job_over(Z_proved_instance_t*, u64, u64, u64, u64, u64);
 static void w2c_argon2_blocks__blake2b__blake2b(Z_proved_instance_t*, u64, u64, u64, u64);
 static void w2c_argon2_blocks__blake2b__compress_f(Z_proved_instance_t*, u64, u64, u64, u64, u32);
 static void w2c_argon2_blocks__blake2b__wipe___i64_21_core__clone__U64Clone___(Z_proved_instance_t*, u64, u64);
 static void w2c_argon2_blocks__blake2b__wipe___i8_20_core__clone__U8Clone___(Z_proved_instance_t*, u64, u64);
-static void w2c_argon2_fill__lent__write_first_lent(Z_proved_instance_t*, u64, u32, u64);
-static void w2c_argon2_memory__segment__filling__fill_lent_segment(Z_proved_instance_t*, u64, u32, u64, u64, u64, u64);
+static void w2c_argon2_fill__caller_blocks__begin_segment(Z_proved_instance_t*, u64, u32, u64);
+static void w2c_argon2_memory__segment__filling__fill_caller_segment(Z_proved_instance_t*, u64, u32, u64, u64, u64, u64);
 static void w2c_argon2_blocks__block__BlockBitXorAssignRefBlock__bitxor_assign(Z_proved_instance_t*, u64, u64);
 static void w2c_argon2_blocks__blake2b__variable_length__hprime(Z_proved_instance_t*, u64, u64, u64, u64);
 static void w2c_argon2_blocks__blake2b__variable_length__write_half(Z_proved_instance_t*, u64, u64, u64);
@@ -112,15 +112,15 @@ static void w2c_argon2_blocks__blake2b__variable_length__wipe_frames(Z_proved_in
 static void w2c_argon2_blocks__blake2b__wipe____b35bf44bfb1513b2_(Z_proved_instance_t*, u64, u64, u64);
 static void w2c_argon2_blocks__block__kernel__fill_words(Z_proved_instance_t*, u64, u64, u64, u32);
 static void w2c_argon2_blocks__block__kernel__first_sum(Z_proved_instance_t*, u64, u64, u64);
-static void w2c_argon2_fill__stack__wipe_stack(Z_proved_instance_t*);
+static void w2c_argon2_fill__stack_wiping__wipe_stack(Z_proved_instance_t*);
 static void w2c_argon2_blocks__blake2b__wipe____418abe9b4963c1a8_(Z_proved_instance_t*, u64, u64, u64);
 static void w2c_argon2_c__steps__begin(Z_proved_instance_t*, u64, u64, u32, u64, u64);
 static void w2c_argon2_c__steps__fill(Z_proved_instance_t*, u64, u64, u32, u32, u32, u64, u64, u64, u64, u64, u64, u64, u64);
 static void w2c_argon2_c__steps__finish(Z_proved_instance_t*, u64, u64, u64, u64, u64, u64);
-static void w2c_argon2_c__over__hash_job(Z_proved_instance_t*, u64, u64, u64, u64, u64, u64);
+static void w2c_argon2_c__caller_blocks__hash_job(Z_proved_instance_t*, u64, u64, u64, u64, u64, u64);
 static void w2c_argon2_c__jobs__make(Z_proved_instance_t*, u64, u64, u64, u64, u64, u64, u64, u64, u64, u64, u64);
 static void w2c_itoa__Buffer__format____a27d2209050c8f1b_(Z_proved_instance_t*, u64, u64, u32);
-static void w2c_argon2_c__stored_text__head_of(Z_proved_instance_t*, u64, u64, u64);
+static void w2c_argon2_c__encoded_hash__head_of(Z_proved_instance_t*, u64, u64, u64);
 static u64 w2c_core__slice__words__skip_far____52f9edcae2f82f51_(Z_proved_instance_t*, u64, u64, u64);
 static void w2c_argon2_text__encoding__reading__piece(Z_proved_instance_t*, u64, u64, u64, u64, u64, u32);
 static u32 w2c_core__cmp__bytes__equal(Z_proved_instance_t*, u64, u64, u64, u64);
@@ -130,8 +130,8 @@ static void w2c_argon2_c__jobs__make_stored(Z_proved_instance_t*, u64, u64, u64,
 static void w2c_argon2_c__reading__read_items(Z_proved_instance_t*, u64, u64, u64, u64, u64, u64);
 static void w2c_argon2_text__encoding__items__read_hash(Z_proved_instance_t*, u64, u64, u64);
 static void w2c_argon2_c__steps__verify(Z_proved_instance_t*, u64, u64, u64, u64, u64, u64, u64, u64);
-static void w2c_argon2_c__over__verify(Z_proved_instance_t*, u64, u64, u64, u64, u64, u64, u64, u64, u64, u64, u64, u64, u64, u64, u64, u64);
-static void w2c_argon2_c__over__verify_job(Z_proved_instance_t*, u64, u64, u64, u64, u64, u64, u64, u64);
+static void w2c_argon2_c__caller_blocks__verify(Z_proved_instance_t*, u64, u64, u64, u64, u64, u64, u64, u64, u64, u64, u64, u64, u64, u64, u64, u64);
+static void w2c_argon2_c__caller_blocks__verify_job(Z_proved_instance_t*, u64, u64, u64, u64, u64, u64, u64, u64);
 static u32 w2c_proved_argon2_check(Z_proved_instance_t*, u64, u64, u64, u64, u64);
 static u32 w2c_rattle__export_proved_argon2_check(Z_proved_instance_t*, u64, u64, u64, u64, u64);
 static void w2c_proved_argon2_default_limits(Z_proved_instance_t*, u64);
@@ -196,9 +196,9 @@ static u32 w2c___rattle_enter(Z_proved_instance_t*);
 static void w2c___rattle_leave(Z_proved_instance_t*);
 static void w2c___rattle_trap(Z_proved_instance_t*);
 
-static void w2c_argon2_c__over__hash(Z_proved_instance_t* instance, u64 w2c_p0, u64 w2c_p1, u64 w2c_p2, u64 w2c_p3, u64 w2c_p4, u64 w2c_p5, u64 w2c_p6, u64 w2c_p7, 
+static void w2c_argon2_c__caller_blocks__hash(Z_proved_instance_t* instance, u64 w2c_p0, u64 w2c_p1, u64 w2c_p2, u64 w2c_p3, u64 w2c_p4, u64 w2c_p5, u64 w2c_p6, u64 w2c_p7, 
     u64 w2c_p8, u64 w2c_p9, u64 w2c_p10, u64 w2c_p11, u64 w2c_p12, u64 w2c_p13) {
-  u32 w2c_l15 = 0, w2c_l16 = 0, w2c_l17 = 0, w2c_l18 = 0, w2c_l19 = 0, w2c_l20 = 0;
+  u32 w2c_l15 = 0, w2c_l16 = 0, w2c_l17 = 0, w2c_l18 = 0, w2c_l19 = 0;
   u64 w2c_l14 = 0;
   FUNC_PROLOGUE;
   u32 w2c_i0, w2c_i1, w2c_i2;
@@ -212,18 +212,18 @@ static void w2c_argon2_c__over__hash(Z_proved_instance_t* instance, u64 w2c_p0, 
   w2c_l14 = w2c_j0;
   w2c_j1 = 16ull;
   w2c_i0 = (u64)((s64)w2c_j0 < (s64)w2c_j1);
-  if (w2c_i0) {goto w2c_B2;}
+  if (w2c_i0) {goto w2c_B3;}
   w2c_j0 = w2c_p9;
   w2c_j1 = 0ull;
   w2c_i0 = (*Z_memoryZ_i32_load)(instance->Z_memory_instance, w2c_j0, w2c_j1);
   w2c_l15 = w2c_i0;
   w2c_i1 = 2u;
   w2c_i0 = w2c_i0 <= w2c_i1;
-  if (w2c_i0) {goto w2c_B3;}
+  if (w2c_i0) {goto w2c_B4;}
   w2c_i0 = 16u;
   w2c_l16 = w2c_i0;
   goto w2c_B1;
-  w2c_B3:;
+  w2c_B4:;
   w2c_i0 = 17u;
   w2c_l16 = w2c_i0;
   w2c_j0 = w2c_p9;
@@ -234,18 +234,18 @@ static void w2c_argon2_c__over__hash(Z_proved_instance_t* instance, u64 w2c_p0, 
   w2c_i1 = 4294967280u;
   w2c_i0 += w2c_i1;
   switch (w2c_i0) {
-    case 0: goto w2c_B4;
+    case 0: goto w2c_B5;
     case 1: goto w2c_B1;
     case 2: goto w2c_B1;
-    case 3: goto w2c_B5;
+    case 3: goto w2c_B6;
     default: goto w2c_B1;
   }
-  w2c_B5:;
+  w2c_B6:;
   w2c_i0 = w2c_l15;
   w2c_i1 = 256u;
   w2c_i0 |= w2c_i1;
   w2c_l15 = w2c_i0;
-  w2c_B4:;
+  w2c_B5:;
   w2c_j0 = w2c_p9;
   w2c_j1 = 12ull;
   w2c_j0 += w2c_j1;
@@ -270,8 +270,6 @@ static void w2c_argon2_c__over__hash(Z_proved_instance_t* instance, u64 w2c_p0, 
   w2c_j1 = 0ull;
   w2c_i0 = (*Z_memoryZ_i32_load)(instance->Z_memory_instance, w2c_j0, w2c_j1);
   w2c_l19 = w2c_i0;
-  w2c_i0 = 0u;
-  w2c_l20 = w2c_i0;
   w2c_j0 = w2c_l14;
   w2c_j1 = 128ull;
   w2c_j0 += w2c_j1;
@@ -281,20 +279,16 @@ static void w2c_argon2_c__over__hash(Z_proved_instance_t* instance, u64 w2c_p0, 
   w2c_i0 = w2c_l16;
   if (w2c_i0) {goto w2c_B7;}
   w2c_i0 = 14u;
-  w2c_l15 = w2c_i0;
-  w2c_i0 = 1u;
   w2c_l16 = w2c_i0;
-  goto w2c_B6;
+  goto w2c_B2;
   w2c_B7:;
   w2c_i0 = w2c_l16;
   w2c_i1 = 16777215u;
   w2c_i0 = w2c_i0 <= w2c_i1;
   if (w2c_i0) {goto w2c_B8;}
   w2c_i0 = 15u;
-  w2c_l15 = w2c_i0;
-  w2c_i0 = 1u;
   w2c_l16 = w2c_i0;
-  goto w2c_B6;
+  goto w2c_B2;
   w2c_B8:;
   w2c_i0 = w2c_l18;
   w2c_i1 = w2c_l16;
@@ -303,78 +297,62 @@ static void w2c_argon2_c__over__hash(Z_proved_instance_t* instance, u64 w2c_p0, 
   w2c_i0 = w2c_i0 >= w2c_i1;
   if (w2c_i0) {goto w2c_B9;}
   w2c_i0 = 12u;
-  w2c_l15 = w2c_i0;
-  w2c_i0 = 1u;
   w2c_l16 = w2c_i0;
-  goto w2c_B6;
+  goto w2c_B2;
   w2c_B9:;
   w2c_i0 = w2c_l17;
   if (w2c_i0) {goto w2c_B10;}
   w2c_i0 = 10u;
-  w2c_l15 = w2c_i0;
-  w2c_i0 = 1u;
   w2c_l16 = w2c_i0;
-  goto w2c_B6;
+  goto w2c_B2;
   w2c_B10:;
   w2c_j0 = w2c_p2;
   w2c_j1 = 4294967295ull;
   w2c_i0 = w2c_j0 <= w2c_j1;
   if (w2c_i0) {goto w2c_B11;}
   w2c_i0 = 3u;
-  w2c_l15 = w2c_i0;
-  w2c_i0 = 1u;
   w2c_l16 = w2c_i0;
-  goto w2c_B6;
+  goto w2c_B2;
   w2c_B11:;
   w2c_j0 = w2c_p4;
   w2c_j1 = 8ull;
   w2c_i0 = w2c_j0 >= w2c_j1;
   if (w2c_i0) {goto w2c_B12;}
   w2c_i0 = 4u;
-  w2c_l15 = w2c_i0;
-  w2c_i0 = 1u;
   w2c_l16 = w2c_i0;
-  goto w2c_B6;
+  goto w2c_B2;
   w2c_B12:;
   w2c_j0 = w2c_p4;
   w2c_j1 = 4294967295ull;
   w2c_i0 = w2c_j0 <= w2c_j1;
   if (w2c_i0) {goto w2c_B13;}
   w2c_i0 = 5u;
-  w2c_l15 = w2c_i0;
-  w2c_i0 = 1u;
   w2c_l16 = w2c_i0;
-  goto w2c_B6;
+  goto w2c_B2;
   w2c_B13:;
   w2c_j0 = w2c_p6;
   w2c_j1 = 4294967295ull;
   w2c_i0 = w2c_j0 <= w2c_j1;
   if (w2c_i0) {goto w2c_B14;}
   w2c_i0 = 9u;
-  w2c_l15 = w2c_i0;
-  w2c_i0 = 1u;
   w2c_l16 = w2c_i0;
-  goto w2c_B6;
+  goto w2c_B2;
   w2c_B14:;
   w2c_j0 = w2c_p8;
   w2c_j1 = 4294967295ull;
   w2c_i0 = w2c_j0 <= w2c_j1;
   if (w2c_i0) {goto w2c_B15;}
   w2c_i0 = 7u;
-  w2c_l15 = w2c_i0;
-  w2c_i0 = 1u;
   w2c_l16 = w2c_i0;
-  goto w2c_B6;
+  goto w2c_B2;
   w2c_B15:;
   w2c_i0 = w2c_l19;
-  w2c_i1 = 3u;
-  w2c_i0 = w2c_i0 > w2c_i1;
+  w2c_i1 = 4u;
+  w2c_i0 = w2c_i0 >= w2c_i1;
   if (w2c_i0) {goto w2c_B16;}
   w2c_i0 = 0u;
-  w2c_l15 = w2c_i0;
-  w2c_i0 = 1u;
   w2c_l16 = w2c_i0;
-  goto w2c_B6;
+  goto w2c_B2;
   w2c_B16:;
   w2c_j0 = w2c_l14;
   w2c_i1 = w2c_l15;
@@ -396,8 +374,6 @@ static void w2c_argon2_c__over__hash(Z_proved_instance_t* instance, u64 w2c_p0, 
   w2c_j1 = w2c_p5;
   w2c_j2 = 96ull;
   (*Z_memoryZ_i64_store)(instance->Z_memory_instance, w2c_j0, w2c_j1, w2c_j2);
-  w2c_i0 = 0u;
-  w2c_l15 = w2c_i0;
   w2c_j0 = w2c_l14;
   w2c_i1 = 0u;
   w2c_j2 = 92ull;
@@ -488,21 +464,21 @@ static void w2c_argon2_c__over__hash(Z_proved_instance_t* instance, u64 w2c_p0, 
   w2c_j2 = 196ull;
   w2c_j1 = (*Z_memoryZ_i64_load32_u)(instance->Z_memory_instance, w2c_j1, w2c_j2);
   w2c_i0 = w2c_j0 == w2c_j1;
-  if (w2c_i0) {goto w2c_B17;}
+  if (w2c_i0) {goto w2c_B18;}
   w2c_i0 = 9u;
-  w2c_l20 = w2c_i0;
-  goto w2c_B6;
-  w2c_B17:;
+  w2c_l15 = w2c_i0;
+  goto w2c_B17;
+  w2c_B18:;
   w2c_j0 = w2c_p13;
   w2c_j1 = w2c_l14;
   w2c_j2 = 144ull;
   w2c_j1 = (*Z_memoryZ_i64_load32_u)(instance->Z_memory_instance, w2c_j1, w2c_j2);
   w2c_i0 = w2c_j0 == w2c_j1;
-  if (w2c_i0) {goto w2c_B18;}
+  if (w2c_i0) {goto w2c_B19;}
   w2c_i0 = 2u;
-  w2c_l20 = w2c_i0;
-  goto w2c_B6;
-  w2c_B18:;
+  w2c_l15 = w2c_i0;
+  goto w2c_B17;
+  w2c_B19:;
   w2c_j0 = w2c_l14;
   w2c_j1 = 232ull;
   w2c_i0 = (*Z_memoryZ_i32_load)(instance->Z_memory_instance, w2c_j0, w2c_j1);
@@ -514,15 +490,15 @@ static void w2c_argon2_c__over__hash(Z_proved_instance_t* instance, u64 w2c_p0, 
   w2c_j0 = w2c_l14;
   w2c_j1 = 188ull;
   w2c_i0 = (*Z_memoryZ_i32_load8_u)(instance->Z_memory_instance, w2c_j0, w2c_j1);
-  w2c_l20 = w2c_i0;
+  w2c_l18 = w2c_i0;
   w2c_j0 = w2c_l14;
   w2c_j1 = 184ull;
   w2c_i0 = (*Z_memoryZ_i32_load)(instance->Z_memory_instance, w2c_j0, w2c_j1);
-  w2c_l18 = w2c_i0;
+  w2c_l17 = w2c_i0;
   w2c_j0 = w2c_l14;
   w2c_j1 = 148ull;
   w2c_i0 = (*Z_memoryZ_i32_load)(instance->Z_memory_instance, w2c_j0, w2c_j1);
-  w2c_l17 = w2c_i0;
+  w2c_l19 = w2c_i0;
   w2c_j0 = w2c_l14;
   w2c_j1 = w2c_l14;
   w2c_j2 = 56ull;
@@ -576,7 +552,7 @@ static void w2c_argon2_c__over__hash(Z_proved_instance_t* instance, u64 w2c_p0, 
   w2c_j2 = 208ull;
   (*Z_memoryZ_i64_store)(instance->Z_memory_instance, w2c_j0, w2c_j1, w2c_j2);
   w2c_j0 = w2c_l14;
-  w2c_i1 = w2c_l18;
+  w2c_i1 = w2c_l17;
   w2c_j2 = 204ull;
   (*Z_memoryZ_i32_store)(instance->Z_memory_instance, w2c_j0, w2c_i1, w2c_j2);
   w2c_j0 = w2c_l14;
@@ -584,7 +560,7 @@ static void w2c_argon2_c__over__hash(Z_proved_instance_t* instance, u64 w2c_p0, 
   w2c_j2 = 200ull;
   (*Z_memoryZ_i32_store)(instance->Z_memory_instance, w2c_j0, w2c_i1, w2c_j2);
   w2c_j0 = w2c_l14;
-  w2c_i1 = w2c_l17;
+  w2c_i1 = w2c_l19;
   w2c_j2 = 196ull;
   (*Z_memoryZ_i32_store)(instance->Z_memory_instance, w2c_j0, w2c_i1, w2c_j2);
   w2c_i0 = 0u;
@@ -598,7 +574,7 @@ static void w2c_argon2_c__over__hash(Z_proved_instance_t* instance, u64 w2c_p0, 
   w2c_j2 = 193ull;
   (*Z_memoryZ_i32_store8)(instance->Z_memory_instance, w2c_j0, w2c_i1, w2c_j2);
   w2c_j0 = w2c_l14;
-  w2c_i1 = w2c_l20;
+  w2c_i1 = w2c_l18;
   w2c_j2 = 192ull;
   (*Z_memoryZ_i32_store8)(instance->Z_memory_instance, w2c_j0, w2c_i1, w2c_j2);
   w2c_j0 = w2c_l14;
@@ -608,12 +584,10 @@ static void w2c_argon2_c__over__hash(Z_proved_instance_t* instance, u64 w2c_p0, 
   w2c_j2 = w2c_p11;
   w2c_j3 = w2c_p12;
   w2c_j4 = w2c_p13;
-  w2c_argon2_fill__lent__hash_lent_job(instance, w2c_j0, w2c_j1, w2c_j2, w2c_j3, w2c_j4);
-  w2c_i0 = 0u;
-  w2c_l20 = w2c_i0;
+  w2c_argon2_fill__caller_blocks__hash_job_over(instance, w2c_j0, w2c_j1, w2c_j2, w2c_j3, w2c_j4);
   w2c_i0 = 0u;
   w2c_l15 = w2c_i0;
-  w2c_B6:;
+  w2c_B17:;
   w2c_j0 = w2c_p0;
   w2c_i1 = w2c_l16;
   w2c_j2 = 0ull;
@@ -621,18 +595,30 @@ static void w2c_argon2_c__over__hash(Z_proved_instance_t* instance, u64 w2c_p0, 
   w2c_j0 = w2c_p0;
   w2c_j1 = 2ull;
   w2c_j0 += w2c_j1;
-  w2c_i1 = w2c_l15;
+  w2c_i1 = 0u;
   w2c_j2 = 0ull;
   (*Z_memoryZ_i32_store8)(instance->Z_memory_instance, w2c_j0, w2c_i1, w2c_j2);
   w2c_j0 = w2c_p0;
   w2c_j1 = 1ull;
   w2c_j0 += w2c_j1;
-  w2c_i1 = w2c_l20;
+  w2c_i1 = w2c_l15;
   w2c_j2 = 0ull;
   (*Z_memoryZ_i32_store8)(instance->Z_memory_instance, w2c_j0, w2c_i1, w2c_j2);
   goto w2c_B0;
-  w2c_B2:;
+  w2c_B3:;
   UNREACHABLE;
+  w2c_B2:;
+  w2c_j0 = w2c_p0;
+  w2c_j1 = 2ull;
+  w2c_j0 += w2c_j1;
+  w2c_i1 = w2c_l16;
+  w2c_j2 = 0ull;
+  (*Z_memoryZ_i32_store8)(instance->Z_memory_instance, w2c_j0, w2c_i1, w2c_j2);
+  w2c_j0 = w2c_p0;
+  w2c_i1 = 1u;
+  w2c_j2 = 0ull;
+  (*Z_memoryZ_i32_store16)(instance->Z_memory_instance, w2c_j0, w2c_i1, w2c_j2);
+  goto w2c_B0;
   w2c_B1:;
   w2c_j0 = w2c_p0;
   w2c_i1 = 1u;
@@ -1142,7 +1128,7 @@ static void w2c_argon2_standard__context__accepted_context(Z_proved_instance_t* 
   FUNC_EPILOGUE;
 }
 
-static void w2c_argon2_fill__lent__hash_lent_job(Z_proved_instance_t* instance, u64 w2c_p0, u64 w2c_p1, u64 w2c_p2, u64 w2c_p3, u64 w2c_p4) {
+static void w2c_argon2_fill__caller_blocks__hash_job_over(Z_proved_instance_t* instance, u64 w2c_p0, u64 w2c_p1, u64 w2c_p2, u64 w2c_p3, u64 w2c_p4) {
   u32 w2c_l8 = 0, w2c_l9 = 0, w2c_l13 = 0, w2c_l14 = 0;
   u64 w2c_l5 = 0, w2c_l6 = 0, w2c_l7 = 0, w2c_l10 = 0, w2c_l11 = 0, w2c_l12 = 0;
   FUNC_PROLOGUE;
@@ -1195,7 +1181,7 @@ static void w2c_argon2_fill__lent__hash_lent_job(Z_proved_instance_t* instance, 
     w2c_j4 = 10ull;
     w2c_j3 <<= (w2c_j4 & 63);
     w2c_j2 += w2c_j3;
-    w2c_argon2_fill__lent__write_first_lent(instance, w2c_j0, w2c_i1, w2c_j2);
+    w2c_argon2_fill__caller_blocks__begin_segment(instance, w2c_j0, w2c_i1, w2c_j2);
     w2c_i0 = w2c_l8;
     w2c_i1 = w2c_l9;
     w2c_i2 = 1u;
@@ -1364,7 +1350,7 @@ static void w2c_argon2_fill__lent__hash_lent_job(Z_proved_instance_t* instance, 
       w2c_j7 = 10ull;
       w2c_j6 <<= (w2c_j7 & 63);
       w2c_j5 += w2c_j6;
-      w2c_argon2_memory__segment__filling__fill_lent_segment(instance, w2c_j0, w2c_i1, w2c_j2, w2c_j3, w2c_j4, w2c_j5);
+      w2c_argon2_memory__segment__filling__fill_caller_segment(instance, w2c_j0, w2c_i1, w2c_j2, w2c_j3, w2c_j4, w2c_j5);
       w2c_i0 = w2c_l8;
       w2c_i1 = w2c_l9;
       w2c_i0 += w2c_i1;
@@ -1406,7 +1392,7 @@ static void w2c_argon2_fill__lent__hash_lent_job(Z_proved_instance_t* instance, 
       w2c_j7 = 10ull;
       w2c_j6 <<= (w2c_j7 & 63);
       w2c_j5 += w2c_j6;
-      w2c_argon2_memory__segment__filling__fill_lent_segment(instance, w2c_j0, w2c_i1, w2c_j2, w2c_j3, w2c_j4, w2c_j5);
+      w2c_argon2_memory__segment__filling__fill_caller_segment(instance, w2c_j0, w2c_i1, w2c_j2, w2c_j3, w2c_j4, w2c_j5);
       w2c_i0 = w2c_l8;
       w2c_i1 = w2c_l9;
       w2c_i0 += w2c_i1;
@@ -1448,7 +1434,7 @@ static void w2c_argon2_fill__lent__hash_lent_job(Z_proved_instance_t* instance, 
       w2c_j7 = 10ull;
       w2c_j6 <<= (w2c_j7 & 63);
       w2c_j5 += w2c_j6;
-      w2c_argon2_memory__segment__filling__fill_lent_segment(instance, w2c_j0, w2c_i1, w2c_j2, w2c_j3, w2c_j4, w2c_j5);
+      w2c_argon2_memory__segment__filling__fill_caller_segment(instance, w2c_j0, w2c_i1, w2c_j2, w2c_j3, w2c_j4, w2c_j5);
       w2c_i0 = w2c_l8;
       w2c_i1 = w2c_l9;
       w2c_i0 += w2c_i1;
@@ -1490,7 +1476,7 @@ static void w2c_argon2_fill__lent__hash_lent_job(Z_proved_instance_t* instance, 
       w2c_j7 = 10ull;
       w2c_j6 <<= (w2c_j7 & 63);
       w2c_j5 += w2c_j6;
-      w2c_argon2_memory__segment__filling__fill_lent_segment(instance, w2c_j0, w2c_i1, w2c_j2, w2c_j3, w2c_j4, w2c_j5);
+      w2c_argon2_memory__segment__filling__fill_caller_segment(instance, w2c_j0, w2c_i1, w2c_j2, w2c_j3, w2c_j4, w2c_j5);
       w2c_i0 = w2c_l8;
       w2c_i1 = w2c_l9;
       w2c_i0 += w2c_i1;
@@ -5669,7 +5655,7 @@ static void w2c_argon2_blocks__blake2b__wipe___i8_20_core__clone__U8Clone___(Z_p
   FUNC_EPILOGUE;
 }
 
-static void w2c_argon2_fill__lent__write_first_lent(Z_proved_instance_t* instance, u64 w2c_p0, u32 w2c_p1, u64 w2c_p2) {
+static void w2c_argon2_fill__caller_blocks__begin_segment(Z_proved_instance_t* instance, u64 w2c_p0, u32 w2c_p1, u64 w2c_p2) {
   u64 w2c_l3 = 0;
   FUNC_PROLOGUE;
   u32 w2c_i0, w2c_i1;
@@ -5881,7 +5867,7 @@ static void w2c_argon2_fill__lent__write_first_lent(Z_proved_instance_t* instanc
   FUNC_EPILOGUE;
 }
 
-static void w2c_argon2_memory__segment__filling__fill_lent_segment(Z_proved_instance_t* instance, u64 w2c_p0, u32 w2c_p1, u64 w2c_p2, u64 w2c_p3, u64 w2c_p4, u64 w2c_p5) {
+static void w2c_argon2_memory__segment__filling__fill_caller_segment(Z_proved_instance_t* instance, u64 w2c_p0, u32 w2c_p1, u64 w2c_p2, u64 w2c_p3, u64 w2c_p4, u64 w2c_p5) {
   u32 w2c_l7 = 0, w2c_l9 = 0, w2c_l10 = 0, w2c_l11 = 0, w2c_l12 = 0, w2c_l13 = 0, w2c_l14 = 0, w2c_l15 = 0, 
       w2c_l16 = 0, w2c_l17 = 0, w2c_l18 = 0, w2c_l19 = 0, w2c_l23 = 0, w2c_l24 = 0, w2c_l25 = 0, w2c_l26 = 0, 
       w2c_l27 = 0, w2c_l28 = 0, w2c_l33 = 0, w2c_l40 = 0, w2c_l41 = 0, w2c_l42 = 0, w2c_l43 = 0;
@@ -21286,7 +21272,7 @@ static void w2c_argon2_blocks__block__kernel__first_sum(Z_proved_instance_t* ins
   FUNC_EPILOGUE;
 }
 
-static void w2c_argon2_fill__stack__wipe_stack(Z_proved_instance_t* instance) {
+static void w2c_argon2_fill__stack_wiping__wipe_stack(Z_proved_instance_t* instance) {
   u64 w2c_l0 = 0, w2c_l1 = 0, w2c_l2 = 0;
   FUNC_PROLOGUE;
   u32 w2c_i0, w2c_i1;
@@ -21483,8 +21469,8 @@ static void w2c_argon2_blocks__blake2b__wipe____418abe9b4963c1a8_(Z_proved_insta
 }
 
 static void w2c_argon2_c__steps__begin(Z_proved_instance_t* instance, u64 w2c_p0, u64 w2c_p1, u32 w2c_p2, u64 w2c_p3, u64 w2c_p4) {
-  u32 w2c_l6 = 0, w2c_l7 = 0, w2c_l8 = 0, w2c_l9 = 0, w2c_l10 = 0, w2c_l11 = 0, w2c_l13 = 0;
-  u64 w2c_l5 = 0, w2c_l12 = 0;
+  u32 w2c_l6 = 0, w2c_l7 = 0, w2c_l8 = 0, w2c_l9 = 0, w2c_l11 = 0;
+  u64 w2c_l5 = 0, w2c_l10 = 0;
   FUNC_PROLOGUE;
   u32 w2c_i0, w2c_i1;
   u64 w2c_j0, w2c_j1, w2c_j2;
@@ -21497,22 +21483,18 @@ static void w2c_argon2_c__steps__begin(Z_proved_instance_t* instance, u64 w2c_p0
   w2c_l5 = w2c_j0;
   w2c_j1 = 16ull;
   w2c_i0 = (u64)((s64)w2c_j0 < (s64)w2c_j1);
-  if (w2c_i0) {goto w2c_B1;}
-  w2c_i0 = 7u;
-  w2c_l6 = w2c_i0;
-  w2c_i0 = 1u;
-  w2c_l7 = w2c_i0;
+  if (w2c_i0) {goto w2c_B2;}
   w2c_j0 = w2c_p1;
   w2c_j1 = 64ull;
   w2c_j0 += w2c_j1;
   w2c_j1 = 0ull;
   w2c_i0 = (*Z_memoryZ_i32_load)(instance->Z_memory_instance, w2c_j0, w2c_j1);
-  w2c_l8 = w2c_i0;
+  w2c_l6 = w2c_i0;
   w2c_i1 = 2u;
   w2c_i0 = w2c_i0 > w2c_i1;
-  if (w2c_i0) {goto w2c_B2;}
+  if (w2c_i0) {goto w2c_B1;}
   w2c_i0 = 0u;
-  w2c_l9 = w2c_i0;
+  w2c_l7 = w2c_i0;
   w2c_j0 = w2c_p1;
   w2c_j1 = 68ull;
   w2c_j0 += w2c_j1;
@@ -21522,52 +21504,52 @@ static void w2c_argon2_c__steps__begin(Z_proved_instance_t* instance, u64 w2c_p0
   w2c_i0 += w2c_i1;
   switch (w2c_i0) {
     case 0: goto w2c_B3;
-    case 1: goto w2c_B2;
-    case 2: goto w2c_B2;
+    case 1: goto w2c_B1;
+    case 2: goto w2c_B1;
     case 3: goto w2c_B4;
-    default: goto w2c_B2;
+    default: goto w2c_B1;
   }
   w2c_B4:;
   w2c_i0 = 1u;
-  w2c_l9 = w2c_i0;
+  w2c_l7 = w2c_i0;
   w2c_B3:;
   w2c_j0 = w2c_p1;
   w2c_j1 = 72ull;
   w2c_j0 += w2c_j1;
   w2c_j1 = 0ull;
   w2c_i0 = (*Z_memoryZ_i32_load)(instance->Z_memory_instance, w2c_j0, w2c_j1);
-  w2c_l10 = w2c_i0;
+  w2c_l8 = w2c_i0;
   w2c_i1 = 4278190080u;
   w2c_i0 += w2c_i1;
   w2c_i1 = 4278190081u;
   w2c_i0 = w2c_i0 < w2c_i1;
-  if (w2c_i0) {goto w2c_B2;}
+  if (w2c_i0) {goto w2c_B1;}
   w2c_j0 = w2c_p1;
   w2c_j1 = 76ull;
   w2c_j0 += w2c_j1;
   w2c_j1 = 0ull;
   w2c_i0 = (*Z_memoryZ_i32_load)(instance->Z_memory_instance, w2c_j0, w2c_j1);
-  w2c_l11 = w2c_i0;
+  w2c_l9 = w2c_i0;
   w2c_i1 = 2u;
   w2c_i0 = w2c_i0 < w2c_i1;
-  if (w2c_i0) {goto w2c_B2;}
-  w2c_i0 = w2c_l11;
+  if (w2c_i0) {goto w2c_B1;}
+  w2c_i0 = w2c_l9;
   w2c_j0 = (u64)(w2c_i0);
-  w2c_l12 = w2c_j0;
-  w2c_i1 = w2c_l10;
+  w2c_l10 = w2c_j0;
+  w2c_i1 = w2c_l8;
   w2c_j1 = (u64)(w2c_i1);
   w2c_j0 *= w2c_j1;
   w2c_j1 = 1073741823ull;
   w2c_i0 = w2c_j0 > w2c_j1;
-  if (w2c_i0) {goto w2c_B2;}
+  if (w2c_i0) {goto w2c_B1;}
   w2c_j0 = w2c_p1;
   w2c_j1 = 80ull;
   w2c_j0 += w2c_j1;
   w2c_j1 = 0ull;
   w2c_i0 = (*Z_memoryZ_i32_load)(instance->Z_memory_instance, w2c_j0, w2c_j1);
-  w2c_l13 = w2c_i0;
+  w2c_l11 = w2c_i0;
   w2c_i0 = !(w2c_i0);
-  if (w2c_i0) {goto w2c_B2;}
+  if (w2c_i0) {goto w2c_B1;}
   w2c_j0 = w2c_p1;
   w2c_j1 = 84ull;
   w2c_j0 += w2c_j1;
@@ -21575,17 +21557,17 @@ static void w2c_argon2_c__steps__begin(Z_proved_instance_t* instance, u64 w2c_p0
   w2c_i0 = (*Z_memoryZ_i32_load)(instance->Z_memory_instance, w2c_j0, w2c_j1);
   w2c_i1 = 4u;
   w2c_i0 = w2c_i0 < w2c_i1;
-  if (w2c_i0) {goto w2c_B2;}
+  if (w2c_i0) {goto w2c_B1;}
   w2c_j0 = w2c_l5;
   w2c_j1 = 0ull;
   w2c_j2 = 88ull;
   (*Z_memoryZ_i64_store)(instance->Z_memory_instance, w2c_j0, w2c_j1, w2c_j2);
   w2c_j0 = w2c_l5;
-  w2c_i1 = w2c_l13;
+  w2c_i1 = w2c_l11;
   w2c_j2 = 84ull;
   (*Z_memoryZ_i32_store)(instance->Z_memory_instance, w2c_j0, w2c_i1, w2c_j2);
   w2c_j0 = w2c_l5;
-  w2c_i1 = w2c_l11;
+  w2c_i1 = w2c_l9;
   w2c_j2 = 80ull;
   (*Z_memoryZ_i32_store)(instance->Z_memory_instance, w2c_j0, w2c_i1, w2c_j2);
   w2c_j0 = w2c_l5;
@@ -21593,11 +21575,11 @@ static void w2c_argon2_c__steps__begin(Z_proved_instance_t* instance, u64 w2c_p0
   w2c_j2 = 74ull;
   (*Z_memoryZ_i32_store16)(instance->Z_memory_instance, w2c_j0, w2c_i1, w2c_j2);
   w2c_j0 = w2c_l5;
-  w2c_i1 = w2c_l9;
+  w2c_i1 = w2c_l7;
   w2c_j2 = 73ull;
   (*Z_memoryZ_i32_store8)(instance->Z_memory_instance, w2c_j0, w2c_i1, w2c_j2);
   w2c_j0 = w2c_l5;
-  w2c_i1 = w2c_l8;
+  w2c_i1 = w2c_l6;
   w2c_j2 = 72ull;
   (*Z_memoryZ_i32_store8)(instance->Z_memory_instance, w2c_j0, w2c_i1, w2c_j2);
   w2c_j0 = w2c_l5;
@@ -21649,10 +21631,10 @@ static void w2c_argon2_c__steps__begin(Z_proved_instance_t* instance, u64 w2c_p0
   w2c_j2 = 8ull;
   (*Z_memoryZ_i64_store)(instance->Z_memory_instance, w2c_j0, w2c_j1, w2c_j2);
   w2c_j0 = w2c_l5;
-  w2c_i1 = w2c_l10;
+  w2c_i1 = w2c_l8;
   w2c_j2 = 76ull;
   (*Z_memoryZ_i32_store)(instance->Z_memory_instance, w2c_j0, w2c_i1, w2c_j2);
-  w2c_i0 = w2c_l10;
+  w2c_i0 = w2c_l8;
   w2c_i1 = w2c_p2;
   w2c_i0 = w2c_i0 > w2c_i1;
   if (w2c_i0) {goto w2c_B5;}
@@ -21669,7 +21651,7 @@ static void w2c_argon2_c__steps__begin(Z_proved_instance_t* instance, u64 w2c_p0
   goto w2c_B0;
   w2c_B5:;
   w2c_j0 = w2c_p4;
-  w2c_j1 = w2c_l12;
+  w2c_j1 = w2c_l10;
   w2c_i0 = w2c_j0 == w2c_j1;
   if (w2c_i0) {goto w2c_B6;}
   w2c_j0 = w2c_p0;
@@ -21689,16 +21671,7 @@ static void w2c_argon2_c__steps__begin(Z_proved_instance_t* instance, u64 w2c_p0
   w2c_j0 += w2c_j1;
   w2c_i1 = w2c_p2;
   w2c_j2 = w2c_p3;
-  w2c_argon2_fill__lent__write_first_lent(instance, w2c_j0, w2c_i1, w2c_j2);
-  w2c_i0 = 0u;
-  w2c_l7 = w2c_i0;
-  w2c_i0 = 0u;
-  w2c_l6 = w2c_i0;
-  w2c_B2:;
-  w2c_j0 = w2c_p0;
-  w2c_i1 = w2c_l7;
-  w2c_j2 = 0ull;
-  (*Z_memoryZ_i32_store8)(instance->Z_memory_instance, w2c_j0, w2c_i1, w2c_j2);
+  w2c_argon2_fill__caller_blocks__begin_segment(instance, w2c_j0, w2c_i1, w2c_j2);
   w2c_j0 = w2c_p0;
   w2c_j1 = 2ull;
   w2c_j0 += w2c_j1;
@@ -21706,14 +21679,23 @@ static void w2c_argon2_c__steps__begin(Z_proved_instance_t* instance, u64 w2c_p0
   w2c_j2 = 0ull;
   (*Z_memoryZ_i32_store8)(instance->Z_memory_instance, w2c_j0, w2c_i1, w2c_j2);
   w2c_j0 = w2c_p0;
-  w2c_j1 = 1ull;
+  w2c_i1 = 0u;
+  w2c_j2 = 0ull;
+  (*Z_memoryZ_i32_store16)(instance->Z_memory_instance, w2c_j0, w2c_i1, w2c_j2);
+  goto w2c_B0;
+  w2c_B2:;
+  UNREACHABLE;
+  w2c_B1:;
+  w2c_j0 = w2c_p0;
+  w2c_i1 = 1793u;
+  w2c_j2 = 0ull;
+  (*Z_memoryZ_i32_store16)(instance->Z_memory_instance, w2c_j0, w2c_i1, w2c_j2);
+  w2c_j0 = w2c_p0;
+  w2c_j1 = 2ull;
   w2c_j0 += w2c_j1;
-  w2c_i1 = w2c_l6;
+  w2c_i1 = 0u;
   w2c_j2 = 0ull;
   (*Z_memoryZ_i32_store8)(instance->Z_memory_instance, w2c_j0, w2c_i1, w2c_j2);
-  goto w2c_B0;
-  w2c_B1:;
-  UNREACHABLE;
   w2c_B0:;
   w2c_j0 = w2c_l5;
   w2c_j1 = 96ull;
@@ -21724,8 +21706,8 @@ static void w2c_argon2_c__steps__begin(Z_proved_instance_t* instance, u64 w2c_p0
 
 static void w2c_argon2_c__steps__fill(Z_proved_instance_t* instance, u64 w2c_p0, u64 w2c_p1, u32 w2c_p2, u32 w2c_p3, u32 w2c_p4, u64 w2c_p5, u64 w2c_p6, u64 w2c_p7, 
     u64 w2c_p8, u64 w2c_p9, u64 w2c_p10, u64 w2c_p11, u64 w2c_p12) {
-  u32 w2c_l14 = 0, w2c_l15 = 0, w2c_l16 = 0, w2c_l17 = 0, w2c_l18 = 0, w2c_l19 = 0, w2c_l22 = 0;
-  u64 w2c_l13 = 0, w2c_l20 = 0, w2c_l21 = 0;
+  u32 w2c_l14 = 0, w2c_l15 = 0, w2c_l16 = 0, w2c_l17 = 0, w2c_l20 = 0;
+  u64 w2c_l13 = 0, w2c_l18 = 0, w2c_l19 = 0;
   FUNC_PROLOGUE;
   u32 w2c_i0, w2c_i1;
   u64 w2c_j0, w2c_j1, w2c_j2, w2c_j3, w2c_j4, w2c_j5;
@@ -21738,22 +21720,24 @@ static void w2c_argon2_c__steps__fill(Z_proved_instance_t* instance, u64 w2c_p0,
   w2c_l13 = w2c_j0;
   w2c_j1 = 16ull;
   w2c_i0 = (u64)((s64)w2c_j0 < (s64)w2c_j1);
-  if (w2c_i0) {goto w2c_B1;}
-  w2c_i0 = 7u;
-  w2c_l14 = w2c_i0;
-  w2c_i0 = 1u;
-  w2c_l15 = w2c_i0;
+  if (w2c_i0) {goto w2c_B2;}
+  w2c_j0 = w2c_l13;
+  w2c_j1 = 8ull;
+  w2c_j0 += w2c_j1;
+  w2c_i1 = 0u;
+  w2c_j2 = 88ull;
+  (*Z_memoryZ_fill)(instance->Z_memory_instance, w2c_j0, w2c_i1, w2c_j2);
   w2c_j0 = w2c_p1;
   w2c_j1 = 64ull;
   w2c_j0 += w2c_j1;
   w2c_j1 = 0ull;
   w2c_i0 = (*Z_memoryZ_i32_load)(instance->Z_memory_instance, w2c_j0, w2c_j1);
-  w2c_l16 = w2c_i0;
+  w2c_l14 = w2c_i0;
   w2c_i1 = 2u;
   w2c_i0 = w2c_i0 > w2c_i1;
-  if (w2c_i0) {goto w2c_B2;}
+  if (w2c_i0) {goto w2c_B1;}
   w2c_i0 = 0u;
-  w2c_l17 = w2c_i0;
+  w2c_l15 = w2c_i0;
   w2c_j0 = w2c_p1;
   w2c_j1 = 68ull;
   w2c_j0 += w2c_j1;
@@ -21763,53 +21747,53 @@ static void w2c_argon2_c__steps__fill(Z_proved_instance_t* instance, u64 w2c_p0,
   w2c_i0 += w2c_i1;
   switch (w2c_i0) {
     case 0: goto w2c_B3;
-    case 1: goto w2c_B2;
-    case 2: goto w2c_B2;
+    case 1: goto w2c_B1;
+    case 2: goto w2c_B1;
     case 3: goto w2c_B4;
-    default: goto w2c_B2;
+    default: goto w2c_B1;
   }
   w2c_B4:;
   w2c_i0 = 1u;
-  w2c_l17 = w2c_i0;
+  w2c_l15 = w2c_i0;
   w2c_B3:;
   w2c_j0 = w2c_p1;
   w2c_j1 = 72ull;
   w2c_j0 += w2c_j1;
   w2c_j1 = 0ull;
   w2c_i0 = (*Z_memoryZ_i32_load)(instance->Z_memory_instance, w2c_j0, w2c_j1);
-  w2c_l18 = w2c_i0;
+  w2c_l16 = w2c_i0;
   w2c_i1 = 4278190080u;
   w2c_i0 += w2c_i1;
   w2c_i1 = 4278190081u;
   w2c_i0 = w2c_i0 < w2c_i1;
-  if (w2c_i0) {goto w2c_B2;}
+  if (w2c_i0) {goto w2c_B1;}
   w2c_j0 = w2c_p1;
   w2c_j1 = 76ull;
   w2c_j0 += w2c_j1;
   w2c_j1 = 0ull;
   w2c_i0 = (*Z_memoryZ_i32_load)(instance->Z_memory_instance, w2c_j0, w2c_j1);
-  w2c_l19 = w2c_i0;
+  w2c_l17 = w2c_i0;
   w2c_i1 = 2u;
   w2c_i0 = w2c_i0 < w2c_i1;
-  if (w2c_i0) {goto w2c_B2;}
-  w2c_i0 = w2c_l19;
+  if (w2c_i0) {goto w2c_B1;}
+  w2c_i0 = w2c_l17;
   w2c_j0 = (u64)(w2c_i0);
-  w2c_l20 = w2c_j0;
-  w2c_i1 = w2c_l18;
+  w2c_l18 = w2c_j0;
+  w2c_i1 = w2c_l16;
   w2c_j1 = (u64)(w2c_i1);
   w2c_j0 *= w2c_j1;
-  w2c_l21 = w2c_j0;
+  w2c_l19 = w2c_j0;
   w2c_j1 = 1073741823ull;
   w2c_i0 = w2c_j0 > w2c_j1;
-  if (w2c_i0) {goto w2c_B2;}
+  if (w2c_i0) {goto w2c_B1;}
   w2c_j0 = w2c_p1;
   w2c_j1 = 80ull;
   w2c_j0 += w2c_j1;
   w2c_j1 = 0ull;
   w2c_i0 = (*Z_memoryZ_i32_load)(instance->Z_memory_instance, w2c_j0, w2c_j1);
-  w2c_l22 = w2c_i0;
+  w2c_l20 = w2c_i0;
   w2c_i0 = !(w2c_i0);
-  if (w2c_i0) {goto w2c_B2;}
+  if (w2c_i0) {goto w2c_B1;}
   w2c_j0 = w2c_p1;
   w2c_j1 = 84ull;
   w2c_j0 += w2c_j1;
@@ -21817,8 +21801,8 @@ static void w2c_argon2_c__steps__fill(Z_proved_instance_t* instance, u64 w2c_p0,
   w2c_i0 = (*Z_memoryZ_i32_load)(instance->Z_memory_instance, w2c_j0, w2c_j1);
   w2c_i1 = 4u;
   w2c_i0 = w2c_i0 < w2c_i1;
-  if (w2c_i0) {goto w2c_B2;}
-  w2c_i0 = w2c_l18;
+  if (w2c_i0) {goto w2c_B1;}
+  w2c_i0 = w2c_l16;
   w2c_i1 = w2c_p4;
   w2c_i0 = w2c_i0 <= w2c_i1;
   if (w2c_i0) {goto w2c_B6;}
@@ -21826,7 +21810,7 @@ static void w2c_argon2_c__steps__fill(Z_proved_instance_t* instance, u64 w2c_p0,
   w2c_i1 = 3u;
   w2c_i0 = w2c_i0 > w2c_i1;
   if (w2c_i0) {goto w2c_B6;}
-  w2c_i0 = w2c_l22;
+  w2c_i0 = w2c_l20;
   w2c_i1 = w2c_p2;
   w2c_i0 = w2c_i0 > w2c_i1;
   if (w2c_i0) {goto w2c_B5;}
@@ -21844,15 +21828,15 @@ static void w2c_argon2_c__steps__fill(Z_proved_instance_t* instance, u64 w2c_p0,
   goto w2c_B0;
   w2c_B5:;
   w2c_j0 = w2c_p10;
-  w2c_j1 = w2c_l21;
+  w2c_j1 = w2c_l19;
   w2c_i0 = w2c_j0 != w2c_j1;
   if (w2c_i0) {goto w2c_B8;}
   w2c_j0 = w2c_p6;
-  w2c_j1 = w2c_l21;
+  w2c_j1 = w2c_l19;
   w2c_i0 = w2c_j0 != w2c_j1;
   if (w2c_i0) {goto w2c_B8;}
   w2c_j0 = w2c_p8;
-  w2c_j1 = w2c_l21;
+  w2c_j1 = w2c_l19;
   w2c_i0 = w2c_j0 == w2c_j1;
   if (w2c_i0) {goto w2c_B7;}
   w2c_B8:;
@@ -21869,7 +21853,7 @@ static void w2c_argon2_c__steps__fill(Z_proved_instance_t* instance, u64 w2c_p0,
   goto w2c_B0;
   w2c_B7:;
   w2c_j0 = w2c_p12;
-  w2c_j1 = w2c_l20;
+  w2c_j1 = w2c_l18;
   w2c_i0 = w2c_j0 == w2c_j1;
   if (w2c_i0) {goto w2c_B9;}
   w2c_j0 = w2c_p0;
@@ -21893,29 +21877,27 @@ static void w2c_argon2_c__steps__fill(Z_proved_instance_t* instance, u64 w2c_p0,
   w2c_j2 = 88ull;
   (*Z_memoryZ_i32_store)(instance->Z_memory_instance, w2c_j0, w2c_i1, w2c_j2);
   w2c_j0 = w2c_l13;
-  w2c_i1 = w2c_l22;
+  w2c_i1 = w2c_l20;
   w2c_j2 = 84ull;
   (*Z_memoryZ_i32_store)(instance->Z_memory_instance, w2c_j0, w2c_i1, w2c_j2);
   w2c_j0 = w2c_l13;
-  w2c_i1 = w2c_l19;
+  w2c_i1 = w2c_l17;
   w2c_j2 = 80ull;
   (*Z_memoryZ_i32_store)(instance->Z_memory_instance, w2c_j0, w2c_i1, w2c_j2);
   w2c_j0 = w2c_l13;
-  w2c_i1 = w2c_l18;
+  w2c_i1 = w2c_l16;
   w2c_j2 = 76ull;
   (*Z_memoryZ_i32_store)(instance->Z_memory_instance, w2c_j0, w2c_i1, w2c_j2);
-  w2c_i0 = 0u;
-  w2c_l15 = w2c_i0;
   w2c_j0 = w2c_l13;
   w2c_i1 = 0u;
   w2c_j2 = 74ull;
   (*Z_memoryZ_i32_store16)(instance->Z_memory_instance, w2c_j0, w2c_i1, w2c_j2);
   w2c_j0 = w2c_l13;
-  w2c_i1 = w2c_l17;
+  w2c_i1 = w2c_l15;
   w2c_j2 = 73ull;
   (*Z_memoryZ_i32_store8)(instance->Z_memory_instance, w2c_j0, w2c_i1, w2c_j2);
   w2c_j0 = w2c_l13;
-  w2c_i1 = w2c_l16;
+  w2c_i1 = w2c_l14;
   w2c_j2 = 72ull;
   (*Z_memoryZ_i32_store8)(instance->Z_memory_instance, w2c_j0, w2c_i1, w2c_j2);
   w2c_j0 = w2c_l13;
@@ -21974,14 +21956,7 @@ static void w2c_argon2_c__steps__fill(Z_proved_instance_t* instance, u64 w2c_p0,
   w2c_j3 = w2c_p7;
   w2c_j4 = w2c_p9;
   w2c_j5 = w2c_p11;
-  w2c_argon2_memory__segment__filling__fill_lent_segment(instance, w2c_j0, w2c_i1, w2c_j2, w2c_j3, w2c_j4, w2c_j5);
-  w2c_i0 = 0u;
-  w2c_l14 = w2c_i0;
-  w2c_B2:;
-  w2c_j0 = w2c_p0;
-  w2c_i1 = w2c_l15;
-  w2c_j2 = 0ull;
-  (*Z_memoryZ_i32_store8)(instance->Z_memory_instance, w2c_j0, w2c_i1, w2c_j2);
+  w2c_argon2_memory__segment__filling__fill_caller_segment(instance, w2c_j0, w2c_i1, w2c_j2, w2c_j3, w2c_j4, w2c_j5);
   w2c_j0 = w2c_p0;
   w2c_j1 = 2ull;
   w2c_j0 += w2c_j1;
@@ -21989,14 +21964,23 @@ static void w2c_argon2_c__steps__fill(Z_proved_instance_t* instance, u64 w2c_p0,
   w2c_j2 = 0ull;
   (*Z_memoryZ_i32_store8)(instance->Z_memory_instance, w2c_j0, w2c_i1, w2c_j2);
   w2c_j0 = w2c_p0;
-  w2c_j1 = 1ull;
+  w2c_i1 = 0u;
+  w2c_j2 = 0ull;
+  (*Z_memoryZ_i32_store16)(instance->Z_memory_instance, w2c_j0, w2c_i1, w2c_j2);
+  goto w2c_B0;
+  w2c_B2:;
+  UNREACHABLE;
+  w2c_B1:;
+  w2c_j0 = w2c_p0;
+  w2c_i1 = 1793u;
+  w2c_j2 = 0ull;
+  (*Z_memoryZ_i32_store16)(instance->Z_memory_instance, w2c_j0, w2c_i1, w2c_j2);
+  w2c_j0 = w2c_p0;
+  w2c_j1 = 2ull;
   w2c_j0 += w2c_j1;
-  w2c_i1 = w2c_l14;
+  w2c_i1 = 0u;
   w2c_j2 = 0ull;
   (*Z_memoryZ_i32_store8)(instance->Z_memory_instance, w2c_j0, w2c_i1, w2c_j2);
-  goto w2c_B0;
-  w2c_B1:;
-  UNREACHABLE;
   w2c_B0:;
   w2c_j0 = w2c_l13;
   w2c_j1 = 96ull;
@@ -22006,8 +21990,8 @@ static void w2c_argon2_c__steps__fill(Z_proved_instance_t* instance, u64 w2c_p0,
 }
 
 static void w2c_argon2_c__steps__finish(Z_proved_instance_t* instance, u64 w2c_p0, u64 w2c_p1, u64 w2c_p2, u64 w2c_p3, u64 w2c_p4, u64 w2c_p5) {
-  u32 w2c_l7 = 0, w2c_l8 = 0, w2c_l9 = 0, w2c_l10 = 0;
-  u64 w2c_l6 = 0, w2c_l11 = 0, w2c_l12 = 0, w2c_l13 = 0;
+  u32 w2c_l7 = 0, w2c_l8 = 0;
+  u64 w2c_l6 = 0, w2c_l9 = 0, w2c_l10 = 0, w2c_l11 = 0;
   FUNC_PROLOGUE;
   u32 w2c_i0, w2c_i1, w2c_i3;
   u64 w2c_j0, w2c_j1, w2c_j2, w2c_j3;
@@ -22020,11 +22004,7 @@ static void w2c_argon2_c__steps__finish(Z_proved_instance_t* instance, u64 w2c_p
   w2c_l6 = w2c_j0;
   w2c_j1 = 16ull;
   w2c_i0 = (u64)((s64)w2c_j0 < (s64)w2c_j1);
-  if (w2c_i0) {goto w2c_B1;}
-  w2c_i0 = 7u;
-  w2c_l7 = w2c_i0;
-  w2c_i0 = 1u;
-  w2c_l8 = w2c_i0;
+  if (w2c_i0) {goto w2c_B2;}
   w2c_j0 = w2c_p1;
   w2c_j1 = 64ull;
   w2c_j0 += w2c_j1;
@@ -22032,7 +22012,7 @@ static void w2c_argon2_c__steps__finish(Z_proved_instance_t* instance, u64 w2c_p
   w2c_i0 = (*Z_memoryZ_i32_load)(instance->Z_memory_instance, w2c_j0, w2c_j1);
   w2c_i1 = 2u;
   w2c_i0 = w2c_i0 > w2c_i1;
-  if (w2c_i0) {goto w2c_B2;}
+  if (w2c_i0) {goto w2c_B1;}
   w2c_j0 = w2c_p1;
   w2c_j1 = 68ull;
   w2c_j0 += w2c_j1;
@@ -22042,10 +22022,10 @@ static void w2c_argon2_c__steps__finish(Z_proved_instance_t* instance, u64 w2c_p
   w2c_i0 += w2c_i1;
   switch (w2c_i0) {
     case 0: goto w2c_B3;
-    case 1: goto w2c_B2;
-    case 2: goto w2c_B2;
+    case 1: goto w2c_B1;
+    case 2: goto w2c_B1;
     case 3: goto w2c_B3;
-    default: goto w2c_B2;
+    default: goto w2c_B1;
   }
   w2c_B3:;
   w2c_j0 = w2c_p1;
@@ -22053,50 +22033,49 @@ static void w2c_argon2_c__steps__finish(Z_proved_instance_t* instance, u64 w2c_p
   w2c_j0 += w2c_j1;
   w2c_j1 = 0ull;
   w2c_i0 = (*Z_memoryZ_i32_load)(instance->Z_memory_instance, w2c_j0, w2c_j1);
-  w2c_l9 = w2c_i0;
+  w2c_l7 = w2c_i0;
   w2c_i1 = 4278190080u;
   w2c_i0 += w2c_i1;
   w2c_i1 = 4278190081u;
   w2c_i0 = w2c_i0 < w2c_i1;
-  if (w2c_i0) {goto w2c_B2;}
+  if (w2c_i0) {goto w2c_B1;}
   w2c_j0 = w2c_p1;
   w2c_j1 = 76ull;
   w2c_j0 += w2c_j1;
   w2c_j1 = 0ull;
   w2c_i0 = (*Z_memoryZ_i32_load)(instance->Z_memory_instance, w2c_j0, w2c_j1);
-  w2c_l10 = w2c_i0;
+  w2c_l8 = w2c_i0;
   w2c_i1 = 2u;
   w2c_i0 = w2c_i0 < w2c_i1;
-  if (w2c_i0) {goto w2c_B2;}
-  w2c_i0 = w2c_l10;
+  if (w2c_i0) {goto w2c_B1;}
+  w2c_i0 = w2c_l8;
   w2c_j0 = (u64)(w2c_i0);
-  w2c_l11 = w2c_j0;
-  w2c_i1 = w2c_l9;
+  w2c_l9 = w2c_j0;
+  w2c_i1 = w2c_l7;
   w2c_j1 = (u64)(w2c_i1);
-  w2c_l12 = w2c_j1;
+  w2c_l10 = w2c_j1;
   w2c_j0 *= w2c_j1;
-  w2c_l13 = w2c_j0;
+  w2c_l11 = w2c_j0;
   w2c_j1 = 1073741823ull;
   w2c_i0 = w2c_j0 > w2c_j1;
-  if (w2c_i0) {goto w2c_B2;}
+  if (w2c_i0) {goto w2c_B1;}
   w2c_j0 = w2c_p1;
   w2c_j1 = 80ull;
   w2c_j0 += w2c_j1;
   w2c_j1 = 0ull;
   w2c_i0 = (*Z_memoryZ_i32_load)(instance->Z_memory_instance, w2c_j0, w2c_j1);
   w2c_i0 = !(w2c_i0);
-  if (w2c_i0) {goto w2c_B2;}
+  if (w2c_i0) {goto w2c_B1;}
   w2c_j0 = w2c_p1;
   w2c_j1 = 84ull;
   w2c_j0 += w2c_j1;
   w2c_j1 = 0ull;
   w2c_i0 = (*Z_memoryZ_i32_load)(instance->Z_memory_instance, w2c_j0, w2c_j1);
-  w2c_l9 = w2c_i0;
   w2c_i1 = 4u;
   w2c_i0 = w2c_i0 < w2c_i1;
-  if (w2c_i0) {goto w2c_B2;}
+  if (w2c_i0) {goto w2c_B1;}
   w2c_j0 = w2c_p3;
-  w2c_j1 = w2c_l13;
+  w2c_j1 = w2c_l11;
   w2c_i0 = w2c_j0 == w2c_j1;
   if (w2c_i0) {goto w2c_B4;}
   w2c_j0 = w2c_p0;
@@ -22112,8 +22091,11 @@ static void w2c_argon2_c__steps__finish(Z_proved_instance_t* instance, u64 w2c_p
   goto w2c_B0;
   w2c_B4:;
   w2c_j0 = w2c_p5;
-  w2c_i1 = w2c_l9;
-  w2c_j1 = (u64)(w2c_i1);
+  w2c_j1 = w2c_p1;
+  w2c_j2 = 84ull;
+  w2c_j1 += w2c_j2;
+  w2c_j2 = 0ull;
+  w2c_j1 = (*Z_memoryZ_i64_load32_u)(instance->Z_memory_instance, w2c_j1, w2c_j2);
   w2c_i0 = w2c_j0 == w2c_j1;
   if (w2c_i0) {goto w2c_B5;}
   w2c_j0 = w2c_p0;
@@ -22134,7 +22116,7 @@ static void w2c_argon2_c__steps__finish(Z_proved_instance_t* instance, u64 w2c_p
   w2c_i1 = 0u;
   w2c_j2 = 1024ull;
   (*Z_memoryZ_fill)(instance->Z_memory_instance, w2c_j0, w2c_i1, w2c_j2);
-  w2c_j0 = w2c_l11;
+  w2c_j0 = w2c_l9;
   w2c_j1 = 18446744073709551615ull;
   w2c_j0 += w2c_j1;
   w2c_p1 = w2c_j0;
@@ -22150,13 +22132,13 @@ static void w2c_argon2_c__steps__finish(Z_proved_instance_t* instance, u64 w2c_p
     w2c_j1 += w2c_j2;
     w2c_argon2_blocks__block__BlockBitXorAssignRefBlock__bitxor_assign(instance, w2c_j0, w2c_j1);
     w2c_i0 = w2c_l7;
-    w2c_i1 = w2c_l10;
+    w2c_i1 = w2c_l8;
     w2c_i0 += w2c_i1;
     w2c_l7 = w2c_i0;
-    w2c_j0 = w2c_l12;
+    w2c_j0 = w2c_l10;
     w2c_j1 = 18446744073709551615ull;
     w2c_j0 += w2c_j1;
-    w2c_l12 = w2c_j0;
+    w2c_l10 = w2c_j0;
     w2c_j1 = 0ull;
     w2c_i0 = w2c_j0 != w2c_j1;
     if (w2c_i0) {goto w2c_L6;}
@@ -22181,15 +22163,6 @@ static void w2c_argon2_c__steps__finish(Z_proved_instance_t* instance, u64 w2c_p
   w2c_j0 = w2c_l6;
   w2c_j1 = 128ull;
   w2c_argon2_blocks__blake2b__wipe___i64_21_core__clone__U64Clone___(instance, w2c_j0, w2c_j1);
-  w2c_i0 = 0u;
-  w2c_l8 = w2c_i0;
-  w2c_i0 = 0u;
-  w2c_l7 = w2c_i0;
-  w2c_B2:;
-  w2c_j0 = w2c_p0;
-  w2c_i1 = w2c_l8;
-  w2c_j2 = 0ull;
-  (*Z_memoryZ_i32_store8)(instance->Z_memory_instance, w2c_j0, w2c_i1, w2c_j2);
   w2c_j0 = w2c_p0;
   w2c_j1 = 2ull;
   w2c_j0 += w2c_j1;
@@ -22197,14 +22170,23 @@ static void w2c_argon2_c__steps__finish(Z_proved_instance_t* instance, u64 w2c_p
   w2c_j2 = 0ull;
   (*Z_memoryZ_i32_store8)(instance->Z_memory_instance, w2c_j0, w2c_i1, w2c_j2);
   w2c_j0 = w2c_p0;
-  w2c_j1 = 1ull;
+  w2c_i1 = 0u;
+  w2c_j2 = 0ull;
+  (*Z_memoryZ_i32_store16)(instance->Z_memory_instance, w2c_j0, w2c_i1, w2c_j2);
+  goto w2c_B0;
+  w2c_B2:;
+  UNREACHABLE;
+  w2c_B1:;
+  w2c_j0 = w2c_p0;
+  w2c_i1 = 1793u;
+  w2c_j2 = 0ull;
+  (*Z_memoryZ_i32_store16)(instance->Z_memory_instance, w2c_j0, w2c_i1, w2c_j2);
+  w2c_j0 = w2c_p0;
+  w2c_j1 = 2ull;
   w2c_j0 += w2c_j1;
-  w2c_i1 = w2c_l7;
+  w2c_i1 = 0u;
   w2c_j2 = 0ull;
   (*Z_memoryZ_i32_store8)(instance->Z_memory_instance, w2c_j0, w2c_i1, w2c_j2);
-  goto w2c_B0;
-  w2c_B1:;
-  UNREACHABLE;
   w2c_B0:;
   w2c_j0 = w2c_l6;
   w2c_j1 = 2048ull;
@@ -22213,8 +22195,8 @@ static void w2c_argon2_c__steps__finish(Z_proved_instance_t* instance, u64 w2c_p
   FUNC_EPILOGUE;
 }
 
-static void w2c_argon2_c__over__hash_job(Z_proved_instance_t* instance, u64 w2c_p0, u64 w2c_p1, u64 w2c_p2, u64 w2c_p3, u64 w2c_p4, u64 w2c_p5) {
-  u32 w2c_l7 = 0, w2c_l8 = 0, w2c_l9 = 0, w2c_l10 = 0, w2c_l11 = 0, w2c_l12 = 0, w2c_l13 = 0, w2c_l14 = 0;
+static void w2c_argon2_c__caller_blocks__hash_job(Z_proved_instance_t* instance, u64 w2c_p0, u64 w2c_p1, u64 w2c_p2, u64 w2c_p3, u64 w2c_p4, u64 w2c_p5) {
+  u32 w2c_l7 = 0, w2c_l8 = 0, w2c_l9 = 0, w2c_l10 = 0, w2c_l11 = 0;
   u64 w2c_l6 = 0;
   FUNC_PROLOGUE;
   u32 w2c_i0, w2c_i1, w2c_i2;
@@ -22228,22 +22210,18 @@ static void w2c_argon2_c__over__hash_job(Z_proved_instance_t* instance, u64 w2c_
   w2c_l6 = w2c_j0;
   w2c_j1 = 16ull;
   w2c_i0 = (u64)((s64)w2c_j0 < (s64)w2c_j1);
-  if (w2c_i0) {goto w2c_B1;}
-  w2c_i0 = 7u;
-  w2c_l7 = w2c_i0;
-  w2c_i0 = 1u;
-  w2c_l8 = w2c_i0;
+  if (w2c_i0) {goto w2c_B2;}
   w2c_j0 = w2c_p1;
   w2c_j1 = 64ull;
   w2c_j0 += w2c_j1;
   w2c_j1 = 0ull;
   w2c_i0 = (*Z_memoryZ_i32_load)(instance->Z_memory_instance, w2c_j0, w2c_j1);
-  w2c_l9 = w2c_i0;
+  w2c_l7 = w2c_i0;
   w2c_i1 = 2u;
   w2c_i0 = w2c_i0 > w2c_i1;
-  if (w2c_i0) {goto w2c_B2;}
+  if (w2c_i0) {goto w2c_B1;}
   w2c_i0 = 0u;
-  w2c_l10 = w2c_i0;
+  w2c_l8 = w2c_i0;
   w2c_j0 = w2c_p1;
   w2c_j1 = 68ull;
   w2c_j0 += w2c_j1;
@@ -22253,66 +22231,65 @@ static void w2c_argon2_c__over__hash_job(Z_proved_instance_t* instance, u64 w2c_
   w2c_i0 += w2c_i1;
   switch (w2c_i0) {
     case 0: goto w2c_B3;
-    case 1: goto w2c_B2;
-    case 2: goto w2c_B2;
+    case 1: goto w2c_B1;
+    case 2: goto w2c_B1;
     case 3: goto w2c_B4;
-    default: goto w2c_B2;
+    default: goto w2c_B1;
   }
   w2c_B4:;
   w2c_i0 = 1u;
-  w2c_l10 = w2c_i0;
+  w2c_l8 = w2c_i0;
   w2c_B3:;
   w2c_j0 = w2c_p1;
   w2c_j1 = 72ull;
   w2c_j0 += w2c_j1;
   w2c_j1 = 0ull;
   w2c_i0 = (*Z_memoryZ_i32_load)(instance->Z_memory_instance, w2c_j0, w2c_j1);
-  w2c_l11 = w2c_i0;
+  w2c_l9 = w2c_i0;
   w2c_i1 = 4278190080u;
   w2c_i0 += w2c_i1;
   w2c_i1 = 4278190081u;
   w2c_i0 = w2c_i0 < w2c_i1;
-  if (w2c_i0) {goto w2c_B2;}
+  if (w2c_i0) {goto w2c_B1;}
   w2c_j0 = w2c_p1;
   w2c_j1 = 76ull;
   w2c_j0 += w2c_j1;
   w2c_j1 = 0ull;
   w2c_i0 = (*Z_memoryZ_i32_load)(instance->Z_memory_instance, w2c_j0, w2c_j1);
-  w2c_l12 = w2c_i0;
+  w2c_l10 = w2c_i0;
   w2c_i1 = 2u;
   w2c_i0 = w2c_i0 < w2c_i1;
-  if (w2c_i0) {goto w2c_B2;}
-  w2c_i0 = w2c_l12;
+  if (w2c_i0) {goto w2c_B1;}
+  w2c_i0 = w2c_l10;
   w2c_j0 = (u64)(w2c_i0);
-  w2c_i1 = w2c_l11;
+  w2c_i1 = w2c_l9;
   w2c_j1 = (u64)(w2c_i1);
   w2c_j0 *= w2c_j1;
   w2c_j1 = 1073741823ull;
   w2c_i0 = w2c_j0 > w2c_j1;
-  if (w2c_i0) {goto w2c_B2;}
+  if (w2c_i0) {goto w2c_B1;}
   w2c_j0 = w2c_p1;
   w2c_j1 = 80ull;
   w2c_j0 += w2c_j1;
   w2c_j1 = 0ull;
   w2c_i0 = (*Z_memoryZ_i32_load)(instance->Z_memory_instance, w2c_j0, w2c_j1);
-  w2c_l13 = w2c_i0;
+  w2c_l11 = w2c_i0;
   w2c_i0 = !(w2c_i0);
-  if (w2c_i0) {goto w2c_B2;}
+  if (w2c_i0) {goto w2c_B1;}
   w2c_j0 = w2c_p1;
   w2c_j1 = 84ull;
   w2c_j0 += w2c_j1;
   w2c_j1 = 0ull;
   w2c_i0 = (*Z_memoryZ_i32_load)(instance->Z_memory_instance, w2c_j0, w2c_j1);
-  w2c_l14 = w2c_i0;
   w2c_i1 = 4u;
   w2c_i0 = w2c_i0 < w2c_i1;
-  if (w2c_i0) {goto w2c_B2;}
+  if (w2c_i0) {goto w2c_B1;}
   w2c_j0 = w2c_l6;
   w2c_j1 = 0ull;
   w2c_j2 = 88ull;
   (*Z_memoryZ_i64_store)(instance->Z_memory_instance, w2c_j0, w2c_j1, w2c_j2);
   w2c_j0 = w2c_l6;
-  w2c_i1 = w2c_l13;
+  w2c_i1 = w2c_l11;
   w2c_j2 = 84ull;
   (*Z_memoryZ_i32_store)(instance->Z_memory_instance, w2c_j0, w2c_i1, w2c_j2);
   w2c_j0 = w2c_l6;
@@ -22320,11 +22297,11 @@ static void w2c_argon2_c__over__hash_job(Z_proved_instance_t* instance, u64 w2c_
   w2c_j2 = 74ull;
   (*Z_memoryZ_i32_store16)(instance->Z_memory_instance, w2c_j0, w2c_i1, w2c_j2);
   w2c_j0 = w2c_l6;
-  w2c_i1 = w2c_l10;
+  w2c_i1 = w2c_l8;
   w2c_j2 = 73ull;
   (*Z_memoryZ_i32_store8)(instance->Z_memory_instance, w2c_j0, w2c_i1, w2c_j2);
   w2c_j0 = w2c_l6;
-  w2c_i1 = w2c_l9;
+  w2c_i1 = w2c_l7;
   w2c_j2 = 72ull;
   (*Z_memoryZ_i32_store8)(instance->Z_memory_instance, w2c_j0, w2c_i1, w2c_j2);
   w2c_j0 = w2c_l6;
@@ -22376,16 +22353,16 @@ static void w2c_argon2_c__over__hash_job(Z_proved_instance_t* instance, u64 w2c_
   w2c_j2 = 8ull;
   (*Z_memoryZ_i64_store)(instance->Z_memory_instance, w2c_j0, w2c_j1, w2c_j2);
   w2c_j0 = w2c_l6;
-  w2c_i1 = w2c_l11;
+  w2c_i1 = w2c_l9;
   w2c_j2 = 76ull;
   (*Z_memoryZ_i32_store)(instance->Z_memory_instance, w2c_j0, w2c_i1, w2c_j2);
   w2c_j0 = w2c_l6;
-  w2c_i1 = w2c_l12;
+  w2c_i1 = w2c_l10;
   w2c_j2 = 80ull;
   (*Z_memoryZ_i32_store)(instance->Z_memory_instance, w2c_j0, w2c_i1, w2c_j2);
   w2c_j0 = w2c_p3;
-  w2c_i1 = w2c_l11;
-  w2c_i2 = w2c_l12;
+  w2c_i1 = w2c_l9;
+  w2c_i2 = w2c_l10;
   w2c_i1 *= w2c_i2;
   w2c_i2 = 2u;
   w2c_i1 <<= (w2c_i2 & 31);
@@ -22405,8 +22382,11 @@ static void w2c_argon2_c__over__hash_job(Z_proved_instance_t* instance, u64 w2c_
   goto w2c_B0;
   w2c_B5:;
   w2c_j0 = w2c_p5;
-  w2c_i1 = w2c_l14;
-  w2c_j1 = (u64)(w2c_i1);
+  w2c_j1 = w2c_p1;
+  w2c_j2 = 84ull;
+  w2c_j1 += w2c_j2;
+  w2c_j2 = 0ull;
+  w2c_j1 = (*Z_memoryZ_i64_load32_u)(instance->Z_memory_instance, w2c_j1, w2c_j2);
   w2c_i0 = w2c_j0 == w2c_j1;
   if (w2c_i0) {goto w2c_B6;}
   w2c_j0 = w2c_p0;
@@ -22428,16 +22408,7 @@ static void w2c_argon2_c__over__hash_job(Z_proved_instance_t* instance, u64 w2c_
   w2c_j2 = w2c_p3;
   w2c_j3 = w2c_p4;
   w2c_j4 = w2c_p5;
-  w2c_argon2_fill__lent__hash_lent_job(instance, w2c_j0, w2c_j1, w2c_j2, w2c_j3, w2c_j4);
-  w2c_i0 = 0u;
-  w2c_l8 = w2c_i0;
-  w2c_i0 = 0u;
-  w2c_l7 = w2c_i0;
-  w2c_B2:;
-  w2c_j0 = w2c_p0;
-  w2c_i1 = w2c_l8;
-  w2c_j2 = 0ull;
-  (*Z_memoryZ_i32_store8)(instance->Z_memory_instance, w2c_j0, w2c_i1, w2c_j2);
+  w2c_argon2_fill__caller_blocks__hash_job_over(instance, w2c_j0, w2c_j1, w2c_j2, w2c_j3, w2c_j4);
   w2c_j0 = w2c_p0;
   w2c_j1 = 2ull;
   w2c_j0 += w2c_j1;
@@ -22445,14 +22416,23 @@ static void w2c_argon2_c__over__hash_job(Z_proved_instance_t* instance, u64 w2c_
   w2c_j2 = 0ull;
   (*Z_memoryZ_i32_store8)(instance->Z_memory_instance, w2c_j0, w2c_i1, w2c_j2);
   w2c_j0 = w2c_p0;
-  w2c_j1 = 1ull;
+  w2c_i1 = 0u;
+  w2c_j2 = 0ull;
+  (*Z_memoryZ_i32_store16)(instance->Z_memory_instance, w2c_j0, w2c_i1, w2c_j2);
+  goto w2c_B0;
+  w2c_B2:;
+  UNREACHABLE;
+  w2c_B1:;
+  w2c_j0 = w2c_p0;
+  w2c_i1 = 1793u;
+  w2c_j2 = 0ull;
+  (*Z_memoryZ_i32_store16)(instance->Z_memory_instance, w2c_j0, w2c_i1, w2c_j2);
+  w2c_j0 = w2c_p0;
+  w2c_j1 = 2ull;
   w2c_j0 += w2c_j1;
-  w2c_i1 = w2c_l7;
+  w2c_i1 = 0u;
   w2c_j2 = 0ull;
   (*Z_memoryZ_i32_store8)(instance->Z_memory_instance, w2c_j0, w2c_i1, w2c_j2);
-  goto w2c_B0;
-  w2c_B1:;
-  UNREACHABLE;
   w2c_B0:;
   w2c_j0 = w2c_l6;
   w2c_j1 = 96ull;
@@ -22463,7 +22443,7 @@ static void w2c_argon2_c__over__hash_job(Z_proved_instance_t* instance, u64 w2c_
 
 static void w2c_argon2_c__jobs__make(Z_proved_instance_t* instance, u64 w2c_p0, u64 w2c_p1, u64 w2c_p2, u64 w2c_p3, u64 w2c_p4, u64 w2c_p5, u64 w2c_p6, u64 w2c_p7, 
     u64 w2c_p8, u64 w2c_p9, u64 w2c_p10) {
-  u32 w2c_l12 = 0, w2c_l13 = 0, w2c_l14 = 0, w2c_l15 = 0, w2c_l16 = 0, w2c_l17 = 0, w2c_l18 = 0;
+  u32 w2c_l12 = 0, w2c_l13 = 0, w2c_l14 = 0, w2c_l15 = 0, w2c_l16 = 0, w2c_l17 = 0;
   u64 w2c_l11 = 0;
   FUNC_PROLOGUE;
   u32 w2c_i0, w2c_i1, w2c_i2, w2c_i3;
@@ -22477,18 +22457,18 @@ static void w2c_argon2_c__jobs__make(Z_proved_instance_t* instance, u64 w2c_p0, 
   w2c_l11 = w2c_j0;
   w2c_j1 = 16ull;
   w2c_i0 = (u64)((s64)w2c_j0 < (s64)w2c_j1);
-  if (w2c_i0) {goto w2c_B2;}
+  if (w2c_i0) {goto w2c_B3;}
   w2c_j0 = w2c_p9;
   w2c_j1 = 0ull;
   w2c_i0 = (*Z_memoryZ_i32_load)(instance->Z_memory_instance, w2c_j0, w2c_j1);
   w2c_l12 = w2c_i0;
   w2c_i1 = 2u;
   w2c_i0 = w2c_i0 <= w2c_i1;
-  if (w2c_i0) {goto w2c_B3;}
+  if (w2c_i0) {goto w2c_B4;}
   w2c_i0 = 16u;
   w2c_l13 = w2c_i0;
   goto w2c_B1;
-  w2c_B3:;
+  w2c_B4:;
   w2c_i0 = 17u;
   w2c_l13 = w2c_i0;
   w2c_j0 = w2c_p9;
@@ -22499,18 +22479,18 @@ static void w2c_argon2_c__jobs__make(Z_proved_instance_t* instance, u64 w2c_p0, 
   w2c_i1 = 4294967280u;
   w2c_i0 += w2c_i1;
   switch (w2c_i0) {
-    case 0: goto w2c_B4;
+    case 0: goto w2c_B5;
     case 1: goto w2c_B1;
     case 2: goto w2c_B1;
-    case 3: goto w2c_B5;
+    case 3: goto w2c_B6;
     default: goto w2c_B1;
   }
-  w2c_B5:;
+  w2c_B6:;
   w2c_i0 = w2c_l12;
   w2c_i1 = 256u;
   w2c_i0 |= w2c_i1;
   w2c_l12 = w2c_i0;
-  w2c_B4:;
+  w2c_B5:;
   w2c_j0 = w2c_p9;
   w2c_j1 = 12ull;
   w2c_j0 += w2c_j1;
@@ -22545,9 +22525,7 @@ static void w2c_argon2_c__jobs__make(Z_proved_instance_t* instance, u64 w2c_p0, 
   if (w2c_i0) {goto w2c_B7;}
   w2c_i0 = 14u;
   w2c_l13 = w2c_i0;
-  w2c_i0 = 1u;
-  w2c_l12 = w2c_i0;
-  goto w2c_B6;
+  goto w2c_B2;
   w2c_B7:;
   w2c_i0 = w2c_l13;
   w2c_i1 = 16777215u;
@@ -22555,9 +22533,7 @@ static void w2c_argon2_c__jobs__make(Z_proved_instance_t* instance, u64 w2c_p0, 
   if (w2c_i0) {goto w2c_B8;}
   w2c_i0 = 15u;
   w2c_l13 = w2c_i0;
-  w2c_i0 = 1u;
-  w2c_l12 = w2c_i0;
-  goto w2c_B6;
+  goto w2c_B2;
   w2c_B8:;
   w2c_i0 = w2c_l15;
   w2c_i1 = w2c_l13;
@@ -22567,17 +22543,13 @@ static void w2c_argon2_c__jobs__make(Z_proved_instance_t* instance, u64 w2c_p0, 
   if (w2c_i0) {goto w2c_B9;}
   w2c_i0 = 12u;
   w2c_l13 = w2c_i0;
-  w2c_i0 = 1u;
-  w2c_l12 = w2c_i0;
-  goto w2c_B6;
+  goto w2c_B2;
   w2c_B9:;
   w2c_i0 = w2c_l14;
   if (w2c_i0) {goto w2c_B10;}
   w2c_i0 = 10u;
   w2c_l13 = w2c_i0;
-  w2c_i0 = 1u;
-  w2c_l12 = w2c_i0;
-  goto w2c_B6;
+  goto w2c_B2;
   w2c_B10:;
   w2c_j0 = w2c_p2;
   w2c_j1 = 4294967295ull;
@@ -22585,9 +22557,7 @@ static void w2c_argon2_c__jobs__make(Z_proved_instance_t* instance, u64 w2c_p0, 
   if (w2c_i0) {goto w2c_B11;}
   w2c_i0 = 3u;
   w2c_l13 = w2c_i0;
-  w2c_i0 = 1u;
-  w2c_l12 = w2c_i0;
-  goto w2c_B6;
+  goto w2c_B2;
   w2c_B11:;
   w2c_j0 = w2c_p4;
   w2c_j1 = 8ull;
@@ -22595,9 +22565,7 @@ static void w2c_argon2_c__jobs__make(Z_proved_instance_t* instance, u64 w2c_p0, 
   if (w2c_i0) {goto w2c_B12;}
   w2c_i0 = 4u;
   w2c_l13 = w2c_i0;
-  w2c_i0 = 1u;
-  w2c_l12 = w2c_i0;
-  goto w2c_B6;
+  goto w2c_B2;
   w2c_B12:;
   w2c_j0 = w2c_p4;
   w2c_j1 = 4294967295ull;
@@ -22605,9 +22573,7 @@ static void w2c_argon2_c__jobs__make(Z_proved_instance_t* instance, u64 w2c_p0, 
   if (w2c_i0) {goto w2c_B13;}
   w2c_i0 = 5u;
   w2c_l13 = w2c_i0;
-  w2c_i0 = 1u;
-  w2c_l12 = w2c_i0;
-  goto w2c_B6;
+  goto w2c_B2;
   w2c_B13:;
   w2c_j0 = w2c_p6;
   w2c_j1 = 4294967295ull;
@@ -22615,9 +22581,7 @@ static void w2c_argon2_c__jobs__make(Z_proved_instance_t* instance, u64 w2c_p0, 
   if (w2c_i0) {goto w2c_B14;}
   w2c_i0 = 9u;
   w2c_l13 = w2c_i0;
-  w2c_i0 = 1u;
-  w2c_l12 = w2c_i0;
-  goto w2c_B6;
+  goto w2c_B2;
   w2c_B14:;
   w2c_j0 = w2c_p8;
   w2c_j1 = 4294967295ull;
@@ -22625,19 +22589,15 @@ static void w2c_argon2_c__jobs__make(Z_proved_instance_t* instance, u64 w2c_p0, 
   if (w2c_i0) {goto w2c_B15;}
   w2c_i0 = 7u;
   w2c_l13 = w2c_i0;
-  w2c_i0 = 1u;
-  w2c_l12 = w2c_i0;
-  goto w2c_B6;
+  goto w2c_B2;
   w2c_B15:;
   w2c_i0 = w2c_l16;
-  w2c_i1 = 3u;
-  w2c_i0 = w2c_i0 > w2c_i1;
+  w2c_i1 = 4u;
+  w2c_i0 = w2c_i0 >= w2c_i1;
   if (w2c_i0) {goto w2c_B16;}
   w2c_i0 = 0u;
   w2c_l13 = w2c_i0;
-  w2c_i0 = 1u;
-  w2c_l12 = w2c_i0;
-  goto w2c_B6;
+  goto w2c_B2;
   w2c_B16:;
   w2c_j0 = w2c_l11;
   w2c_i1 = w2c_l12;
@@ -22659,8 +22619,6 @@ static void w2c_argon2_c__jobs__make(Z_proved_instance_t* instance, u64 w2c_p0, 
   w2c_j1 = w2c_p5;
   w2c_j2 = 96ull;
   (*Z_memoryZ_i64_store)(instance->Z_memory_instance, w2c_j0, w2c_j1, w2c_j2);
-  w2c_i0 = 0u;
-  w2c_l12 = w2c_i0;
   w2c_j0 = w2c_l11;
   w2c_i1 = 0u;
   w2c_j2 = 92ull;
@@ -22751,23 +22709,23 @@ static void w2c_argon2_c__jobs__make(Z_proved_instance_t* instance, u64 w2c_p0, 
   w2c_j0 = w2c_l11;
   w2c_j1 = 189ull;
   w2c_i0 = (*Z_memoryZ_i32_load8_u)(instance->Z_memory_instance, w2c_j0, w2c_j1);
-  w2c_l15 = w2c_i0;
+  w2c_l12 = w2c_i0;
   w2c_j0 = w2c_l11;
   w2c_j1 = 148ull;
   w2c_i0 = (*Z_memoryZ_i32_load)(instance->Z_memory_instance, w2c_j0, w2c_j1);
-  w2c_l14 = w2c_i0;
+  w2c_l15 = w2c_i0;
   w2c_j0 = w2c_l11;
   w2c_j1 = 232ull;
   w2c_i0 = (*Z_memoryZ_i32_load)(instance->Z_memory_instance, w2c_j0, w2c_j1);
-  w2c_l16 = w2c_i0;
+  w2c_l14 = w2c_i0;
   w2c_j0 = w2c_l11;
   w2c_j1 = 184ull;
   w2c_i0 = (*Z_memoryZ_i32_load)(instance->Z_memory_instance, w2c_j0, w2c_j1);
-  w2c_l17 = w2c_i0;
+  w2c_l16 = w2c_i0;
   w2c_j0 = w2c_l11;
   w2c_j1 = 144ull;
   w2c_i0 = (*Z_memoryZ_i32_load)(instance->Z_memory_instance, w2c_j0, w2c_j1);
-  w2c_l18 = w2c_i0;
+  w2c_l17 = w2c_i0;
   w2c_j0 = w2c_p10;
   w2c_j1 = w2c_l11;
   w2c_j2 = 56ull;
@@ -22817,25 +22775,25 @@ static void w2c_argon2_c__jobs__make(Z_proved_instance_t* instance, u64 w2c_p0, 
   w2c_j2 = 0ull;
   (*Z_memoryZ_i64_store)(instance->Z_memory_instance, w2c_j0, w2c_j1, w2c_j2);
   w2c_j0 = w2c_p10;
-  w2c_i1 = w2c_l18;
+  w2c_i1 = w2c_l17;
   w2c_j2 = 84ull;
   (*Z_memoryZ_i32_store)(instance->Z_memory_instance, w2c_j0, w2c_i1, w2c_j2);
   w2c_j0 = w2c_p10;
-  w2c_i1 = w2c_l17;
+  w2c_i1 = w2c_l16;
   w2c_j2 = 80ull;
   (*Z_memoryZ_i32_store)(instance->Z_memory_instance, w2c_j0, w2c_i1, w2c_j2);
   w2c_j0 = w2c_p10;
-  w2c_i1 = w2c_l16;
+  w2c_i1 = w2c_l14;
   w2c_j2 = 76ull;
   (*Z_memoryZ_i32_store)(instance->Z_memory_instance, w2c_j0, w2c_i1, w2c_j2);
   w2c_j0 = w2c_p10;
-  w2c_i1 = w2c_l14;
+  w2c_i1 = w2c_l15;
   w2c_j2 = 72ull;
   (*Z_memoryZ_i32_store)(instance->Z_memory_instance, w2c_j0, w2c_i1, w2c_j2);
   w2c_j0 = w2c_p10;
   w2c_i1 = 19u;
   w2c_i2 = 16u;
-  w2c_i3 = w2c_l15;
+  w2c_i3 = w2c_l12;
   w2c_i1 = w2c_i3 ? w2c_i1 : w2c_i2;
   w2c_j2 = 68ull;
   (*Z_memoryZ_i32_store)(instance->Z_memory_instance, w2c_j0, w2c_i1, w2c_j2);
@@ -22843,13 +22801,20 @@ static void w2c_argon2_c__jobs__make(Z_proved_instance_t* instance, u64 w2c_p0, 
   w2c_i1 = w2c_l13;
   w2c_j2 = 64ull;
   (*Z_memoryZ_i32_store)(instance->Z_memory_instance, w2c_j0, w2c_i1, w2c_j2);
-  w2c_i0 = 0u;
-  w2c_l13 = w2c_i0;
-  w2c_B6:;
   w2c_j0 = w2c_p0;
-  w2c_i1 = w2c_l12;
+  w2c_j1 = 2ull;
+  w2c_j0 += w2c_j1;
+  w2c_i1 = 0u;
   w2c_j2 = 0ull;
   (*Z_memoryZ_i32_store8)(instance->Z_memory_instance, w2c_j0, w2c_i1, w2c_j2);
+  w2c_j0 = w2c_p0;
+  w2c_i1 = 0u;
+  w2c_j2 = 0ull;
+  (*Z_memoryZ_i32_store16)(instance->Z_memory_instance, w2c_j0, w2c_i1, w2c_j2);
+  goto w2c_B0;
+  w2c_B3:;
+  UNREACHABLE;
+  w2c_B2:;
   w2c_j0 = w2c_p0;
   w2c_j1 = 2ull;
   w2c_j0 += w2c_j1;
@@ -22857,14 +22822,10 @@ static void w2c_argon2_c__jobs__make(Z_proved_instance_t* instance, u64 w2c_p0, 
   w2c_j2 = 0ull;
   (*Z_memoryZ_i32_store8)(instance->Z_memory_instance, w2c_j0, w2c_i1, w2c_j2);
   w2c_j0 = w2c_p0;
-  w2c_j1 = 1ull;
-  w2c_j0 += w2c_j1;
-  w2c_i1 = 0u;
+  w2c_i1 = 1u;
   w2c_j2 = 0ull;
-  (*Z_memoryZ_i32_store8)(instance->Z_memory_instance, w2c_j0, w2c_i1, w2c_j2);
+  (*Z_memoryZ_i32_store16)(instance->Z_memory_instance, w2c_j0, w2c_i1, w2c_j2);
   goto w2c_B0;
-  w2c_B2:;
-  UNREACHABLE;
   w2c_B1:;
   w2c_j0 = w2c_p0;
   w2c_i1 = 1u;
@@ -23085,10 +23046,11 @@ static void w2c_itoa__Buffer__format____a27d2209050c8f1b_(Z_proved_instance_t* i
   FUNC_EPILOGUE;
 }
 
-static void w2c_argon2_c__stored_text__head_of(Z_proved_instance_t* instance, u64 w2c_p0, u64 w2c_p1, u64 w2c_p2) {
-  u32 w2c_l6 = 0, w2c_l11 = 0, w2c_l12 = 0, w2c_l13 = 0, w2c_l14 = 0, w2c_l15 = 0, w2c_l24 = 0;
-  u64 w2c_l3 = 0, w2c_l4 = 0, w2c_l5 = 0, w2c_l7 = 0, w2c_l8 = 0, w2c_l9 = 0, w2c_l10 = 0, w2c_l16 = 0, 
-      w2c_l17 = 0, w2c_l18 = 0, w2c_l19 = 0, w2c_l20 = 0, w2c_l21 = 0, w2c_l22 = 0, w2c_l23 = 0;
+static void w2c_argon2_c__encoded_hash__head_of(Z_proved_instance_t* instance, u64 w2c_p0, u64 w2c_p1, u64 w2c_p2) {
+  u32 w2c_l6 = 0, w2c_l11 = 0, w2c_l20 = 0, w2c_l21 = 0, w2c_l22 = 0, w2c_l23 = 0, w2c_l24 = 0, w2c_l25 = 0, 
+      w2c_l26 = 0, w2c_l27 = 0;
+  u64 w2c_l3 = 0, w2c_l4 = 0, w2c_l5 = 0, w2c_l7 = 0, w2c_l8 = 0, w2c_l9 = 0, w2c_l10 = 0, w2c_l12 = 0, 
+      w2c_l13 = 0, w2c_l14 = 0, w2c_l15 = 0, w2c_l16 = 0, w2c_l17 = 0, w2c_l18 = 0, w2c_l19 = 0;
   FUNC_PROLOGUE;
   u32 w2c_i0, w2c_i1, w2c_i2, w2c_i3, w2c_i4, w2c_i5, w2c_i6, w2c_i7, 
       w2c_i8;
@@ -23103,7 +23065,7 @@ static void w2c_argon2_c__stored_text__head_of(Z_proved_instance_t* instance, u6
   w2c_l4 = w2c_j0;
   w2c_j1 = 16ull;
   w2c_i0 = (u64)((s64)w2c_j0 < (s64)w2c_j1);
-  if (w2c_i0) {goto w2c_B6;}
+  if (w2c_i0) {goto w2c_B5;}
   w2c_j0 = w2c_p2;
   w2c_i0 = !(w2c_j0);
   if (w2c_i0) {goto w2c_B3;}
@@ -23120,7 +23082,7 @@ static void w2c_argon2_c__stored_text__head_of(Z_proved_instance_t* instance, u6
   w2c_j0 += w2c_j1;
   w2c_j1 = 7ull;
   w2c_i0 = w2c_j0 < w2c_j1;
-  if (w2c_i0) {goto w2c_B8;}
+  if (w2c_i0) {goto w2c_B7;}
   w2c_j0 = w2c_p2;
   w2c_j1 = 18446744073709551608ull;
   w2c_j0 &= w2c_j1;
@@ -23129,7 +23091,7 @@ static void w2c_argon2_c__stored_text__head_of(Z_proved_instance_t* instance, u6
   w2c_l6 = w2c_i0;
   w2c_j0 = w2c_p1;
   w2c_l3 = w2c_j0;
-  w2c_L9: 
+  w2c_L8: 
     w2c_j0 = w2c_l3;
     w2c_j1 = 7ull;
     w2c_j0 += w2c_j1;
@@ -23188,12 +23150,12 @@ static void w2c_argon2_c__stored_text__head_of(Z_proved_instance_t* instance, u6
     w2c_l7 = w2c_j0;
     w2c_j1 = 0ull;
     w2c_i0 = w2c_j0 != w2c_j1;
-    if (w2c_i0) {goto w2c_L9;}
+    if (w2c_i0) {goto w2c_L8;}
   w2c_j0 = w2c_l5;
   w2c_i0 = !(w2c_j0);
-  if (w2c_i0) {goto w2c_B7;}
-  w2c_B8:;
-  w2c_L10: 
+  if (w2c_i0) {goto w2c_B6;}
+  w2c_B7:;
+  w2c_L9: 
     w2c_j0 = w2c_l3;
     w2c_j1 = 0ull;
     w2c_i0 = (*Z_memoryZ_i32_load8_u)(instance->Z_memory_instance, w2c_j0, w2c_j1);
@@ -23210,13 +23172,13 @@ static void w2c_argon2_c__stored_text__head_of(Z_proved_instance_t* instance, u6
     w2c_l5 = w2c_j0;
     w2c_j1 = 0ull;
     w2c_i0 = w2c_j0 != w2c_j1;
-    if (w2c_i0) {goto w2c_L10;}
-  w2c_B7:;
+    if (w2c_i0) {goto w2c_L9;}
+  w2c_B6:;
   w2c_i0 = w2c_l6;
   w2c_i0 = (u32)(s32)(s8)(u8)(w2c_i0);
   w2c_i1 = 0u;
   w2c_i0 = (u32)((s32)w2c_i0 >= (s32)w2c_i1);
-  if (w2c_i0) {goto w2c_B12;}
+  if (w2c_i0) {goto w2c_B10;}
   w2c_j0 = w2c_p1;
   w2c_j1 = w2c_p2;
   w2c_j2 = 18446744073709551608ull;
@@ -23226,7 +23188,7 @@ static void w2c_argon2_c__stored_text__head_of(Z_proved_instance_t* instance, u6
   w2c_l9 = w2c_j0;
   w2c_j0 = 0ull;
   w2c_l3 = w2c_j0;
-  w2c_L13: 
+  w2c_L11: 
     w2c_j0 = w2c_p1;
     w2c_j1 = w2c_l3;
     w2c_l5 = w2c_j1;
@@ -23241,12 +23203,12 @@ static void w2c_argon2_c__stored_text__head_of(Z_proved_instance_t* instance, u6
     w2c_l10 = w2c_j0;
     w2c_j1 = 2ull;
     w2c_i0 = w2c_j0 < w2c_j1;
-    if (w2c_i0) {goto w2c_B18;}
+    if (w2c_i0) {goto w2c_B16;}
     w2c_i0 = w2c_l6;
     w2c_i0 = (u32)(s32)(s8)(u8)(w2c_i0);
     w2c_i1 = 0u;
     w2c_i0 = (u32)((s32)w2c_i0 < (s32)w2c_i1);
-    if (w2c_i0) {goto w2c_B18;}
+    if (w2c_i0) {goto w2c_B16;}
     w2c_j0 = 1ull;
     w2c_l7 = w2c_j0;
     w2c_j0 = w2c_l3;
@@ -23256,7 +23218,7 @@ static void w2c_argon2_c__stored_text__head_of(Z_proved_instance_t* instance, u6
     w2c_i0 = (*Z_memoryZ_i32_load8_s)(instance->Z_memory_instance, w2c_j0, w2c_j1);
     w2c_i1 = 0u;
     w2c_i0 = (u32)((s32)w2c_i0 < (s32)w2c_i1);
-    if (w2c_i0) {goto w2c_B17;}
+    if (w2c_i0) {goto w2c_B15;}
     w2c_j0 = w2c_l4;
     w2c_j1 = w2c_p2;
     w2c_j2 = 32ull;
@@ -23268,24 +23230,24 @@ static void w2c_argon2_c__stored_text__head_of(Z_proved_instance_t* instance, u6
     w2c_j0 = w2c_l10;
     w2c_j1 = 7ull;
     w2c_i0 = w2c_j0 > w2c_j1;
-    if (w2c_i0) {goto w2c_B19;}
+    if (w2c_i0) {goto w2c_B17;}
     w2c_j0 = w2c_l3;
     w2c_j1 = 0ull;
     w2c_i0 = (*Z_memoryZ_i32_load8_s)(instance->Z_memory_instance, w2c_j0, w2c_j1);
     w2c_i1 = 0u;
     w2c_i0 = (u32)((s32)w2c_i0 >= (s32)w2c_i1);
-    if (w2c_i0) {goto w2c_B20;}
+    if (w2c_i0) {goto w2c_B18;}
     w2c_j0 = w2c_l5;
     w2c_l3 = w2c_j0;
-    goto w2c_B14;
-    w2c_B20:;
+    goto w2c_B12;
+    w2c_B18:;
     w2c_j0 = w2c_l5;
     w2c_j1 = 1ull;
     w2c_j0 += w2c_j1;
     w2c_l3 = w2c_j0;
     w2c_j1 = w2c_p2;
     w2c_i0 = w2c_j0 == w2c_j1;
-    if (w2c_i0) {goto w2c_B12;}
+    if (w2c_i0) {goto w2c_B10;}
     w2c_j0 = w2c_p1;
     w2c_j1 = w2c_l3;
     w2c_j0 += w2c_j1;
@@ -23293,14 +23255,14 @@ static void w2c_argon2_c__stored_text__head_of(Z_proved_instance_t* instance, u6
     w2c_i0 = (*Z_memoryZ_i32_load8_s)(instance->Z_memory_instance, w2c_j0, w2c_j1);
     w2c_i1 = 0u;
     w2c_i0 = (u32)((s32)w2c_i0 < (s32)w2c_i1);
-    if (w2c_i0) {goto w2c_B14;}
+    if (w2c_i0) {goto w2c_B12;}
     w2c_j0 = w2c_l5;
     w2c_j1 = 2ull;
     w2c_j0 += w2c_j1;
     w2c_l3 = w2c_j0;
     w2c_j1 = w2c_p2;
     w2c_i0 = w2c_j0 == w2c_j1;
-    if (w2c_i0) {goto w2c_B12;}
+    if (w2c_i0) {goto w2c_B10;}
     w2c_j0 = w2c_p1;
     w2c_j1 = w2c_l3;
     w2c_j0 += w2c_j1;
@@ -23308,14 +23270,14 @@ static void w2c_argon2_c__stored_text__head_of(Z_proved_instance_t* instance, u6
     w2c_i0 = (*Z_memoryZ_i32_load8_s)(instance->Z_memory_instance, w2c_j0, w2c_j1);
     w2c_i1 = 0u;
     w2c_i0 = (u32)((s32)w2c_i0 < (s32)w2c_i1);
-    if (w2c_i0) {goto w2c_B14;}
+    if (w2c_i0) {goto w2c_B12;}
     w2c_j0 = w2c_l5;
     w2c_j1 = 3ull;
     w2c_j0 += w2c_j1;
     w2c_l3 = w2c_j0;
     w2c_j1 = w2c_p2;
     w2c_i0 = w2c_j0 == w2c_j1;
-    if (w2c_i0) {goto w2c_B12;}
+    if (w2c_i0) {goto w2c_B10;}
     w2c_j0 = w2c_p1;
     w2c_j1 = w2c_l3;
     w2c_j0 += w2c_j1;
@@ -23323,14 +23285,14 @@ static void w2c_argon2_c__stored_text__head_of(Z_proved_instance_t* instance, u6
     w2c_i0 = (*Z_memoryZ_i32_load8_s)(instance->Z_memory_instance, w2c_j0, w2c_j1);
     w2c_i1 = 0u;
     w2c_i0 = (u32)((s32)w2c_i0 < (s32)w2c_i1);
-    if (w2c_i0) {goto w2c_B14;}
+    if (w2c_i0) {goto w2c_B12;}
     w2c_j0 = w2c_l5;
     w2c_j1 = 4ull;
     w2c_j0 += w2c_j1;
     w2c_l3 = w2c_j0;
     w2c_j1 = w2c_p2;
     w2c_i0 = w2c_j0 == w2c_j1;
-    if (w2c_i0) {goto w2c_B12;}
+    if (w2c_i0) {goto w2c_B10;}
     w2c_j0 = w2c_p1;
     w2c_j1 = w2c_l3;
     w2c_j0 += w2c_j1;
@@ -23338,14 +23300,14 @@ static void w2c_argon2_c__stored_text__head_of(Z_proved_instance_t* instance, u6
     w2c_i0 = (*Z_memoryZ_i32_load8_s)(instance->Z_memory_instance, w2c_j0, w2c_j1);
     w2c_i1 = 0u;
     w2c_i0 = (u32)((s32)w2c_i0 < (s32)w2c_i1);
-    if (w2c_i0) {goto w2c_B14;}
+    if (w2c_i0) {goto w2c_B12;}
     w2c_j0 = w2c_l5;
     w2c_j1 = 5ull;
     w2c_j0 += w2c_j1;
     w2c_l3 = w2c_j0;
     w2c_j1 = w2c_p2;
     w2c_i0 = w2c_j0 == w2c_j1;
-    if (w2c_i0) {goto w2c_B12;}
+    if (w2c_i0) {goto w2c_B10;}
     w2c_j0 = w2c_p1;
     w2c_j1 = w2c_l3;
     w2c_j0 += w2c_j1;
@@ -23353,14 +23315,14 @@ static void w2c_argon2_c__stored_text__head_of(Z_proved_instance_t* instance, u6
     w2c_i0 = (*Z_memoryZ_i32_load8_s)(instance->Z_memory_instance, w2c_j0, w2c_j1);
     w2c_i1 = 0u;
     w2c_i0 = (u32)((s32)w2c_i0 < (s32)w2c_i1);
-    if (w2c_i0) {goto w2c_B14;}
+    if (w2c_i0) {goto w2c_B12;}
     w2c_j0 = w2c_l5;
     w2c_j1 = 6ull;
     w2c_j0 += w2c_j1;
     w2c_l3 = w2c_j0;
     w2c_j1 = w2c_p2;
     w2c_i0 = w2c_j0 == w2c_j1;
-    if (w2c_i0) {goto w2c_B12;}
+    if (w2c_i0) {goto w2c_B10;}
     w2c_j0 = w2c_p1;
     w2c_j1 = w2c_l3;
     w2c_j0 += w2c_j1;
@@ -23368,9 +23330,9 @@ static void w2c_argon2_c__stored_text__head_of(Z_proved_instance_t* instance, u6
     w2c_i0 = (*Z_memoryZ_i32_load8_s)(instance->Z_memory_instance, w2c_j0, w2c_j1);
     w2c_i1 = 0u;
     w2c_i0 = (u32)((s32)w2c_i0 < (s32)w2c_i1);
-    if (w2c_i0) {goto w2c_B14;}
-    goto w2c_B12;
-    w2c_B19:;
+    if (w2c_i0) {goto w2c_B12;}
+    goto w2c_B10;
+    w2c_B17:;
     w2c_j0 = 8ull;
     w2c_j1 = w2c_l3;
     w2c_j2 = 0ull;
@@ -23391,14 +23353,14 @@ static void w2c_argon2_c__stored_text__head_of(Z_proved_instance_t* instance, u6
     w2c_j2 = 8ull;
     w2c_j1 += w2c_j2;
     w2c_i0 = w2c_j0 < w2c_j1;
-    if (w2c_i0) {goto w2c_B14;}
+    if (w2c_i0) {goto w2c_B12;}
     w2c_j0 = w2c_p2;
     w2c_j1 = w2c_l3;
     w2c_j0 -= w2c_j1;
     w2c_j1 = 32ull;
     w2c_i0 = w2c_j0 < w2c_j1;
-    if (w2c_i0) {goto w2c_B21;}
-    w2c_L22: 
+    if (w2c_i0) {goto w2c_B19;}
+    w2c_L20: 
       w2c_j0 = w2c_p1;
       w2c_j1 = w2c_l3;
       w2c_j0 += w2c_j1;
@@ -23427,7 +23389,7 @@ static void w2c_argon2_c__stored_text__head_of(Z_proved_instance_t* instance, u6
       w2c_j0 &= w2c_j1;
       w2c_j1 = 0ull;
       w2c_i0 = w2c_j0 != w2c_j1;
-      if (w2c_i0) {goto w2c_B21;}
+      if (w2c_i0) {goto w2c_B19;}
       w2c_j0 = w2c_p2;
       w2c_j1 = w2c_l4;
       w2c_j2 = 24ull;
@@ -23441,17 +23403,17 @@ static void w2c_argon2_c__stored_text__head_of(Z_proved_instance_t* instance, u6
       w2c_j0 -= w2c_j1;
       w2c_j1 = 31ull;
       w2c_i0 = w2c_j0 > w2c_j1;
-      if (w2c_i0) {goto w2c_L22;}
-    w2c_B21:;
+      if (w2c_i0) {goto w2c_L20;}
+    w2c_B19:;
     w2c_j0 = w2c_p2;
     w2c_j1 = w2c_l3;
     w2c_j0 -= w2c_j1;
     w2c_l5 = w2c_j0;
-    w2c_L23: 
+    w2c_L21: 
       w2c_j0 = w2c_l5;
       w2c_j1 = 9ull;
       w2c_i0 = w2c_j0 < w2c_j1;
-      if (w2c_i0) {goto w2c_B16;}
+      if (w2c_i0) {goto w2c_B14;}
       w2c_j0 = w2c_l5;
       w2c_j1 = 18446744073709551608ull;
       w2c_j0 += w2c_j1;
@@ -23479,36 +23441,36 @@ static void w2c_argon2_c__stored_text__head_of(Z_proved_instance_t* instance, u6
       w2c_j1 += w2c_j2;
       w2c_l3 = w2c_j1;
       w2c_i0 = w2c_j0 >= w2c_j1;
-      if (w2c_i0) {goto w2c_L23;}
+      if (w2c_i0) {goto w2c_L21;}
     w2c_j0 = w2c_l7;
     w2c_j1 = w2c_l3;
     w2c_j0 += w2c_j1;
     w2c_j1 = 18446744073709551608ull;
     w2c_j0 += w2c_j1;
     w2c_l3 = w2c_j0;
-    goto w2c_B14;
-    w2c_B18:;
+    goto w2c_B12;
+    w2c_B16:;
     w2c_j0 = 1ull;
     w2c_l7 = w2c_j0;
     w2c_i0 = w2c_l6;
     w2c_i0 = (u32)(s32)(s8)(u8)(w2c_i0);
     w2c_i1 = 4294967295u;
     w2c_i0 = (u32)((s32)w2c_i0 > (s32)w2c_i1);
-    if (w2c_i0) {goto w2c_B17;}
+    if (w2c_i0) {goto w2c_B15;}
     w2c_i0 = w2c_l6;
     w2c_i1 = 194u;
     w2c_i0 = w2c_i0 < w2c_i1;
-    if (w2c_i0) {goto w2c_B15;}
+    if (w2c_i0) {goto w2c_B13;}
     w2c_i0 = w2c_l6;
     w2c_i1 = 223u;
     w2c_i0 = w2c_i0 > w2c_i1;
-    if (w2c_i0) {goto w2c_B24;}
+    if (w2c_i0) {goto w2c_B22;}
     w2c_j0 = 2ull;
     w2c_l7 = w2c_j0;
     w2c_j0 = w2c_l10;
     w2c_j1 = 2ull;
     w2c_i0 = w2c_j0 < w2c_j1;
-    if (w2c_i0) {goto w2c_B15;}
+    if (w2c_i0) {goto w2c_B13;}
     w2c_j0 = w2c_l3;
     w2c_j1 = 1ull;
     w2c_j0 += w2c_j1;
@@ -23516,17 +23478,17 @@ static void w2c_argon2_c__stored_text__head_of(Z_proved_instance_t* instance, u6
     w2c_i0 = (*Z_memoryZ_i32_load8_s)(instance->Z_memory_instance, w2c_j0, w2c_j1);
     w2c_i1 = 4294967231u;
     w2c_i0 = (u32)((s32)w2c_i0 <= (s32)w2c_i1);
-    if (w2c_i0) {goto w2c_B17;}
-    goto w2c_B15;
-    w2c_B24:;
+    if (w2c_i0) {goto w2c_B15;}
+    goto w2c_B13;
+    w2c_B22:;
     w2c_i0 = w2c_l6;
     w2c_i1 = 239u;
     w2c_i0 = w2c_i0 > w2c_i1;
-    if (w2c_i0) {goto w2c_B26;}
+    if (w2c_i0) {goto w2c_B24;}
     w2c_j0 = w2c_l10;
     w2c_j1 = 3ull;
     w2c_i0 = w2c_j0 < w2c_j1;
-    if (w2c_i0) {goto w2c_B15;}
+    if (w2c_i0) {goto w2c_B13;}
     w2c_j0 = w2c_l3;
     w2c_j1 = 1ull;
     w2c_j0 += w2c_j1;
@@ -23535,7 +23497,7 @@ static void w2c_argon2_c__stored_text__head_of(Z_proved_instance_t* instance, u6
     w2c_l11 = w2c_i0;
     w2c_i1 = 4294967231u;
     w2c_i0 = (u32)((s32)w2c_i0 > (s32)w2c_i1);
-    if (w2c_i0) {goto w2c_B15;}
+    if (w2c_i0) {goto w2c_B13;}
     w2c_j0 = w2c_l3;
     w2c_j1 = 2ull;
     w2c_j0 += w2c_j1;
@@ -23543,7 +23505,7 @@ static void w2c_argon2_c__stored_text__head_of(Z_proved_instance_t* instance, u6
     w2c_i0 = (*Z_memoryZ_i32_load8_s)(instance->Z_memory_instance, w2c_j0, w2c_j1);
     w2c_i1 = 4294967231u;
     w2c_i0 = (u32)((s32)w2c_i0 > (s32)w2c_i1);
-    if (w2c_i0) {goto w2c_B15;}
+    if (w2c_i0) {goto w2c_B13;}
     w2c_i0 = w2c_l6;
     w2c_i1 = 6u;
     w2c_i0 <<= (w2c_i1 & 31);
@@ -23556,13 +23518,13 @@ static void w2c_argon2_c__stored_text__head_of(Z_proved_instance_t* instance, u6
     w2c_l6 = w2c_i0;
     w2c_i1 = 32u;
     w2c_i0 = w2c_i0 < w2c_i1;
-    if (w2c_i0) {goto w2c_B15;}
+    if (w2c_i0) {goto w2c_B13;}
     w2c_j0 = 3ull;
     w2c_l7 = w2c_j0;
     w2c_i0 = w2c_l6;
     w2c_i1 = 864u;
     w2c_i0 = w2c_i0 < w2c_i1;
-    if (w2c_i0) {goto w2c_B17;}
+    if (w2c_i0) {goto w2c_B15;}
     w2c_j0 = 0ull;
     w2c_j1 = 3ull;
     w2c_i2 = w2c_l6;
@@ -23570,12 +23532,12 @@ static void w2c_argon2_c__stored_text__head_of(Z_proved_instance_t* instance, u6
     w2c_i2 = w2c_i2 < w2c_i3;
     w2c_j0 = w2c_i2 ? w2c_j0 : w2c_j1;
     w2c_l7 = w2c_j0;
-    goto w2c_B25;
-    w2c_B26:;
+    goto w2c_B23;
+    w2c_B24:;
     w2c_j0 = w2c_l10;
     w2c_j1 = 4ull;
     w2c_i0 = w2c_j0 < w2c_j1;
-    if (w2c_i0) {goto w2c_B15;}
+    if (w2c_i0) {goto w2c_B13;}
     w2c_j0 = w2c_l3;
     w2c_j1 = 1ull;
     w2c_j0 += w2c_j1;
@@ -23584,7 +23546,7 @@ static void w2c_argon2_c__stored_text__head_of(Z_proved_instance_t* instance, u6
     w2c_l11 = w2c_i0;
     w2c_i1 = 4294967231u;
     w2c_i0 = (u32)((s32)w2c_i0 > (s32)w2c_i1);
-    if (w2c_i0) {goto w2c_B15;}
+    if (w2c_i0) {goto w2c_B13;}
     w2c_j0 = w2c_l3;
     w2c_j1 = 2ull;
     w2c_j0 += w2c_j1;
@@ -23592,7 +23554,7 @@ static void w2c_argon2_c__stored_text__head_of(Z_proved_instance_t* instance, u6
     w2c_i0 = (*Z_memoryZ_i32_load8_s)(instance->Z_memory_instance, w2c_j0, w2c_j1);
     w2c_i1 = 4294967231u;
     w2c_i0 = (u32)((s32)w2c_i0 > (s32)w2c_i1);
-    if (w2c_i0) {goto w2c_B15;}
+    if (w2c_i0) {goto w2c_B13;}
     w2c_j0 = w2c_l3;
     w2c_j1 = 3ull;
     w2c_j0 += w2c_j1;
@@ -23600,7 +23562,7 @@ static void w2c_argon2_c__stored_text__head_of(Z_proved_instance_t* instance, u6
     w2c_i0 = (*Z_memoryZ_i32_load8_s)(instance->Z_memory_instance, w2c_j0, w2c_j1);
     w2c_i1 = 4294967231u;
     w2c_i0 = (u32)((s32)w2c_i0 > (s32)w2c_i1);
-    if (w2c_i0) {goto w2c_B15;}
+    if (w2c_i0) {goto w2c_B13;}
     w2c_i0 = w2c_l6;
     w2c_i1 = 6u;
     w2c_i0 <<= (w2c_i1 & 31);
@@ -23613,7 +23575,7 @@ static void w2c_argon2_c__stored_text__head_of(Z_proved_instance_t* instance, u6
     w2c_l6 = w2c_i0;
     w2c_i1 = 16u;
     w2c_i0 = w2c_i0 < w2c_i1;
-    if (w2c_i0) {goto w2c_B15;}
+    if (w2c_i0) {goto w2c_B13;}
     w2c_j0 = 4ull;
     w2c_j1 = 0ull;
     w2c_i2 = w2c_l6;
@@ -23621,17 +23583,17 @@ static void w2c_argon2_c__stored_text__head_of(Z_proved_instance_t* instance, u6
     w2c_i2 = w2c_i2 < w2c_i3;
     w2c_j0 = w2c_i2 ? w2c_j0 : w2c_j1;
     w2c_l7 = w2c_j0;
-    w2c_B25:;
+    w2c_B23:;
     w2c_j0 = w2c_l7;
     w2c_i0 = !(w2c_j0);
-    if (w2c_i0) {goto w2c_B15;}
-    w2c_B17:;
+    if (w2c_i0) {goto w2c_B13;}
+    w2c_B15:;
     w2c_j0 = w2c_l7;
     w2c_j1 = w2c_l5;
     w2c_j0 += w2c_j1;
     w2c_l3 = w2c_j0;
-    goto w2c_B14;
-    w2c_B16:;
+    goto w2c_B12;
+    w2c_B14:;
     w2c_j0 = 8ull;
     w2c_j1 = w2c_l9;
     w2c_j2 = 0ull;
@@ -23648,35 +23610,61 @@ static void w2c_argon2_c__stored_text__head_of(Z_proved_instance_t* instance, u6
     w2c_j1 = w2c_l8;
     w2c_j0 += w2c_j1;
     w2c_l3 = w2c_j0;
-    goto w2c_B14;
-    w2c_B15:;
-    w2c_i0 = 0u;
-    w2c_l12 = w2c_i0;
-    w2c_i0 = 3u;
-    w2c_l13 = w2c_i0;
-    w2c_i0 = 1u;
-    w2c_l6 = w2c_i0;
-    w2c_j0 = 0ull;
-    w2c_l3 = w2c_j0;
-    w2c_i0 = 0u;
-    w2c_l14 = w2c_i0;
-    w2c_i0 = 0u;
-    w2c_l11 = w2c_i0;
-    w2c_i0 = 0u;
-    w2c_l15 = w2c_i0;
-    w2c_j0 = 0ull;
-    w2c_l7 = w2c_j0;
-    w2c_j0 = 0ull;
-    w2c_l5 = w2c_j0;
-    w2c_j0 = 0ull;
-    w2c_p2 = w2c_j0;
-    goto w2c_B11;
-    w2c_B14:;
+    goto w2c_B12;
+    w2c_B13:;
+    w2c_j0 = w2c_p0;
+    w2c_i1 = 769u;
+    w2c_j2 = 0ull;
+    (*Z_memoryZ_i32_store16)(instance->Z_memory_instance, w2c_j0, w2c_i1, w2c_j2);
+    w2c_j0 = w2c_p0;
+    w2c_j1 = 8ull;
+    w2c_j0 += w2c_j1;
+    w2c_j1 = 0ull;
+    w2c_j2 = 0ull;
+    (*Z_memoryZ_i64_store)(instance->Z_memory_instance, w2c_j0, w2c_j1, w2c_j2);
+    w2c_j0 = w2c_p0;
+    w2c_j1 = 2ull;
+    w2c_j0 += w2c_j1;
+    w2c_i1 = 0u;
+    w2c_j2 = 0ull;
+    (*Z_memoryZ_i32_store8)(instance->Z_memory_instance, w2c_j0, w2c_i1, w2c_j2);
+    w2c_j0 = w2c_p0;
+    w2c_j1 = 16ull;
+    w2c_j0 += w2c_j1;
+    w2c_j1 = 0ull;
+    w2c_j2 = 0ull;
+    (*Z_memoryZ_i64_store)(instance->Z_memory_instance, w2c_j0, w2c_j1, w2c_j2);
+    w2c_j0 = w2c_p0;
+    w2c_j1 = 24ull;
+    w2c_j0 += w2c_j1;
+    w2c_j1 = 0ull;
+    w2c_j2 = 0ull;
+    (*Z_memoryZ_i64_store)(instance->Z_memory_instance, w2c_j0, w2c_j1, w2c_j2);
+    w2c_j0 = w2c_p0;
+    w2c_j1 = 32ull;
+    w2c_j0 += w2c_j1;
+    w2c_j1 = 0ull;
+    w2c_j2 = 0ull;
+    (*Z_memoryZ_i64_store)(instance->Z_memory_instance, w2c_j0, w2c_j1, w2c_j2);
+    w2c_j0 = w2c_p0;
+    w2c_j1 = 40ull;
+    w2c_j0 += w2c_j1;
+    w2c_j1 = 0ull;
+    w2c_j2 = 0ull;
+    (*Z_memoryZ_i64_store)(instance->Z_memory_instance, w2c_j0, w2c_j1, w2c_j2);
+    w2c_j0 = w2c_p0;
+    w2c_j1 = 48ull;
+    w2c_j0 += w2c_j1;
+    w2c_j1 = 0ull;
+    w2c_j2 = 0ull;
+    (*Z_memoryZ_i64_store)(instance->Z_memory_instance, w2c_j0, w2c_j1, w2c_j2);
+    goto w2c_B0;
+    w2c_B12:;
     w2c_j0 = w2c_l3;
     w2c_j1 = w2c_p2;
     w2c_i0 = w2c_j0 < w2c_j1;
-    if (w2c_i0) {goto w2c_L13;}
-  w2c_B12:;
+    if (w2c_i0) {goto w2c_L11;}
+  w2c_B10:;
   w2c_j0 = w2c_p1;
   w2c_j1 = 0ull;
   w2c_j0 = (*Z_memoryZ_i64_load8_u)(instance->Z_memory_instance, w2c_j0, w2c_j1);
@@ -23706,7 +23694,7 @@ static void w2c_argon2_c__stored_text__head_of(Z_proved_instance_t* instance, u6
   w2c_l10 = w2c_j0;
   w2c_j0 = 0ull;
   w2c_l3 = w2c_j0;
-  w2c_L28: 
+  w2c_L26: 
     w2c_j0 = w2c_p1;
     w2c_j1 = w2c_l3;
     w2c_j0 += w2c_j1;
@@ -23718,20 +23706,20 @@ static void w2c_argon2_c__stored_text__head_of(Z_proved_instance_t* instance, u6
     w2c_i0 = (*Z_memoryZ_i32_load8_u)(instance->Z_memory_instance, w2c_j0, w2c_j1);
     w2c_i1 = 36u;
     w2c_i0 = w2c_i0 == w2c_i1;
-    if (w2c_i0) {goto w2c_B27;}
+    if (w2c_i0) {goto w2c_B25;}
     w2c_j0 = w2c_l10;
     w2c_j1 = w2c_l3;
     w2c_j2 = 1ull;
     w2c_j1 += w2c_j2;
     w2c_l3 = w2c_j1;
     w2c_i0 = w2c_j0 != w2c_j1;
-    if (w2c_i0) {goto w2c_L28;}
+    if (w2c_i0) {goto w2c_L26;}
     goto w2c_B3;
-  w2c_B27:;
+  w2c_B25:;
   w2c_j0 = w2c_p2;
   w2c_j1 = w2c_l3;
   w2c_j0 -= w2c_j1;
-  w2c_l16 = w2c_j0;
+  w2c_l12 = w2c_j0;
   w2c_j1 = 18446744073709551614ull;
   w2c_j0 += w2c_j1;
   w2c_l10 = w2c_j0;
@@ -23741,7 +23729,7 @@ static void w2c_argon2_c__stored_text__head_of(Z_proved_instance_t* instance, u6
   w2c_j0 = 0ull;
   w2c_p1 = w2c_j0;
   w2c_j0 = 0ull;
-  w2c_l17 = w2c_j0;
+  w2c_l13 = w2c_j0;
   w2c_j0 = w2c_l7;
   w2c_j1 = 3ull;
   w2c_j0 += w2c_j1;
@@ -23758,34 +23746,34 @@ static void w2c_argon2_c__stored_text__head_of(Z_proved_instance_t* instance, u6
   w2c_j2 = 16ull;
   w2c_j1 <<= (w2c_j2 & 63);
   w2c_j0 |= w2c_j1;
-  w2c_l18 = w2c_j0;
+  w2c_l14 = w2c_j0;
   w2c_j1 = w2c_l8;
   w2c_j0 |= w2c_j1;
-  w2c_l19 = w2c_j0;
+  w2c_l15 = w2c_j0;
   w2c_j1 = 7748925ull;
   w2c_i0 = w2c_j0 != w2c_j1;
-  if (w2c_i0) {goto w2c_B29;}
+  if (w2c_i0) {goto w2c_B27;}
   w2c_j0 = w2c_p2;
   w2c_j1 = 18446744073709551612ull;
   w2c_j0 += w2c_j1;
   w2c_j1 = w2c_l3;
   w2c_i0 = w2c_j0 == w2c_j1;
   if (w2c_i0) {goto w2c_B3;}
-  w2c_j0 = w2c_l16;
+  w2c_j0 = w2c_l12;
   w2c_j1 = 18446744073709551611ull;
   w2c_j0 += w2c_j1;
   w2c_l10 = w2c_j0;
   w2c_j0 = w2c_l7;
   w2c_j1 = 4ull;
   w2c_j0 += w2c_j1;
-  w2c_l17 = w2c_j0;
+  w2c_l13 = w2c_j0;
   w2c_j0 = w2c_l3;
   w2c_j1 = w2c_p2;
   w2c_j0 -= w2c_j1;
   w2c_l8 = w2c_j0;
   w2c_j0 = 0ull;
   w2c_p1 = w2c_j0;
-  w2c_L31: 
+  w2c_L29: 
     w2c_j0 = w2c_l7;
     w2c_j1 = w2c_p1;
     w2c_j0 += w2c_j1;
@@ -23797,7 +23785,7 @@ static void w2c_argon2_c__stored_text__head_of(Z_proved_instance_t* instance, u6
     w2c_i0 = (*Z_memoryZ_i32_load8_u)(instance->Z_memory_instance, w2c_j0, w2c_j1);
     w2c_i1 = 36u;
     w2c_i0 = w2c_i0 == w2c_i1;
-    if (w2c_i0) {goto w2c_B30;}
+    if (w2c_i0) {goto w2c_B28;}
     w2c_j0 = w2c_l10;
     w2c_j1 = 18446744073709551615ull;
     w2c_j0 += w2c_j1;
@@ -23813,9 +23801,9 @@ static void w2c_argon2_c__stored_text__head_of(Z_proved_instance_t* instance, u6
     w2c_j0 = w2c_l5;
     w2c_j1 = 18446744073709551611ull;
     w2c_i0 = w2c_j0 != w2c_j1;
-    if (w2c_i0) {goto w2c_L31;}
+    if (w2c_i0) {goto w2c_L29;}
     goto w2c_B3;
-  w2c_B30:;
+  w2c_B28:;
   w2c_j0 = w2c_l10;
   w2c_j1 = 2ull;
   w2c_i0 = w2c_j0 < w2c_j1;
@@ -23836,10 +23824,10 @@ static void w2c_argon2_c__stored_text__head_of(Z_proved_instance_t* instance, u6
   w2c_j2 = 16ull;
   w2c_j1 <<= (w2c_j2 & 63);
   w2c_j0 |= w2c_j1;
-  w2c_l18 = w2c_j0;
-  w2c_B29:;
+  w2c_l14 = w2c_j0;
+  w2c_B27:;
   w2c_j0 = w2c_l8;
-  w2c_j1 = w2c_l18;
+  w2c_j1 = w2c_l14;
   w2c_j0 |= w2c_j1;
   w2c_j1 = 7159101ull;
   w2c_i0 = w2c_j0 != w2c_j1;
@@ -23851,36 +23839,36 @@ static void w2c_argon2_c__stored_text__head_of(Z_proved_instance_t* instance, u6
   w2c_j0 = w2c_l5;
   w2c_j1 = 3ull;
   w2c_j0 += w2c_j1;
-  w2c_l20 = w2c_j0;
+  w2c_l16 = w2c_j0;
   w2c_j0 = w2c_l10;
   w2c_j1 = 18446744073709551614ull;
   w2c_j0 += w2c_j1;
   w2c_l8 = w2c_j0;
   w2c_j0 = 0ull;
-  w2c_p2 = w2c_j0;
-  w2c_L33: 
+  w2c_l7 = w2c_j0;
+  w2c_L31: 
     w2c_j0 = w2c_l5;
-    w2c_j1 = w2c_p2;
+    w2c_j1 = w2c_l7;
     w2c_j0 += w2c_j1;
-    w2c_l7 = w2c_j0;
+    w2c_p2 = w2c_j0;
     w2c_j1 = 3ull;
     w2c_j0 += w2c_j1;
     w2c_j1 = 0ull;
     w2c_i0 = (*Z_memoryZ_i32_load8_u)(instance->Z_memory_instance, w2c_j0, w2c_j1);
     w2c_i1 = 44u;
     w2c_i0 = w2c_i0 == w2c_i1;
-    if (w2c_i0) {goto w2c_B32;}
+    if (w2c_i0) {goto w2c_B30;}
     w2c_j0 = w2c_l8;
-    w2c_j1 = w2c_p2;
+    w2c_j1 = w2c_l7;
     w2c_j2 = 1ull;
     w2c_j1 += w2c_j2;
-    w2c_p2 = w2c_j1;
+    w2c_l7 = w2c_j1;
     w2c_i0 = w2c_j0 != w2c_j1;
-    if (w2c_i0) {goto w2c_L33;}
+    if (w2c_i0) {goto w2c_L31;}
     goto w2c_B3;
-  w2c_B32:;
+  w2c_B30:;
   w2c_j0 = w2c_l10;
-  w2c_j1 = w2c_p2;
+  w2c_j1 = w2c_l7;
   w2c_j0 -= w2c_j1;
   w2c_l8 = w2c_j0;
   w2c_j1 = 18446744073709551613ull;
@@ -23888,23 +23876,23 @@ static void w2c_argon2_c__stored_text__head_of(Z_proved_instance_t* instance, u6
   w2c_j1 = 2ull;
   w2c_i0 = w2c_j0 < w2c_j1;
   if (w2c_i0) {goto w2c_B3;}
-  w2c_j0 = w2c_l7;
+  w2c_j0 = w2c_p2;
   w2c_j1 = 4ull;
   w2c_j0 += w2c_j1;
   w2c_j1 = 0ull;
   w2c_j0 = (*Z_memoryZ_i64_load8_u)(instance->Z_memory_instance, w2c_j0, w2c_j1);
   w2c_j1 = 16ull;
   w2c_j0 <<= (w2c_j1 & 63);
-  w2c_j1 = w2c_l7;
+  w2c_j1 = w2c_p2;
   w2c_j2 = 5ull;
   w2c_j1 += w2c_j2;
   w2c_j2 = 0ull;
   w2c_j1 = (*Z_memoryZ_i64_load8_u)(instance->Z_memory_instance, w2c_j1, w2c_j2);
-  w2c_l16 = w2c_j1;
+  w2c_l12 = w2c_j1;
   w2c_j2 = 8ull;
   w2c_j1 <<= (w2c_j2 & 63);
   w2c_j0 |= w2c_j1;
-  w2c_j1 = w2c_l16;
+  w2c_j1 = w2c_l12;
   w2c_j0 |= w2c_j1;
   w2c_j1 = 7617853ull;
   w2c_i0 = w2c_j0 != w2c_j1;
@@ -23912,59 +23900,59 @@ static void w2c_argon2_c__stored_text__head_of(Z_proved_instance_t* instance, u6
   w2c_j0 = w2c_l10;
   w2c_j1 = 18446744073709551611ull;
   w2c_j0 += w2c_j1;
-  w2c_j1 = w2c_p2;
+  w2c_j1 = w2c_l7;
   w2c_i0 = w2c_j0 == w2c_j1;
   if (w2c_i0) {goto w2c_B3;}
   w2c_j0 = w2c_l8;
   w2c_j1 = 18446744073709551610ull;
   w2c_j0 += w2c_j1;
   w2c_l8 = w2c_j0;
-  w2c_j0 = w2c_l7;
+  w2c_j0 = w2c_p2;
   w2c_j1 = 6ull;
   w2c_j0 += w2c_j1;
-  w2c_l21 = w2c_j0;
-  w2c_j0 = w2c_p2;
+  w2c_l17 = w2c_j0;
+  w2c_j0 = w2c_l7;
   w2c_j1 = w2c_l10;
   w2c_j0 -= w2c_j1;
-  w2c_l18 = w2c_j0;
+  w2c_l14 = w2c_j0;
   w2c_j0 = 0ull;
   w2c_l10 = w2c_j0;
-  w2c_L35: 
-    w2c_j0 = w2c_l7;
+  w2c_L33: 
+    w2c_j0 = w2c_p2;
     w2c_j1 = w2c_l10;
     w2c_j0 += w2c_j1;
-    w2c_l16 = w2c_j0;
+    w2c_l12 = w2c_j0;
     w2c_j1 = 6ull;
     w2c_j0 += w2c_j1;
     w2c_j1 = 0ull;
     w2c_i0 = (*Z_memoryZ_i32_load8_u)(instance->Z_memory_instance, w2c_j0, w2c_j1);
     w2c_i1 = 44u;
     w2c_i0 = w2c_i0 == w2c_i1;
-    if (w2c_i0) {goto w2c_B34;}
+    if (w2c_i0) {goto w2c_B32;}
     w2c_j0 = w2c_l8;
     w2c_j1 = 18446744073709551615ull;
     w2c_j0 += w2c_j1;
     w2c_l8 = w2c_j0;
-    w2c_j0 = w2c_l18;
+    w2c_j0 = w2c_l14;
     w2c_j1 = w2c_l10;
     w2c_j0 += w2c_j1;
-    w2c_l16 = w2c_j0;
+    w2c_l12 = w2c_j0;
     w2c_j0 = w2c_l10;
     w2c_j1 = 1ull;
     w2c_j0 += w2c_j1;
     w2c_l10 = w2c_j0;
-    w2c_j0 = w2c_l16;
+    w2c_j0 = w2c_l12;
     w2c_j1 = 18446744073709551610ull;
     w2c_i0 = w2c_j0 != w2c_j1;
-    if (w2c_i0) {goto w2c_L35;}
+    if (w2c_i0) {goto w2c_L33;}
     goto w2c_B3;
-  w2c_B34:;
+  w2c_B32:;
   w2c_j0 = w2c_l4;
   w2c_j1 = w2c_l8;
   w2c_j2 = 56ull;
   (*Z_memoryZ_i64_store)(instance->Z_memory_instance, w2c_j0, w2c_j1, w2c_j2);
   w2c_j0 = w2c_l4;
-  w2c_j1 = w2c_l21;
+  w2c_j1 = w2c_l17;
   w2c_j2 = 32ull;
   (*Z_memoryZ_i64_store)(instance->Z_memory_instance, w2c_j0, w2c_j1, w2c_j2);
   w2c_j0 = w2c_l4;
@@ -23976,16 +23964,16 @@ static void w2c_argon2_c__stored_text__head_of(Z_proved_instance_t* instance, u6
   w2c_j2 = 40ull;
   (*Z_memoryZ_i64_store)(instance->Z_memory_instance, w2c_j0, w2c_j1, w2c_j2);
   w2c_j0 = w2c_l4;
-  w2c_j1 = w2c_l16;
+  w2c_j1 = w2c_l12;
   w2c_j2 = 7ull;
   w2c_j1 += w2c_j2;
-  w2c_l7 = w2c_j1;
+  w2c_p2 = w2c_j1;
   w2c_j2 = 48ull;
   (*Z_memoryZ_i64_store)(instance->Z_memory_instance, w2c_j0, w2c_j1, w2c_j2);
   w2c_j0 = w2c_l4;
   w2c_j1 = 24ull;
   w2c_j0 += w2c_j1;
-  w2c_j1 = w2c_l7;
+  w2c_j1 = w2c_p2;
   w2c_j2 = w2c_l8;
   w2c_j3 = instance->w2c_data;
   w2c_j4 = 222ull;
@@ -24002,63 +23990,63 @@ static void w2c_argon2_c__stored_text__head_of(Z_proved_instance_t* instance, u6
   w2c_j0 = w2c_l4;
   w2c_j1 = 56ull;
   w2c_j0 = (*Z_memoryZ_i64_load)(instance->Z_memory_instance, w2c_j0, w2c_j1);
-  w2c_l8 = w2c_j0;
+  w2c_l12 = w2c_j0;
   w2c_i0 = !(w2c_j0);
   if (w2c_i0) {goto w2c_B3;}
   w2c_j0 = w2c_l4;
   w2c_j1 = 40ull;
   w2c_j0 = (*Z_memoryZ_i64_load)(instance->Z_memory_instance, w2c_j0, w2c_j1);
-  w2c_l22 = w2c_j0;
+  w2c_p2 = w2c_j0;
   w2c_j0 = w2c_l4;
   w2c_j1 = 32ull;
   w2c_j0 = (*Z_memoryZ_i64_load)(instance->Z_memory_instance, w2c_j0, w2c_j1);
-  w2c_l23 = w2c_j0;
+  w2c_l18 = w2c_j0;
   w2c_j0 = w2c_l4;
   w2c_j1 = 48ull;
   w2c_j0 = (*Z_memoryZ_i64_load)(instance->Z_memory_instance, w2c_j0, w2c_j1);
-  w2c_l16 = w2c_j0;
+  w2c_l14 = w2c_j0;
   w2c_j0 = 0ull;
-  w2c_l7 = w2c_j0;
-  w2c_L37: 
-    w2c_j0 = w2c_l16;
-    w2c_j1 = w2c_l7;
+  w2c_l8 = w2c_j0;
+  w2c_L35: 
+    w2c_j0 = w2c_l14;
+    w2c_j1 = w2c_l8;
     w2c_j0 += w2c_j1;
-    w2c_l18 = w2c_j0;
+    w2c_l19 = w2c_j0;
     w2c_j1 = 0ull;
     w2c_i0 = (*Z_memoryZ_i32_load8_u)(instance->Z_memory_instance, w2c_j0, w2c_j1);
     w2c_i1 = 36u;
     w2c_i0 = w2c_i0 == w2c_i1;
-    if (w2c_i0) {goto w2c_B36;}
-    w2c_j0 = w2c_l8;
-    w2c_j1 = w2c_l7;
+    if (w2c_i0) {goto w2c_B34;}
+    w2c_j0 = w2c_l12;
+    w2c_j1 = w2c_l8;
     w2c_j2 = 1ull;
     w2c_j1 += w2c_j2;
-    w2c_l7 = w2c_j1;
+    w2c_l8 = w2c_j1;
     w2c_i0 = w2c_j0 != w2c_j1;
-    if (w2c_i0) {goto w2c_L37;}
+    if (w2c_i0) {goto w2c_L35;}
     goto w2c_B3;
-  w2c_B36:;
+  w2c_B34:;
   w2c_i0 = 0u;
-  w2c_l13 = w2c_i0;
+  w2c_l20 = w2c_i0;
   w2c_i0 = 0u;
-  w2c_l12 = w2c_i0;
-  w2c_j0 = w2c_l19;
+  w2c_l21 = w2c_i0;
+  w2c_j0 = w2c_l15;
   w2c_j1 = 7748925ull;
   w2c_i0 = w2c_j0 != w2c_j1;
-  if (w2c_i0) {goto w2c_B38;}
+  if (w2c_i0) {goto w2c_B36;}
   w2c_i0 = 0u;
-  w2c_l12 = w2c_i0;
-  w2c_j0 = w2c_l17;
+  w2c_l21 = w2c_i0;
+  w2c_j0 = w2c_l13;
   w2c_j1 = w2c_p1;
   w2c_j2 = instance->w2c_data;
   w2c_j3 = 224ull;
   w2c_j2 += w2c_j3;
   w2c_j3 = 2ull;
   w2c_i0 = w2c_core__cmp__bytes__equal(instance, w2c_j0, w2c_j1, w2c_j2, w2c_j3);
-  if (w2c_i0) {goto w2c_B38;}
+  if (w2c_i0) {goto w2c_B36;}
   w2c_i0 = 256u;
-  w2c_l12 = w2c_i0;
-  w2c_j0 = w2c_l17;
+  w2c_l21 = w2c_i0;
+  w2c_j0 = w2c_l13;
   w2c_j1 = w2c_p1;
   w2c_j2 = instance->w2c_data;
   w2c_j3 = 226ull;
@@ -24067,7 +24055,7 @@ static void w2c_argon2_c__stored_text__head_of(Z_proved_instance_t* instance, u6
   w2c_i0 = w2c_core__cmp__bytes__equal(instance, w2c_j0, w2c_j1, w2c_j2, w2c_j3);
   w2c_i0 = !(w2c_i0);
   if (w2c_i0) {goto w2c_B3;}
-  w2c_B38:;
+  w2c_B36:;
   w2c_j0 = w2c_l9;
   w2c_j1 = w2c_l3;
   w2c_j2 = instance->w2c_data;
@@ -24075,7 +24063,7 @@ static void w2c_argon2_c__stored_text__head_of(Z_proved_instance_t* instance, u6
   w2c_j2 += w2c_j3;
   w2c_j3 = 7ull;
   w2c_i0 = w2c_core__cmp__bytes__equal(instance, w2c_j0, w2c_j1, w2c_j2, w2c_j3);
-  if (w2c_i0) {goto w2c_B39;}
+  if (w2c_i0) {goto w2c_B37;}
   w2c_j0 = w2c_l9;
   w2c_j1 = w2c_l3;
   w2c_j2 = instance->w2c_data;
@@ -24083,9 +24071,9 @@ static void w2c_argon2_c__stored_text__head_of(Z_proved_instance_t* instance, u6
   w2c_j2 += w2c_j3;
   w2c_j3 = 7ull;
   w2c_i0 = w2c_core__cmp__bytes__equal(instance, w2c_j0, w2c_j1, w2c_j2, w2c_j3);
-  if (w2c_i0) {goto w2c_B39;}
+  if (w2c_i0) {goto w2c_B37;}
   w2c_i0 = 1u;
-  w2c_l13 = w2c_i0;
+  w2c_l20 = w2c_i0;
   w2c_j0 = w2c_l9;
   w2c_j1 = w2c_l3;
   w2c_j2 = instance->w2c_data;
@@ -24093,7 +24081,7 @@ static void w2c_argon2_c__stored_text__head_of(Z_proved_instance_t* instance, u6
   w2c_j2 += w2c_j3;
   w2c_j3 = 7ull;
   w2c_i0 = w2c_core__cmp__bytes__equal(instance, w2c_j0, w2c_j1, w2c_j2, w2c_j3);
-  if (w2c_i0) {goto w2c_B39;}
+  if (w2c_i0) {goto w2c_B37;}
   w2c_j0 = w2c_l9;
   w2c_j1 = w2c_l3;
   w2c_j2 = instance->w2c_data;
@@ -24101,9 +24089,9 @@ static void w2c_argon2_c__stored_text__head_of(Z_proved_instance_t* instance, u6
   w2c_j2 += w2c_j3;
   w2c_j3 = 7ull;
   w2c_i0 = w2c_core__cmp__bytes__equal(instance, w2c_j0, w2c_j1, w2c_j2, w2c_j3);
-  if (w2c_i0) {goto w2c_B39;}
+  if (w2c_i0) {goto w2c_B37;}
   w2c_i0 = 2u;
-  w2c_l13 = w2c_i0;
+  w2c_l20 = w2c_i0;
   w2c_j0 = w2c_l9;
   w2c_j1 = w2c_l3;
   w2c_j2 = instance->w2c_data;
@@ -24111,7 +24099,7 @@ static void w2c_argon2_c__stored_text__head_of(Z_proved_instance_t* instance, u6
   w2c_j2 += w2c_j3;
   w2c_j3 = 8ull;
   w2c_i0 = w2c_core__cmp__bytes__equal(instance, w2c_j0, w2c_j1, w2c_j2, w2c_j3);
-  if (w2c_i0) {goto w2c_B39;}
+  if (w2c_i0) {goto w2c_B37;}
   w2c_j0 = w2c_l9;
   w2c_j1 = w2c_l3;
   w2c_j2 = instance->w2c_data;
@@ -24121,64 +24109,68 @@ static void w2c_argon2_c__stored_text__head_of(Z_proved_instance_t* instance, u6
   w2c_i0 = w2c_core__cmp__bytes__equal(instance, w2c_j0, w2c_j1, w2c_j2, w2c_j3);
   w2c_i0 = !(w2c_i0);
   if (w2c_i0) {goto w2c_B3;}
-  w2c_B39:;
+  w2c_B37:;
   w2c_i0 = 18u;
-  w2c_l24 = w2c_i0;
+  w2c_l11 = w2c_i0;
   w2c_i0 = 1u;
   w2c_l6 = w2c_i0;
-  w2c_j0 = w2c_p2;
+  w2c_i0 = 0u;
+  w2c_l22 = w2c_i0;
+  w2c_j0 = w2c_l7;
   w2c_i0 = !(w2c_j0);
   if (w2c_i0) {goto w2c_B4;}
-  w2c_j0 = w2c_l20;
+  w2c_j0 = w2c_l16;
   w2c_j1 = 0ull;
   w2c_i0 = (*Z_memoryZ_i32_load8_u)(instance->Z_memory_instance, w2c_j0, w2c_j1);
   w2c_i1 = 43u;
   w2c_i0 = w2c_i0 == w2c_i1;
-  if (w2c_i0) {goto w2c_B42;}
+  if (w2c_i0) {goto w2c_B40;}
   w2c_j0 = 0ull;
   w2c_l3 = w2c_j0;
   w2c_j0 = 0ull;
   w2c_p1 = w2c_j0;
   w2c_j0 = 0ull;
   w2c_l5 = w2c_j0;
-  goto w2c_B41;
-  w2c_B42:;
-  w2c_j0 = w2c_p2;
+  goto w2c_B39;
+  w2c_B40:;
+  w2c_j0 = 0ull;
+  w2c_l3 = w2c_j0;
+  w2c_j0 = w2c_l7;
   w2c_j1 = 1ull;
   w2c_i0 = w2c_j0 == w2c_j1;
-  if (w2c_i0) {goto w2c_B4;}
+  if (w2c_i0) {goto w2c_B2;}
   w2c_j0 = w2c_l5;
   w2c_j1 = 4ull;
   w2c_j0 += w2c_j1;
   w2c_l9 = w2c_j0;
-  w2c_j0 = w2c_p2;
+  w2c_j0 = w2c_l7;
   w2c_j1 = 18446744073709551615ull;
   w2c_j0 += w2c_j1;
-  w2c_p2 = w2c_j0;
+  w2c_l7 = w2c_j0;
   w2c_j0 = 0ull;
   w2c_l3 = w2c_j0;
   w2c_j0 = 0ull;
   w2c_l5 = w2c_j0;
   w2c_j0 = 0ull;
   w2c_p1 = w2c_j0;
-  w2c_L43: 
+  w2c_L41: 
     w2c_j0 = w2c_l9;
     w2c_j1 = w2c_l5;
     w2c_j0 += w2c_j1;
     w2c_j1 = 0ull;
     w2c_i0 = (*Z_memoryZ_i32_load8_u)(instance->Z_memory_instance, w2c_j0, w2c_j1);
-    w2c_l11 = w2c_i0;
+    w2c_l23 = w2c_i0;
     w2c_i1 = 4294967248u;
     w2c_i0 += w2c_i1;
     w2c_i1 = 255u;
     w2c_i0 &= w2c_i1;
     w2c_i1 = 9u;
     w2c_i0 = w2c_i0 > w2c_i1;
-    if (w2c_i0) {goto w2c_B5;}
+    if (w2c_i0) {goto w2c_B2;}
     w2c_j0 = w2c_p1;
     w2c_j1 = 10ull;
     w2c_j0 *= w2c_j1;
-    w2c_i1 = w2c_l11;
+    w2c_i1 = w2c_l23;
     w2c_j1 = (u64)(w2c_i1);
     w2c_j2 = 15ull;
     w2c_j1 &= w2c_j2;
@@ -24187,33 +24179,33 @@ static void w2c_argon2_c__stored_text__head_of(Z_proved_instance_t* instance, u6
     w2c_j1 = 4294967295ull;
     w2c_i0 = w2c_j0 > w2c_j1;
     if (w2c_i0) {goto w2c_B4;}
-    w2c_j0 = w2c_p2;
+    w2c_j0 = w2c_l7;
     w2c_j1 = w2c_l5;
     w2c_j2 = 1ull;
     w2c_j1 += w2c_j2;
     w2c_l5 = w2c_j1;
     w2c_i0 = w2c_j0 == w2c_j1;
-    if (w2c_i0) {goto w2c_B40;}
-    goto w2c_L43;
-  w2c_B41:;
-  w2c_L44: 
-    w2c_j0 = w2c_l20;
+    if (w2c_i0) {goto w2c_B38;}
+    goto w2c_L41;
+  w2c_B39:;
+  w2c_L42: 
+    w2c_j0 = w2c_l16;
     w2c_j1 = w2c_l5;
     w2c_j0 += w2c_j1;
     w2c_j1 = 0ull;
     w2c_i0 = (*Z_memoryZ_i32_load8_u)(instance->Z_memory_instance, w2c_j0, w2c_j1);
-    w2c_l11 = w2c_i0;
+    w2c_l23 = w2c_i0;
     w2c_i1 = 4294967248u;
     w2c_i0 += w2c_i1;
     w2c_i1 = 255u;
     w2c_i0 &= w2c_i1;
     w2c_i1 = 9u;
     w2c_i0 = w2c_i0 > w2c_i1;
-    if (w2c_i0) {goto w2c_B5;}
+    if (w2c_i0) {goto w2c_B2;}
     w2c_j0 = w2c_p1;
     w2c_j1 = 10ull;
     w2c_j0 *= w2c_j1;
-    w2c_i1 = w2c_l11;
+    w2c_i1 = w2c_l23;
     w2c_j1 = (u64)(w2c_i1);
     w2c_j2 = 15ull;
     w2c_j1 &= w2c_j2;
@@ -24222,123 +24214,143 @@ static void w2c_argon2_c__stored_text__head_of(Z_proved_instance_t* instance, u6
     w2c_j1 = 4294967295ull;
     w2c_i0 = w2c_j0 > w2c_j1;
     if (w2c_i0) {goto w2c_B4;}
-    w2c_j0 = w2c_p2;
+    w2c_j0 = w2c_l7;
     w2c_j1 = w2c_l5;
     w2c_j2 = 1ull;
     w2c_j1 += w2c_j2;
     w2c_l5 = w2c_j1;
     w2c_i0 = w2c_j0 != w2c_j1;
-    if (w2c_i0) {goto w2c_L44;}
-  w2c_B40:;
+    if (w2c_i0) {goto w2c_L42;}
+  w2c_B38:;
   w2c_j0 = w2c_l4;
   w2c_j1 = 16ull;
   w2c_j0 += w2c_j1;
-  w2c_j1 = w2c_l21;
+  w2c_j1 = w2c_l17;
   w2c_j2 = w2c_l10;
   w2c_argon2_text__encoding__reading__number(instance, w2c_j0, w2c_j1, w2c_j2);
   w2c_i0 = 1u;
   w2c_l6 = w2c_i0;
+  w2c_j0 = 0ull;
+  w2c_l3 = w2c_j0;
   w2c_j0 = w2c_l4;
   w2c_j1 = 16ull;
   w2c_i0 = (*Z_memoryZ_i32_load8_u)(instance->Z_memory_instance, w2c_j0, w2c_j1);
   w2c_i1 = 1u;
   w2c_i0 &= w2c_i1;
   w2c_i0 = !(w2c_i0);
-  if (w2c_i0) {goto w2c_B4;}
+  if (w2c_i0) {goto w2c_B2;}
   w2c_j0 = w2c_l4;
   w2c_j1 = 20ull;
   w2c_i0 = (*Z_memoryZ_i32_load)(instance->Z_memory_instance, w2c_j0, w2c_j1);
-  w2c_l11 = w2c_i0;
+  w2c_l24 = w2c_i0;
   w2c_j0 = w2c_l4;
   w2c_j1 = 8ull;
   w2c_j0 += w2c_j1;
-  w2c_j1 = w2c_l23;
-  w2c_j2 = w2c_l22;
+  w2c_j1 = w2c_l18;
+  w2c_j2 = w2c_p2;
   w2c_argon2_text__encoding__reading__number(instance, w2c_j0, w2c_j1, w2c_j2);
   w2c_i0 = 1u;
   w2c_l6 = w2c_i0;
+  w2c_j0 = 0ull;
+  w2c_l3 = w2c_j0;
   w2c_j0 = w2c_l4;
   w2c_j1 = 8ull;
   w2c_i0 = (*Z_memoryZ_i32_load8_u)(instance->Z_memory_instance, w2c_j0, w2c_j1);
   w2c_i1 = 1u;
   w2c_i0 &= w2c_i1;
   w2c_i0 = !(w2c_i0);
-  if (w2c_i0) {goto w2c_B4;}
+  if (w2c_i0) {goto w2c_B2;}
   w2c_j0 = w2c_l4;
   w2c_j1 = 12ull;
   w2c_i0 = (*Z_memoryZ_i32_load)(instance->Z_memory_instance, w2c_j0, w2c_j1);
-  w2c_l15 = w2c_i0;
-  w2c_j0 = w2c_l16;
-  w2c_j1 = w2c_l7;
-  w2c_i0 = w2c_argon2_text__encoding__letters__is_item(instance, w2c_j0, w2c_j1);
-  w2c_i0 = !(w2c_i0);
-  if (w2c_i0) {goto w2c_B4;}
-  w2c_j0 = w2c_l18;
-  w2c_j1 = 1ull;
-  w2c_j0 += w2c_j1;
-  w2c_l5 = w2c_j0;
-  w2c_j1 = w2c_l7;
-  w2c_j2 = 18446744073709551615ull;
-  w2c_j1 ^= w2c_j2;
-  w2c_j2 = w2c_l8;
-  w2c_j1 += w2c_j2;
-  w2c_p2 = w2c_j1;
-  w2c_i0 = w2c_argon2_text__encoding__letters__is_item(instance, w2c_j0, w2c_j1);
-  w2c_i0 = !(w2c_i0);
-  if (w2c_i0) {goto w2c_B4;}
-  w2c_j0 = w2c_p1;
-  w2c_i0 = (u32)(w2c_j0);
-  w2c_l14 = w2c_i0;
-  w2c_i0 = w2c_l13;
-  w2c_i1 = w2c_l12;
-  w2c_i0 |= w2c_i1;
-  w2c_l12 = w2c_i0;
-  w2c_i0 = 0u;
-  w2c_l6 = w2c_i0;
-  w2c_j0 = w2c_l16;
-  w2c_l3 = w2c_j0;
-  w2c_i0 = 0u;
-  w2c_l13 = w2c_i0;
-  w2c_B11:;
-  w2c_i0 = 0u;
-  w2c_l24 = w2c_i0;
-  goto w2c_B0;
-  w2c_B6:;
-  UNREACHABLE;
-  w2c_B5:;
-  w2c_i0 = 0u;
-  w2c_l12 = w2c_i0;
-  goto w2c_B1;
-  w2c_B4:;
-  w2c_i0 = 0u;
-  w2c_l12 = w2c_i0;
-  goto w2c_B2;
-  w2c_B3:;
-  w2c_i0 = 18u;
-  w2c_l24 = w2c_i0;
-  w2c_i0 = 0u;
-  w2c_l12 = w2c_i0;
-  w2c_i0 = 1u;
-  w2c_l6 = w2c_i0;
-  w2c_B2:;
+  w2c_l25 = w2c_i0;
   w2c_j0 = 0ull;
   w2c_l3 = w2c_j0;
-  w2c_B1:;
+  w2c_j0 = w2c_l14;
+  w2c_j1 = w2c_l8;
+  w2c_i0 = w2c_argon2_text__encoding__letters__is_item(instance, w2c_j0, w2c_j1);
+  w2c_i0 = !(w2c_i0);
+  if (w2c_i0) {goto w2c_B2;}
+  w2c_j0 = 0ull;
+  w2c_l3 = w2c_j0;
   w2c_i0 = 0u;
-  w2c_l14 = w2c_i0;
+  w2c_l23 = w2c_i0;
   w2c_i0 = 0u;
-  w2c_l11 = w2c_i0;
+  w2c_l26 = w2c_i0;
   w2c_i0 = 0u;
-  w2c_l15 = w2c_i0;
+  w2c_l27 = w2c_i0;
+  w2c_j0 = 0ull;
+  w2c_l5 = w2c_j0;
   w2c_j0 = 0ull;
   w2c_l7 = w2c_j0;
   w2c_j0 = 0ull;
+  w2c_p2 = w2c_j0;
+  w2c_j0 = w2c_l19;
+  w2c_j1 = 1ull;
+  w2c_j0 += w2c_j1;
+  w2c_l10 = w2c_j0;
+  w2c_j1 = w2c_l8;
+  w2c_j2 = 18446744073709551615ull;
+  w2c_j1 ^= w2c_j2;
+  w2c_j2 = w2c_l12;
+  w2c_j1 += w2c_j2;
+  w2c_l9 = w2c_j1;
+  w2c_i0 = w2c_argon2_text__encoding__letters__is_item(instance, w2c_j0, w2c_j1);
+  w2c_i0 = !(w2c_i0);
+  if (w2c_i0) {goto w2c_B1;}
+  w2c_j0 = w2c_p1;
+  w2c_i0 = (u32)(w2c_j0);
+  w2c_l23 = w2c_i0;
+  w2c_i0 = w2c_l20;
+  w2c_i1 = w2c_l21;
+  w2c_i0 |= w2c_i1;
+  w2c_l22 = w2c_i0;
+  w2c_i0 = 0u;
+  w2c_l6 = w2c_i0;
+  w2c_i0 = w2c_l24;
+  w2c_l26 = w2c_i0;
+  w2c_i0 = w2c_l25;
+  w2c_l27 = w2c_i0;
+  w2c_j0 = w2c_l14;
+  w2c_l3 = w2c_j0;
+  w2c_j0 = w2c_l8;
   w2c_l5 = w2c_j0;
-  w2c_j0 = 0ull;
+  w2c_j0 = w2c_l10;
+  w2c_l7 = w2c_j0;
+  w2c_j0 = w2c_l9;
   w2c_p2 = w2c_j0;
   w2c_i0 = 0u;
-  w2c_l13 = w2c_i0;
-  w2c_B0:;
+  w2c_l11 = w2c_i0;
+  goto w2c_B1;
+  w2c_B5:;
+  UNREACHABLE;
+  w2c_B4:;
+  w2c_j0 = 0ull;
+  w2c_l3 = w2c_j0;
+  goto w2c_B2;
+  w2c_B3:;
+  w2c_i0 = 18u;
+  w2c_l11 = w2c_i0;
+  w2c_i0 = 1u;
+  w2c_l6 = w2c_i0;
+  w2c_j0 = 0ull;
+  w2c_l3 = w2c_j0;
+  w2c_i0 = 0u;
+  w2c_l22 = w2c_i0;
+  w2c_B2:;
+  w2c_i0 = 0u;
+  w2c_l23 = w2c_i0;
+  w2c_i0 = 0u;
+  w2c_l26 = w2c_i0;
+  w2c_i0 = 0u;
+  w2c_l27 = w2c_i0;
+  w2c_j0 = 0ull;
+  w2c_l5 = w2c_j0;
+  w2c_j0 = 0ull;
+  w2c_l7 = w2c_j0;
+  w2c_j0 = 0ull;
+  w2c_p2 = w2c_j0;
+  w2c_B1:;
   w2c_j0 = w2c_p0;
   w2c_i1 = w2c_l6;
   w2c_j2 = 0ull;
@@ -24352,13 +24364,13 @@ static void w2c_argon2_c__stored_text__head_of(Z_proved_instance_t* instance, u6
   w2c_j0 = w2c_p0;
   w2c_j1 = 40ull;
   w2c_j0 += w2c_j1;
-  w2c_j1 = w2c_l5;
+  w2c_j1 = w2c_l7;
   w2c_j2 = 0ull;
   (*Z_memoryZ_i64_store)(instance->Z_memory_instance, w2c_j0, w2c_j1, w2c_j2);
   w2c_j0 = w2c_p0;
   w2c_j1 = 32ull;
   w2c_j0 += w2c_j1;
-  w2c_j1 = w2c_l7;
+  w2c_j1 = w2c_l5;
   w2c_j2 = 0ull;
   (*Z_memoryZ_i64_store)(instance->Z_memory_instance, w2c_j0, w2c_j1, w2c_j2);
   w2c_j0 = w2c_p0;
@@ -24370,39 +24382,40 @@ static void w2c_argon2_c__stored_text__head_of(Z_proved_instance_t* instance, u6
   w2c_j0 = w2c_p0;
   w2c_j1 = 20ull;
   w2c_j0 += w2c_j1;
-  w2c_i1 = w2c_l15;
+  w2c_i1 = w2c_l27;
   w2c_j2 = 0ull;
   (*Z_memoryZ_i32_store)(instance->Z_memory_instance, w2c_j0, w2c_i1, w2c_j2);
   w2c_j0 = w2c_p0;
   w2c_j1 = 16ull;
   w2c_j0 += w2c_j1;
-  w2c_i1 = w2c_l11;
+  w2c_i1 = w2c_l26;
   w2c_j2 = 0ull;
   (*Z_memoryZ_i32_store)(instance->Z_memory_instance, w2c_j0, w2c_i1, w2c_j2);
   w2c_j0 = w2c_p0;
   w2c_j1 = 12ull;
   w2c_j0 += w2c_j1;
-  w2c_i1 = w2c_l14;
+  w2c_i1 = w2c_l23;
   w2c_j2 = 0ull;
   (*Z_memoryZ_i32_store)(instance->Z_memory_instance, w2c_j0, w2c_i1, w2c_j2);
   w2c_j0 = w2c_p0;
   w2c_j1 = 8ull;
   w2c_j0 += w2c_j1;
-  w2c_i1 = w2c_l12;
+  w2c_i1 = w2c_l22;
   w2c_j2 = 0ull;
   (*Z_memoryZ_i32_store)(instance->Z_memory_instance, w2c_j0, w2c_i1, w2c_j2);
   w2c_j0 = w2c_p0;
   w2c_j1 = 2ull;
   w2c_j0 += w2c_j1;
-  w2c_i1 = w2c_l24;
+  w2c_i1 = w2c_l11;
   w2c_j2 = 0ull;
   (*Z_memoryZ_i32_store8)(instance->Z_memory_instance, w2c_j0, w2c_i1, w2c_j2);
   w2c_j0 = w2c_p0;
   w2c_j1 = 1ull;
   w2c_j0 += w2c_j1;
-  w2c_i1 = w2c_l13;
+  w2c_i1 = 0u;
   w2c_j2 = 0ull;
   (*Z_memoryZ_i32_store8)(instance->Z_memory_instance, w2c_j0, w2c_i1, w2c_j2);
+  w2c_B0:;
   w2c_j0 = w2c_l4;
   w2c_j1 = 64ull;
   w2c_j0 += w2c_j1;
@@ -27510,7 +27523,7 @@ static void w2c_argon2_c__jobs__make_stored(Z_proved_instance_t* instance, u64 w
   w2c_l14 = w2c_j0;
   w2c_j1 = 16ull;
   w2c_i0 = (u64)((s64)w2c_j0 < (s64)w2c_j1);
-  if (w2c_i0) {goto w2c_B0;}
+  if (w2c_i0) {goto w2c_B1;}
   w2c_j0 = w2c_l14;
   w2c_j1 = 0ull;
   w2c_j2 = 48ull;
@@ -27542,7 +27555,7 @@ static void w2c_argon2_c__jobs__make_stored(Z_proved_instance_t* instance, u64 w
   w2c_j0 = w2c_l14;
   w2c_j1 = w2c_p1;
   w2c_j2 = w2c_p2;
-  w2c_argon2_c__stored_text__head_of(instance, w2c_j0, w2c_j1, w2c_j2);
+  w2c_argon2_c__encoded_hash__head_of(instance, w2c_j0, w2c_j1, w2c_j2);
   w2c_j0 = w2c_l14;
   w2c_j1 = 0ull;
   w2c_i0 = (*Z_memoryZ_i32_load8_u)(instance->Z_memory_instance, w2c_j0, w2c_j1);
@@ -27594,43 +27607,43 @@ static void w2c_argon2_c__jobs__make_stored(Z_proved_instance_t* instance, u64 w
   w2c_i0 = 1u;
   w2c_l21 = w2c_i0;
   w2c_i0 = w2c_l15;
-  if (w2c_i0) {goto w2c_B3;}
+  if (w2c_i0) {goto w2c_B4;}
   w2c_i0 = 14u;
   w2c_l15 = w2c_i0;
-  goto w2c_B1;
-  w2c_B3:;
+  goto w2c_B3;
+  w2c_B4:;
   w2c_i0 = w2c_l15;
   w2c_i1 = 16777215u;
   w2c_i0 = w2c_i0 <= w2c_i1;
-  if (w2c_i0) {goto w2c_B4;}
+  if (w2c_i0) {goto w2c_B5;}
   w2c_i0 = 15u;
   w2c_l15 = w2c_i0;
-  goto w2c_B1;
-  w2c_B4:;
+  goto w2c_B3;
+  w2c_B5:;
   w2c_i0 = w2c_l17;
   w2c_i1 = w2c_l15;
   w2c_i2 = 3u;
   w2c_i1 <<= (w2c_i2 & 31);
   w2c_i0 = w2c_i0 >= w2c_i1;
-  if (w2c_i0) {goto w2c_B5;}
+  if (w2c_i0) {goto w2c_B6;}
   w2c_i0 = 12u;
   w2c_l15 = w2c_i0;
-  goto w2c_B1;
-  w2c_B5:;
+  goto w2c_B3;
+  w2c_B6:;
   w2c_i0 = w2c_l16;
-  if (w2c_i0) {goto w2c_B6;}
+  if (w2c_i0) {goto w2c_B7;}
   w2c_i0 = 10u;
   w2c_l15 = w2c_i0;
-  goto w2c_B1;
-  w2c_B6:;
+  goto w2c_B3;
+  w2c_B7:;
   w2c_j0 = w2c_p4;
   w2c_j1 = 4294967295ull;
   w2c_i0 = w2c_j0 <= w2c_j1;
-  if (w2c_i0) {goto w2c_B7;}
+  if (w2c_i0) {goto w2c_B8;}
   w2c_i0 = 3u;
   w2c_l15 = w2c_i0;
-  goto w2c_B1;
-  w2c_B7:;
+  goto w2c_B3;
+  w2c_B8:;
   w2c_j0 = w2c_p2;
   w2c_j1 = 3ull;
   w2c_j0 &= w2c_j1;
@@ -27647,35 +27660,35 @@ static void w2c_argon2_c__jobs__make_stored(Z_proved_instance_t* instance, u64 w
   w2c_p2 = w2c_j0;
   w2c_j1 = 8ull;
   w2c_i0 = w2c_j0 >= w2c_j1;
-  if (w2c_i0) {goto w2c_B8;}
+  if (w2c_i0) {goto w2c_B9;}
   w2c_i0 = 4u;
   w2c_l15 = w2c_i0;
-  goto w2c_B1;
-  w2c_B8:;
+  goto w2c_B3;
+  w2c_B9:;
   w2c_j0 = w2c_p2;
   w2c_j1 = 4294967295ull;
   w2c_i0 = w2c_j0 <= w2c_j1;
-  if (w2c_i0) {goto w2c_B9;}
+  if (w2c_i0) {goto w2c_B10;}
   w2c_i0 = 5u;
   w2c_l15 = w2c_i0;
-  goto w2c_B1;
-  w2c_B9:;
+  goto w2c_B3;
+  w2c_B10:;
   w2c_j0 = w2c_p6;
   w2c_j1 = 4294967295ull;
   w2c_i0 = w2c_j0 <= w2c_j1;
-  if (w2c_i0) {goto w2c_B10;}
+  if (w2c_i0) {goto w2c_B11;}
   w2c_i0 = 9u;
   w2c_l15 = w2c_i0;
-  goto w2c_B1;
-  w2c_B10:;
+  goto w2c_B3;
+  w2c_B11:;
   w2c_j0 = w2c_p8;
   w2c_j1 = 4294967295ull;
   w2c_i0 = w2c_j0 <= w2c_j1;
-  if (w2c_i0) {goto w2c_B11;}
+  if (w2c_i0) {goto w2c_B12;}
   w2c_i0 = 7u;
   w2c_l15 = w2c_i0;
-  goto w2c_B1;
-  w2c_B11:;
+  goto w2c_B3;
+  w2c_B12:;
   w2c_i0 = 0u;
   w2c_l20 = w2c_i0;
   w2c_j0 = w2c_p1;
@@ -27694,21 +27707,21 @@ static void w2c_argon2_c__jobs__make_stored(Z_proved_instance_t* instance, u64 w
   w2c_p2 = w2c_j0;
   w2c_j1 = 4ull;
   w2c_i0 = w2c_j0 >= w2c_j1;
-  if (w2c_i0) {goto w2c_B12;}
+  if (w2c_i0) {goto w2c_B13;}
   w2c_i0 = 0u;
   w2c_l15 = w2c_i0;
-  goto w2c_B1;
-  w2c_B12:;
+  goto w2c_B3;
+  w2c_B13:;
   w2c_i0 = 1u;
   w2c_l21 = w2c_i0;
   w2c_j0 = w2c_p2;
   w2c_j1 = 4294967295ull;
   w2c_i0 = w2c_j0 <= w2c_j1;
-  if (w2c_i0) {goto w2c_B13;}
+  if (w2c_i0) {goto w2c_B14;}
   w2c_i0 = 1u;
   w2c_l15 = w2c_i0;
-  goto w2c_B1;
-  w2c_B13:;
+  goto w2c_B3;
+  w2c_B14:;
   w2c_j0 = w2c_l14;
   w2c_j1 = 300ull;
   w2c_j0 += w2c_j1;
@@ -27723,7 +27736,7 @@ static void w2c_argon2_c__jobs__make_stored(Z_proved_instance_t* instance, u64 w
   w2c_j0 = w2c_l14;
   w2c_j1 = 300ull;
   w2c_i0 = (*Z_memoryZ_i32_load8_u)(instance->Z_memory_instance, w2c_j0, w2c_j1);
-  if (w2c_i0) {goto w2c_B14;}
+  if (w2c_i0) {goto w2c_B15;}
   w2c_i0 = 0u;
   w2c_l21 = w2c_i0;
   w2c_j0 = w2c_l14;
@@ -27780,14 +27793,14 @@ static void w2c_argon2_c__jobs__make_stored(Z_proved_instance_t* instance, u64 w
   w2c_i3 = w2c_l15;
   w2c_i4 = 1u;
   w2c_i3 = w2c_i3 == w2c_i4;
-  w2c_l20 = w2c_i3;
+  w2c_l15 = w2c_i3;
   w2c_i1 = w2c_i3 ? w2c_i1 : w2c_i2;
   w2c_j2 = 108ull;
   (*Z_memoryZ_i32_store)(instance->Z_memory_instance, w2c_j0, w2c_i1, w2c_j2);
   w2c_j0 = w2c_l14;
   w2c_i1 = 0u;
   w2c_i2 = 2u;
-  w2c_i3 = w2c_l20;
+  w2c_i3 = w2c_l15;
   w2c_i1 = w2c_i3 ? w2c_i1 : w2c_i2;
   w2c_j2 = 104ull;
   (*Z_memoryZ_i32_store)(instance->Z_memory_instance, w2c_j0, w2c_i1, w2c_j2);
@@ -27853,11 +27866,11 @@ static void w2c_argon2_c__jobs__make_stored(Z_proved_instance_t* instance, u64 w
   w2c_j0 = w2c_l14;
   w2c_j1 = 180ull;
   w2c_i0 = (*Z_memoryZ_i32_load8_u)(instance->Z_memory_instance, w2c_j0, w2c_j1);
-  w2c_l20 = w2c_i0;
+  w2c_l15 = w2c_i0;
   w2c_j0 = w2c_l14;
   w2c_j1 = 181ull;
   w2c_i0 = (*Z_memoryZ_i32_load8_u)(instance->Z_memory_instance, w2c_j0, w2c_j1);
-  w2c_l15 = w2c_i0;
+  w2c_l20 = w2c_i0;
   w2c_j0 = w2c_l14;
   w2c_j1 = 140ull;
   w2c_i0 = (*Z_memoryZ_i32_load)(instance->Z_memory_instance, w2c_j0, w2c_j1);
@@ -27891,20 +27904,20 @@ static void w2c_argon2_c__jobs__make_stored(Z_proved_instance_t* instance, u64 w
   w2c_j0 = w2c_p9;
   w2c_i1 = 19u;
   w2c_i2 = 16u;
-  w2c_i3 = w2c_l15;
+  w2c_i3 = w2c_l20;
   w2c_i1 = w2c_i3 ? w2c_i1 : w2c_i2;
   w2c_j2 = 68ull;
   (*Z_memoryZ_i32_store)(instance->Z_memory_instance, w2c_j0, w2c_i1, w2c_j2);
   w2c_j0 = w2c_p9;
-  w2c_i1 = w2c_l20;
+  w2c_i1 = w2c_l15;
   w2c_j2 = 64ull;
   (*Z_memoryZ_i32_store)(instance->Z_memory_instance, w2c_j0, w2c_i1, w2c_j2);
   w2c_i0 = 0u;
   w2c_l20 = w2c_i0;
   w2c_i0 = 0u;
   w2c_l15 = w2c_i0;
-  goto w2c_B1;
-  w2c_B14:;
+  goto w2c_B3;
+  w2c_B15:;
   w2c_j0 = w2c_l14;
   w2c_j1 = 302ull;
   w2c_i0 = (*Z_memoryZ_i32_load8_u)(instance->Z_memory_instance, w2c_j0, w2c_j1);
@@ -27913,23 +27926,7 @@ static void w2c_argon2_c__jobs__make_stored(Z_proved_instance_t* instance, u64 w
   w2c_j1 = 301ull;
   w2c_i0 = (*Z_memoryZ_i32_load8_u)(instance->Z_memory_instance, w2c_j0, w2c_j1);
   w2c_l20 = w2c_i0;
-  goto w2c_B1;
-  w2c_B2:;
-  w2c_i0 = 1u;
-  w2c_l21 = w2c_i0;
-  w2c_j0 = w2c_l14;
-  w2c_j1 = 2ull;
-  w2c_i0 = (*Z_memoryZ_i32_load8_u)(instance->Z_memory_instance, w2c_j0, w2c_j1);
-  w2c_l15 = w2c_i0;
-  w2c_j0 = w2c_l14;
-  w2c_j1 = 1ull;
-  w2c_i0 = (*Z_memoryZ_i32_load8_u)(instance->Z_memory_instance, w2c_j0, w2c_j1);
-  w2c_l20 = w2c_i0;
-  w2c_B1:;
-  w2c_j0 = w2c_p0;
-  w2c_i1 = w2c_l21;
-  w2c_j2 = 0ull;
-  (*Z_memoryZ_i32_store8)(instance->Z_memory_instance, w2c_j0, w2c_i1, w2c_j2);
+  w2c_B3:;
   w2c_j0 = w2c_p0;
   w2c_j1 = 2ull;
   w2c_j0 += w2c_j1;
@@ -27942,14 +27939,32 @@ static void w2c_argon2_c__jobs__make_stored(Z_proved_instance_t* instance, u64 w
   w2c_i1 = w2c_l20;
   w2c_j2 = 0ull;
   (*Z_memoryZ_i32_store8)(instance->Z_memory_instance, w2c_j0, w2c_i1, w2c_j2);
+  w2c_j0 = w2c_p0;
+  w2c_i1 = w2c_l21;
+  w2c_j2 = 0ull;
+  (*Z_memoryZ_i32_store8)(instance->Z_memory_instance, w2c_j0, w2c_i1, w2c_j2);
+  goto w2c_B0;
+  w2c_B2:;
+  w2c_j0 = w2c_p0;
+  w2c_i1 = 1u;
+  w2c_j2 = 0ull;
+  (*Z_memoryZ_i32_store8)(instance->Z_memory_instance, w2c_j0, w2c_i1, w2c_j2);
+  w2c_j0 = w2c_p0;
+  w2c_j1 = 1ull;
+  w2c_j0 += w2c_j1;
+  w2c_j1 = w2c_l14;
+  w2c_j2 = 1ull;
+  w2c_i1 = (*Z_memoryZ_i32_load16_u)(instance->Z_memory_instance, w2c_j1, w2c_j2);
+  w2c_j2 = 0ull;
+  (*Z_memoryZ_i32_store16)(instance->Z_memory_instance, w2c_j0, w2c_i1, w2c_j2);
+  goto w2c_B0;
+  w2c_B1:;
+  UNREACHABLE;
+  w2c_B0:;
   w2c_j0 = w2c_l14;
   w2c_j1 = 304ull;
   w2c_j0 += w2c_j1;
   instance->w2c___stack_pointer = w2c_j0;
-  goto w2c_Bfunc;
-  w2c_B0:;
-  UNREACHABLE;
-  w2c_Bfunc:;
   FUNC_EPILOGUE;
 }
 
@@ -29173,10 +29188,10 @@ static void w2c_argon2_text__encoding__items__read_hash(Z_proved_instance_t* ins
 }
 
 static void w2c_argon2_c__steps__verify(Z_proved_instance_t* instance, u64 w2c_p0, u64 w2c_p1, u64 w2c_p2, u64 w2c_p3, u64 w2c_p4, u64 w2c_p5, u64 w2c_p6, u64 w2c_p7) {
-  u32 w2c_l9 = 0, w2c_l10 = 0, w2c_l11 = 0, w2c_l12 = 0;
-  u64 w2c_l8 = 0, w2c_l13 = 0, w2c_l14 = 0, w2c_l15 = 0;
+  u32 w2c_l9 = 0, w2c_l10 = 0;
+  u64 w2c_l8 = 0, w2c_l11 = 0, w2c_l12 = 0;
   FUNC_PROLOGUE;
-  u32 w2c_i0, w2c_i1, w2c_i3;
+  u32 w2c_i0, w2c_i1, w2c_i2, w2c_i3;
   u64 w2c_j0, w2c_j1, w2c_j2, w2c_j3;
   w2c_j0 = instance->w2c___stack_pointer;
   w2c_j1 = 2048ull;
@@ -29187,11 +29202,7 @@ static void w2c_argon2_c__steps__verify(Z_proved_instance_t* instance, u64 w2c_p
   w2c_l8 = w2c_j0;
   w2c_j1 = 16ull;
   w2c_i0 = (u64)((s64)w2c_j0 < (s64)w2c_j1);
-  if (w2c_i0) {goto w2c_B1;}
-  w2c_i0 = 7u;
-  w2c_l9 = w2c_i0;
-  w2c_i0 = 1u;
-  w2c_l10 = w2c_i0;
+  if (w2c_i0) {goto w2c_B2;}
   w2c_j0 = w2c_p1;
   w2c_j1 = 64ull;
   w2c_j0 += w2c_j1;
@@ -29199,7 +29210,7 @@ static void w2c_argon2_c__steps__verify(Z_proved_instance_t* instance, u64 w2c_p
   w2c_i0 = (*Z_memoryZ_i32_load)(instance->Z_memory_instance, w2c_j0, w2c_j1);
   w2c_i1 = 2u;
   w2c_i0 = w2c_i0 > w2c_i1;
-  if (w2c_i0) {goto w2c_B2;}
+  if (w2c_i0) {goto w2c_B1;}
   w2c_j0 = w2c_p1;
   w2c_j1 = 68ull;
   w2c_j0 += w2c_j1;
@@ -29209,10 +29220,10 @@ static void w2c_argon2_c__steps__verify(Z_proved_instance_t* instance, u64 w2c_p
   w2c_i0 += w2c_i1;
   switch (w2c_i0) {
     case 0: goto w2c_B3;
-    case 1: goto w2c_B2;
-    case 2: goto w2c_B2;
+    case 1: goto w2c_B1;
+    case 2: goto w2c_B1;
     case 3: goto w2c_B3;
-    default: goto w2c_B2;
+    default: goto w2c_B1;
   }
   w2c_B3:;
   w2c_j0 = w2c_p1;
@@ -29220,50 +29231,51 @@ static void w2c_argon2_c__steps__verify(Z_proved_instance_t* instance, u64 w2c_p
   w2c_j0 += w2c_j1;
   w2c_j1 = 0ull;
   w2c_i0 = (*Z_memoryZ_i32_load)(instance->Z_memory_instance, w2c_j0, w2c_j1);
-  w2c_l11 = w2c_i0;
+  w2c_l9 = w2c_i0;
   w2c_i1 = 4278190080u;
   w2c_i0 += w2c_i1;
   w2c_i1 = 4278190081u;
   w2c_i0 = w2c_i0 < w2c_i1;
-  if (w2c_i0) {goto w2c_B2;}
+  if (w2c_i0) {goto w2c_B1;}
   w2c_j0 = w2c_p1;
   w2c_j1 = 76ull;
   w2c_j0 += w2c_j1;
   w2c_j1 = 0ull;
   w2c_i0 = (*Z_memoryZ_i32_load)(instance->Z_memory_instance, w2c_j0, w2c_j1);
-  w2c_l12 = w2c_i0;
+  w2c_l10 = w2c_i0;
   w2c_i1 = 2u;
   w2c_i0 = w2c_i0 < w2c_i1;
-  if (w2c_i0) {goto w2c_B2;}
-  w2c_i0 = w2c_l12;
+  if (w2c_i0) {goto w2c_B1;}
+  w2c_i0 = w2c_l10;
   w2c_j0 = (u64)(w2c_i0);
-  w2c_l13 = w2c_j0;
-  w2c_i1 = w2c_l11;
+  w2c_l11 = w2c_j0;
+  w2c_i1 = w2c_l9;
   w2c_j1 = (u64)(w2c_i1);
-  w2c_l14 = w2c_j1;
+  w2c_l12 = w2c_j1;
   w2c_j0 *= w2c_j1;
-  w2c_l15 = w2c_j0;
   w2c_j1 = 1073741823ull;
   w2c_i0 = w2c_j0 > w2c_j1;
-  if (w2c_i0) {goto w2c_B2;}
+  if (w2c_i0) {goto w2c_B1;}
   w2c_j0 = w2c_p1;
   w2c_j1 = 80ull;
   w2c_j0 += w2c_j1;
   w2c_j1 = 0ull;
   w2c_i0 = (*Z_memoryZ_i32_load)(instance->Z_memory_instance, w2c_j0, w2c_j1);
   w2c_i0 = !(w2c_i0);
-  if (w2c_i0) {goto w2c_B2;}
+  if (w2c_i0) {goto w2c_B1;}
   w2c_j0 = w2c_p1;
   w2c_j1 = 84ull;
   w2c_j0 += w2c_j1;
   w2c_j1 = 0ull;
   w2c_i0 = (*Z_memoryZ_i32_load)(instance->Z_memory_instance, w2c_j0, w2c_j1);
-  w2c_l11 = w2c_i0;
   w2c_i1 = 4u;
   w2c_i0 = w2c_i0 < w2c_i1;
-  if (w2c_i0) {goto w2c_B2;}
+  if (w2c_i0) {goto w2c_B1;}
   w2c_j0 = w2c_p3;
-  w2c_j1 = w2c_l15;
+  w2c_j1 = w2c_l11;
+  w2c_i2 = w2c_l9;
+  w2c_j2 = (u64)(w2c_i2);
+  w2c_j1 *= w2c_j2;
   w2c_i0 = w2c_j0 == w2c_j1;
   if (w2c_i0) {goto w2c_B4;}
   w2c_j0 = w2c_p0;
@@ -29279,8 +29291,11 @@ static void w2c_argon2_c__steps__verify(Z_proved_instance_t* instance, u64 w2c_p
   goto w2c_B0;
   w2c_B4:;
   w2c_j0 = w2c_p5;
-  w2c_i1 = w2c_l11;
-  w2c_j1 = (u64)(w2c_i1);
+  w2c_j1 = w2c_p1;
+  w2c_j2 = 84ull;
+  w2c_j1 += w2c_j2;
+  w2c_j2 = 0ull;
+  w2c_j1 = (*Z_memoryZ_i64_load32_u)(instance->Z_memory_instance, w2c_j1, w2c_j2);
   w2c_p1 = w2c_j1;
   w2c_i0 = w2c_j0 != w2c_j1;
   if (w2c_i0) {goto w2c_B6;}
@@ -29307,7 +29322,7 @@ static void w2c_argon2_c__steps__verify(Z_proved_instance_t* instance, u64 w2c_p
   w2c_i1 = 0u;
   w2c_j2 = 1024ull;
   (*Z_memoryZ_fill)(instance->Z_memory_instance, w2c_j0, w2c_i1, w2c_j2);
-  w2c_j0 = w2c_l13;
+  w2c_j0 = w2c_l11;
   w2c_j1 = 18446744073709551615ull;
   w2c_j0 += w2c_j1;
   w2c_p1 = w2c_j0;
@@ -29323,13 +29338,13 @@ static void w2c_argon2_c__steps__verify(Z_proved_instance_t* instance, u64 w2c_p
     w2c_j1 += w2c_j2;
     w2c_argon2_blocks__block__BlockBitXorAssignRefBlock__bitxor_assign(instance, w2c_j0, w2c_j1);
     w2c_i0 = w2c_l9;
-    w2c_i1 = w2c_l12;
+    w2c_i1 = w2c_l10;
     w2c_i0 += w2c_i1;
     w2c_l9 = w2c_i0;
-    w2c_j0 = w2c_l14;
+    w2c_j0 = w2c_l12;
     w2c_j1 = 18446744073709551615ull;
     w2c_j0 += w2c_j1;
-    w2c_l14 = w2c_j0;
+    w2c_l12 = w2c_j0;
     w2c_j1 = 0ull;
     w2c_i0 = w2c_j0 != w2c_j1;
     if (w2c_i0) {goto w2c_L7;}
@@ -29354,6 +29369,14 @@ static void w2c_argon2_c__steps__verify(Z_proved_instance_t* instance, u64 w2c_p
   w2c_j0 = w2c_l8;
   w2c_j1 = 128ull;
   w2c_argon2_blocks__blake2b__wipe___i64_21_core__clone__U64Clone___(instance, w2c_j0, w2c_j1);
+  w2c_j0 = w2c_p7;
+  w2c_i0 = !(w2c_j0);
+  w2c_i0 = !(w2c_i0);
+  if (w2c_i0) {goto w2c_B9;}
+  w2c_i0 = 1u;
+  w2c_l9 = w2c_i0;
+  goto w2c_B8;
+  w2c_B9:;
   w2c_j0 = w2c_p5;
   w2c_j1 = 18446744073709551615ull;
   w2c_j0 += w2c_j1;
@@ -29364,7 +29387,7 @@ static void w2c_argon2_c__steps__verify(Z_proved_instance_t* instance, u64 w2c_p
   w2c_p2 = w2c_j0;
   w2c_i0 = 0u;
   w2c_l9 = w2c_i0;
-  w2c_L9: 
+  w2c_L11: 
     w2c_j0 = w2c_p6;
     w2c_j1 = 0ull;
     w2c_i0 = (*Z_memoryZ_i32_load8_u)(instance->Z_memory_instance, w2c_j0, w2c_j1);
@@ -29377,7 +29400,7 @@ static void w2c_argon2_c__steps__verify(Z_proved_instance_t* instance, u64 w2c_p
     w2c_l9 = w2c_i0;
     w2c_j0 = w2c_p1;
     w2c_i0 = !(w2c_j0);
-    if (w2c_i0) {goto w2c_B8;}
+    if (w2c_i0) {goto w2c_B10;}
     w2c_j0 = w2c_p1;
     w2c_j1 = 18446744073709551615ull;
     w2c_j0 += w2c_j1;
@@ -29399,18 +29422,16 @@ static void w2c_argon2_c__steps__verify(Z_proved_instance_t* instance, u64 w2c_p
     w2c_j0 += w2c_j1;
     w2c_p2 = w2c_j0;
     w2c_i0 = w2c_l10;
-    if (w2c_i0) {goto w2c_L9;}
-  w2c_B8:;
+    if (w2c_i0) {goto w2c_L11;}
+  w2c_B10:;
   w2c_i0 = w2c_l9;
   w2c_i1 = 255u;
   w2c_i0 &= w2c_i1;
   w2c_i0 = !(w2c_i0);
   w2c_l9 = w2c_i0;
-  w2c_i0 = 0u;
-  w2c_l10 = w2c_i0;
-  w2c_B2:;
+  w2c_B8:;
   w2c_j0 = w2c_p0;
-  w2c_i1 = w2c_l10;
+  w2c_i1 = 0u;
   w2c_j2 = 0ull;
   (*Z_memoryZ_i32_store8)(instance->Z_memory_instance, w2c_j0, w2c_i1, w2c_j2);
   w2c_j0 = w2c_p0;
@@ -29426,8 +29447,19 @@ static void w2c_argon2_c__steps__verify(Z_proved_instance_t* instance, u64 w2c_p
   w2c_j2 = 0ull;
   (*Z_memoryZ_i32_store8)(instance->Z_memory_instance, w2c_j0, w2c_i1, w2c_j2);
   goto w2c_B0;
-  w2c_B1:;
+  w2c_B2:;
   UNREACHABLE;
+  w2c_B1:;
+  w2c_j0 = w2c_p0;
+  w2c_i1 = 1793u;
+  w2c_j2 = 0ull;
+  (*Z_memoryZ_i32_store16)(instance->Z_memory_instance, w2c_j0, w2c_i1, w2c_j2);
+  w2c_j0 = w2c_p0;
+  w2c_j1 = 2ull;
+  w2c_j0 += w2c_j1;
+  w2c_i1 = 0u;
+  w2c_j2 = 0ull;
+  (*Z_memoryZ_i32_store8)(instance->Z_memory_instance, w2c_j0, w2c_i1, w2c_j2);
   w2c_B0:;
   w2c_j0 = w2c_l8;
   w2c_j1 = 2048ull;
@@ -29436,9 +29468,9 @@ static void w2c_argon2_c__steps__verify(Z_proved_instance_t* instance, u64 w2c_p
   FUNC_EPILOGUE;
 }
 
-static void w2c_argon2_c__over__verify(Z_proved_instance_t* instance, u64 w2c_p0, u64 w2c_p1, u64 w2c_p2, u64 w2c_p3, u64 w2c_p4, u64 w2c_p5, u64 w2c_p6, u64 w2c_p7, 
+static void w2c_argon2_c__caller_blocks__verify(Z_proved_instance_t* instance, u64 w2c_p0, u64 w2c_p1, u64 w2c_p2, u64 w2c_p3, u64 w2c_p4, u64 w2c_p5, u64 w2c_p6, u64 w2c_p7, 
     u64 w2c_p8, u64 w2c_p9, u64 w2c_p10, u64 w2c_p11, u64 w2c_p12, u64 w2c_p13, u64 w2c_p14, u64 w2c_p15) {
-  u32 w2c_l17 = 0, w2c_l18 = 0, w2c_l19 = 0, w2c_l20 = 0, w2c_l21 = 0, w2c_l22 = 0;
+  u32 w2c_l17 = 0, w2c_l18 = 0, w2c_l19 = 0, w2c_l20 = 0, w2c_l21 = 0;
   u64 w2c_l16 = 0;
   FUNC_PROLOGUE;
   u32 w2c_i0, w2c_i1, w2c_i2;
@@ -29452,18 +29484,18 @@ static void w2c_argon2_c__over__verify(Z_proved_instance_t* instance, u64 w2c_p0
   w2c_l16 = w2c_j0;
   w2c_j1 = 16ull;
   w2c_i0 = (u64)((s64)w2c_j0 < (s64)w2c_j1);
-  if (w2c_i0) {goto w2c_B2;}
+  if (w2c_i0) {goto w2c_B3;}
   w2c_j0 = w2c_p9;
   w2c_j1 = 0ull;
   w2c_i0 = (*Z_memoryZ_i32_load)(instance->Z_memory_instance, w2c_j0, w2c_j1);
   w2c_l17 = w2c_i0;
   w2c_i1 = 2u;
   w2c_i0 = w2c_i0 <= w2c_i1;
-  if (w2c_i0) {goto w2c_B3;}
+  if (w2c_i0) {goto w2c_B4;}
   w2c_i0 = 16u;
   w2c_l18 = w2c_i0;
   goto w2c_B1;
-  w2c_B3:;
+  w2c_B4:;
   w2c_i0 = 17u;
   w2c_l18 = w2c_i0;
   w2c_i0 = 0u;
@@ -29476,16 +29508,16 @@ static void w2c_argon2_c__over__verify(Z_proved_instance_t* instance, u64 w2c_p0
   w2c_i1 = 4294967280u;
   w2c_i0 += w2c_i1;
   switch (w2c_i0) {
-    case 0: goto w2c_B4;
+    case 0: goto w2c_B5;
     case 1: goto w2c_B1;
     case 2: goto w2c_B1;
-    case 3: goto w2c_B5;
+    case 3: goto w2c_B6;
     default: goto w2c_B1;
   }
-  w2c_B5:;
+  w2c_B6:;
   w2c_i0 = 1u;
   w2c_l19 = w2c_i0;
-  w2c_B4:;
+  w2c_B5:;
   w2c_j0 = w2c_p9;
   w2c_j1 = 12ull;
   w2c_j0 += w2c_j1;
@@ -29511,98 +29543,91 @@ static void w2c_argon2_c__over__verify(Z_proved_instance_t* instance, u64 w2c_p0
   w2c_j2 = 176ull;
   (*Z_memoryZ_fill)(instance->Z_memory_instance, w2c_j0, w2c_i1, w2c_j2);
   w2c_i0 = w2c_l18;
-  if (w2c_i0) {goto w2c_B9;}
+  if (w2c_i0) {goto w2c_B7;}
   w2c_i0 = 14u;
-  w2c_l22 = w2c_i0;
-  goto w2c_B8;
-  w2c_B9:;
+  w2c_l18 = w2c_i0;
+  goto w2c_B2;
+  w2c_B7:;
   w2c_i0 = w2c_l18;
   w2c_i1 = 16777215u;
   w2c_i0 = w2c_i0 <= w2c_i1;
-  if (w2c_i0) {goto w2c_B10;}
+  if (w2c_i0) {goto w2c_B8;}
   w2c_i0 = 15u;
-  w2c_l22 = w2c_i0;
-  goto w2c_B8;
-  w2c_B10:;
+  w2c_l18 = w2c_i0;
+  goto w2c_B2;
+  w2c_B8:;
   w2c_i0 = w2c_l21;
   w2c_i1 = w2c_l18;
   w2c_i2 = 3u;
   w2c_i1 <<= (w2c_i2 & 31);
   w2c_i0 = w2c_i0 >= w2c_i1;
-  if (w2c_i0) {goto w2c_B11;}
+  if (w2c_i0) {goto w2c_B9;}
   w2c_i0 = 12u;
-  w2c_l22 = w2c_i0;
-  goto w2c_B8;
-  w2c_B11:;
+  w2c_l18 = w2c_i0;
+  goto w2c_B2;
+  w2c_B9:;
   w2c_i0 = w2c_l20;
-  if (w2c_i0) {goto w2c_B12;}
+  if (w2c_i0) {goto w2c_B10;}
   w2c_i0 = 10u;
-  w2c_l22 = w2c_i0;
-  goto w2c_B8;
-  w2c_B12:;
+  w2c_l18 = w2c_i0;
+  goto w2c_B2;
+  w2c_B10:;
   w2c_j0 = w2c_p2;
   w2c_j1 = 4294967295ull;
   w2c_i0 = w2c_j0 <= w2c_j1;
-  if (w2c_i0) {goto w2c_B13;}
+  if (w2c_i0) {goto w2c_B11;}
   w2c_i0 = 3u;
-  w2c_l22 = w2c_i0;
-  goto w2c_B8;
-  w2c_B13:;
+  w2c_l18 = w2c_i0;
+  goto w2c_B2;
+  w2c_B11:;
   w2c_j0 = w2c_p4;
   w2c_j1 = 8ull;
   w2c_i0 = w2c_j0 >= w2c_j1;
-  if (w2c_i0) {goto w2c_B14;}
+  if (w2c_i0) {goto w2c_B12;}
   w2c_i0 = 4u;
-  w2c_l22 = w2c_i0;
-  goto w2c_B8;
-  w2c_B14:;
+  w2c_l18 = w2c_i0;
+  goto w2c_B2;
+  w2c_B12:;
   w2c_j0 = w2c_p4;
   w2c_j1 = 4294967295ull;
   w2c_i0 = w2c_j0 <= w2c_j1;
-  if (w2c_i0) {goto w2c_B15;}
+  if (w2c_i0) {goto w2c_B13;}
   w2c_i0 = 5u;
-  w2c_l22 = w2c_i0;
-  goto w2c_B8;
-  w2c_B15:;
+  w2c_l18 = w2c_i0;
+  goto w2c_B2;
+  w2c_B13:;
   w2c_j0 = w2c_p6;
   w2c_j1 = 4294967295ull;
   w2c_i0 = w2c_j0 <= w2c_j1;
-  if (w2c_i0) {goto w2c_B16;}
+  if (w2c_i0) {goto w2c_B14;}
   w2c_i0 = 9u;
-  w2c_l22 = w2c_i0;
-  goto w2c_B8;
-  w2c_B16:;
+  w2c_l18 = w2c_i0;
+  goto w2c_B2;
+  w2c_B14:;
   w2c_j0 = w2c_p8;
   w2c_j1 = 4294967295ull;
   w2c_i0 = w2c_j0 <= w2c_j1;
-  if (w2c_i0) {goto w2c_B17;}
+  if (w2c_i0) {goto w2c_B15;}
   w2c_i0 = 7u;
-  w2c_l22 = w2c_i0;
-  goto w2c_B8;
-  w2c_B17:;
+  w2c_l18 = w2c_i0;
+  goto w2c_B2;
+  w2c_B15:;
   w2c_j0 = w2c_p13;
   w2c_j1 = 4ull;
   w2c_i0 = w2c_j0 >= w2c_j1;
-  if (w2c_i0) {goto w2c_B18;}
+  if (w2c_i0) {goto w2c_B16;}
   w2c_i0 = 0u;
-  w2c_l22 = w2c_i0;
-  goto w2c_B8;
-  w2c_B18:;
+  w2c_l18 = w2c_i0;
+  goto w2c_B2;
+  w2c_B16:;
   w2c_j0 = w2c_p13;
   w2c_j1 = 4294967296ull;
   w2c_i0 = w2c_j0 < w2c_j1;
-  if (w2c_i0) {goto w2c_B7;}
-  w2c_i0 = 1u;
-  w2c_l22 = w2c_i0;
-  w2c_B8:;
-  w2c_i0 = 0u;
-  w2c_l17 = w2c_i0;
+  if (w2c_i0) {goto w2c_B17;}
   w2c_i0 = 1u;
   w2c_l18 = w2c_i0;
-  goto w2c_B6;
-  w2c_B7:;
-  w2c_i0 = 0u;
-  w2c_l22 = w2c_i0;
+  goto w2c_B2;
+  w2c_B17:;
   w2c_j0 = w2c_l16;
   w2c_i1 = 0u;
   w2c_j2 = 126ull;
@@ -29724,7 +29749,7 @@ static void w2c_argon2_c__over__verify(Z_proved_instance_t* instance, u64 w2c_p0
   if (w2c_i0) {goto w2c_B19;}
   w2c_i0 = 9u;
   w2c_l17 = w2c_i0;
-  goto w2c_B6;
+  goto w2c_B18;
   w2c_B19:;
   w2c_j0 = w2c_p15;
   w2c_j1 = w2c_l16;
@@ -29734,7 +29759,7 @@ static void w2c_argon2_c__over__verify(Z_proved_instance_t* instance, u64 w2c_p0
   if (w2c_i0) {goto w2c_B20;}
   w2c_i0 = 2u;
   w2c_l17 = w2c_i0;
-  goto w2c_B6;
+  goto w2c_B18;
   w2c_B20:;
   w2c_j0 = w2c_l16;
   w2c_j1 = 232ull;
@@ -29747,15 +29772,15 @@ static void w2c_argon2_c__over__verify(Z_proved_instance_t* instance, u64 w2c_p0
   w2c_j0 = w2c_l16;
   w2c_j1 = 188ull;
   w2c_i0 = (*Z_memoryZ_i32_load8_u)(instance->Z_memory_instance, w2c_j0, w2c_j1);
-  w2c_l22 = w2c_i0;
+  w2c_l19 = w2c_i0;
   w2c_j0 = w2c_l16;
   w2c_j1 = 184ull;
   w2c_i0 = (*Z_memoryZ_i32_load)(instance->Z_memory_instance, w2c_j0, w2c_j1);
-  w2c_l19 = w2c_i0;
+  w2c_l21 = w2c_i0;
   w2c_j0 = w2c_l16;
   w2c_j1 = 148ull;
   w2c_i0 = (*Z_memoryZ_i32_load)(instance->Z_memory_instance, w2c_j0, w2c_j1);
-  w2c_l21 = w2c_i0;
+  w2c_l20 = w2c_i0;
   w2c_j0 = w2c_l16;
   w2c_j1 = w2c_l16;
   w2c_j2 = 56ull;
@@ -29809,7 +29834,7 @@ static void w2c_argon2_c__over__verify(Z_proved_instance_t* instance, u64 w2c_p0
   w2c_j2 = 208ull;
   (*Z_memoryZ_i64_store)(instance->Z_memory_instance, w2c_j0, w2c_j1, w2c_j2);
   w2c_j0 = w2c_l16;
-  w2c_i1 = w2c_l19;
+  w2c_i1 = w2c_l21;
   w2c_j2 = 204ull;
   (*Z_memoryZ_i32_store)(instance->Z_memory_instance, w2c_j0, w2c_i1, w2c_j2);
   w2c_j0 = w2c_l16;
@@ -29817,7 +29842,7 @@ static void w2c_argon2_c__over__verify(Z_proved_instance_t* instance, u64 w2c_p0
   w2c_j2 = 200ull;
   (*Z_memoryZ_i32_store)(instance->Z_memory_instance, w2c_j0, w2c_i1, w2c_j2);
   w2c_j0 = w2c_l16;
-  w2c_i1 = w2c_l21;
+  w2c_i1 = w2c_l20;
   w2c_j2 = 196ull;
   (*Z_memoryZ_i32_store)(instance->Z_memory_instance, w2c_j0, w2c_i1, w2c_j2);
   w2c_i0 = 0u;
@@ -29831,7 +29856,7 @@ static void w2c_argon2_c__over__verify(Z_proved_instance_t* instance, u64 w2c_p0
   w2c_j2 = 193ull;
   (*Z_memoryZ_i32_store8)(instance->Z_memory_instance, w2c_j0, w2c_i1, w2c_j2);
   w2c_j0 = w2c_l16;
-  w2c_i1 = w2c_l22;
+  w2c_i1 = w2c_l19;
   w2c_j2 = 192ull;
   (*Z_memoryZ_i32_store8)(instance->Z_memory_instance, w2c_j0, w2c_i1, w2c_j2);
   w2c_j0 = w2c_l16;
@@ -29841,7 +29866,7 @@ static void w2c_argon2_c__over__verify(Z_proved_instance_t* instance, u64 w2c_p0
   w2c_j2 = w2c_p11;
   w2c_j3 = w2c_p14;
   w2c_j4 = w2c_p15;
-  w2c_argon2_fill__lent__hash_lent_job(instance, w2c_j0, w2c_j1, w2c_j2, w2c_j3, w2c_j4);
+  w2c_argon2_fill__caller_blocks__hash_job_over(instance, w2c_j0, w2c_j1, w2c_j2, w2c_j3, w2c_j4);
   w2c_j0 = w2c_p15;
   w2c_i0 = !(w2c_j0);
   w2c_i0 = !(w2c_i0);
@@ -29903,9 +29928,7 @@ static void w2c_argon2_c__over__verify(Z_proved_instance_t* instance, u64 w2c_p0
   w2c_B21:;
   w2c_i0 = 0u;
   w2c_l18 = w2c_i0;
-  w2c_i0 = 0u;
-  w2c_l22 = w2c_i0;
-  w2c_B6:;
+  w2c_B18:;
   w2c_j0 = w2c_p0;
   w2c_i1 = w2c_l18;
   w2c_j2 = 0ull;
@@ -29913,7 +29936,7 @@ static void w2c_argon2_c__over__verify(Z_proved_instance_t* instance, u64 w2c_p0
   w2c_j0 = w2c_p0;
   w2c_j1 = 2ull;
   w2c_j0 += w2c_j1;
-  w2c_i1 = w2c_l22;
+  w2c_i1 = 0u;
   w2c_j2 = 0ull;
   (*Z_memoryZ_i32_store8)(instance->Z_memory_instance, w2c_j0, w2c_i1, w2c_j2);
   w2c_j0 = w2c_p0;
@@ -29923,8 +29946,20 @@ static void w2c_argon2_c__over__verify(Z_proved_instance_t* instance, u64 w2c_p0
   w2c_j2 = 0ull;
   (*Z_memoryZ_i32_store8)(instance->Z_memory_instance, w2c_j0, w2c_i1, w2c_j2);
   goto w2c_B0;
-  w2c_B2:;
+  w2c_B3:;
   UNREACHABLE;
+  w2c_B2:;
+  w2c_j0 = w2c_p0;
+  w2c_j1 = 2ull;
+  w2c_j0 += w2c_j1;
+  w2c_i1 = w2c_l18;
+  w2c_j2 = 0ull;
+  (*Z_memoryZ_i32_store8)(instance->Z_memory_instance, w2c_j0, w2c_i1, w2c_j2);
+  w2c_j0 = w2c_p0;
+  w2c_i1 = 1u;
+  w2c_j2 = 0ull;
+  (*Z_memoryZ_i32_store16)(instance->Z_memory_instance, w2c_j0, w2c_i1, w2c_j2);
+  goto w2c_B0;
   w2c_B1:;
   w2c_j0 = w2c_p0;
   w2c_i1 = 1u;
@@ -29944,8 +29979,8 @@ static void w2c_argon2_c__over__verify(Z_proved_instance_t* instance, u64 w2c_p0
   FUNC_EPILOGUE;
 }
 
-static void w2c_argon2_c__over__verify_job(Z_proved_instance_t* instance, u64 w2c_p0, u64 w2c_p1, u64 w2c_p2, u64 w2c_p3, u64 w2c_p4, u64 w2c_p5, u64 w2c_p6, u64 w2c_p7) {
-  u32 w2c_l9 = 0, w2c_l10 = 0, w2c_l11 = 0, w2c_l12 = 0, w2c_l13 = 0, w2c_l14 = 0, w2c_l15 = 0, w2c_l16 = 0;
+static void w2c_argon2_c__caller_blocks__verify_job(Z_proved_instance_t* instance, u64 w2c_p0, u64 w2c_p1, u64 w2c_p2, u64 w2c_p3, u64 w2c_p4, u64 w2c_p5, u64 w2c_p6, u64 w2c_p7) {
+  u32 w2c_l9 = 0, w2c_l10 = 0, w2c_l11 = 0, w2c_l12 = 0, w2c_l13 = 0;
   u64 w2c_l8 = 0;
   FUNC_PROLOGUE;
   u32 w2c_i0, w2c_i1, w2c_i2;
@@ -29959,22 +29994,18 @@ static void w2c_argon2_c__over__verify_job(Z_proved_instance_t* instance, u64 w2
   w2c_l8 = w2c_j0;
   w2c_j1 = 16ull;
   w2c_i0 = (u64)((s64)w2c_j0 < (s64)w2c_j1);
-  if (w2c_i0) {goto w2c_B1;}
-  w2c_i0 = 7u;
-  w2c_l9 = w2c_i0;
-  w2c_i0 = 1u;
-  w2c_l10 = w2c_i0;
+  if (w2c_i0) {goto w2c_B2;}
   w2c_j0 = w2c_p1;
   w2c_j1 = 64ull;
   w2c_j0 += w2c_j1;
   w2c_j1 = 0ull;
   w2c_i0 = (*Z_memoryZ_i32_load)(instance->Z_memory_instance, w2c_j0, w2c_j1);
-  w2c_l11 = w2c_i0;
+  w2c_l9 = w2c_i0;
   w2c_i1 = 2u;
   w2c_i0 = w2c_i0 > w2c_i1;
-  if (w2c_i0) {goto w2c_B2;}
+  if (w2c_i0) {goto w2c_B1;}
   w2c_i0 = 0u;
-  w2c_l12 = w2c_i0;
+  w2c_l10 = w2c_i0;
   w2c_j0 = w2c_p1;
   w2c_j1 = 68ull;
   w2c_j0 += w2c_j1;
@@ -29984,66 +30015,65 @@ static void w2c_argon2_c__over__verify_job(Z_proved_instance_t* instance, u64 w2
   w2c_i0 += w2c_i1;
   switch (w2c_i0) {
     case 0: goto w2c_B3;
-    case 1: goto w2c_B2;
-    case 2: goto w2c_B2;
+    case 1: goto w2c_B1;
+    case 2: goto w2c_B1;
     case 3: goto w2c_B4;
-    default: goto w2c_B2;
+    default: goto w2c_B1;
   }
   w2c_B4:;
   w2c_i0 = 1u;
-  w2c_l12 = w2c_i0;
+  w2c_l10 = w2c_i0;
   w2c_B3:;
   w2c_j0 = w2c_p1;
   w2c_j1 = 72ull;
   w2c_j0 += w2c_j1;
   w2c_j1 = 0ull;
   w2c_i0 = (*Z_memoryZ_i32_load)(instance->Z_memory_instance, w2c_j0, w2c_j1);
-  w2c_l13 = w2c_i0;
+  w2c_l11 = w2c_i0;
   w2c_i1 = 4278190080u;
   w2c_i0 += w2c_i1;
   w2c_i1 = 4278190081u;
   w2c_i0 = w2c_i0 < w2c_i1;
-  if (w2c_i0) {goto w2c_B2;}
+  if (w2c_i0) {goto w2c_B1;}
   w2c_j0 = w2c_p1;
   w2c_j1 = 76ull;
   w2c_j0 += w2c_j1;
   w2c_j1 = 0ull;
   w2c_i0 = (*Z_memoryZ_i32_load)(instance->Z_memory_instance, w2c_j0, w2c_j1);
-  w2c_l14 = w2c_i0;
+  w2c_l12 = w2c_i0;
   w2c_i1 = 2u;
   w2c_i0 = w2c_i0 < w2c_i1;
-  if (w2c_i0) {goto w2c_B2;}
-  w2c_i0 = w2c_l14;
+  if (w2c_i0) {goto w2c_B1;}
+  w2c_i0 = w2c_l12;
   w2c_j0 = (u64)(w2c_i0);
-  w2c_i1 = w2c_l13;
+  w2c_i1 = w2c_l11;
   w2c_j1 = (u64)(w2c_i1);
   w2c_j0 *= w2c_j1;
   w2c_j1 = 1073741823ull;
   w2c_i0 = w2c_j0 > w2c_j1;
-  if (w2c_i0) {goto w2c_B2;}
+  if (w2c_i0) {goto w2c_B1;}
   w2c_j0 = w2c_p1;
   w2c_j1 = 80ull;
   w2c_j0 += w2c_j1;
   w2c_j1 = 0ull;
   w2c_i0 = (*Z_memoryZ_i32_load)(instance->Z_memory_instance, w2c_j0, w2c_j1);
-  w2c_l15 = w2c_i0;
+  w2c_l13 = w2c_i0;
   w2c_i0 = !(w2c_i0);
-  if (w2c_i0) {goto w2c_B2;}
+  if (w2c_i0) {goto w2c_B1;}
   w2c_j0 = w2c_p1;
   w2c_j1 = 84ull;
   w2c_j0 += w2c_j1;
   w2c_j1 = 0ull;
   w2c_i0 = (*Z_memoryZ_i32_load)(instance->Z_memory_instance, w2c_j0, w2c_j1);
-  w2c_l16 = w2c_i0;
   w2c_i1 = 4u;
   w2c_i0 = w2c_i0 < w2c_i1;
-  if (w2c_i0) {goto w2c_B2;}
+  if (w2c_i0) {goto w2c_B1;}
   w2c_j0 = w2c_l8;
   w2c_j1 = 0ull;
   w2c_j2 = 88ull;
   (*Z_memoryZ_i64_store)(instance->Z_memory_instance, w2c_j0, w2c_j1, w2c_j2);
   w2c_j0 = w2c_l8;
-  w2c_i1 = w2c_l15;
+  w2c_i1 = w2c_l13;
   w2c_j2 = 84ull;
   (*Z_memoryZ_i32_store)(instance->Z_memory_instance, w2c_j0, w2c_i1, w2c_j2);
   w2c_j0 = w2c_l8;
@@ -30051,11 +30081,11 @@ static void w2c_argon2_c__over__verify_job(Z_proved_instance_t* instance, u64 w2
   w2c_j2 = 74ull;
   (*Z_memoryZ_i32_store16)(instance->Z_memory_instance, w2c_j0, w2c_i1, w2c_j2);
   w2c_j0 = w2c_l8;
-  w2c_i1 = w2c_l12;
+  w2c_i1 = w2c_l10;
   w2c_j2 = 73ull;
   (*Z_memoryZ_i32_store8)(instance->Z_memory_instance, w2c_j0, w2c_i1, w2c_j2);
   w2c_j0 = w2c_l8;
-  w2c_i1 = w2c_l11;
+  w2c_i1 = w2c_l9;
   w2c_j2 = 72ull;
   (*Z_memoryZ_i32_store8)(instance->Z_memory_instance, w2c_j0, w2c_i1, w2c_j2);
   w2c_j0 = w2c_l8;
@@ -30107,16 +30137,16 @@ static void w2c_argon2_c__over__verify_job(Z_proved_instance_t* instance, u64 w2
   w2c_j2 = 8ull;
   (*Z_memoryZ_i64_store)(instance->Z_memory_instance, w2c_j0, w2c_j1, w2c_j2);
   w2c_j0 = w2c_l8;
-  w2c_i1 = w2c_l13;
+  w2c_i1 = w2c_l11;
   w2c_j2 = 76ull;
   (*Z_memoryZ_i32_store)(instance->Z_memory_instance, w2c_j0, w2c_i1, w2c_j2);
   w2c_j0 = w2c_l8;
-  w2c_i1 = w2c_l14;
+  w2c_i1 = w2c_l12;
   w2c_j2 = 80ull;
   (*Z_memoryZ_i32_store)(instance->Z_memory_instance, w2c_j0, w2c_i1, w2c_j2);
   w2c_j0 = w2c_p3;
-  w2c_i1 = w2c_l13;
-  w2c_i2 = w2c_l14;
+  w2c_i1 = w2c_l11;
+  w2c_i2 = w2c_l12;
   w2c_i1 *= w2c_i2;
   w2c_i2 = 2u;
   w2c_i1 <<= (w2c_i2 & 31);
@@ -30136,8 +30166,11 @@ static void w2c_argon2_c__over__verify_job(Z_proved_instance_t* instance, u64 w2
   goto w2c_B0;
   w2c_B5:;
   w2c_j0 = w2c_p5;
-  w2c_i1 = w2c_l16;
-  w2c_j1 = (u64)(w2c_i1);
+  w2c_j1 = w2c_p1;
+  w2c_j2 = 84ull;
+  w2c_j1 += w2c_j2;
+  w2c_j2 = 0ull;
+  w2c_j1 = (*Z_memoryZ_i64_load32_u)(instance->Z_memory_instance, w2c_j1, w2c_j2);
   w2c_p1 = w2c_j1;
   w2c_i0 = w2c_j0 != w2c_j1;
   if (w2c_i0) {goto w2c_B7;}
@@ -30165,7 +30198,15 @@ static void w2c_argon2_c__over__verify_job(Z_proved_instance_t* instance, u64 w2
   w2c_j2 = w2c_p3;
   w2c_j3 = w2c_p6;
   w2c_j4 = w2c_p7;
-  w2c_argon2_fill__lent__hash_lent_job(instance, w2c_j0, w2c_j1, w2c_j2, w2c_j3, w2c_j4);
+  w2c_argon2_fill__caller_blocks__hash_job_over(instance, w2c_j0, w2c_j1, w2c_j2, w2c_j3, w2c_j4);
+  w2c_j0 = w2c_p7;
+  w2c_i0 = !(w2c_j0);
+  w2c_i0 = !(w2c_i0);
+  if (w2c_i0) {goto w2c_B9;}
+  w2c_i0 = 1u;
+  w2c_l9 = w2c_i0;
+  goto w2c_B8;
+  w2c_B9:;
   w2c_j0 = w2c_p5;
   w2c_j1 = 18446744073709551615ull;
   w2c_j0 += w2c_j1;
@@ -30176,7 +30217,7 @@ static void w2c_argon2_c__over__verify_job(Z_proved_instance_t* instance, u64 w2
   w2c_p3 = w2c_j0;
   w2c_i0 = 0u;
   w2c_l9 = w2c_i0;
-  w2c_L9: 
+  w2c_L11: 
     w2c_j0 = w2c_p6;
     w2c_j1 = 0ull;
     w2c_i0 = (*Z_memoryZ_i32_load8_u)(instance->Z_memory_instance, w2c_j0, w2c_j1);
@@ -30189,7 +30230,7 @@ static void w2c_argon2_c__over__verify_job(Z_proved_instance_t* instance, u64 w2
     w2c_l9 = w2c_i0;
     w2c_j0 = w2c_p1;
     w2c_i0 = !(w2c_j0);
-    if (w2c_i0) {goto w2c_B8;}
+    if (w2c_i0) {goto w2c_B10;}
     w2c_j0 = w2c_p1;
     w2c_j1 = 18446744073709551615ull;
     w2c_j0 += w2c_j1;
@@ -30211,18 +30252,16 @@ static void w2c_argon2_c__over__verify_job(Z_proved_instance_t* instance, u64 w2
     w2c_j0 += w2c_j1;
     w2c_p3 = w2c_j0;
     w2c_i0 = w2c_l10;
-    if (w2c_i0) {goto w2c_L9;}
-  w2c_B8:;
+    if (w2c_i0) {goto w2c_L11;}
+  w2c_B10:;
   w2c_i0 = w2c_l9;
   w2c_i1 = 255u;
   w2c_i0 &= w2c_i1;
   w2c_i0 = !(w2c_i0);
   w2c_l9 = w2c_i0;
-  w2c_i0 = 0u;
-  w2c_l10 = w2c_i0;
-  w2c_B2:;
+  w2c_B8:;
   w2c_j0 = w2c_p0;
-  w2c_i1 = w2c_l10;
+  w2c_i1 = 0u;
   w2c_j2 = 0ull;
   (*Z_memoryZ_i32_store8)(instance->Z_memory_instance, w2c_j0, w2c_i1, w2c_j2);
   w2c_j0 = w2c_p0;
@@ -30238,8 +30277,19 @@ static void w2c_argon2_c__over__verify_job(Z_proved_instance_t* instance, u64 w2
   w2c_j2 = 0ull;
   (*Z_memoryZ_i32_store8)(instance->Z_memory_instance, w2c_j0, w2c_i1, w2c_j2);
   goto w2c_B0;
-  w2c_B1:;
+  w2c_B2:;
   UNREACHABLE;
+  w2c_B1:;
+  w2c_j0 = w2c_p0;
+  w2c_i1 = 1793u;
+  w2c_j2 = 0ull;
+  (*Z_memoryZ_i32_store16)(instance->Z_memory_instance, w2c_j0, w2c_i1, w2c_j2);
+  w2c_j0 = w2c_p0;
+  w2c_j1 = 2ull;
+  w2c_j0 += w2c_j1;
+  w2c_i1 = 0u;
+  w2c_j2 = 0ull;
+  (*Z_memoryZ_i32_store8)(instance->Z_memory_instance, w2c_j0, w2c_i1, w2c_j2);
   w2c_B0:;
   w2c_j0 = w2c_l8;
   w2c_j1 = 96ull;
@@ -30553,7 +30603,7 @@ static u32 w2c_rattle__export_proved_argon2_hash_over(Z_proved_instance_t* insta
   w2c_j13 = w2c_i15 ? w2c_j13 : w2c_j14;
   w2c_j12 += w2c_j13;
   w2c_j13 = w2c_p12;
-  w2c_argon2_c__over__hash(instance, w2c_j0, w2c_j1, w2c_j2, w2c_j3, w2c_j4, w2c_j5, w2c_j6, w2c_j7, w2c_j8, w2c_j9, w2c_j10, w2c_j11, w2c_j12, w2c_j13);
+  w2c_argon2_c__caller_blocks__hash(instance, w2c_j0, w2c_j1, w2c_j2, w2c_j3, w2c_j4, w2c_j5, w2c_j6, w2c_j7, w2c_j8, w2c_j9, w2c_j10, w2c_j11, w2c_j12, w2c_j13);
   w2c_j0 = w2c_l13;
   w2c_j1 = 12ull;
   w2c_i0 = (*Z_memoryZ_i32_load8_u)(instance->Z_memory_instance, w2c_j0, w2c_j1);
@@ -30620,7 +30670,7 @@ static u32 w2c_rattle__export_proved_argon2_hash_over(Z_proved_instance_t* insta
   w2c_i0 += w2c_i1;
   w2c_l14 = w2c_i0;
   w2c_B0:;
-  w2c_argon2_fill__stack__wipe_stack(instance);
+  w2c_argon2_fill__stack_wiping__wipe_stack(instance);
   w2c_j0 = w2c_l13;
   w2c_j1 = 16ull;
   w2c_j0 += w2c_j1;
@@ -30758,7 +30808,7 @@ static u32 w2c_rattle__export_proved_argon2_job_begin(Z_proved_instance_t* insta
   w2c_i0 += w2c_i1;
   w2c_l5 = w2c_i0;
   w2c_B0:;
-  w2c_argon2_fill__stack__wipe_stack(instance);
+  w2c_argon2_fill__stack_wiping__wipe_stack(instance);
   w2c_j0 = w2c_l4;
   w2c_j1 = 16ull;
   w2c_j0 += w2c_j1;
@@ -31045,7 +31095,7 @@ static u32 w2c_rattle__export_proved_argon2_job_fill(Z_proved_instance_t* instan
   w2c_i0 += w2c_i1;
   w2c_l13 = w2c_i0;
   w2c_B0:;
-  w2c_argon2_fill__stack__wipe_stack(instance);
+  w2c_argon2_fill__stack_wiping__wipe_stack(instance);
   w2c_j0 = w2c_l12;
   w2c_j1 = 16ull;
   w2c_j0 += w2c_j1;
@@ -31192,7 +31242,7 @@ static u32 w2c_rattle__export_proved_argon2_job_finish(Z_proved_instance_t* inst
   w2c_i0 += w2c_i1;
   w2c_l6 = w2c_i0;
   w2c_B0:;
-  w2c_argon2_fill__stack__wipe_stack(instance);
+  w2c_argon2_fill__stack_wiping__wipe_stack(instance);
   w2c_j0 = w2c_l5;
   w2c_j1 = 16ull;
   w2c_j0 += w2c_j1;
@@ -31272,7 +31322,7 @@ static u32 w2c_rattle__export_proved_argon2_job_hash_over(Z_proved_instance_t* i
   w2c_j5 = w2c_i7 ? w2c_j5 : w2c_j6;
   w2c_j4 += w2c_j5;
   w2c_j5 = w2c_p4;
-  w2c_argon2_c__over__hash_job(instance, w2c_j0, w2c_j1, w2c_j2, w2c_j3, w2c_j4, w2c_j5);
+  w2c_argon2_c__caller_blocks__hash_job(instance, w2c_j0, w2c_j1, w2c_j2, w2c_j3, w2c_j4, w2c_j5);
   w2c_j0 = w2c_l5;
   w2c_j1 = 12ull;
   w2c_i0 = (*Z_memoryZ_i32_load8_u)(instance->Z_memory_instance, w2c_j0, w2c_j1);
@@ -31339,7 +31389,7 @@ static u32 w2c_rattle__export_proved_argon2_job_hash_over(Z_proved_instance_t* i
   w2c_i0 += w2c_i1;
   w2c_l6 = w2c_i0;
   w2c_B0:;
-  w2c_argon2_fill__stack__wipe_stack(instance);
+  w2c_argon2_fill__stack_wiping__wipe_stack(instance);
   w2c_j0 = w2c_l5;
   w2c_j1 = 16ull;
   w2c_j0 += w2c_j1;
@@ -31512,7 +31562,7 @@ static u32 w2c_rattle__export_proved_argon2_job_make(Z_proved_instance_t* instan
   w2c_i0 += w2c_i1;
   w2c_l11 = w2c_i0;
   w2c_B0:;
-  w2c_argon2_fill__stack__wipe_stack(instance);
+  w2c_argon2_fill__stack_wiping__wipe_stack(instance);
   w2c_j0 = w2c_l10;
   w2c_j1 = 16ull;
   w2c_j0 += w2c_j1;
@@ -32213,7 +32263,7 @@ static u32 w2c_rattle__export_proved_argon2_check_encoded(Z_proved_instance_t* i
   w2c_j2 = w2c_i4 ? w2c_j2 : w2c_j3;
   w2c_j1 += w2c_j2;
   w2c_j2 = w2c_p1;
-  w2c_argon2_c__stored_text__head_of(instance, w2c_j0, w2c_j1, w2c_j2);
+  w2c_argon2_c__encoded_hash__head_of(instance, w2c_j0, w2c_j1, w2c_j2);
   w2c_j0 = w2c_l7;
   w2c_j1 = 8ull;
   w2c_i0 = (*Z_memoryZ_i32_load8_u)(instance->Z_memory_instance, w2c_j0, w2c_j1);
@@ -32679,7 +32729,7 @@ static u32 w2c_rattle__export_proved_argon2_job_read(Z_proved_instance_t* instan
   w2c_i0 += w2c_i1;
   w2c_l14 = w2c_i0;
   w2c_B0:;
-  w2c_argon2_fill__stack__wipe_stack(instance);
+  w2c_argon2_fill__stack_wiping__wipe_stack(instance);
   w2c_j0 = w2c_l13;
   w2c_j1 = 16ull;
   w2c_j0 += w2c_j1;
@@ -32823,7 +32873,7 @@ static u32 w2c_rattle__export_proved_argon2_needs_rehash(Z_proved_instance_t* in
   w2c_j2 = w2c_i4 ? w2c_j2 : w2c_j3;
   w2c_j1 += w2c_j2;
   w2c_j2 = w2c_p1;
-  w2c_argon2_c__stored_text__head_of(instance, w2c_j0, w2c_j1, w2c_j2);
+  w2c_argon2_c__encoded_hash__head_of(instance, w2c_j0, w2c_j1, w2c_j2);
   w2c_j0 = w2c_l3;
   w2c_j1 = 8ull;
   w2c_i0 = (*Z_memoryZ_i32_load8_u)(instance->Z_memory_instance, w2c_j0, w2c_j1);
@@ -33032,7 +33082,7 @@ static u32 w2c_rattle__export_proved_argon2_read(Z_proved_instance_t* instance, 
   w2c_j2 = w2c_i4 ? w2c_j2 : w2c_j3;
   w2c_j1 += w2c_j2;
   w2c_j2 = w2c_p1;
-  w2c_argon2_c__stored_text__head_of(instance, w2c_j0, w2c_j1, w2c_j2);
+  w2c_argon2_c__encoded_hash__head_of(instance, w2c_j0, w2c_j1, w2c_j2);
   w2c_j0 = w2c_l3;
   w2c_j1 = 8ull;
   w2c_i0 = (*Z_memoryZ_i32_load8_u)(instance->Z_memory_instance, w2c_j0, w2c_j1);
@@ -33229,6 +33279,20 @@ static u32 w2c_rattle__export_proved_argon2_read_bytes(Z_proved_instance_t* inst
   w2c_j1 = 16ull;
   w2c_i0 = (u64)((s64)w2c_j0 < (s64)w2c_j1);
   if (w2c_i0) {goto w2c_B2;}
+  w2c_i0 = 0u;
+  w2c_l7 = w2c_i0;
+  w2c_j0 = w2c_l6;
+  w2c_i1 = 0u;
+  w2c_j2 = 60ull;
+  (*Z_memoryZ_i32_store16)(instance->Z_memory_instance, w2c_j0, w2c_i1, w2c_j2);
+  w2c_j0 = w2c_l6;
+  w2c_i1 = 0u;
+  w2c_j2 = 62ull;
+  (*Z_memoryZ_i32_store8)(instance->Z_memory_instance, w2c_j0, w2c_i1, w2c_j2);
+  w2c_j0 = w2c_l6;
+  w2c_j1 = 0ull;
+  w2c_j2 = 0ull;
+  (*Z_memoryZ_i64_store)(instance->Z_memory_instance, w2c_j0, w2c_j1, w2c_j2);
   w2c_j0 = w2c_l6;
   w2c_j1 = 0ull;
   w2c_j2 = 8ull;
@@ -33254,22 +33318,6 @@ static u32 w2c_rattle__export_proved_argon2_read_bytes(Z_proved_instance_t* inst
   w2c_j2 = 48ull;
   (*Z_memoryZ_i64_store)(instance->Z_memory_instance, w2c_j0, w2c_j1, w2c_j2);
   w2c_j0 = w2c_l6;
-  w2c_j1 = 0ull;
-  w2c_j2 = 56ull;
-  (*Z_memoryZ_i64_store)(instance->Z_memory_instance, w2c_j0, w2c_j1, w2c_j2);
-  w2c_i0 = 0u;
-  w2c_l7 = w2c_i0;
-  w2c_j0 = w2c_l6;
-  w2c_i1 = 0u;
-  w2c_j2 = 4ull;
-  (*Z_memoryZ_i32_store16)(instance->Z_memory_instance, w2c_j0, w2c_i1, w2c_j2);
-  w2c_j0 = w2c_l6;
-  w2c_i1 = 0u;
-  w2c_j2 = 6ull;
-  (*Z_memoryZ_i32_store8)(instance->Z_memory_instance, w2c_j0, w2c_i1, w2c_j2);
-  w2c_j0 = w2c_l6;
-  w2c_j1 = 8ull;
-  w2c_j0 += w2c_j1;
   w2c_j1 = w2c_p0;
   w2c_j2 = 4096ull;
   w2c_j3 = 0ull;
@@ -33278,27 +33326,27 @@ static u32 w2c_rattle__export_proved_argon2_read_bytes(Z_proved_instance_t* inst
   w2c_j2 = w2c_i4 ? w2c_j2 : w2c_j3;
   w2c_j1 += w2c_j2;
   w2c_j2 = w2c_p1;
-  w2c_argon2_c__stored_text__head_of(instance, w2c_j0, w2c_j1, w2c_j2);
+  w2c_argon2_c__encoded_hash__head_of(instance, w2c_j0, w2c_j1, w2c_j2);
   w2c_j0 = w2c_l6;
-  w2c_j1 = 8ull;
+  w2c_j1 = 0ull;
   w2c_i0 = (*Z_memoryZ_i32_load8_u)(instance->Z_memory_instance, w2c_j0, w2c_j1);
   w2c_i0 = !(w2c_i0);
   if (w2c_i0) {goto w2c_B4;}
   w2c_j0 = w2c_l6;
-  w2c_j1 = 10ull;
+  w2c_j1 = 2ull;
   w2c_i0 = (*Z_memoryZ_i32_load8_u)(instance->Z_memory_instance, w2c_j0, w2c_j1);
   w2c_l8 = w2c_i0;
   w2c_j0 = w2c_l6;
-  w2c_j1 = 9ull;
+  w2c_j1 = 1ull;
   w2c_i0 = (*Z_memoryZ_i32_load8_u)(instance->Z_memory_instance, w2c_j0, w2c_j1);
   w2c_l9 = w2c_i0;
   goto w2c_B3;
   w2c_B4:;
   w2c_j0 = w2c_l6;
-  w2c_j1 = 4ull;
+  w2c_j1 = 60ull;
   w2c_j0 += w2c_j1;
   w2c_j1 = w2c_l6;
-  w2c_j2 = 16ull;
+  w2c_j2 = 8ull;
   w2c_j1 += w2c_j2;
   w2c_j2 = w2c_p2;
   w2c_j3 = 4096ull;
@@ -33318,16 +33366,16 @@ static u32 w2c_rattle__export_proved_argon2_read_bytes(Z_proved_instance_t* inst
   w2c_j5 = w2c_p5;
   w2c_argon2_c__reading__read_items(instance, w2c_j0, w2c_j1, w2c_j2, w2c_j3, w2c_j4, w2c_j5);
   w2c_j0 = w2c_l6;
-  w2c_j1 = 4ull;
+  w2c_j1 = 60ull;
   w2c_i0 = (*Z_memoryZ_i32_load8_u)(instance->Z_memory_instance, w2c_j0, w2c_j1);
   w2c_i0 = !(w2c_i0);
   if (w2c_i0) {goto w2c_B0;}
   w2c_j0 = w2c_l6;
-  w2c_j1 = 6ull;
+  w2c_j1 = 62ull;
   w2c_i0 = (*Z_memoryZ_i32_load8_u)(instance->Z_memory_instance, w2c_j0, w2c_j1);
   w2c_l8 = w2c_i0;
   w2c_j0 = w2c_l6;
-  w2c_j1 = 5ull;
+  w2c_j1 = 61ull;
   w2c_i0 = (*Z_memoryZ_i32_load8_u)(instance->Z_memory_instance, w2c_j0, w2c_j1);
   w2c_l9 = w2c_i0;
   w2c_B3:;
@@ -33480,7 +33528,7 @@ static u32 w2c_rattle__export_proved_argon2_read_within(Z_proved_instance_t* ins
   w2c_j2 = w2c_i4 ? w2c_j2 : w2c_j3;
   w2c_j1 += w2c_j2;
   w2c_j2 = w2c_p1;
-  w2c_argon2_c__stored_text__head_of(instance, w2c_j0, w2c_j1, w2c_j2);
+  w2c_argon2_c__encoded_hash__head_of(instance, w2c_j0, w2c_j1, w2c_j2);
   w2c_j0 = w2c_l4;
   w2c_j1 = 8ull;
   w2c_i0 = (*Z_memoryZ_i32_load8_u)(instance->Z_memory_instance, w2c_j0, w2c_j1);
@@ -33835,7 +33883,7 @@ static u32 w2c_rattle__export_proved_argon2_job_verify(Z_proved_instance_t* inst
   w2c_i0 += w2c_i1;
   w2c_l9 = w2c_i0;
   w2c_B0:;
-  w2c_argon2_fill__stack__wipe_stack(instance);
+  w2c_argon2_fill__stack_wiping__wipe_stack(instance);
   w2c_j0 = w2c_l7;
   w2c_j1 = 16ull;
   w2c_j0 += w2c_j1;
@@ -33969,7 +34017,7 @@ static u32 w2c_rattle__export_proved_argon2_verify_over(Z_proved_instance_t* ins
   w2c_j15 = w2c_i17 ? w2c_j15 : w2c_j16;
   w2c_j14 += w2c_j15;
   w2c_j15 = w2c_p14;
-  w2c_argon2_c__over__verify(instance, w2c_j0, w2c_j1, w2c_j2, w2c_j3, w2c_j4, w2c_j5, w2c_j6, w2c_j7, w2c_j8, w2c_j9, w2c_j10, w2c_j11, w2c_j12, w2c_j13, w2c_j14, w2c_j15);
+  w2c_argon2_c__caller_blocks__verify(instance, w2c_j0, w2c_j1, w2c_j2, w2c_j3, w2c_j4, w2c_j5, w2c_j6, w2c_j7, w2c_j8, w2c_j9, w2c_j10, w2c_j11, w2c_j12, w2c_j13, w2c_j14, w2c_j15);
   w2c_j0 = w2c_l15;
   w2c_j1 = 13ull;
   w2c_i0 = (*Z_memoryZ_i32_load8_u)(instance->Z_memory_instance, w2c_j0, w2c_j1);
@@ -34046,7 +34094,7 @@ static u32 w2c_rattle__export_proved_argon2_verify_over(Z_proved_instance_t* ins
   w2c_i0 += w2c_i1;
   w2c_l17 = w2c_i0;
   w2c_B0:;
-  w2c_argon2_fill__stack__wipe_stack(instance);
+  w2c_argon2_fill__stack_wiping__wipe_stack(instance);
   w2c_j0 = w2c_l15;
   w2c_j1 = 16ull;
   w2c_j0 += w2c_j1;
@@ -34135,7 +34183,7 @@ static u32 w2c_rattle__export_proved_argon2_job_verify_over(Z_proved_instance_t*
   w2c_j7 = w2c_i9 ? w2c_j7 : w2c_j8;
   w2c_j6 += w2c_j7;
   w2c_j7 = w2c_p6;
-  w2c_argon2_c__over__verify_job(instance, w2c_j0, w2c_j1, w2c_j2, w2c_j3, w2c_j4, w2c_j5, w2c_j6, w2c_j7);
+  w2c_argon2_c__caller_blocks__verify_job(instance, w2c_j0, w2c_j1, w2c_j2, w2c_j3, w2c_j4, w2c_j5, w2c_j6, w2c_j7);
   w2c_j0 = w2c_l7;
   w2c_j1 = 13ull;
   w2c_i0 = (*Z_memoryZ_i32_load8_u)(instance->Z_memory_instance, w2c_j0, w2c_j1);
@@ -34212,7 +34260,7 @@ static u32 w2c_rattle__export_proved_argon2_job_verify_over(Z_proved_instance_t*
   w2c_i0 += w2c_i1;
   w2c_l9 = w2c_i0;
   w2c_B0:;
-  w2c_argon2_fill__stack__wipe_stack(instance);
+  w2c_argon2_fill__stack_wiping__wipe_stack(instance);
   w2c_j0 = w2c_l7;
   w2c_j1 = 16ull;
   w2c_j0 += w2c_j1;

@@ -41,7 +41,7 @@ typedef struct team team;
 
 /* Keeps what a call changes, and has the thread not be cancelled from here on. */
 caller keep_caller(void);
-void restore_caller(caller kept);
+void restore_caller(caller saved);
 
 /* Memory at a multiple of 64, a line of the cache, or null; and its end. */
 void *take_lines(size_t bytes);

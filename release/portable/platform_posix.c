@@ -21,15 +21,15 @@
 
 caller keep_caller(void)
 {
-    caller kept = {.error = errno};
-    pthread_setcancelstate(PTHREAD_CANCEL_DISABLE, &kept.cancel);
-    return kept;
+    caller saved = {.error = errno};
+    pthread_setcancelstate(PTHREAD_CANCEL_DISABLE, &saved.cancel);
+    return saved;
 }
 
-void restore_caller(caller kept)
+void restore_caller(caller saved)
 {
-    errno = kept.error;
-    pthread_setcancelstate(kept.cancel, NULL);
+    errno = saved.error;
+    pthread_setcancelstate(saved.cancel, NULL);
 }
 
 void *take_lines(size_t bytes)
@@ -69,11 +69,11 @@ bool populate_pages(void *pages, size_t bytes)
 
 bool take_random(uint8_t *bytes, size_t len)
 {
-    ssize_t given;
+    ssize_t received;
     do {
-        given = getrandom(bytes, len, 0);
-    } while (given < 0 && errno == EINTR);
-    return given == (ssize_t)len;
+        received = getrandom(bytes, len, 0);
+    } while (received < 0 && errno == EINTR);
+    return received == (ssize_t)len;
 }
 
 void overwrite(void *bytes, size_t len)

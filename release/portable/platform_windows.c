@@ -21,9 +21,9 @@ caller keep_caller(void)
     return (caller){.error = errno};
 }
 
-void restore_caller(caller kept)
+void restore_caller(caller saved)
 {
-    errno = kept.error;
+    errno = saved.error;
 }
 
 void *take_lines(size_t bytes)

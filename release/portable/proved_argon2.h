@@ -22,8 +22,8 @@
  * Memory. A call that hashes or verifies allocates at most the settings' mem_cost KiB for its blocks, and memory for the
  * tag, and for the hash and the salt of an encoded hash. Of 2 MiB or more, each whole 2 MiB are a huge page where the
  * system has them, and the rest are small pages. No other call allocates. All of it is freed before the call returns: it
- * is overwritten first, or returned to the system, which clears it. Such a call also overwrites the stack below it and
- * the vector registers.
+ * is overwritten first, or returned to the system, which clears it. Such a call also overwrites the stack below it and,
+ * compiled by GCC 11, clang 15 or newer, the vector registers.
  *
  * Threads. Calls are thread-safe, as long as nothing writes to what a call is passed: an encoded hash that changes
  * while it is read may end the process. The library has no state but which build it runs. A thread is not cancelled

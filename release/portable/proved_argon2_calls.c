@@ -4,28 +4,28 @@
 static const options plain = PROVED_ARGON2_OPTIONS; /* one thread, and memory of the call's own */
 
 /* Judges the inputs of a hash before it takes memory, and makes its job. */
-static uint32_t make_job(call *it, INPUTS, int has_room)
+static uint32_t make_job(struct call *call, INPUTS, int is_length_right)
 {
     const uint32_t code = proved_argon2_check(settings, pwd_len, salt_len, secret_len, ad_len);
     return code != PROVED_ARGON2_OK ? code
-        : !has_room                 ? PROVED_ARGON2_WRONG_LENGTH
-                                    : proved_argon2_job_make(OF_INPUTS, &it->job);
+        : !is_length_right          ? PROVED_ARGON2_WRONG_LENGTH
+                                    : proved_argon2_job_make(OF_INPUTS, &call->job);
 }
 
 uint32_t proved_argon2_hash_raw_with(const options *with, INPUTS, uint8_t *out, size_t out_len)
 {
-    call it;
-    uint32_t code = begin_call(&it, with, ARE_INPUTS_MISSING || IS_MISSING(out));
+    struct call call;
+    uint32_t code = begin_call(&call, with, ARE_INPUTS_MISSING || IS_MISSING(out));
     if (code != PROVED_ARGON2_OK) {
         goto end;
     }
-    code = make_job(&it, OF_INPUTS, out_len == settings->hash_length);
+    code = make_job(&call, OF_INPUTS, out_len == settings->hash_length);
     if (code != PROVED_ARGON2_OK) {
         goto end;
     }
-    code = compute(&it, NULL, out);
+    code = compute(&call, NULL, out);
 end:
-    return end_call(&it, code);
+    return end_call(&call, code);
 }
 
 uint32_t proved_argon2_hash_raw(INPUTS, uint8_t *out, size_t out_len)
@@ -35,26 +35,26 @@ uint32_t proved_argon2_hash_raw(INPUTS, uint8_t *out, size_t out_len)
 
 uint32_t proved_argon2_hash_encoded_with(const options *with, INPUTS, char *text, size_t text_len)
 {
-    call it;
-    uint32_t code = begin_call(&it, with, ARE_INPUTS_MISSING || IS_MISSING(text));
+    struct call call;
+    uint32_t code = begin_call(&call, with, ARE_INPUTS_MISSING || IS_MISSING(text));
     if (code != PROVED_ARGON2_OK) {
         goto end;
     }
-    code = make_job(&it, OF_INPUTS, text_len > proved_argon2_encoded_len(settings, (uint32_t)salt_len));
+    code = make_job(&call, OF_INPUTS, text_len > proved_argon2_encoded_len(settings, (uint32_t)salt_len));
     if (code != PROVED_ARGON2_OK) {
         goto end;
     }
-    code = take_bytes(&it, it.job.hash_length);
+    code = take_bytes(&call, call.job.hash_length);
     if (code != PROVED_ARGON2_OK) {
         goto end;
     }
-    code = compute(&it, NULL, it.bytes);
+    code = compute(&call, NULL, call.bytes);
     if (code != PROVED_ARGON2_OK) {
         goto end;
     }
-    code = proved_argon2_encode(salt, salt_len, settings, it.bytes, it.len, text, text_len);
+    code = proved_argon2_encode(salt, salt_len, settings, call.bytes, call.len, text, text_len);
 end:
-    return end_call(&it, code);
+    return end_call(&call, code);
 }
 
 uint32_t proved_argon2_hash_encoded(INPUTS, char *text, size_t text_len)
@@ -64,27 +64,27 @@ uint32_t proved_argon2_hash_encoded(INPUTS, char *text, size_t text_len)
 
 uint32_t proved_argon2_verify_raw_with(const options *with, INPUTS, const uint8_t *hash, size_t hash_len)
 {
-    call it;
-    uint32_t code = begin_call(&it, with, ARE_INPUTS_MISSING || IS_MISSING(hash));
+    struct call call;
+    uint32_t code = begin_call(&call, with, ARE_INPUTS_MISSING || IS_MISSING(hash));
     if (code != PROVED_ARGON2_OK) {
         goto end;
     }
     proved_argon2_settings own = *settings;
     own.hash_length = hash_len > UINT32_MAX ? UINT32_MAX : (uint32_t)hash_len;
-    code = proved_argon2_job_make(OF_BYTES, &own, &it.job);
+    code = proved_argon2_job_make(OF_BYTES, &own, &call.job);
     if (code == PROVED_ARGON2_OK && hash_len > UINT32_MAX) {
         code = PROVED_ARGON2_OUTPUT_TOO_LONG;
     }
     if (code != PROVED_ARGON2_OK) {
         goto end;
     }
-    code = take_bytes(&it, hash_len);
+    code = take_bytes(&call, hash_len);
     if (code != PROVED_ARGON2_OK) {
         goto end;
     }
-    code = compute(&it, hash, it.bytes);
+    code = compute(&call, hash, call.bytes);
 end:
-    return end_call(&it, code);
+    return end_call(&call, code);
 }
 
 uint32_t proved_argon2_verify_raw(INPUTS, const uint8_t *hash, size_t hash_len)
@@ -94,38 +94,39 @@ uint32_t proved_argon2_verify_raw(INPUTS, const uint8_t *hash, size_t hash_len)
 
 /* Reads the job of an encoded hash, its tag with as much room behind it for the computed one, and its salt. A rejected
  * hash costs no memory: it is judged first. */
-static uint32_t read_text(call *it, STORED)
+static uint32_t read_text(struct call *call, STORED)
 {
     static const proved_argon2_limits none = {UINT32_MAX, UINT32_MAX, UINT32_MAX, UINT64_MAX};
-    const proved_argon2_limits *const limits = it->with.limits != NULL ? it->with.limits : &none;
+    const proved_argon2_limits *const limits = call->with.limits != NULL ? call->with.limits : &none;
     proved_argon2_stored stored;
     uint32_t code = proved_argon2_check_encoded(text, text_len, limits, pwd_len, secret_len, ad_len, &stored);
     if (code != PROVED_ARGON2_OK) {
         return code;
     }
     const size_t len = stored.settings.hash_length, salt_len = stored.salt_length;
-    code = take_bytes(it, 2 * len + salt_len);
+    code = take_bytes(call, 2 * len + salt_len);
     if (code != PROVED_ARGON2_OK) {
         return code;
     }
-    return proved_argon2_job_read(OF_STORED, &it->job, it->bytes + 2 * len, salt_len, it->bytes, len);
+    return proved_argon2_job_read(OF_STORED, &call->job, call->bytes + 2 * len, salt_len, call->bytes, len);
 }
 
 uint32_t proved_argon2_verify_encoded_with(const options *with, STORED)
 {
-    call it;
-    uint32_t code = begin_call(&it, with, IS_MISSING(text) || IS_MISSING(pwd) || IS_MISSING(secret) || IS_MISSING(ad));
+    struct call call;
+    uint32_t code = begin_call(
+        &call, with, IS_MISSING(text) || IS_MISSING(pwd) || IS_MISSING(secret) || IS_MISSING(ad));
     if (code != PROVED_ARGON2_OK) {
         goto end;
     }
-    it.with.threads = it.with.threads < 16 ? it.with.threads : 16; /* as Rattle's library for an encoded hash */
-    code = read_text(&it, OF_STORED);
+    call.with.threads = call.with.threads < 16 ? call.with.threads : 16; /* as Rattle's library for an encoded hash */
+    code = read_text(&call, OF_STORED);
     if (code != PROVED_ARGON2_OK) {
         goto end;
     }
-    code = compute(&it, it.bytes, it.bytes + it.job.hash_length);
+    code = compute(&call, call.bytes, call.bytes + call.job.hash_length);
 end:
-    return end_call(&it, code);
+    return end_call(&call, code);
 }
 
 uint32_t proved_argon2_verify_encoded(STORED)
@@ -142,25 +143,25 @@ uint32_t proved_argon2_verify_encoded_within(STORED, const proved_argon2_limits 
 /* A run of a job. */
 static uint32_t run(const options *with, const proved_argon2_job *job, const uint8_t *hash, uint8_t *tag, size_t len)
 {
-    call it;
-    uint32_t code = begin_call(&it, with, job == NULL || (hash == NULL && tag == NULL && len != 0));
+    struct call call;
+    uint32_t code = begin_call(&call, with, job == NULL || (hash == NULL && tag == NULL && len != 0));
     if (code != PROVED_ARGON2_OK) {
         goto end;
     }
-    it.job = *job;
-    code = proved_argon2_job_check(&it.job);
-    if (code == PROVED_ARGON2_OK && len != it.job.hash_length) {
+    call.job = *job;
+    code = proved_argon2_job_check(&call.job);
+    if (code == PROVED_ARGON2_OK && len != call.job.hash_length) {
         code = PROVED_ARGON2_WRONG_LENGTH;
     }
     if (code == PROVED_ARGON2_OK && hash != NULL) {
-        code = take_bytes(&it, len);
+        code = take_bytes(&call, len);
     }
     if (code != PROVED_ARGON2_OK) {
         goto end;
     }
-    code = compute(&it, hash, hash == NULL ? tag : it.bytes);
+    code = compute(&call, hash, hash == NULL ? tag : call.bytes);
 end:
-    return end_call(&it, code);
+    return end_call(&call, code);
 }
 
 uint32_t proved_argon2_job_run(const options *with, const proved_argon2_job *job, uint8_t *tag, size_t tag_len)
@@ -183,10 +184,10 @@ uint32_t proved_argon2_memory_new(const proved_argon2_settings *settings, void *
     if (code != PROVED_ARGON2_OK) {
         return code;
     }
-    const caller kept = keep_caller();
+    const caller saved = keep_caller();
     const size_t len = (size_t)proved_argon2_memory_len(settings);
     void *const blocks = take_blocks(len);
-    restore_caller(kept);
+    restore_caller(saved);
     if (blocks == NULL) {
         return PROVED_ARGON2_OUT_OF_MEMORY;
     }
@@ -202,9 +203,9 @@ uint32_t proved_argon2_password_hash_with(const options *with, const proved_argo
     if (with == NULL || settings == NULL || text == NULL || (password == NULL && length != 0) || IS_MISSING(pepper)) {
         return PROVED_ARGON2_NULL_POINTER;
     }
-    const caller kept = keep_caller();
+    const caller saved = keep_caller();
     const bool has_salt = take_random(salt, sizeof salt);
-    restore_caller(kept);
+    restore_caller(saved);
     if (!has_salt) {
         return PROVED_ARGON2_NO_RANDOM_BYTES;
     }

@@ -12,8 +12,9 @@
  *
  * Lanes may be begun in any order and at the same time, and so may the lanes of one slice be filled; start the next
  * slice once all of them are filled. If each step returned PROVED_ARGON2_OK, proved_argon2_job_finish writes the tag of
- * RFC 9106, and proved_argon2_job_verify returns whether the hash is that tag: this is proved (EveryRunGivesTheTag and
- * EveryRunGivesTheVerdict). After other steps, or over other blocks than these steps wrote, nothing is said of the tag.
+ * RFC 9106, and proved_argon2_job_verify returns whether the hash is that tag. This is proved (EveryRunGivesTheTag and
+ * EveryRunGivesTheVerdict) of the blocks that each slice's steps leave; that steps at the same time leave the same is
+ * argued, not proved. After other steps, or over other blocks than these steps wrote, nothing is said of the tag.
  * proved_argon2_job_hash_over and proved_argon2_job_verify_over do all steps but the first in one call, lane by lane;
  * proved_argon2_hash_over and proved_argon2_verify_over do the first one too.
  *

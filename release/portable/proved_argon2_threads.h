@@ -8,8 +8,8 @@
  *
  * Before a call returns, whatever it returns, it clears what depends on secrets: the blocks are overwritten, or
  * returned to the system, which clears them, and H0, a tag that was computed to compare, and the stack that the calls
- * used are overwritten. Core dumps exclude the blocks while a call runs, if it allocated them itself and they are 2 MiB
- * or more.
+ * used are overwritten. On Linux core dumps exclude the blocks while a call runs, if it allocated them itself and they
+ * are 2 MiB or more.
  */
 #ifndef PROVED_ARGON2_THREADS_H
 #define PROVED_ARGON2_THREADS_H
@@ -121,9 +121,9 @@ uint32_t proved_argon2_job_run_verify(
 
 /*
  * proved_argon2_password_hash and proved_argon2_password_verify with settings, with a pepper, which is the secret of all
- * hashes and is in none of them (null and 0 for none), and with options: UINT32_MAX threads are one a lane. Only their
- * limits reject an encoded hash as too costly. text has PROVED_ARGON2_TEXT_SIZE bytes, and settings whose encoded hash
- * does not fit return PROVED_ARGON2_WRONG_LENGTH.
+ * hashes and is in none of them (null and 0 for none), and with options: UINT32_MAX threads are one a lane, and the
+ * limits of the options stand in place of the default ones, so that without them no encoded hash is too costly. text
+ * has PROVED_ARGON2_TEXT_SIZE bytes, and settings whose encoded hash does not fit return PROVED_ARGON2_WRONG_LENGTH.
  */
 PROVED_ARGON2_CHECKED
 uint32_t proved_argon2_password_hash_with(
@@ -137,8 +137,8 @@ uint32_t proved_argon2_password_verify_with(
 
 /*
  * Allocates a reusable buffer, for options.memory and options.memory_len, which fits the settings and all that need
- * less. If it is 2 MiB or more, it uses huge pages where the system has them, and is in no core dump. The settings are
- * checked as by proved_argon2_hash_raw. Use it for one call at a time.
+ * less. If it is 2 MiB or more, it uses huge pages where the system has them and, on Linux, is in no core dump. The
+ * settings are checked as by proved_argon2_hash_raw. Use it for one call at a time.
  */
 PROVED_ARGON2_CHECKED
 uint32_t proved_argon2_memory_new(const proved_argon2_settings *settings, void **memory, size_t *memory_len);
