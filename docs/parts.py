@@ -31,7 +31,7 @@ def sum_of(text):
     return hashlib.sha256(text.encode()).hexdigest()[:16]
 
 
-def kept_sums():
+def read_sums():
     """The sums by their places."""
     lines = SUMS.read_text(encoding='utf-8').splitlines() if SUMS.exists() else []
     return {place: number for number, place in (line.split(' ', 1) for line in lines)}
@@ -39,5 +39,5 @@ def kept_sums():
 
 def keep_sum(place, text):
     """Notes what a script wrote, so that a later change by hand is seen"""
-    sums = kept_sums() | {place: sum_of(text)}
-    SUMS.write_text(''.join(f'{sums[it]} {it}\n' for it in sorted(sums)), encoding='utf-8')
+    sums = read_sums() | {place: sum_of(text)}
+    SUMS.write_text(''.join(f'{sums[key]} {key}\n' for key in sorted(sums)), encoding='utf-8')

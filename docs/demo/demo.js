@@ -61,7 +61,7 @@ function takePreset() {
     showSettings();
 }
 
-function tell(form, text, className = 'quiet') {
+function showStatus(form, text, className = 'quiet') {
     const status = form.querySelector('[role=status]');
     status.textContent = text;
     status.className = className;
@@ -83,21 +83,21 @@ const wordsOf = (error) => WORDS[error.name] ?? `This did not work: ${error.mess
 /** Makes a call for a form, whose bar shows how far it is, and whose button stops it. */
 async function callFor(form, call) {
     const controller = new AbortController();
-    const [submit, cancel, bar] = ['[type=submit]', '.cancel', 'progress'].map((it) => form.querySelector(it));
+    const [submit, cancel, bar] = ['[type=submit]', '.cancel', 'progress'].map((part) => form.querySelector(part));
     cancel.onclick = () => {
         cancel.disabled = true;
-        tell(form, 'Stopping after the slice at work…');
+        showStatus(form, 'Stopping after the slice at work…');
         controller.abort();
     };
     submit.disabled = true;
     cancel.disabled = false;
     bar.value = 0;
-    tell(form, 'Computing…');
+    showStatus(form, 'Computing…');
     try {
         await call({ signal: controller.signal, onProgress: (done, all) => { bar.value = done / all; } });
     } catch (error) {
         bar.value = 0;
-        tell(form, wordsOf(error), error.name === 'AbortError' ? 'quiet' : 'bad');
+        showStatus(form, wordsOf(error), error.name === 'AbortError' ? 'quiet' : 'bad');
     } finally {
         submit.disabled = false;
         cancel.disabled = true;
@@ -118,9 +118,9 @@ $('hashing').onsubmit = (event) => {
         $('copied').textContent = '';
         $('encoded').value = encoded;
         $('guess').value = $('password').value;
-        tell($('verifying'), '');
+        showStatus($('verifying'), '');
         $('verifying').querySelector('progress').value = 0;
-        tell(form, `Hashed in ${timeOf(took)}. The other form can verify it now.`, 'good');
+        showStatus(form, `Hashed in ${timeOf(took)}. The other form can verify it now.`, 'good');
         showSettings();
     });
 };
@@ -130,7 +130,7 @@ $('verifying').onsubmit = (event) => {
     const form = $('verifying');
     const encoded = $('encoded').value.trim();
     if (encoded === '') {
-        tell(form, 'Enter an encoded hash first.', 'bad');
+        showStatus(form, 'Enter an encoded hash first.', 'bad');
         $('encoded').focus();
         return;
     }
@@ -138,7 +138,7 @@ $('verifying').onsubmit = (event) => {
         const began = performance.now();
         const isRight = await verify(encoded, $('guess').value, running);
         const verdict = isRight ? 'The password is right' : 'The password is wrong';
-        tell(form, `${verdict} (${timeOf(performance.now() - began)}).`, isRight ? 'good' : 'bad');
+        showStatus(form, `${verdict} (${timeOf(performance.now() - began)}).`, isRight ? 'good' : 'bad');
     });
 };
 
