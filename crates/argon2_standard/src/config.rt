@@ -135,14 +135,10 @@ impl<'a> Config<'a> {
     pub fn workers(&self) -> u32
         ensures { result ≡ workers_of self.now }
     {
-        if self.uses_sequential() {
-            return 1;
-        }
         match self.thread_mode {
-            // Never reached, since this mode is sequential.
-            ThreadMode::Sequential => 1,
             ThreadMode::Parallel => self.lanes,
-            ThreadMode::AtMost(most) => self.lanes.min(most),
+            ThreadMode::AtMost(most) if most > 1 => self.lanes.min(most),
+            ThreadMode::AtMost(_) | ThreadMode::Sequential => 1,
         }
     }
 }
