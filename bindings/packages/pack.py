@@ -8,16 +8,16 @@
 All is root's, and of the time SOURCE_DATE_EPOCH. Names, modes and contents are those of the folder. `tar` has an entry
 for a folder only where it is ours, which is one whose path names us: an entry for another would change the system's.
 """
+import gzip
+import io
 import lzma
 import os
-import stat
-import struct
 import sys
-import zlib
+import tarfile
 from pathlib import Path
 
 OURS = "proved-argon2"
-BLOCK = 512
+TOP = "./"
 
 
 def epoch():
@@ -25,43 +25,18 @@ def epoch():
 
 
 def gzipped(content):
-    """Without a name and a time, and with a header that no library has a say in."""
-    deflate = zlib.compressobj(9, zlib.DEFLATED, -zlib.MAX_WBITS)
-    body = deflate.compress(content) + deflate.flush()
-    return b"\x1f\x8b\x08\0\0\0\0\0\x02\xff" + body + struct.pack("<II", zlib.crc32(content), len(content) & 0xffffffff)
+    """Without a name and a time."""
+    packed = io.BytesIO()
+    with gzip.GzipFile("", "wb", 9, packed, mtime=0) as file:
+        file.write(content)
+    return packed.getvalue()
 
 
-def split_name(name):
-    """A long name in the two fields that it has to fit in."""
-    raw = name.encode()
-    at = raw.find(b"/", max(len(raw) - 101, 0)) if len(raw) > 100 else -1
-    front, back = (raw[:at], raw[at + 1:]) if at >= 0 else (b"", raw)
-    if len(front) > 155 or len(back) > 100:
-        raise ValueError(f"{name}: the name is too long")
-    return front, back
-
-
-def header(name, mode, size, kind, link):
-    front, back = split_name(name)
-    fields = [
-        (back, 100), (b"%07o" % mode, 8), (b"%07o" % 0, 8), (b"%07o" % 0, 8), (b"%011o" % size, 12),
-        (b"%011o" % epoch(), 12), (b" " * 8, 8), (kind, 1), (link.encode(), 100), (b"ustar\00000", 8), (b"root", 32),
-        (b"root", 32), (b"%07o" % 0, 8), (b"%07o" % 0, 8), (front, 155), (b"", 12),
-    ]
-    block = b"".join(content.ljust(size, b"\0") for content, size in fields)
-    return block[:148] + b"%06o\0 " % sum(block) + block[156:]
-
-
-def entry(path, name):
-    """What an archive has of a path."""
-    status = path.lstat()
-    if stat.S_ISLNK(status.st_mode):
-        return header(name, 0o777, 0, b"2", os.readlink(path))
-    mode = stat.S_IMODE(status.st_mode)
-    if stat.S_ISDIR(status.st_mode):
-        return header(f"{name}/", mode, 0, b"5", "")
-    content = path.read_bytes()
-    return header(name, mode, len(content), b"0", "") + content + bytes(-len(content) % BLOCK)
+def owned(info):
+    """What an archive has of a path: all is root's, and of one time. (`mode` of the folder itself is its maker's.)"""
+    info.uid, info.gid, info.uname, info.gname, info.mtime = 0, 0, "root", "root", epoch()
+    info.mode = 0o755 if info.name == TOP else info.mode
+    return info
 
 
 def below(folder):
@@ -70,8 +45,12 @@ def below(folder):
 
 
 def archive(folder, paths, before=""):
-    entries = (entry(path, before + path.relative_to(folder).as_posix()) for path in paths)
-    return b"".join(entries) + bytes(2 * BLOCK)
+    packed = io.BytesIO()
+    with tarfile.open(fileobj=packed, mode="w", format=tarfile.USTAR_FORMAT) as files:
+        for path in paths:
+            name = before + path.relative_to(folder).as_posix()
+            files.add(path, TOP if path == folder else name, recursive=False, filter=owned)
+    return packed.getvalue()
 
 
 def is_ours(folder, path):
@@ -89,8 +68,7 @@ def member(name, content):
 
 
 def compressed(folder, paths):
-    whole = header("./", 0o755, 0, b"5", "") + archive(folder, paths, "./")
-    return lzma.compress(whole, check=lzma.CHECK_CRC32, preset=6)
+    return lzma.compress(archive(folder, [folder, *paths], TOP), check=lzma.CHECK_CRC32, preset=6)
 
 
 def pack_deb(file, folder):
