@@ -23,8 +23,6 @@ HAVE_LIBRARIES = ("x86_64", "aarch64")
 SHARED = "libproved_argon2.so.1"
 CLASSIFIERS = (
     "Intended Audience :: Developers",
-    "License :: OSI Approved :: Apache Software License",
-    "License :: OSI Approved :: MIT License",
     "Operating System :: POSIX :: Linux",
     "Programming Language :: Python :: 3",
     "Topic :: Security :: Cryptography",
