@@ -38,6 +38,10 @@ def refuse(hasher, password):
     raise HashingError("refused")
 
 
+def deny(hasher, text):
+    raise MemoryError
+
+
 logging.disable()
 threads = [threading.Thread(target=logs_in, args=(seed, time.monotonic() + SECONDS)) for seed in range(THREADS)]
 for thread in threads:
@@ -51,3 +55,5 @@ assert 0 < grown < 2 * KIB + 32768, grown
 PasswordHasher.hash = refuse
 assert log_in("somebody", "password", older) == (True, older)  # noqa: F821
 assert log_in("somebody", "Password", older) == (False, older)  # noqa: F821
+PasswordHasher.check_needs_rehash = deny
+assert log_in("somebody", "password", older) == (True, older)  # noqa: F821
