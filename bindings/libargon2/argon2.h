@@ -88,7 +88,7 @@ typedef enum Argon2_ErrorCodes {
     ARGON2_MISSING_ARGS = -30, /* of the command alone */
     ARGON2_ENCODING_FAIL = -31,
     ARGON2_DECODING_FAIL = -32,
-    ARGON2_THREAD_FAIL = -33,          /* never returned: the caller's thread does the work of a denied one */
+    ARGON2_THREAD_FAIL = -33,          /* never returned: other threads do the work of a denied one */
     ARGON2_DECODING_LENGTH_FAIL = -34, /* never returned */
     ARGON2_VERIFY_MISMATCH = -35
 } argon2_error_codes;

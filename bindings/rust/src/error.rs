@@ -66,7 +66,7 @@ pub enum Error {
     /// An allocation failed.
     OutOfMemory,
 
-    /// Never returned here: if the system denies a thread, the caller's thread does its work.
+    /// Never returned here: if the system denies a thread, others do its work.
     WorkerRefused,
 
     /// A [`Run`](crate::Run) was stopped.

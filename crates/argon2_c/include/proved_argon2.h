@@ -10,27 +10,27 @@
  * other null pointer returns PROVED_ARGON2_NULL_POINTER, before all other errors. The caller owns all memory that it
  * passes, and no call keeps a pointer to it. Memory that a call writes to must overlap no other argument.
  *
- * Errors. A call that can fail returns PROVED_ARGON2_OK (0) or the number of one error, and on an error its outputs are
- * unchanged, byte for byte; a reusable buffer may have been cleared. Only the first error is reported: the number of
- * the variant, the number of the version, the settings in the order of the limits below, the length of the buffer, and
- * only then memory. No call prints, ends the process or changes errno. None waits, but for its own threads and, where
+ * Errors. A call that can fail returns PROVED_ARGON2_OK (0) or the number of one error, and on an error (a mismatch is
+ * none) its outputs are unchanged, byte for byte; a reusable buffer may have been cleared. Only the first error is
+ * reported: the number of the variant, the number of the version, the settings in the order of the limits below, the
+ * length of the buffer, and only then memory. No call prints, ends the process or changes errno. None waits, but for its own threads and, where
  * it makes a salt, for the system's random bytes. A call reads its arguments alone. Only the first one also asks the
  * processor which of the library's builds it can run, and the environment variable PROVED_ARGON2_CPU, for tests, which
  * one to take. If the processor can run none, each call that can fail returns PROVED_ARGON2_OLD_PROCESSOR, after null
  * pointers, and each other call returns zeros.
  *
- * Memory. A call that hashes or verifies allocates at most the settings' mem_cost KiB for its blocks, and memory for the
- * tag, and for the hash and the salt of an encoded hash. Of 2 MiB or more, each whole 2 MiB are a huge page where the
- * system has them, and the rest are small pages. No other call allocates. All of it is freed before the call returns: it
- * is overwritten first, or returned to the system, which clears it. Such a call also overwrites the stack below it and,
- * compiled by GCC 11, clang 15 or newer, the vector registers.
+ * Memory. A call that hashes or verifies allocates at most the settings' mem_cost KiB for its blocks, and memory for
+ * the tag, and for the hash and the salt of an encoded hash. Of 2 MiB or more, each whole 2 MiB are a huge page where
+ * the system has them, and the rest are small pages. It is all freed before the call returns: it is overwritten first,
+ * or returned to the system, which clears it. Such a call also overwrites the stack below it and, compiled by GCC 11,
+ * clang 15 or newer, the vector registers.
  *
  * Threads. Calls are thread-safe, as long as nothing writes to what a call is passed: an encoded hash that changes
  * while it is read may end the process. The library has no state but which build it runs. A thread is not cancelled
  * within a call. Calls are not async-signal-safe: make none from a signal handler. In the forked child of a process
  * with threads, calls may be made wherever malloc may be called, as with the GNU C library.
  *
- * Symbols. Each symbol of the library begins with proved_argon2_, so that a program may link libargon2 too.
+ * Symbols. Each symbol of the library begins with proved_, so that a program may link libargon2 too.
  */
 #ifndef PROVED_ARGON2_H
 #define PROVED_ARGON2_H

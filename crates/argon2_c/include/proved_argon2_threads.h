@@ -4,7 +4,7 @@
  *
  * These calls are C code that is tested, not proved, around the proved calls (proved_argon2_jobs.h). Each returns what
  * the call without _with does. If memory cannot be allocated, it returns PROVED_ARGON2_OUT_OF_MEMORY; if the system
- * denies a thread, the caller's thread does its work.
+ * denies a thread, others do its work.
  *
  * Before a call returns, whatever it returns, it clears what depends on secrets: the blocks are overwritten, or
  * returned to the system, which clears them, and H0, a tag that was computed to compare, and the stack that the calls
@@ -39,8 +39,8 @@ typedef struct proved_argon2_options {
     /* sizeof(proved_argon2_options), set by PROVED_ARGON2_OPTIONS. Longer options, of a later version, are taken if
      * what they have more is zero. Otherwise, and for a size of 0, the call returns PROVED_ARGON2_WRONG_LENGTH. */
     size_t size;
-    /* the maximum number of threads, capped at the number of lanes, and at 16 when verifying an encoded hash. 0 or 1:
-     * the calling thread only. A small hash has the calling thread only, too. */
+    /* the maximum number of threads, or of tasks of run, capped at the number of lanes, and at 16 when verifying an
+     * encoded hash. 0 is 1. Without run, one is the calling thread, and a small hash has that only. */
     uint32_t threads;
     /* a buffer for the blocks, or null. It starts at a multiple of 8 (else PROVED_ARGON2_MISALIGNED), best of 64. The
      * call clears it before it returns. */
