@@ -1,7 +1,7 @@
 /* Times whole hashes of our library beside its peers, in one interleaved run.
  *
- * Each round runs every implementation once, so that a slow moment of the machine falls on all of
- * them; the least time of all rounds counts, and the median says how far others are from it. Every tag is compared before it is timed.
+ * Each round runs every implementation once, so that a slow moment of the machine falls on all of them; the least time
+ * of all rounds counts, and the median says how far others are from it. Every tag is compared before it is timed.
  *
  * usage: driver table|processes|plots|tags SECONDS FOLDER
  *
@@ -301,7 +301,8 @@ static void measure_processes(double seconds)
     run_threads("process", &(struct cost){262144, 1, 4, 4}, seconds);
 }
 
-/* The points of its plots: two passes over 64 KiB to 1 GiB, and as many threads as lanes over 64 MiB in three passes. */
+/* The points of its plots: two passes over 64 KiB to 1 GiB, and as many threads as lanes over 64 MiB in three
+ * passes. */
 static void measure_plots(double seconds)
 {
     for (uint32_t threads = 1; threads <= 8; threads *= 2)

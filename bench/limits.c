@@ -1,5 +1,5 @@
-/* COUNT hashes by at most THREADS threads, in as many lanes: prints the least milliseconds of one, and which part of all
- * that the processors did was the kernel's, in percents.
+/* COUNT hashes by at most THREADS threads, in as many lanes: prints the least milliseconds of one, and which part of
+ * all that the processors did was the kernel's, in percents.
  *
  * usage: limits KIB PASSES LANES THREADS COUNT */
 #include "proved_argon2.h"

@@ -1,5 +1,5 @@
-/* Times OpenSSL's Argon2id (its libcrypto from 3.2 on) with the inputs of driver.c, in a process of its own: it may need
- * a newer C library than this machine's, and its loader.
+/* Times OpenSSL's Argon2id (its libcrypto from 3.2 on) with the inputs of driver.c, in a process of its own: it may
+ * need a newer C library than this machine's, and its loader.
  *
  * usage: openssl LIBCRYPTO SECONDS
  *

@@ -13,12 +13,13 @@ newer() {
     shift
     if [ ! -d "$lists/lists/partial" ]; then
         mkdir -p "$lists"/{lists/partial,cache/archives/partial}
-        printf "%s [signed-by=/usr/share/keyrings/debian-archive-keyring.gpg] $(debian_archive) trixie main\n" deb deb-src \
-            >"$lists/sources.list"
+        printf "%s [signed-by=/usr/share/keyrings/debian-archive-keyring.gpg] $(debian_archive) trixie main\n" \
+            deb deb-src >"$lists/sources.list"
         newer apt-get update -qq
     fi
-    "$command" -o "Dir::Etc::sourcelist=$lists/sources.list" -o Dir::Etc::sourceparts=- -o "Dir::State::lists=$lists/lists" \
-        -o "Dir::Cache=$lists/cache" -o Dir::State::status=/dev/null -o APT::Sandbox::User=root "$@"
+    "$command" -o "Dir::Etc::sourcelist=$lists/sources.list" -o Dir::Etc::sourceparts=- \
+        -o "Dir::State::lists=$lists/lists" -o "Dir::Cache=$lists/cache" -o Dir::State::status=/dev/null \
+        -o APT::Sandbox::User=root "$@"
 }
 
 # Unpacks packages of it into a folder: `unpack_newer FOLDER PACKAGE..`.
@@ -47,16 +48,17 @@ fetch_upstream() {
 build_upstream() {
     local cpu
     rm -f "$out"/upstream-{v3,native}.so
-    fetch_upstream >"$out/upstream.log" 2>&1 || { echo 'upstream: skipped, its source of 20190702 cannot be had'; return; }
+    fetch_upstream >"$out/upstream.log" 2>&1 \
+        || { echo 'upstream: skipped, its source of 20190702 cannot be had'; return; }
     for cpu in x86-64-v3 native; do
-        (cd "$tree/upstream" && gcc -std=c89 -O3 -pthread -march="$cpu" -Iinclude -Isrc -shared -fPIC -fvisibility=hidden \
-            -DA2_VISCTL=1 -Wl,-Bsymbolic -o "$out/upstream-${cpu#x86-64-}.so" \
+        (cd "$tree/upstream" && gcc -std=c89 -O3 -pthread -march="$cpu" -Iinclude -Isrc -shared -fPIC \
+            -fvisibility=hidden -DA2_VISCTL=1 -Wl,-Bsymbolic -o "$out/upstream-${cpu#x86-64-}.so" \
             src/{argon2,core,thread,encoding,opt}.c src/blake2/blake2b.c)
     done
 }
 
-# A crate of a folder here, over Debian's crates in a folder, as a library: `build_crate FOLDER CRATES LIBRARY [SOURCE]`,
-# where SOURCE is where rust-argon2 comes from.
+# A crate of a folder here, over Debian's crates in a folder, as a library:
+# `build_crate FOLDER CRATES LIBRARY [SOURCE]`, where SOURCE is where rust-argon2 comes from.
 build_crate() {
     local crate=$tree/$3
     mkdir -p "$crate/.cargo"
@@ -78,7 +80,8 @@ fetch_crates() {
 
 # rust-argon2 3.0.0, which Debian has not: RUST_ARGON2 names a folder with its source.
 build_rust_argon2() {
-    local debian=$tree/crates-of-rust-argon2 needed=(librust-{base64,blake2b-simd,constant-time-eq,crossbeam-utils,serde}-dev)
+    local debian=$tree/crates-of-rust-argon2
+    local needed=(librust-{base64,blake2b-simd,constant-time-eq,crossbeam-utils,serde}-dev)
     rm -f "$out/rust-argon2-3.0.0.so"
     {
         [ -n "${RUST_ARGON2:-}" ] && fetch_crates "$debian" "${needed[@]}" \
@@ -145,19 +148,24 @@ describe_package() {
 }
 
 describe_all() {
-    local gcc rustc
+    local gcc rustc compiled
     gcc=$(gcc -dumpfullversion) rustc=$(rustc --version)
     describe ours "$out/argon2_c.so" 'its builds for x86-64-v2 and, with AVX2, x86-64-v3, of which it chooses one'
-    describe libsodium "$(linked libsodium)" "$(of_debian libsodium23), which chooses its code by the processor; one lane only"
-    describe upstream-v3 "$out/upstream-v3.so" "the C reference of 20190702, its vector form opt.c, by gcc $gcc -O3 -march=x86-64-v3"
+    describe libsodium "$(linked libsodium)" \
+        "$(of_debian libsodium23), which chooses its code by the processor; one lane only"
+    describe upstream-v3 "$out/upstream-v3.so" \
+        "the C reference of 20190702, its vector form opt.c, by gcc $gcc -O3 -march=x86-64-v3"
     describe upstream-native "$out/upstream-native.so" "the same, by gcc $gcc -O3 -march=native"
     describe libargon2 "$(linked libargon2)" "$(of_debian libargon2-1): the C reference, its form without vectors"
     describe botan "$(linked libbotan)" "$(of_debian libbotan-2-19); timed with one lane only"
     describe libgcrypt "$(linked libgcrypt)" "$(of_debian libgcrypt20)"
     describe rust-argon2 "$out/rust-argon2-3.0.0.so" "cargo build --release, $rustc" argon2
-    describe rustcrypto "$out/rustcrypto.so" "RustCrypto's argon2, Debian's $(newer_version librust-argon2-dev), cargo build --release, $rustc; one thread only" argon2
+    compiled="cargo build --release, $rustc; one thread only"
+    describe rustcrypto "$out/rustcrypto.so" \
+        "RustCrypto's argon2, Debian's $(newer_version librust-argon2-dev), $compiled" argon2
     # (its Argon2 has no names in libcrypto.so.3, so its instructions cannot be told from others')
-    [ ! -d "$out/openssl" ] || printf 'openssl\t%s\t%s\n' "Debian's openssl $(newer_version libssl3t64), in a process of its own" 'not counted'
+    [ ! -d "$out/openssl" ] || printf 'openssl\t%s\t%s\n' \
+        "Debian's openssl $(newer_version libssl3t64), in a process of its own" 'not counted'
     describe_package argon2-cffi python3-argon2 ', over libargon2'
 }
 

@@ -1,5 +1,6 @@
-/* Prints how much longer a loop without memory takes where each of 4 threads runs one than where one thread does: about 1 on
- * four cores, and 2 where virtual processors share two. It is the least of so many tries, each as long as its slowest thread. */
+/* Prints how much longer a loop without memory takes where each of 4 threads runs one than where one thread does: about
+ * 1 on four cores, and 2 where virtual processors share two. It is the least of so many tries, each as long as its
+ * slowest thread. */
 #include <pthread.h>
 #include <stdint.h>
 #include <stdio.h>

@@ -1,6 +1,6 @@
-/* Times writing and reading an encoded hash: by the library, whose base64 is made of sums, and by plain C over
- * tables of characters, which checks little. The library reads an encoded hash twice here: for its settings, and for the job of
- * verifying it, which has the salt, the hash and H0, the BLAKE2b of all inputs; the tables give salt and hash both
+/* Times writing and reading an encoded hash: by the library, whose base64 is made of sums, and by plain C over tables
+ * of characters, which checks little. The library reads an encoded hash twice here: for its settings, and for the job
+ * of verifying it, which has the salt, the hash and H0, the BLAKE2b of all inputs; the tables give salt and hash both
  * times.
  *
  * Each round calls each of them often, one after another, so that a slow moment of the machine falls on all; the

@@ -135,7 +135,8 @@ others_of() {
     x86-64-* | armv8-a) others='' ;;
     portable)
         others='build/portable bindings/wasm/instance.s bindings/portable/translate.py bindings/portable/module.h
-            bindings/portable/platform_other.c bindings/portable/proved_argon2_module.c bindings/c bindings/windows crates/argon2_c/include'
+            bindings/portable/platform_other.c bindings/portable/proved_argon2_module.c bindings/c bindings/windows
+            crates/argon2_c/include'
         ;;
     *)
         others='VERSION build/link build/library.map build/machines.txt bindings/c crates/argon2_c/include

@@ -1,6 +1,6 @@
-/* What a library for Argon2 does while it hashes in 2 passes and 4 lanes: how many threads it starts, and how many bytes
- * of its blocks are not zero when it gives them back to malloc. (What is unmapped the system clears.) KIB has the KiB of
- * memory. With DENY set no thread can be started.
+/* What a library for Argon2 does while it hashes in 2 passes and 4 lanes: how many threads it starts, and how many
+ * bytes of its blocks are not zero when it gives them back to malloc. (What is unmapped the system clears.) KIB has the
+ * KiB of memory. With DENY set no thread can be started.
  *
  * usage: peers KIND LIBRARY     KIND: argon2 (libargon2's interface), sodium, openssl, bench (a library of bench/run)
  *

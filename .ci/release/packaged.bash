@@ -1,5 +1,6 @@
 # What `.ci/release/packaged` does with each package where neither the kit nor the repository can be seen: a function
-# each, which is named by the first word. The packages are in /packages, and the first lines of pages in /packages/first.
+# each, which is named by the first word. The packages are in /packages, and the first lines of pages in
+# /packages/first.
 # shellcheck shell=bash
 set -Eeuo pipefail
 trap 'echo "line $LINENO ended with status $?: $BASH_COMMAND" >&2' ERR
@@ -119,7 +120,8 @@ installs() {
 are_there() {
     local package
     for package in "$@"; do
-        [[ $(dpkg-query -W -f '${Status}' "$package" 2>/dev/null) == *' installed' ]] || { echo "no $package"; return 1; }
+        [[ $(dpkg-query -W -f '${Status}' "$package" 2>/dev/null) == *' installed' ]] \
+            || { echo "no $package"; return 1; }
     done
     [[ -z $(dpkg --audit) ]]
     apt-get check -qq

@@ -35,6 +35,7 @@ OWN_MESSAGES = {
     # end
 }
 UNKNOWN = "UnknownNumber"
+LONGEST = 120
 
 HEAD = '''/* Made by bindings/c/table.py --write: the proved calls behind the tests of their pointers, and messages. */
 #include "builds.h"
@@ -97,12 +98,13 @@ class Call:
                 yield wrapped("if (" + " || ".join(tests) + ") {") + f"\n        return {self.error(code)};\n    }}\n"
 
     def declared(self):
-        return f"DECLARED({self.answer}, {self.own_name()}, ({self.taken}))\n"
+        return broken(f"DECLARED({self.answer}, {self.own_name()}, ({self.taken}))") + "\n"
 
     def made(self):
         passed = ", ".join(argument.passed() for argument in self.arguments())
         jump = wrapped(f"MADE({self.own_name()}, ({passed}), {self.error('OLD_PROCESSOR')})")
-        return f"{self.answer} {self.name}({self.taken})\n{{\n{''.join(self.tests())}{jump}\n}}\n"
+        head = broken(f"{self.answer} {self.name}({self.taken})")
+        return f"{head}\n{{\n{''.join(self.tests())}{jump}\n}}\n"
 
     def own_name(self):
         return self.name.removeprefix("proved_argon2_")
@@ -110,6 +112,12 @@ class Call:
 
 def wrapped(line):
     return textwrap.fill(line, 110, initial_indent=" " * 4, subsequent_indent=" " * 8, break_long_words=False)
+
+
+def broken(text):
+    """A declaration, of several lines where the header's line is too long for what is in front of it."""
+    is_long = any(len(line) > LONGEST for line in text.splitlines())
+    return textwrap.fill(text, LONGEST, subsequent_indent=" " * 4, break_long_words=False) if is_long else text
 
 
 def declared_calls(headers, proved):

@@ -1,6 +1,6 @@
-//! Finds `libproved_argon2.a` for the target and links it: in the folder that `PROVED_ARGON2_LIB_DIR` names, in this crate
-//! as `./package` makes it, in the repository's `release/`, or where `pkg-config` says that it was installed. Where
-//! `release/` has none for the target, a C compiler makes it of the library as C.
+//! Finds `libproved_argon2.a` for the target and links it: in the folder that `PROVED_ARGON2_LIB_DIR` names, in this
+//! crate as `./package` makes it, in the repository's `release/`, or where `pkg-config` says that it was installed.
+//! Where `release/` has none for the target, a C compiler makes it of the library as C.
 
 use std::env;
 use std::fs;
@@ -71,8 +71,8 @@ fn target(part: &str) -> String {
     named(&format!("CARGO_CFG_TARGET_{part}"))
 }
 
-/// The name of the folder that has an archive for the target, or why there is none for its system, C library and kind of
-/// processor at all.
+/// The name of the folder that has an archive for the target, or why there is none for its system, C library and kind
+/// of processor at all.
 fn name_of_target() -> Result<String, String> {
     let is_wide = target("POINTER_WIDTH") == "64" && target("ENDIAN") == "little";
     match (&*target("OS"), &*target("ENV")) {

@@ -4,8 +4,8 @@
 #     name        what the user calls it
 #     version     the version
 #     help        the file help.txt, in which NAME is replaced by that name
-#     prepare     a function that makes the program ready and sets `program` to its file, and `is_known` where it is known
-#                 to be loaded here
+#     prepare     a function that makes the program ready and sets `program` to its file, and `is_known` where it is
+#                 known to be loaded here
 #
 # `--help`, `--version` and `tune` are done here. All else is passed on, with the standard streams, and the program says
 # which argument is wrong. To `new` a random salt is added, and OWASP's settings if there are none. On a terminal a
@@ -107,16 +107,19 @@ make_ready() {
     [ "$is_known" ] || require_loader
 }
 
-# Ends where the program cannot be loaded: then the loader names a version that the system's C library lacks, or the shell
-# the loader itself.
+# Ends where the program cannot be loaded: then the loader names a version that the system's C library lacks, or the
+# shell the loader itself.
 require_loader() {
     loaded=$(LD_TRACE_LOADED_OBJECTS=1 "$program" 2>&1 </dev/null)
     case $?:$loaded in
-    126:* | 127:* | *'not found'*) fail 70 "the programs need glibc $least_glibc or newer, which this system does not have" ;;
+    126:* | 127:* | *'not found'*)
+        fail 70 "the programs need glibc $least_glibc or newer, which this system does not have"
+        ;;
     esac
 }
 
-# Runs the program that was made ready, in huge pages where the user has not set what the C library's memory is tuned by.
+# Runs the program that was made ready, in huge pages where the user has not set what the C library's memory is tuned
+# by.
 call() {
     GLIBC_TUNABLES=${GLIBC_TUNABLES-$tunables} "$program" "$@"
 }
@@ -155,8 +158,8 @@ has_flags() {
 
 # Ends where no build runs here.
 refuse_processor() {
-    fail 70 "this processor is older than x86-64-v2, or neither x86-64 nor ARM64, for which the programs are built: see \
-/proc/cpuinfo"
+    fail 70 "this processor is older than x86-64-v2, or neither x86-64 nor ARM64, for which the programs are built: \
+see /proc/cpuinfo"
 }
 
 # Adds a line on standard error: `add LINE`.
@@ -194,8 +197,8 @@ new_salt() {
     [ "${#salt}" = 32 ] || fail 4 'there are no random bytes'
 }
 
-# Passes standard input on, and says on standard error where it ends with a newline, which `echo` adds. This shell is told
-# where it is empty, and where it cannot be read to its end, so that no hash of nothing or of a part is printed.
+# Passes standard input on, and says on standard error where it ends with a newline, which `echo` adds. This shell is
+# told where it is empty, and where it cannot be read to its end, so that no hash of nothing or of a part is printed.
 watch_input() {
     { pass_on 3>&1 | tell_of_end; } 4>&1
 }
@@ -214,9 +217,9 @@ tell_of_end() {
     esac
 }
 
-# Prints the encoded hash of a password: `new_text SETTING..`. The password is typed twice, or it is all of standard input
-# where that is no terminal. An empty one comes from a command that failed, as in `failing | proved-argon2 new`, and would
-# let in anyone who types nothing.
+# Prints the encoded hash of a password: `new_text SETTING..`. The password is typed twice, or it is all of standard
+# input where that is no terminal. An empty one comes from a command that failed, as in `failing | proved-argon2 new`,
+# and would let in anyone who types nothing.
 new_text() {
     make_ready
     new_salt
@@ -313,8 +316,8 @@ is_clock() {
 # Says where other programs may have disturbed what was measured.
 tell_of_load() {
     processors=$(getconf _NPROCESSORS_ONLN) && { read -r load _ <"$loads"; } 2>/dev/null || return 0
-    [ "${load%%.*}" -lt "$processors" ] || add "tune: the load is $load on $processors processors: without other programs \
-a hash takes less time than was measured"
+    [ "${load%%.*}" -lt "$processors" ] || add "tune: the load is $load on $processors processors: without other \
+programs a hash takes less time than was measured"
 }
 
 # Prints settings whose hash took no longer than this, with as many passes as were found to fit:

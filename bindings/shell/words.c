@@ -173,6 +173,14 @@ static int hash(char *word, const proved_argon2_limits *most)
     return code ? refuse(code) : printf("\n%s\n", text) < 0 || fflush(stdout) != 0 ? STREAM : TRUE;
 }
 
+/* Whether the password is that of an encoded hash. */
+static int verify(const char *text)
+{
+    const uint32_t code = proved_argon2_verify_encoded_with(
+        &with, text, strlen(text), password, password_len, NULL, 0, NULL, 0);
+    return answer(code, PROVED_ARGON2_OK, PROVED_ARGON2_MISMATCH);
+}
+
 int main(int count, char **word)
 {
     const proved_argon2_limits most = proved_argon2_default_limits();
@@ -184,9 +192,7 @@ int main(int count, char **word)
         status = command->does == HASH ? hash(last, &most)
             : command->does == REHASH  ? answer(proved_argon2_needs_rehash(last, strlen(last), &settings),
                    PROVED_ARGON2_NEEDS_REHASH, PROVED_ARGON2_OK)
-                                       : answer(proved_argon2_verify_encoded_with(
-                                                    &with, last, strlen(last), password, password_len, NULL, 0, NULL, 0),
-                                           PROVED_ARGON2_OK, PROVED_ARGON2_MISMATCH);
+                                       : verify(last);
     }
     if (password != NULL) explicit_bzero(password, password_len);
     return status;

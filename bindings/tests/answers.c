@@ -88,11 +88,13 @@ static void wait_while_held(void)
     is_waiting = is_held = false;
 }
 
-/* How many threads the last call with options asked for, which names no pool, and how many bytes of memory it was passed, or -1. */
+/* How many threads the last call with options asked for, which names no pool, and how many bytes of memory it was
+ * passed, or -1. */
 static uint32_t threads;
 static int64_t memory_len;
 
-/* What the last call with options was answered that told that it had filled a slice, or -1 where nobody was to be told. */
+/* What the last call with options was answered that told that it had filled a slice, or -1 where nobody was to be
+ * told. */
 static int64_t progress_result;
 
 uint32_t threads_of_the_last(void)

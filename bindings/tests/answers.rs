@@ -135,7 +135,8 @@ fn numbers_are_the_header_s() -> bool {
     report("errors, variants and versions have the header's numbers", errors && variants && versions)
 }
 
-/// The number stands in the place of what `check` answers, of what a call does that computes, or of what `read` answers.
+/// The number stands in the place of what `check` answers, of what a call does that computes, or of what `read`
+/// answers.
 fn first(number: u32) {
     unsafe { set_answers(number, 0, 0) }
 }

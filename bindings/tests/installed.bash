@@ -17,8 +17,8 @@ files_in() {
 
 # The functions of the headers: a line of its own begins each.
 declared_names() {
-    sed -nE 's/^(void |uint32_t |uint64_t |const char \*|proved_argon2_(settings|limits) )(proved_argon2_[a-z0-9_]*)\(.*/\3/p' \
-        crates/argon2_c/include/*.h | LC_ALL=C sort
+    local types='void |uint32_t |uint64_t |const char \*|proved_argon2_(settings|limits) '
+    sed -nE "s/^($types)(proved_argon2_[a-z0-9_]*)\(.*/\3/p" crates/argon2_c/include/*.h | LC_ALL=C sort
 }
 
 has_what_is_installed() {

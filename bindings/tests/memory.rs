@@ -1,5 +1,5 @@
-//! The memory that the crate for Rust keeps from call to call, over the library. A line for each check. The linker gives
-//! this program the library's two calls for a memory (`--wrap`), which it counts.
+//! The memory that the crate for Rust keeps from call to call, over the library. A line for each check. The linker
+//! gives this program the library's two calls for a memory (`--wrap`), which it counts.
 
 use argon2::{Config, Error, Limits, Memory, ThreadMode, Unverified, Variant, Version};
 use std::ffi::c_void;

@@ -1,5 +1,5 @@
-/* The builds that the archive has of what is proved, one for each of several processors: proved_argon2_builds.c chooses one
- * of them, and the calls of proved_argon2_table.c lead to it. It is tested and not proved. */
+/* The builds that the archive has of what is proved, one for each of several processors: proved_argon2_builds.c chooses
+ * one of them, and the calls of proved_argon2_table.c lead to it. It is tested and not proved. */
 #ifndef BUILDS_H
 #define BUILDS_H
 

@@ -49,8 +49,8 @@ struct call {
     atomic_bool is_astray; /* a task was run that is not there, or once too often */
 };
 
-/* How many bytes the blocks of a job have: with addresses of 32 bits, where they are more than there are, so many that no
- * memory has them. */
+/* How many bytes the blocks of a job have: with addresses of 32 bits, where they are more than there are, so many that
+ * no memory has them. */
 static inline size_t bytes_of(const proved_argon2_job *job)
 {
     const uint64_t bytes = (uint64_t)4 * sizeof(block) * job->lanes * job->segment_length;

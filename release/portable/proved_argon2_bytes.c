@@ -1,6 +1,7 @@
-/* What copies and sets bytes for all that an archive is made of: build/link has its objects call these in place of memcpy,
- * memmove and memset. Where a processor has AVX-512, those of the system leave what they copied in registers that nothing
- * writes to before a program does. These take registers that the driver clears. It is tested and not proved. */
+/* What copies and sets bytes for all that an archive is made of: build/link has its objects call these in place of
+ * memcpy, memmove and memset. Where a processor has AVX-512, those of the system leave what they copied in registers
+ * that nothing writes to before a program does. These take registers that the driver clears. It is tested and not
+ * proved. */
 #include <stddef.h>
 #include <stdint.h>
 

@@ -22,7 +22,8 @@
  * PROVED_ARGON2_NO_JOB; a pass, slice or lane that the job does not have, PROVED_ARGON2_NO_PLACE; a memory, slice or
  * segment of more or fewer blocks, PROVED_ARGON2_WRONG_BLOCKS; a tag of another length, PROVED_ARGON2_WRONG_LENGTH. On
  * each of these errors the outputs are unchanged. Before them comes PROVED_ARGON2_MISALIGNED, for blocks at an address
- * that is not a multiple of 8. No call can check that the blocks exist, and that no other thread writes to them meanwhile.
+ * that is not a multiple of 8. No call can check that the blocks exist, and that no other thread writes to them
+ * meanwhile.
  *
  * Each call that computes overwrites the stack below it before it returns. The caller clears the memory that it
  * provided: with H0, which the job contains, a password guess is tested by one BLAKE2b, and the blocks can be tested

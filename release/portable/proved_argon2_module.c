@@ -1,5 +1,5 @@
-/* The proved calls, in each processor's C, for proved_argon2_table.c: each runs the module that is translated in module_code.h,
- * with a stack of its own, over the caller's memory. It is tested and not proved. */
+/* The proved calls, in each processor's C, for proved_argon2_table.c: each runs the module that is translated in
+ * module_code.h, with a stack of its own, over the caller's memory. It is tested and not proved. */
 #include "proved_argon2.h"
 
 #include "module.h"

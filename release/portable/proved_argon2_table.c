@@ -15,7 +15,8 @@ static inline void *some(const void *at, size_t len)
 }
 
 #pragma GCC visibility push(hidden)
-DECLARED(uint32_t, check, (const proved_argon2_settings *settings, uint64_t pwd_len, uint64_t salt_len, uint64_t secret_len, uint64_t ad_len))
+DECLARED(uint32_t, check, (const proved_argon2_settings *settings, uint64_t pwd_len, uint64_t salt_len, uint64_t
+    secret_len, uint64_t ad_len))
 DECLARED(uint32_t, check_encoded, (const char *text, size_t text_len, const proved_argon2_limits *limits,
     uint64_t pwd_len, uint64_t secret_len, uint64_t ad_len, proved_argon2_stored *stored))
 DECLARED(proved_argon2_limits, default_limits, (void))
@@ -36,8 +37,10 @@ DECLARED(uint32_t, job_fill, (const proved_argon2_job *job, uint32_t pass, uint3
     const proved_argon2_block *second, size_t second_len,
     const proved_argon2_block *third, size_t third_len,
     proved_argon2_block *own, size_t own_len))
-DECLARED(uint32_t, job_finish, (const proved_argon2_job *job, const proved_argon2_block *last, size_t last_len, uint8_t *out, size_t out_len))
-DECLARED(uint32_t, job_hash_over, (const proved_argon2_job *job, proved_argon2_block *blocks, size_t blocks_len, uint8_t *out, size_t out_len))
+DECLARED(uint32_t, job_finish, (const proved_argon2_job *job, const proved_argon2_block *last, size_t last_len, uint8_t
+    *out, size_t out_len))
+DECLARED(uint32_t, job_hash_over, (const proved_argon2_job *job, proved_argon2_block *blocks, size_t blocks_len, uint8_t
+    *out, size_t out_len))
 DECLARED(uint32_t, job_make, (const uint8_t *pwd, size_t pwd_len,
     const uint8_t *salt, size_t salt_len,
     const uint8_t *secret, size_t secret_len,
@@ -64,8 +67,10 @@ DECLARED(proved_argon2_settings, owasp3, (void))
 DECLARED(proved_argon2_settings, owasp4, (void))
 DECLARED(proved_argon2_settings, owasp5, (void))
 DECLARED(uint32_t, read, (const char *text, size_t text_len, proved_argon2_stored *stored))
-DECLARED(uint32_t, read_bytes, (const char *text, size_t text_len, uint8_t *salt, size_t salt_len, uint8_t *hash, size_t hash_len))
-DECLARED(uint32_t, read_within, (const char *text, size_t text_len, const proved_argon2_limits *limits, proved_argon2_stored *stored))
+DECLARED(uint32_t, read_bytes, (const char *text, size_t text_len, uint8_t *salt, size_t salt_len, uint8_t *hash, size_t
+    hash_len))
+DECLARED(uint32_t, read_within, (const char *text, size_t text_len, const proved_argon2_limits *limits,
+    proved_argon2_stored *stored))
 DECLARED(proved_argon2_settings, rfc9106, (void))
 DECLARED(proved_argon2_settings, rfc9106_low_mem, (void))
 DECLARED(uint32_t, verify_over, (const uint8_t *pwd, size_t pwd_len,
@@ -78,7 +83,8 @@ DECLARED(uint32_t, verify_over, (const uint8_t *pwd, size_t pwd_len,
     uint8_t *tag, size_t tag_len))
 #pragma GCC visibility pop
 
-uint32_t proved_argon2_check(const proved_argon2_settings *settings, uint64_t pwd_len, uint64_t salt_len, uint64_t secret_len, uint64_t ad_len)
+uint32_t proved_argon2_check(const proved_argon2_settings *settings, uint64_t pwd_len, uint64_t salt_len, uint64_t
+    secret_len, uint64_t ad_len)
 {
     if (settings == NULL) {
         return PROVED_ARGON2_NULL_POINTER;
@@ -172,7 +178,8 @@ uint32_t proved_argon2_job_fill(const proved_argon2_job *job, uint32_t pass, uin
         PROVED_ARGON2_OLD_PROCESSOR)
 }
 
-uint32_t proved_argon2_job_finish(const proved_argon2_job *job, const proved_argon2_block *last, size_t last_len, uint8_t *out, size_t out_len)
+uint32_t proved_argon2_job_finish(const proved_argon2_job *job, const proved_argon2_block *last, size_t last_len,
+    uint8_t *out, size_t out_len)
 {
     if (job == NULL || IS_MISSING(last) || IS_MISSING(out)) {
         return PROVED_ARGON2_NULL_POINTER;
@@ -183,7 +190,8 @@ uint32_t proved_argon2_job_finish(const proved_argon2_job *job, const proved_arg
     MADE(job_finish, (job, SOME(last), SOME(out)), PROVED_ARGON2_OLD_PROCESSOR)
 }
 
-uint32_t proved_argon2_job_hash_over(const proved_argon2_job *job, proved_argon2_block *blocks, size_t blocks_len, uint8_t *out, size_t out_len)
+uint32_t proved_argon2_job_hash_over(const proved_argon2_job *job, proved_argon2_block *blocks, size_t blocks_len,
+    uint8_t *out, size_t out_len)
 {
     if (job == NULL || IS_MISSING(blocks) || IS_MISSING(out)) {
         return PROVED_ARGON2_NULL_POINTER;
@@ -303,7 +311,8 @@ uint32_t proved_argon2_read(const char *text, size_t text_len, proved_argon2_sto
     MADE(read, (SOME(text), stored), PROVED_ARGON2_OLD_PROCESSOR)
 }
 
-uint32_t proved_argon2_read_bytes(const char *text, size_t text_len, uint8_t *salt, size_t salt_len, uint8_t *hash, size_t hash_len)
+uint32_t proved_argon2_read_bytes(const char *text, size_t text_len, uint8_t *salt, size_t salt_len, uint8_t *hash,
+    size_t hash_len)
 {
     if (IS_MISSING(text) || IS_MISSING(salt) || IS_MISSING(hash)) {
         return PROVED_ARGON2_NULL_POINTER;
@@ -311,7 +320,8 @@ uint32_t proved_argon2_read_bytes(const char *text, size_t text_len, uint8_t *sa
     MADE(read_bytes, (SOME(text), SOME(salt), SOME(hash)), PROVED_ARGON2_OLD_PROCESSOR)
 }
 
-uint32_t proved_argon2_read_within(const char *text, size_t text_len, const proved_argon2_limits *limits, proved_argon2_stored *stored)
+uint32_t proved_argon2_read_within(const char *text, size_t text_len, const proved_argon2_limits *limits,
+    proved_argon2_stored *stored)
 {
     if (IS_MISSING(text) || limits == NULL || stored == NULL) {
         return PROVED_ARGON2_NULL_POINTER;

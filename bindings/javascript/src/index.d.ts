@@ -48,7 +48,8 @@ export interface Running {
     signal?: StopSignal;
     /** `false` computes in the caller's thread, one call after another. It yields to other tasks after each slice. */
     worker?: boolean;
-    /** The most workers, at least 1, for the lanes of a slice. Without it there is one a lane, if there are enough processors. */
+    /** The most workers, at least 1, for the lanes of a slice. Without it there is one a lane, if there are enough
+     * processors. */
     threads?: number;
 }
 

@@ -1,4 +1,5 @@
-/* The library for C as one of the others: it reads `verify STRING HEX` and `hash - HEX`, and writes a verdict or a string. */
+/* The library for C as one of the others: it reads `verify STRING HEX` and `hash - HEX`, and writes a verdict or a
+ * string. */
 #include <proved_argon2.h>
 #include <stdio.h>
 

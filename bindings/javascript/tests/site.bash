@@ -1,6 +1,6 @@
 # shellcheck shell=bash
-# What the tests in Node and in browsers share: the package, installed into a folder of its own as `site`, beside the tests.
-# They are sourced in bindings/, with the folder `work`.
+# What the tests in Node and in browsers share: the package, installed into a folder of its own as `site`, beside the
+# tests. They are sourced in bindings/, with the folder `work`.
 site=${work:?}/site
 export SOURCE_DATE_EPOCH=0 PAGE=$PWD/../docs/demo VECTORS=$PWD/vectors
 

@@ -1,6 +1,6 @@
-/* What calls of libargon2.so.1 leave: no H0 and no tag on their stack, in what they free or in registers, though a name is
- * bound late behind them. With H0 a password is tried at the cost of one hash. Where they are to be sought, the proved call
- * beside it says (libproved_argon2.a). Prints a line for each call; the status is 0 where all is right. */
+/* What calls of libargon2.so.1 leave: no H0 and no tag on their stack, in what they free or in registers, though a name
+ * is bound late behind them. With H0 a password is tried at the cost of one hash. Where they are to be sought, the
+ * proved call beside it says (libproved_argon2.a). Prints a line for each call; the status is 0 where all is right. */
 #define _GNU_SOURCE
 #include "../argon2.h"
 #include "registers.h"

@@ -1,5 +1,5 @@
-/* A program for Windows: the calls of the driver in new threads, whose stacks have PROVED_ARGON2_STACK_SIZE bytes, of which
- * a page is there at first; how much of it they take; and salts, which no other test can foresee. */
+/* A program for Windows: the calls of the driver in new threads, whose stacks have PROVED_ARGON2_STACK_SIZE bytes, of
+ * which a page is there at first; how much of it they take; and salts, which no other test can foresee. */
 #define WIN32_LEAN_AND_MEAN
 #include "proved_argon2.h"
 

@@ -1,8 +1,8 @@
 /*
- * Calls of all sizes, drawn from a seed: up to a gibibyte, or a quarter of what the system has left, hundreds of lanes and
- * threads, and a tag of a mebibyte. Each has libargon2's tag, and starts as many threads, asks as often for memory and
- * writes as many blocks as its settings say, so that none is refused, cut or done twice from some size on. It is linked
- * with --wrap for what it counts, and over a library in which each block that is written adds one to a number
+ * Calls of all sizes, drawn from a seed: up to a gibibyte, or a quarter of what the system has left, hundreds of lanes
+ * and threads, and a tag of a mebibyte. Each has libargon2's tag, and starts as many threads, asks as often for memory
+ * and writes as many blocks as its settings say, so that none is refused, cut or done twice from some size on. It is
+ * linked with --wrap for what it counts, and over a library in which each block that is written adds one to a number
  * (plant_leak.py).
  *
  *     drawn_settings [SEED]     the seed is printed
@@ -66,8 +66,8 @@ static size_t length_of(const proved_argon2_settings *of)
     return of->mem_cost / (4 * of->lanes);
 }
 
-/* How many blocks are compressed: those of the matrix, in each pass, but for the first two of each lane; and two for each
- * 128 numbers that are drawn from no block, for each segment (RFC 9106, 3.4.1.2) that has more than those two. */
+/* How many blocks are compressed: those of the matrix, in each pass, but for the first two of each lane; and two for
+ * each 128 numbers that are drawn from no block, for each segment (RFC 9106, 3.4.1.2) that has more than those two. */
 static size_t blocks_of(const proved_argon2_settings *of)
 {
     const size_t all = 4 * of->lanes * length_of(of),
@@ -78,8 +78,8 @@ static size_t blocks_of(const proved_argon2_settings *of)
     return all * of->time_cost - 2 * of->lanes + drawing * slices * of->lanes;
 }
 
-/* How a call is made: as each of the four, by threads; again by the first without options; and over a memory of memory_new,
- * twice. */
+/* How a call is made: as each of the four, by threads; again by the first without options; and over a memory of
+ * memory_new, twice. */
 enum way { RAW, ENCODED, VERIFY, VERIFY_ENCODED, PLAIN, REUSED };
 
 /* How many threads it takes, of at most so many: the caller's alone where others do not pay. */

@@ -70,8 +70,8 @@ static bool is_value(uint32_t code)
         && (is_untouched || memcmp(buffer, tag, TAG) == 0 || memcmp(buffer, text, sizeof buffer) == 0);
 }
 
-/* A call with one request refused: a shortage that writes nothing, or the value where it asked for no more, or for a team
- * of threads, which it goes on without. Nothing is held then, and errno is as it was. */
+/* A call with one request refused: a shortage that writes nothing, or the value where it asked for no more, or for a
+ * team of threads, which it goes on without. Nothing is held then, and errno is as it was. */
 static bool ends_well(const struct row *row, size_t number, size_t of_team)
 {
     fill_bytes(buffer, sizeof buffer, 7);
@@ -105,8 +105,8 @@ static void check_call(const struct row *row, uint32_t threads)
     check(good && requests == expected && most_held >= blocks && most_held <= most, name);
 }
 
-/* A call with pages refused at one of the populatings of its mapping. Where the system has none, that is a shortage, which
- * writes nothing; where it cannot do so, pages come one by one. */
+/* A call with pages refused at one of the populatings of its mapping. Where the system has none, that is a shortage,
+ * which writes nothing; where it cannot do so, pages come one by one. */
 static bool ends_well_unpopulated(const struct row *row, size_t number, int how)
 {
     fill_bytes(buffer, sizeof buffer, 7);

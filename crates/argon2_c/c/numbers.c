@@ -187,7 +187,7 @@ static void check_limits_of_inputs(bool has_time)
 
 /* ---- recommended settings (OWASP, Password Storage Cheat Sheet; RFC 9106, section 4) */
 
-static void check_recommended(proved_argon2_settings settings, uint32_t mib, uint32_t passes, const char *name)
+static void check_preset(proved_argon2_settings settings, uint32_t mib, uint32_t passes, const char *name)
 {
     check(settings.variant == PROVED_ARGON2_ID && settings.version == PROVED_ARGON2_VERSION_13
             && settings.mem_cost == mib * 1024 && settings.time_cost == passes && settings.lanes == 1
@@ -214,13 +214,13 @@ int main(int count, char **words)
     check_limits_of_inputs(has_time);
     /* clang-format off */
     /* presets, by .ci/pages/presets */
-    check_recommended(proved_argon2_owasp1(), 46, 1, "OWASP's first recommendation");
-    check_recommended(proved_argon2_owasp2(), 19, 2, "OWASP's second recommendation");
-    check_recommended(proved_argon2_owasp3(), 12, 3, "OWASP's third recommendation");
-    check_recommended(proved_argon2_owasp4(), 9, 4, "OWASP's fourth recommendation");
-    check_recommended(proved_argon2_owasp5(), 7, 5, "OWASP's fifth recommendation");
-    check_recommended(proved_argon2_rfc9106(), 2048, 1, "RFC 9106's first recommendation (section 4)");
-    check_recommended(proved_argon2_rfc9106_low_mem(), 64, 3, "RFC 9106's recommendation for little memory (section 4)");
+    check_preset(proved_argon2_owasp1(), 46, 1, "OWASP's first recommendation");
+    check_preset(proved_argon2_owasp2(), 19, 2, "OWASP's second recommendation");
+    check_preset(proved_argon2_owasp3(), 12, 3, "OWASP's third recommendation");
+    check_preset(proved_argon2_owasp4(), 9, 4, "OWASP's fourth recommendation");
+    check_preset(proved_argon2_owasp5(), 7, 5, "OWASP's fifth recommendation");
+    check_preset(proved_argon2_rfc9106(), 2048, 1, "RFC 9106's first recommendation (section 4)");
+    check_preset(proved_argon2_rfc9106_low_mem(), 64, 3, "RFC 9106's recommendation for little memory (section 4)");
     /* end */
     /* clang-format on */
     check(proved_argon2_library_version() == PROVED_ARGON2_LIBRARY_VERSION_NUMBER, "the version of the library");

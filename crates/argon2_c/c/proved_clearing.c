@@ -152,8 +152,8 @@ static void clear_caller_memory(void)
     __real_explicit_bzero(hash, sizeof hash);
 }
 
-/* What is found after a call: of what it leaves, of what it overwrites, and elsewhere than in the caller's memory. What a
- * call frees may have none of it. */
+/* What is found after a call: of what it leaves, of what it overwrites, and elsewhere than in the caller's memory. What
+ * a call frees may have none of it. */
 enum { LEAVES = 1, OVERWRITES = 2, ELSEWHERE = 4, NO_ANSWER = 8 };
 
 static int what_is_left(const void *arg)

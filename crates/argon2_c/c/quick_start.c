@@ -1,5 +1,5 @@
-/* What docs/C.md shows: a password is hashed to a PHC string and verified, in a call each; the same with a salt and settings
- * of the caller's; and a password that is cleared before the memory is filled, in a reusable buffer. */
+/* What docs/C.md shows: a password is hashed to a PHC string and verified, in a call each; the same with a salt and
+ * settings of the caller's; and a password that is cleared before the memory is filled, in a reusable buffer. */
 #include "proved_argon2.h"
 
 #include <string.h>

@@ -59,7 +59,8 @@ static bool make(const proved_argon2_settings *settings)
     return peer(&call, expected) && hash_encoded(&alone, &call, text, sizeof text) == PROVED_ARGON2_OK;
 }
 
-/* The tag, the text and the verdicts over the memory, which ask for bytes of a tag alone, and leave the memory clear. */
+/* The tag, the text and the verdicts over the memory, which ask for bytes of a tag alone, and leave the memory
+ * clear. */
 static bool computes(uint32_t threads)
 {
     static const uint8_t zeros[4096];

@@ -1,5 +1,5 @@
-/* Looks through the memory of the process and its vector registers for pieces of what a call computes: H0, blocks, the tag
- * and the inputs. */
+/* Looks through the memory of the process and its vector registers for pieces of what a call computes: H0, blocks, the
+ * tag and the inputs. */
 #ifndef SEARCH_H
 #define SEARCH_H
 
@@ -57,7 +57,8 @@ static inline void keep(known *to, enum kind kind, const void *bytes)
     to->parts[to->count++].kind = kind;
 }
 
-/* The last two hashes of the chains that the first two blocks of the last lane are: of the last but one, its first half. */
+/* The last two hashes of the chains that the first two blocks of the last lane are: of the last but one, its first
+ * half. */
 static inline void keep_chains(const proved_argon2_block *first, known *to)
 {
     for (size_t column = 0; column < 2; column++) {
@@ -225,7 +226,8 @@ static inline void look_everywhere(void)
     }
 }
 
-/* What a program calls behind a call of the library, where it does: bound late, it has the loader save the registers. */
+/* What a program calls behind a call of the library, where it does: bound late, it has the loader save the
+ * registers. */
 static void (*calls_behind)(void);
 
 /* Makes a call with so much room above it that what looks afterwards has its frames there, and not where the call's

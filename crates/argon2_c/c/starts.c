@@ -1,7 +1,7 @@
 /*
- * The threads of a call: each has the program's signals blocked and a small stack, and is joined; the lanes of those that
- * are refused are filled; and none starts where it would not pay. drawn_settings.c has how many there are. Tags are
- * compared with libargon2's. It is linked with --wrap for what it counts and refuses.
+ * The threads of a call: each has the program's signals blocked and a small stack, and is joined; the lanes of those
+ * that are refused are filled; and none starts where it would not pay. drawn_settings.c has how many there are. Tags
+ * are compared with libargon2's. It is linked with --wrap for what it counts and refuses.
  */
 #include "calls.h"
 #include "system.h"

@@ -38,7 +38,8 @@ void __wrap_explicit_bzero(void *bytes, size_t len);
  * often one was started while none ran. */
 static atomic_size_t starts, granted, joins, running, most_running, bursts;
 
-/* Starts at which some signal would have been the new thread's, and those that asked for another stack than a small one. */
+/* Starts at which some signal would have been the new thread's, and those that asked for another stack than a small
+ * one. */
 static atomic_size_t open_to_signals, large_stacks;
 
 /* Which starts are refused, counted from 1; 0 for none. */

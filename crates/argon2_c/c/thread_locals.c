@@ -1,5 +1,5 @@
-/* Threads of a program that has VARIABLES bytes of its own variables of a thread, which a system may take of their stacks:
- * each is started, and has as much stack as in other programs. It is linked with --wrap for what it counts. */
+/* Threads of a program that has VARIABLES bytes of its own variables of a thread, which a system may take of their
+ * stacks: each is started, and has as much stack as in other programs. It is linked with --wrap for what it counts. */
 #include "calls.h"
 #include "system.h"
 

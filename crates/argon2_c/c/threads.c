@@ -99,8 +99,9 @@ static void check_at_once(void)
     check(log_in_at_once(logins), "eight hashes at once");
 }
 
-/* A pool whose threads stay. Where several callers start and join threads at the same time, a tool takes a thread for an
- * earlier one whose number it has, and so reports what is none: there each caller has threads that were there before. */
+/* A pool whose threads stay. Where several callers start and join threads at the same time, a tool takes a thread for
+ * an earlier one whose number it has, and so reports what is none: there each caller has threads that were there
+ * before. */
 typedef struct staying {
     pthread_mutex_t mutex;
     pthread_cond_t begun, ended;

@@ -13,11 +13,11 @@
  * Errors. A call that can fail returns PROVED_ARGON2_OK (0) or the number of one error, and on an error (a mismatch is
  * none) its outputs are unchanged, byte for byte; a reusable buffer may have been cleared. Only the first error is
  * reported: the number of the variant, the number of the version, the settings in the order of the limits below, the
- * length of the buffer, and only then memory. No call prints, ends the process or changes errno. None waits, but for its own threads and, where
- * it makes a salt, for the system's random bytes. A call reads its arguments alone. Only the first one also asks the
- * processor which of the library's builds it can run, and the environment variable PROVED_ARGON2_CPU, for tests, which
- * one to take. If the processor can run none, each call that can fail returns PROVED_ARGON2_OLD_PROCESSOR, after null
- * pointers, and each other call returns zeros.
+ * length of the buffer, and only then memory. No call prints, ends the process or changes errno. None waits, but for
+ * its own threads and, where it makes a salt, for the system's random bytes. A call reads its arguments alone. Only the
+ * first one also asks the processor which of the library's builds it can run, and the environment variable
+ * PROVED_ARGON2_CPU, for tests, which one to take. If the processor can run none, each call that can fail returns
+ * PROVED_ARGON2_OLD_PROCESSOR, after null pointers, and each other call returns zeros.
  *
  * Memory. A call that hashes or verifies allocates at most the settings' mem_cost KiB for its blocks, and memory for
  * the tag, and for the hash and the salt of an encoded hash. Of 2 MiB or more, each whole 2 MiB are a huge page where
@@ -286,8 +286,8 @@ uint32_t proved_argon2_needs_rehash(
     const char *text, size_t text_len, const proved_argon2_settings *settings);
 
 /*
- * Whether a hash with these settings is made of inputs of these lengths: PROVED_ARGON2_OK only if a call that hashes such
- * inputs returns no error but one of its buffers or of memory, and otherwise the error that it returns. Nothing is
+ * Whether a hash with these settings is made of inputs of these lengths: PROVED_ARGON2_OK only if a call that hashes
+ * such inputs returns no error but one of its buffers or of memory, and otherwise the error that it returns. Nothing is
  * computed, and no input is passed.
  */
 PROVED_ARGON2_CHECKED

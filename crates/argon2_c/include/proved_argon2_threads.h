@@ -120,8 +120,8 @@ uint32_t proved_argon2_job_run_verify(
     const proved_argon2_options *options, const proved_argon2_job *job, const uint8_t *hash, size_t hash_len);
 
 /*
- * proved_argon2_password_hash and proved_argon2_password_verify with settings, with a pepper, which is the secret of all
- * hashes and is in none of them (null and 0 for none), and with options: UINT32_MAX threads are one a lane, and the
+ * proved_argon2_password_hash and proved_argon2_password_verify with settings, with a pepper, which is the secret of
+ * all hashes and is in none of them (null and 0 for none), and with options: UINT32_MAX threads are one a lane, and the
  * limits of the options stand in place of the default ones, so that without them no encoded hash is too costly. text
  * has PROVED_ARGON2_TEXT_SIZE bytes, and settings whose encoded hash does not fit return PROVED_ARGON2_WRONG_LENGTH.
  */
