@@ -23,6 +23,7 @@ HAVE_LIBRARIES = ("x86_64", "aarch64")
 SHARED = "libproved_argon2.so.1"
 CLASSIFIERS = (
     "Intended Audience :: Developers",
+    "Private :: Do Not Upload",
     "Operating System :: POSIX :: Linux",
     "Programming Language :: Python :: 3",
     "Topic :: Security :: Cryptography",
