@@ -5,7 +5,9 @@
 #include <stddef.h>
 #include <stdint.h>
 
-enum { TAG_LENGTH = 32, SALT_LENGTH = 16 };
+enum { TAG_LENGTH = 32, SALT_LENGTH = 16, PASSWORD_LENGTH = 8 };
+#define PASSWORD "password"
+#define SALT "somesaltsomesalt"
 
 /* Argon2id, version 0x13: memory in KiB, passes, lanes, and the threads that fill them. */
 struct cost {
@@ -15,33 +17,32 @@ struct cost {
     uint32_t threads;
 };
 
-struct input {
-    const char *password;
-    size_t password_length;
-    uint8_t salt[SALT_LENGTH];
+/* The cases of the tables, which the driver and openssl.c time. */
+static const struct cost cases[] = {
+    {256, 2, 1, 1},
+    {1024, 2, 1, 1},
+    {19456, 2, 1, 1},
+    {65536, 3, 1, 1},
+    {65536, 3, 4, 1},
+    {65536, 3, 4, 4},
+    {262144, 1, 4, 4},
 };
+enum { CASES = sizeof cases / sizeof *cases };
 
-/* 0 where the tag was written, and else a number above 0: the implementation refuses the cost. */
-typedef int hash_function(const struct cost *cost, const struct input *input, uint8_t tag[TAG_LENGTH]);
-
+/* An implementation, and its function in a library that was loaded. */
 struct hasher {
     const char *name;
-    hash_function *hash;
+    int (*hash)(const struct hasher *hasher, const struct cost *cost, uint8_t tag[TAG_LENGTH]);
+    void *call;
 };
 
-/* The peers, in the order of the columns; the name of the last is NULL. */
-extern const struct hasher peers[];
+/* Hashes by `hasher`: 0 where the tag was written, and else a number above 0, as the implementation has no such cost. */
+typedef int hash_function(const struct hasher *hasher, const struct cost *cost, uint8_t tag[TAG_LENGTH]);
 
-/* Our library and the compression alone, each as it was built for the default processor and for
- * x86-64-v3 (ours.c), from the folder that bench/run builds. Not 0 where one of the four libraries lacks. */
-int load_ours(const char *folder);
-hash_function ours_default, ours_v3, ours_reusing, ours_v3_reusing, ours_with, ours_v3_with, before_v3, before_v3_with;
+/* Our library (ours.c), which each build of it is loaded from anew, and the peers. */
+hash_function by_ours, by_ours_reusing, by_argon2, by_libsodium, by_crate;
 
-/* The peers that bench/run builds into the folder; one that lacks has no figures. */
-void load_peers(const char *folder);
-
-/* Compresses 2 * count blocks that stay in the cache, by each build. */
-typedef uint64_t compress_function(uint32_t count, uint64_t seed);
-extern compress_function *compress_default, *compress_v3;
+/* Has a library choose its build, which it does in its first call. */
+void choose_build(void *call, const char *build);
 
 #endif

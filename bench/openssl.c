@@ -3,7 +3,7 @@
  *
  * usage: openssl LIBCRYPTO SECONDS
  *
- * Each line is one of the driver's. */
+ * Each line is as one of the driver's. */
 #include "openssl.h"
 
 #include <stdio.h>
@@ -30,7 +30,7 @@ static int by_size(const void *left, const void *right)
 static int time_case(void *kdf, const struct cost *cost, double seconds, uint8_t tag[TAG_LENGTH])
 {
     static double spent[MOST_ROUNDS];
-    const double end = nanoseconds() + seconds * 1e9, kib = (double)cost->memory * cost->passes;
+    const double end = nanoseconds() + seconds * 1e9;
     size_t count = 0;
     while (count < MOST_ROUNDS && (count < 3 || nanoseconds() < end)) {
         const double begin = nanoseconds();
@@ -38,26 +38,17 @@ static int time_case(void *kdf, const struct cost *cost, double seconds, uint8_t
         spent[count++] = nanoseconds() - begin;
     }
     qsort(spent, count, sizeof *spent, by_size);
-    printf("hash\t(%u, %u, %u) x %u\topenssl\t%.1f\t%.1f\n", cost->memory, cost->passes, cost->lanes, cost->threads,
-        spent[0] / kib, spent[count / 2] / kib);
+    printf("(%u, %u, %u) x %u\topenssl %.4g %.4g\n", cost->memory, cost->passes, cost->lanes, cost->threads,
+        spent[0] * 1e-6, spent[count / 2] * 1e-6);
     return 0;
 }
 
 int main(int argc, char **argv)
 {
-    static const struct cost cases[] = {
-        {256, 2, 1, 1},
-        {1024, 2, 1, 1},
-        {19456, 2, 1, 1},
-        {65536, 3, 1, 1},
-        {65536, 3, 4, 1},
-        {65536, 3, 4, 4},
-        {262144, 1, 4, 4},
-    };
     uint8_t tag[TAG_LENGTH];
     if (argc != 3 || load_openssl(argv[1]) != 0 || set_max_threads(NULL, 8) != 1) return 1;
     void *const kdf = fetch(NULL, "ARGON2ID", NULL);
-    for (size_t i = 0; kdf != NULL && i < sizeof cases / sizeof *cases; i++) {
+    for (size_t i = 0; kdf != NULL && i < CASES; i++) {
         if (time_case(kdf, &cases[i], atof(argv[2]), tag) != 0) return 1;
         fprintf(stderr, "(%u, %u, %u) ", cases[i].memory, cases[i].passes, cases[i].lanes);
         for (int byte = 0; byte < TAG_LENGTH; byte++)

@@ -47,12 +47,12 @@ fetch_upstream() {
 # Its vector form: opt.c in the place of ref.c, with the flags of its Makefile, for x86-64-v3 and for this processor.
 build_upstream() {
     local cpu
-    rm -f "$out"/upstream-{v3,native}.so
+    rm -f "$out"/reference-{v3,native}.so
     fetch_upstream >"$out/upstream.log" 2>&1 \
         || { echo 'upstream: skipped, its source of 20190702 cannot be had'; return; }
     for cpu in x86-64-v3 native; do
         (cd "$tree/upstream" && gcc -std=c89 -O3 -pthread -march="$cpu" -Iinclude -Isrc -shared -fPIC \
-            -fvisibility=hidden -DA2_VISCTL=1 -Wl,-Bsymbolic -o "$out/upstream-${cpu#x86-64-}.so" \
+            -fvisibility=hidden -DA2_VISCTL=1 -Wl,-Bsymbolic -o "$out/reference-${cpu#x86-64-}.so" \
             src/{argon2,core,thread,encoding,opt}.c src/blake2/blake2b.c)
     done
 }
@@ -82,10 +82,10 @@ fetch_crates() {
 build_rust_argon2() {
     local debian=$tree/crates-of-rust-argon2
     local needed=(librust-{base64,blake2b-simd,constant-time-eq,crossbeam-utils,serde}-dev)
-    rm -f "$out/rust-argon2-3.0.0.so"
+    rm -f "$out/rust-argon2.so"
     {
         [ -n "${RUST_ARGON2:-}" ] && fetch_crates "$debian" "${needed[@]}" \
-            && build_crate rust_argon2 "$debian$crates_of_debian" rust-argon2-3.0.0 "{ path = \"$RUST_ARGON2\" }"
+            && build_crate rust_argon2 "$debian$crates_of_debian" rust-argon2 "{ path = \"$RUST_ARGON2\" }"
     } >"$out/rust-argon2-3.0.0.log" 2>&1 \
         || echo 'rust-argon2 3.0.0: skipped, RUST_ARGON2 names no source of it that compiles here'
 }
@@ -137,46 +137,27 @@ of_debian() {
     dpkg-query -W -f="Debian's \${source:Package} \${Version}" "$1"
 }
 
-# The library of a package, which the driver links: `linked LIBRARY`.
-linked() {
-    ldd "$out/driver" | awk -v name="$1" '$1 ~ name { print $3 }'
-}
-
-# A line of a package whose code is in another's library: `describe_package NAME PACKAGE WHAT`.
-describe_package() {
-    ! dpkg -s "$2" >/dev/null 2>&1 || printf '%s\t%s\t%s\n' "$1" "$(of_debian "$2")$3" 'not counted'
+# The library of a package, as the loader finds it: `installed LIBRARY`.
+installed() {
+    ldconfig -p | awk -v name="$1" '$1 == name { print $NF; exit }'
 }
 
 describe_all() {
     local gcc rustc compiled
     gcc=$(gcc -dumpfullversion) rustc=$(rustc --version)
-    describe ours "$out/argon2_c.so" 'its builds for x86-64-v2 and, with AVX2, x86-64-v3, of which it chooses one'
-    describe libsodium "$(linked libsodium)" \
+    describe ours "$out/v3.so" "its builds: without AVX2 (x86-64-v2), AVX2 (v3), AVX-512 (v4), of which it chooses one"
+    describe libsodium "$(installed libsodium.so.23)" \
         "$(of_debian libsodium23), which chooses its code by the processor; one lane only"
-    describe upstream-v3 "$out/upstream-v3.so" \
+    describe reference-v3 "$out/reference-v3.so" \
         "the C reference of 20190702, its vector form opt.c, by gcc $gcc -O3 -march=x86-64-v3"
-    describe upstream-native "$out/upstream-native.so" "the same, by gcc $gcc -O3 -march=native"
-    describe libargon2 "$(linked libargon2)" "$(of_debian libargon2-1): the C reference, its form without vectors"
-    describe botan "$(linked libbotan)" "$(of_debian libbotan-2-19); timed with one lane only"
-    describe libgcrypt "$(linked libgcrypt)" "$(of_debian libgcrypt20)"
-    describe rust-argon2 "$out/rust-argon2-3.0.0.so" "cargo build --release, $rustc" argon2
+    describe reference-native "$out/reference-native.so" "the same, by gcc $gcc -O3 -march=native"
+    describe libargon2 "$(installed libargon2.so.1)" \
+        "$(of_debian libargon2-1): the C reference, its form without vectors"
+    describe rust-argon2 "$out/rust-argon2.so" "cargo build --release, $rustc" argon2
     compiled="cargo build --release, $rustc; one thread only"
     describe rustcrypto "$out/rustcrypto.so" \
         "RustCrypto's argon2, Debian's $(newer_version librust-argon2-dev), $compiled" argon2
     # (its Argon2 has no names in libcrypto.so.3, so its instructions cannot be told from others')
     [ ! -d "$out/openssl" ] || printf 'openssl\t%s\t%s\n' \
         "Debian's openssl $(newer_version libssl3t64), in a process of its own" 'not counted'
-    describe_package argon2-cffi python3-argon2 ', over libargon2'
-}
-
-# The instructions of a run, as an emulator counts them: `count_instructions EMULATOR PROGRAM KIB`.
-count_instructions() {
-    "$1" -singlestep -d nochain,exec -D /dev/stderr "$2" "$3" 2>&1 >/dev/null | grep -c '^Trace'
-}
-
-# Those of a block, by two sizes of memory: `instructions_of_block EMULATOR PROGRAM`.
-instructions_of_block() {
-    local fewer=64 more=128 first second
-    first=$(count_instructions "$@" "$fewer") && second=$(count_instructions "$@" "$more")
-    echo "$(((second - first) / (more - fewer)))"
 }

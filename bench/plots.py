@@ -12,19 +12,18 @@ WIDTH, MARGIN, LINE = 480, 16, 18
 LETTERS, BOLD_LETTERS = 62, 52
 # The colour and the dashes of a series, in the order in which they are drawn.
 STYLES = {
-    'with-v3': ('#0072b2', ''),
-    'with': ('#56b4e9', '7 4'),
+    'v4': ('#0072b2', ''),
+    'v3': ('#56b4e9', ''),
+    'v2': ('#56b4e9', '7 4'),
     'libsodium': ('#d55e00', ''),
-    'upstream-v3': ('#009e73', ''),
+    'reference-native': ('#009e73', ''),
     'libargon2': ('#cc79a7', ''),
-    'rust-argon2': ('#e69f00', '7 4'),
-    'libgcrypt': ('#8a8d91', '2 4'),
 }
 LABELS = {
-    'ours': 'this library', 'ours-v3': 'this library, AVX2', 'with': 'this library, no AVX2',
-    'with-v3': 'this library, AVX2',
-    'upstream-v3': 'C reference, AVX2', 'upstream-native': 'C reference, native', 'rust-argon2': 'rust-argon2 3.0.0',
-    'rustcrypto': 'RustCrypto argon2', 'openssl': 'OpenSSL',
+    'ours': 'this library', 'v2': 'this library, no AVX2', 'v3': 'this library, AVX2', 'v4': 'this library, AVX-512',
+    'reusing': 'this library, reusable buffer', 'reference-v3': 'C reference, AVX2',
+    'reference-native': 'C reference, native', 'rust-argon2': 'rust-argon2 3.0.0', 'rustcrypto': 'RustCrypto argon2',
+    'openssl': 'OpenSSL',
 }
 SHEET = '''text { font: 14px system-ui, sans-serif; fill: #6e7781 }
 .title { font-size: 16px; font-weight: 600 }
@@ -73,13 +72,14 @@ def apart(places, least):
 
 class LogScale:
     """Numbers on a logarithmic axis from below to above all of them, at powers of ten and their halves."""
+    height = 260
 
-    def __init__(self, numbers, top, bottom):
-        self.top, self.bottom = top, bottom
+    def __init__(self, numbers):
         self.low, self.high = math.log10(min(numbers)) - 0.1, math.log10(max(numbers)) + 0.1
 
     def place(self, number):
-        return self.bottom - (self.bottom - self.top) * (math.log10(number) - self.low) / (self.high - self.low)
+        """How high it is above the bottom."""
+        return self.height * (math.log10(number) - self.low) / (self.high - self.low)
 
     def marks(self):
         steps = (1, 10) if self.high - self.low > 2.5 else (1, 2, 5, 10)
@@ -87,25 +87,22 @@ class LogScale:
         return sorted(mark for mark in marks if self.low <= math.log10(mark) <= self.high)
 
 
-def draw_lines(path, title, caption, below, places, series):
-    """A plot: `places` are the words below, and each series has milliseconds at some of them. The axis is
-    logarithmic."""
-    left, right, top, bottom = 54, 150, 66, 400
+def panel(top, title, places, series, scale):
+    """A plot below `top`: `places` are the words below, and each series has milliseconds at some of them."""
+    left, right, bottom = 54, 150, top + scale.height
     at_x = [left + (WIDTH - left - right) * (index + 0.3) / len(places) for index in range(len(places))]
-    scale = LogScale([number for points in series.values() for number in points.values()], top, bottom)
-    out = [text(16, 50, 'milliseconds a hash, on a logarithmic axis'),
-           text(WIDTH / 2, bottom + 62, below, 'middle', 'caption')]
+    out = [text(MARGIN, top - 8, title, kind='own')]
     for number in scale.marks():
-        y = scale.place(number)
+        y = bottom - scale.place(number)
         out += [f'<line class="grid" x1="{left}" x2="{WIDTH - right}" y1="{y:.1f}" y2="{y:.1f}"/>',
                 text(left - 8, y + 5, f'{number:g}', 'end')]
     out += [text(x, bottom + 20 + LINE * at, word, 'middle') for x, place in zip(at_x, places)
             for at, word in enumerate(place.split())]
     drawn = [(name, series[name]) for name in STYLES if name in series]
-    ends = apart({name: scale.place(points[max(points)]) for name, points in drawn}, 18)
+    ends = apart({name: bottom - scale.place(points[max(points)]) for name, points in drawn}, 18)
     for name, points in drawn:
         colour, dashes = STYLES[name]
-        spots = [(at_x[index], scale.place(number)) for index, number in sorted(points.items())]
+        spots = [(at_x[index], bottom - scale.place(number)) for index, number in sorted(points.items())]
         out.append(f'<polyline points="{" ".join(f"{x:.1f},{y:.1f}" for x, y in spots)}" fill="none" stroke="{colour}" '
                    f'stroke-width="2.5" stroke-dasharray="{dashes or "none"}"/>')
         out += [f'<circle cx="{x:.1f}" cy="{y:.1f}" r="4" fill="{colour}"/>' for x, y in spots]
@@ -114,8 +111,18 @@ def draw_lines(path, title, caption, below, places, series):
                 'stroke-opacity="0.5"/>',
                 f'<circle cx="{WIDTH - right + 10}" cy="{ends[name]:.1f}" r="4" fill="{colour}"/>',
                 text(WIDTH - right + 18, ends[name] + 5, LABELS.get(name, name).replace('this library', 'ours'),
-                     kind='head' if 'with' in name else 'caption')]
-    picture(path, bottom + 70, title, caption, out)
+                     kind='head' if name.startswith('v') else 'caption')]
+    return out
+
+
+def draw_lines(path, title, caption, below, panels):
+    """Plots below one another, as (title, places, series), on one logarithmic axis."""
+    scale = LogScale([number for _, _, series in panels for points in series.values() for number in points.values()])
+    out, top = [text(MARGIN, 50, 'milliseconds a hash, on a logarithmic axis')], 90
+    for words, places, series in panels:
+        out += panel(top, words, places, series, scale)
+        top += scale.height + 82
+    picture(path, top - 12, title, caption, [*out, text(WIDTH / 2, top - 20, below, 'middle', 'caption')])
 
 
 def draw_bars(path, title, caption, groups):
@@ -138,22 +145,18 @@ def draw_bars(path, title, caption, groups):
     picture(path, y - 10, title, caption, out)
 
 
-def by_name(cases, milliseconds_of):
-    """The numbers of each name that has a style, by the place of their case."""
+def by_name(cases):
+    """The times of each name that has a style, by the place of their case."""
     series = {}
-    for place, (case, times) in enumerate(cases.items()):
-        for name, time in times.items():
-            if name in STYLES:
-                series.setdefault(name, {})[place] = milliseconds_of(case, time)
+    for place, times in enumerate(cases.values()):
+        for name in STYLES.keys() & times.keys():
+            series.setdefault(name, {})[place] = times[name]
     return series
 
 
-def first_number(case):
-    return int(re.match(r'\((\d+),', case)[1])
-
-
-def size(kib):
-    """A number of KiB as people write it."""
+def size(case):
+    """The memory of a case as people write it."""
+    kib = int(re.match(r'\((\d+),', case)[1])
     for unit in ('KiB', 'MiB', 'GiB'):
         if kib < 1024:
             return f'{kib} {unit}'
@@ -161,19 +164,21 @@ def size(kib):
     raise ValueError(kib)
 
 
-def draw_by_memory(path, caption, cases):
+def panels(runs, is_of_plot, word):
+    """A panel of each kind of kernel, over the cases of a plot."""
+    chosen = {kernel: {case: times for case, times in cases.items() if is_of_plot(case)}
+              for kernel, cases in runs.items()}
+    return [(kernel, [word(case) for case in cases], by_name(cases)) for kernel, cases in chosen.items()]
+
+
+def draw_by_memory(path, caption, runs):
     """Two passes in one lane."""
-    series = by_name(cases, lambda case, time: 2 * time * first_number(case) / 1e6)
-    draw_lines(path, 'How long does a hash take with more memory?', caption,
-               'memory, in 2 passes, 1 lane, 1 thread',
-               [size(first_number(case)) for case in cases],
-               {name: points for name, points in series.items() if name != 'libgcrypt'})
+    draw_lines(path, 'How long does a hash take with more memory?', caption, 'memory, in 2 passes, 1 lane, 1 thread',
+               panels(runs, lambda case: ', 2, 1)' in case, size))
 
 
-def draw_by_threads(path, caption, cases):
-    """64 MiB in three passes. libsodium has no lanes."""
-    series = by_name(cases, lambda case, time: time * 3 * first_number(case) / 1e6)
+def draw_by_threads(path, caption, runs):
+    """64 MiB in three passes."""
     draw_lines(path, 'How long does a hash take with more threads?', caption,
                'threads, and as many lanes, over 64 MiB in 3 passes',
-               [case.rsplit(' ', 1)[1] for case in cases],
-               {name: points for name, points in series.items() if name != 'libsodium'})
+               panels(runs, lambda case: ', 3, ' in case, lambda case: case.rsplit(' ', 1)[1]))

@@ -1,12 +1,8 @@
 """The parts of files that scripts write, between lines with the comments `NAME, by SCRIPT` and `end`, as
 `<!-- NAME, by SCRIPT -->` and `<!-- end -->` in a page."""
 
-import hashlib
 import re
-from pathlib import Path
 
-# What the scripts of bench/ wrote, as a sum and the place of a part or of a picture: SUM PAGE: NAME, by SCRIPT
-SUMS = Path(__file__).resolve().parents[1] / 'bench/parts.txt'
 OPENS, CLOSES = r'[ \t]*(?:<!--|//|/\*|--|#|\.\\") ', r'(?: -->| \*/)?'
 
 
@@ -25,19 +21,3 @@ def filled(text, name, script, part):
     rest = text[end:].removeprefix('\n').removeprefix('\n')
     # (above `-- end` rt fmt has an empty line)
     return text[:begin] + part.rstrip('\n') + ('\n\n' if rest.startswith('-- end') else '\n') + rest
-
-
-def sum_of(text):
-    return hashlib.sha256(text.encode()).hexdigest()[:16]
-
-
-def read_sums():
-    """The sums by their places."""
-    lines = SUMS.read_text(encoding='utf-8').splitlines() if SUMS.exists() else []
-    return {place: number for number, place in (line.split(' ', 1) for line in lines)}
-
-
-def keep_sum(place, text):
-    """Notes what a script wrote, so that a later change by hand is seen"""
-    sums = read_sums() | {place: sum_of(text)}
-    SUMS.write_text(''.join(f'{sums[key]} {key}\n' for key in sorted(sums)), encoding='utf-8')

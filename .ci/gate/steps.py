@@ -11,8 +11,8 @@ from shared import TOP
 from shared.tables import rows
 
 # The steps that compare documents with the sources and, but for `readme`, need no build.
-PAGES = [f'.ci/pages/{name}' for name in ('definitions', 'cycles', 'layout', 'promises', 'presets', 'layers', 'peers',
-                                          'docstrings', 'names', 'places', 'measured', 'verdicts', 'theorem')]
+PAGES = [f'.ci/pages/{name}' for name in ('definitions', 'cycles', 'layout', 'promises', 'presets', 'layers',
+                                          'docstrings', 'names', 'places', 'verdicts', 'theorem')]
 COUNTS = re.compile(r'(\d+) passed, (\d+) failed(?:, (\d+) skipped)?')
 PROVED = re.compile(r'^(?:fn|struct|enum|impl|trait) \S+: proved')
 # How many checks a step of .ci/run makes: so many, or `N or more`, where what it looks at may grow.

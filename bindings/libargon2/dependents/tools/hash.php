@@ -1,1 +1,0 @@
-<?php echo password_hash('right', PASSWORD_ARGON2ID);
