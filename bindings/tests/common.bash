@@ -26,6 +26,12 @@ refuses() {
     [[ $status == "$expected" && $said == *"$text"* ]]
 }
 
+# 2,000 hashes of libargon2, drawn anew each time, for the tests of a language.
+draws_hashes() {
+    export RANDOM_HASHES=${work:?}/random.txt
+    python3 vectors/drawn.py "$SRANDOM" 2000 >"$RANDOM_HASHES"
+}
+
 # `check_with COMMAND NAME COMMAND..`: a check, where the first command is there.
 check_with() {
     local needed=$1

@@ -16,12 +16,6 @@ installs() {
     fi
 }
 
-# 2,000 hashes of libargon2, drawn anew each time, for the tests.
-draws_hashes() {
-    export RANDOM_HASHES=$work/random.txt
-    python3 javascript/tests/beside.py "$SRANDOM" 2000 100 >"$RANDOM_HASHES"
-}
-
 # A line for each test of some files: `tests_of FILE..`.
 tests_of() {
     (cd "$site" && node --test --test-reporter=./reporter.mjs "$@" 2>&1)

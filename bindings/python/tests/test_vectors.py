@@ -1,5 +1,6 @@
-"""The outside vectors, and those of RFC 9106."""
+"""The outside vectors, those of RFC 9106, and hashes of libargon2 that vectors/drawn.py draws into $RANDOM_HASHES."""
 import base64
+import os
 import unittest
 from pathlib import Path
 
@@ -7,6 +8,8 @@ from proved_argon2.exceptions import HashingError, VerificationError, VerifyMism
 from proved_argon2.low_level import ARGON2_VERSION, Type, error_to_str, hash_secret, hash_secret_raw, verify_secret
 
 VECTORS = Path(__file__).resolve().parents[2] / "vectors"
+FILES = [VECTORS / "raw.txt", *(Path(os.environ[name]) for name in ("RANDOM_HASHES",) if name in os.environ)]
+LINES = [line for file in FILES for line in file.read_text().splitlines()]
 TYPES = {"argon2d": Type.D, "argon2i": Type.I, "argon2id": Type.ID}
 
 
@@ -31,8 +34,7 @@ def answer_of(call, *arguments, **named):
 
 class Vectors(unittest.TestCase):
     def test_each_tag_and_refusal(self):
-        lines = (VECTORS / "raw.txt").read_text().splitlines()
-        for line in lines:
+        for line in LINES:
             variant, *numbers, pwd, salt, secret, ad, answer = line.split(" ", 10)
             version, time_cost, memory_cost, lanes, length = map(int, numbers)
             tag = answer_of(
@@ -49,11 +51,11 @@ class Vectors(unittest.TestCase):
                 associated_data=bytes_of(ad),
             )
             self.assertEqual(tag, answer, line)
-        self.assertEqual(len(lines), 240)
+        self.assertEqual(len(LINES), 240 if len(FILES) == 1 else 2240)
 
     def test_each_tag_in_a_text(self):
         """The tags once more, in texts that verify with this secret and this associated data alone."""
-        for line in (VECTORS / "raw.txt").read_text().splitlines():
+        for line in LINES:
             variant, *numbers, pwd, salt, secret, ad, answer = line.split(" ", 10)
             version, time_cost, memory_cost, lanes, length = map(int, numbers)
             arguments = (bytes_of(pwd), bytes_of(salt), time_cost, memory_cost, lanes, length, TYPES[variant], version)

@@ -1,4 +1,4 @@
-//! The outside vectors in bindings/vectors.
+//! The outside vectors in bindings/vectors, and hashes of libargon2 that drawn.py there draws into $RANDOM_HASHES.
 
 use proved_argon2::{
     hash_encoded, hash_encoded_in, hash_raw, hash_raw_in, verify_encoded, verify_encoded_ext,
@@ -25,6 +25,15 @@ fn base64_of(bytes: &[u8]) -> String {
             char::from(LETTERS[usize::from(place)])
         })
         .collect()
+}
+
+/// The lines of raw.txt, and those that were drawn, if there are any.
+fn lines() -> Vec<String> {
+    let drawn = std::env::var("RANDOM_HASHES").map(|file| std::fs::read_to_string(file).unwrap());
+    let lines: Vec<String> =
+        RAW.lines().chain(drawn.as_deref().unwrap_or("").lines()).map(str::to_owned).collect();
+    assert_eq!(lines.len(), if drawn.is_ok() { 2240 } else { 240 });
+    lines
 }
 
 /// What a line of raw.txt says: the settings without secret and associated data, these four, and the answer.
@@ -67,7 +76,7 @@ impl Row<'_> {
 
 #[test]
 fn each_tag_and_error_is_that_of_the_vectors() {
-    for line in RAW.lines() {
+    for line in &lines() {
         let row = Row::of(line);
         let config = Config { secret: &row.secret, ad: &row.ad, ..row.config };
         let tag = hash_raw(&row.pwd, &row.salt, &config);
@@ -77,14 +86,13 @@ fn each_tag_and_error_is_that_of_the_vectors() {
         let hexadecimal = tag.map(|tag| tag.iter().map(|byte| format!("{byte:02x}")).collect());
         assert_eq!(Row::answer_of(hexadecimal), row.answer, "{line}");
     }
-    assert_eq!(RAW.lines().count(), 240);
 }
 
 /// The same over one memory, whose size changes with the rows.
 #[test]
 fn each_tag_and_error_comes_over_one_memory() {
     let mut memory = Memory::new();
-    for line in RAW.lines() {
+    for line in &lines() {
         let row = Row::of(line);
         let config = Config { secret: &row.secret, ad: &row.ad, ..row.config };
         let tag = match hash_raw_in(&mut memory, &row.pwd, &row.salt, &config) {
@@ -117,7 +125,7 @@ fn each_tag_and_error_comes_over_one_memory() {
 /// The tags once more, in texts that verify with this secret and this associated data alone.
 #[test]
 fn each_tag_and_error_comes_in_a_text() {
-    for line in RAW.lines() {
+    for line in &lines() {
         let row = Row::of(line);
         let config = Config { secret: &row.secret, ad: &row.ad, ..row.config };
         let text = match hash_encoded(&row.pwd, &row.salt, &config) {

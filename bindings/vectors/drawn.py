@@ -1,12 +1,13 @@
-"""Random hashes of libargon2, another implementation, as lines of bindings/vectors/raw.txt: beside.py SEED COUNT
-MEMORY, where MEMORY is the most KiB beyond the least. Or a string with associated data in it, as node-argon2 writes it:
-beside.py data"""
+"""Hashes of libargon2, another implementation, of settings and inputs drawn from a seed, as lines of raw.txt: drawn.py
+SEED COUNT. Half of the lengths are short, and half around those at which code may change its way. Or a string with
+associated data in it, as node-argon2 writes it: drawn.py data"""
 import base64
 import ctypes
 import random
 import sys
 
 VARIANTS = {"argon2d": 0, "argon2i": 1, "argon2id": 2}
+LENGTHS, LANES = (0, 8, 32, 64, 72, 128, 200, 300, 1000), (16, 64, 256, 333, 400)
 
 
 class Context(ctypes.Structure):
@@ -22,22 +23,29 @@ class Context(ctypes.Structure):
     ]
 
 
-def drawn(source, most):
-    """A line's settings and inputs."""
-    lanes = source.randint(1, 8)
+def length(source, least):
+    """A length of at least so many bytes."""
+    near = source.choice(LENGTHS) + source.randint(-2, 2)
+    return max(least, near) if source.randrange(2) else source.randint(least, 40)
+
+
+def drawn(source):
+    """A line's settings and inputs. Every second salt is text, which a command can be given as an argument."""
+    lanes = source.randint(1, 20) if source.randrange(10) else source.choice(LANES) + source.randint(-1, 1)
+    password, secret, data = (source.randbytes(length(source, 0)) for _ in range(3))
+    salt = source.randbytes(length(source, 8))
+    if source.randrange(2):
+        salt = bytes(97 + byte % 26 for byte in salt)
+    if source.randrange(2):
+        secret = data = b""
     return {
         "variant": source.choice(list(VARIANTS)),
         "version": source.choice((16, 19)),
-        "t": source.randint(1, 4),
-        "m": source.randint(8 * lanes, 8 * lanes + most),
+        "t": source.randint(1, 3),
+        "m": 8 * lanes + source.randint(0, 100),
         "p": lanes,
-        "length": source.randint(4, 140),
-        "inputs": [
-            source.randbytes(source.randint(0, 200)),
-            source.randbytes(source.randint(8, 80)),
-            source.randbytes(source.choice((0, 0, 8, 33))),
-            source.randbytes(source.choice((0, 0, 12, 70))),
-        ],
+        "length": length(source, 4),
+        "inputs": [password, salt, secret, data],
     }
 
 
@@ -49,7 +57,7 @@ def tag(library, case):
         case["version"], None, None, 0)
     code = library.argon2_ctx(ctypes.byref(context), VARIANTS[case["variant"]])
     if code != 0:
-        raise ValueError(f"libargon2 answers {code} for {case}")
+        raise ValueError(f"libargon2 returns {code} for {case}")
     return out.raw
 
 
@@ -66,10 +74,10 @@ def main():
     if sys.argv[1:] == ["data"]:
         print(with_data(library))
         return
-    seed, count, most = map(int, sys.argv[1:])
+    seed, count = map(int, sys.argv[1:])
     source = random.Random(seed)
     for _ in range(count):
-        case = drawn(source, most)
+        case = drawn(source)
         pieces = [piece.hex() or "-" for piece in case["inputs"]]
         print(case["variant"], case["version"], case["t"], case["m"], case["p"], case["length"], *pieces,
               tag(library, case).hex())
