@@ -7,7 +7,7 @@
 #include <argon2.h>
 #include <stdlib.h>
 
-enum { LONGEST = 96, INPUTS = 40 };
+enum { LONGEST = 1002, INPUTS = LONGEST, SHORT = 40 };
 
 struct call {
     proved_argon2_settings settings;
@@ -25,12 +25,21 @@ static inline uint32_t below(uint32_t end)
     return (uint32_t)(state % end);
 }
 
+/* A length of at least so many bytes: half of them short, and half around those at which code may change its way. */
+static inline uint32_t length(uint32_t least)
+{
+    static const uint32_t lengths[] = {8, 32, 64, 72, 128, 200, 300, 1000};
+    const uint32_t near = lengths[below(sizeof lengths / sizeof *lengths)] + below(5) - 2;
+    return below(2) ? least + below(SHORT - least) : near < least ? least : near;
+}
+
 static inline uint32_t some(uint8_t *bytes, uint32_t least)
 {
-    for (size_t i = 0; i < INPUTS; i++) {
+    const uint32_t len = length(least);
+    for (size_t i = 0; i < len; i++) {
         bytes[i] = (uint8_t)below(256);
     }
-    return least + below(INPUTS - least);
+    return len;
 }
 
 static inline struct call any_call(uint32_t most_lanes)
@@ -38,7 +47,7 @@ static inline struct call any_call(uint32_t most_lanes)
     struct call call;
     const uint32_t lanes = 1 + below(below(2) ? most_lanes : 8), version = below(2) ? 0x10 : 0x13;
     call.settings = (proved_argon2_settings){
-        below(3), version, 8 * lanes + below(300), 1 + below(3), lanes, 4 + below(LONGEST - 4)};
+        below(3), version, 8 * lanes + below(300), 1 + below(3), lanes, length(4)};
     call.pwd_len = some(call.pwd, 0);
     call.salt_len = some(call.salt, 8);
     call.secret_len = some(call.secret, 0);

@@ -14,7 +14,7 @@
 static bool agrees(const struct call *call, uint32_t threads, uint32_t kind)
 {
     uint8_t tag[LONGEST], expected[LONGEST];
-    char text[512];
+    char text[4 * LONGEST];
     proved_argon2_options with = by(threads);
     const size_t len = call->settings.hash_length;
     uint8_t *const buffer = __real_malloc((size_t)call->settings.mem_cost * 1024);
