@@ -12,6 +12,7 @@ argon2-cffi.
 memory in KiB, lengths in bytes, and the time in passes.
 """
 from . import exceptions, low_level, profiles
+from ._async import AsyncPasswordHasher
 from ._legacy import hash_password, hash_password_raw, verify_password
 from ._limits import DEFAULT_LIMITS, Limits
 from ._parameters import Parameters, extract_parameters
@@ -23,16 +24,19 @@ from ._password_hasher import (
     DEFAULT_TIME_COST,
     PasswordHasher,
 )
+from ._peppers import PepperedHasher
+from ._tuning import Tuning, tune
 from .low_level import Type
 
 __version__ = "1.0.0"
 
 # (so that `help` names them as they are imported)
-for _public in (Limits, Parameters, PasswordHasher):
+for _public in (AsyncPasswordHasher, Limits, Parameters, PasswordHasher, PepperedHasher, Tuning, tune):
     _public.__module__ = __name__
 del _public
 
 __all__ = [
+    "AsyncPasswordHasher",
     "DEFAULT_HASH_LENGTH",
     "DEFAULT_LIMITS",
     "DEFAULT_MEMORY_COST",
@@ -42,6 +46,8 @@ __all__ = [
     "Limits",
     "Parameters",
     "PasswordHasher",
+    "PepperedHasher",
+    "Tuning",
     "Type",
     "exceptions",
     "extract_parameters",
@@ -49,5 +55,6 @@ __all__ = [
     "hash_password_raw",
     "low_level",
     "profiles",
+    "tune",
     "verify_password",
 ]

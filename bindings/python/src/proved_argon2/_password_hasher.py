@@ -5,7 +5,7 @@ from ._library import require_number
 from ._limits import DEFAULT_LIMITS, Limits, default_limits_of
 from ._memory import Memory
 from ._parameters import Parameters, extract_parameters
-from .exceptions import Argon2Error, HashingError, InvalidHashError, VerificationError
+from .exceptions import Argon2Error, HashingError, InvalidHashError, VerificationError, VerifyMismatchError
 from .low_level import ARGON2_VERSION, Type, hash_secret, verify_secret
 from .profiles import RFC_9106_LOW_MEMORY
 
@@ -212,6 +212,31 @@ class PasswordHasher:
             memory=self._memory,
             progress=progress,
         )
+
+    def verify_and_update(
+        self,
+        hash: "Union[str, bytes]",
+        password: "Union[str, bytes]",
+        *,
+        progress: "Optional[Progress]" = None,
+        renew_by: "Optional[PasswordHasher]" = None,
+    ) -> "Tuple[bool, Optional[str]]":
+        """Whether a password matches an encoded hash, and the encoded hash to store in its place, or `None` if nothing:
+        where the password matches, and the hash has other settings than these, or a salt of another length. If the new
+        hash cannot be computed, the old one stays. With `renew_by` another hasher makes the new one.
+
+        Raises as `verify` does, but for a wrong password.
+        """
+        try:
+            self.verify(hash, password, progress=progress)
+        except VerifyMismatchError:
+            return False, None
+        hasher = self if renew_by is None else renew_by
+        try:
+            is_due = hasher._secret != self._secret or hasher.check_needs_rehash(hash)
+            return True, hasher.hash(password, progress=progress) if is_due else None
+        except (HashingError, MemoryError):
+            return True, None
 
     def check_needs_rehash(self, hash: "Union[str, bytes]") -> bool:
         """Whether an encoded hash was made with other settings than these, or with a salt of another length.

@@ -21,6 +21,10 @@ class HashingError(Argon2Error):
     """A password could not be hashed."""
 
 
+class BusyError(Argon2Error):
+    """As many calls compute and wait as an `AsyncPasswordHasher` lets: try again later."""
+
+
 class InvalidHashError(ValueError):
     """The string decodes to no hash."""
 
