@@ -58,10 +58,12 @@ mod error;
 mod face;
 mod hashing;
 mod limits;
+mod line;
 mod memory;
 mod password;
 mod result;
 mod run;
+mod service;
 mod stored;
 mod thread_mode;
 #[cfg(feature = "password-hash")]
@@ -74,12 +76,14 @@ pub use config::Config;
 pub use error::Error;
 pub use hashing::{encoded_len, hash_encoded, hash_encoded_in, hash_raw, hash_raw_in};
 pub use limits::{verify_encoded_within, verify_encoded_within_in, Limits, Unverified};
+pub use line::{Busy, Enter, Line, Place};
 pub use memory::Memory;
 pub use password::{hash_password, hash_password_with, verify_password};
 #[cfg(feature = "password-hash")]
 pub use password_hash;
 pub use result::Result;
 pub use run::Run;
+pub use service::{verify_and_update, Peppers};
 pub use stored::{read, Stored};
 pub use thread_mode::ThreadMode;
 #[cfg(feature = "password-hash")]
