@@ -19,7 +19,7 @@ WINDOWS = 'x86_64-w64-mingw32-', *KINDS[X86][1:]
 OUTSIDE, CLEARS = 16, ('memset', 'memset@plt', 'proved_driver_memset', 'proved_sysv_memset')
 LINKS = 'ld', '--entry=0', '--unresolved-symbols=ignore-all', f'--defsym=memset={OUTSIDE}', '--whole-archive'
 # (a linker for Windows leaves nothing unresolved, and gcc knows what it needs)
-LINKS_FOR_WINDOWS = 'gcc', '-shared', '-nostartfiles', '-Wl,--entry=0', '-Wl,--whole-archive'
+LINKS_FOR_WINDOWS = 'gcc-posix', '-shared', '-nostartfiles', '-Wl,--entry=0', '-Wl,--whole-archive'
 SECTION = re.compile(r' *\d+ \S+ +([0-9a-f]+)  ([0-9a-f]+)  [0-9a-f]+  ([0-9a-f]+)  2\*\*\d+')
 LABEL = re.compile(r'([0-9a-f]+) <(.*)>:')
 LINE = re.compile(r' *([0-9a-f]+):\t([0-9a-f ]+?) *\t(.*?)(?:\s*(?:# |//).*)?')
