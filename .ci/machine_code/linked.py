@@ -9,6 +9,7 @@ from pathlib import Path
 import arm64
 import x86
 from machine import WORD
+from mapped import SECTION, check_archive, of_dll, of_segments, place
 from terms import Fault
 
 X86, ARM64, OBJECT = 62, 183, 1  # (numbers of ELF)
@@ -17,13 +18,16 @@ KINDS = {X86: ('', ('-M', 'intel'), x86.X86, x86.decode), ARM64: ('aarch64-linux
 WINDOWS = 'x86_64-w64-mingw32-', *KINDS[X86][1:]
 # Where memset is in what is linked here of objects, which have no C library; its names elsewhere (build/link).
 OUTSIDE, CLEARS = 16, ('memset', 'memset@plt', 'proved_driver_memset', 'proved_sysv_memset')
-LINKS = 'ld', '--entry=0', '--unresolved-symbols=ignore-all', f'--defsym=memset={OUTSIDE}', '--whole-archive'
+LINKS = ('ld', '-zseparate-code', '--entry=0', '--unresolved-symbols=ignore-all', f'--defsym=memset={OUTSIDE}',
+         '--whole-archive')
 # (a linker for Windows leaves nothing unresolved, and gcc knows what it needs)
 LINKS_FOR_WINDOWS = 'gcc-posix', '-shared', '-nostartfiles', '-Wl,--entry=0', '-Wl,--whole-archive'
-SECTION = re.compile(r' *\d+ \S+ +([0-9a-f]+)  ([0-9a-f]+)  [0-9a-f]+  ([0-9a-f]+)  2\*\*\d+')
 LABEL = re.compile(r'([0-9a-f]+) <(.*)>:')
 LINE = re.compile(r' *([0-9a-f]+):\t([0-9a-f ]+?) *\t(.*?)(?:\s*(?:# |//).*)?')
 TARGET = re.compile(r'([0-9a-f]+) <.*')  # (of a jump)
+JUMP = re.compile(r'(?:call|j\w+|bl?(?:\.\w+)?|[ct]bn?z)\s(?:.*\s)?(0x[0-9a-f]+)')
+# What multiplies numbers of 32 bits in vectors: no other instruction makes blocks as fast.
+MULTIPLIES = re.compile(r'v?pmulu?dq |vpmullq |vpmadd52|[us]m(?:ul|la|ls)l2?\tv\d+\.2d')
 
 
 class Missing(Exception):
@@ -57,14 +61,15 @@ class Code:
         if content[:2] == b'MZ' or content[:4] == b'\x7fELF' and content[16] != OBJECT:
             self.read(path)
         else:
+            if content[:4] != b'\x7fELF':
+                check_archive(content)
             with tempfile.NamedTemporaryFile(suffix='.linked') as linked:
                 tool, *words = LINKS_FOR_WINDOWS if is_windows else LINKS
                 run(prefix + tool, '-o', linked.name, *words, path, *['-Wl,--no-whole-archive'] * is_windows)
                 self.read(Path(linked.name))
 
     def read(self, path):
-        self.content, self.sections, self.names, self.bodies, self.instructions = path.read_bytes(), [], {}, {}, {}
-        body = {}
+        self.content, self.names, self.bodies, body, sections = path.read_bytes(), {}, {}, {}, []
         for line in run(self.objdump, '-h', '-d', '-z', '-w', *self.words, path).splitlines():
             if found := LINE.fullmatch(line):
                 body[int(found[1], 16)] = TARGET.sub(r'0x\1', found[3]), len(found[2].replace(' ', '')) // 2
@@ -72,12 +77,27 @@ class Code:
                 begin = int(found[1], 16)
                 self.names[begin], body = found[2], self.bodies.setdefault(begin, {})
             elif found := SECTION.match(line):
-                self.sections.append([int(digits, 16) for digits in found.groups()])
+                sections.append((*(int(digits, 16) for digits in found.groups()[:3]), found[4]))
+        self.mapped = of_dll(sections) if self.content[:2] == b'MZ' else of_segments(
+            self.content, sections, run(self.objdump, '-p', path))
         self.instructions = {at: instruction for body in self.bodies.values() for at, instruction in body.items()}
         self.clears = {OUTSIDE, *(begin for begin, name in self.names.items() if name in CLEARS)}
 
     def validate(self):
-        """Nothing is wrong with what objdump has read."""
+        """Each jump leads to an instruction that objdump has read: none is hidden in another."""
+        jumps = (JUMP.fullmatch(text) for text, _ in self.instructions.values())
+        astray = {int(found[1], 16) for found in jumps if found} - {*self.instructions, 0, OUTSIDE}
+        if astray:
+            raise Fault(f'it jumps to {", ".join(map(hex, sorted(astray)))}, where no instruction begins')
+
+    def calls(self, begin):
+        """How many instructions call a function."""
+        call = re.compile(rf'(?:call|jmp|bl?)\s+{begin:#x}')
+        return sum(bool(call.fullmatch(text)) for text, _ in self.instructions.values())
+
+    def multiplications(self):
+        """The instructions with which blocks can be made."""
+        return {at for at, (text, _) in self.instructions.items() if MULTIPLIES.match(text)}
 
     def begins(self, function):
         """Where a function begins, once for each build."""
@@ -92,8 +112,7 @@ class Code:
 
     def place(self, address):
         """Where in the file an address is."""
-        return next((offset + address - begin for size, begin, offset in self.sections
-                     if begin and 0 <= address - begin < size), None)
+        return place(self.mapped, address)
 
     def constant(self, address):
         places = [self.place(address + index) for index in range(WORD)]

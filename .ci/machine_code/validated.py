@@ -26,13 +26,15 @@ def compressed_state(flag, h, m, counter):
 @dataclass(frozen=True)
 class Function:
     """A function's name; what it is passed before the flag: regions of memory, by their sizes in words, and words; and
-    what it leaves in one of the regions. In a module, which may have no names, it is the one with some instructions."""
+    what it leaves in one of the regions. In a module, which may have no names, it is the one with some instructions.
+    So many instructions call it, in each build."""
     name: str
     regions: dict
     words: tuple
     written: str
     definition: Callable
     only: tuple
+    calls: int
 
     def run(self, code, begin, flag, entry, values=None):
         """A machine after a run over values, or else a variable for each word; and what is wrong with it, or None."""
@@ -55,9 +57,9 @@ class Function:
 
 FUNCTIONS = (
     Function('fill_words', {'prev': 128, 'reference': 128, 'next': 128}, (), 'next', compressed_block,
-             ('i64.mul', 'i64.rotl')),
+             ('i64.mul', 'i64.rotl'), 6),
     Function('compress_f', {'h': 8, 'm': 16}, ('low', 'high'), 'h', compressed_state,
-             (f'i64.const {rfc7693.IV[4]}', 'i64.rotl')))
+             (f'i64.const {rfc7693.IV[4]}', 'i64.rotl'), 3))
 FLAGS = 0, 1
 
 

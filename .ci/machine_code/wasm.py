@@ -13,6 +13,8 @@ SIGNATURE = re.compile(r' - func\[(\d+)\] sig=(\d+)')
 HEAD = re.compile(r'[0-9a-f]+ func\[(\d+)\](?: <.*>)?:')
 LINE = re.compile(r' ([0-9a-f]+):((?: [0-9a-f]{2})+) +\| *(.*)')
 OPENS, LOW = ('block', 'loop'), (1 << 32) - 1
+# With so many multiplications a function can make blocks; sizes and numbers in texts take fewer.
+MANY = 8
 # The global that is the stack pointer, how much of the stack a function asks for, and that this is not there.
 STACK_POINTER, LEAST_STACK, NO_STACK = '0', 16, variable('the stack has no room')
 
@@ -57,6 +59,15 @@ class Module:
 
     def validate(self):
         run('wasm-validate', '--enable-memory64', '--enable-threads', self.path)
+
+    def calls(self, number):
+        """How many instructions call a function."""
+        return [text for text, *_ in self.instructions.values()].count(f'call {number}')
+
+    def multiplications(self):
+        """The instructions with which blocks can be made."""
+        found = ({at for at, (text, _) in body.items() if text == 'i64.mul'} for body in self.bodies.values())
+        return set().union(*(places for places in found if len(places) > MANY))
 
     def begins(self, function):
         """The functions that have what only this one has."""

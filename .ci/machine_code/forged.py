@@ -1,0 +1,89 @@
+"""Forgeries that run another compression than the one that tools print. Each is made of a file of release/, and has to
+fail in `check` by what it says."""
+
+import re
+import struct
+import subprocess
+from pathlib import Path
+
+from linked import need, run
+from mapped import HEADER_SIZE, members
+from validated import FUNCTIONS, code_of
+
+WORD = struct.Struct('<Q')
+
+
+def flipped(content, place):
+    """With another multiplication."""
+    return content[:place] + bytes([content[place] ^ 1]) + content[place + 1:]
+
+
+def lead_sections_to_a_copy(file, forged):
+    """The sections of a shared object are those of a copy behind it."""
+    code = code_of(file)
+    content, (first,) = code.content, WORD.unpack_from(code.content, 0x28)
+    headers = b''.join(content[at:at + 24] + WORD.pack(WORD.unpack_from(content, at + 24)[0] + len(content))
+                       + content[at + 32:at + 64] for at in range(first, len(content) - 63, 64))
+    forged.write_bytes(flipped(content[:first], code.place(min(code.multiplications()))) + headers + content)
+
+
+def hide_a_member(file, forged):
+    """The table of symbols leads into the last member, where another object is."""
+    content = file.read_bytes()
+    found = [*members(content)]
+    (begin, _, body), (last, *_) = found[2], found[-1]
+    copy = flipped(content[begin:begin + HEADER_SIZE + len(body)], -9)
+    size = b'%-10d' % (len(content) + len(copy) - last - HEADER_SIZE)
+    table = content[:found[1][0]].replace(begin.to_bytes(4, 'big'), len(content).to_bytes(4, 'big'))
+    forged.write_bytes(table + content[len(table):last + 48] + size + content[last + 58:] + copy)
+
+
+def redirect_a_call(file, forged):
+    """One of the calls leads to BLAKE2b's compression."""
+    code = code_of(file)
+    begin, other = (code.begins(function)[0] for function in FUNCTIONS)
+    call = next(at for at, (text, _) in code.instructions.items() if re.fullmatch(rf'call +{begin:#x}', text))
+    place, to = code.place(call) + 1, (other - call - 5).to_bytes(4, 'little', signed=True)
+    forged.write_bytes(code.content[:place] + to + code.content[place + 4:])
+
+
+def add_a_decoy(file, forged):
+    """The function that has the name is called by nothing that is called."""
+    objects = [forged.with_name(name) for name in ('argon2_c.o', 'decoy.o')]
+    objects[0].write_bytes(subprocess.run([need('ar'), 'p', file], capture_output=True, check=True).stdout)
+    fill, compress = (name for function in FUNCTIONS for name in code_of(file).names.values()
+                      if name.endswith(f'::{function.name}'))
+    run(need('objcopy'), '--prefix-symbols=decoy::', f'--redefine-sym={compress}=decoy', *objects)
+    run('objcopy', f'--redefine-sym={fill}=fill', objects[0])
+    run('ar', 'rcs', forged, *objects)
+
+
+def call_a_copy(file, forged):
+    """A module calls a copy of the function, which rotates by a function of its own."""
+    head, *functions = re.split(r'(?m)^(?=  \((?:func|table|memory) )', run(need('wasm2wat'), '--enable-all', file))
+    number, = code_of(file).begins(FUNCTIONS[0])
+    last = max(at for at, text in enumerate(functions) if text.startswith('  (func '))
+    copy = functions[int(number)].replace(f'(;{number};)', f'(;{last + 1};)').replace('i64.rotl', f'call {last + 2}')
+    rotate = '  (func (param i64 i64) (result i64)\n    local.get 0\n    local.get 1\n    i64.shl)\n'
+    functions = [re.sub(rf'\bcall {number}\b', f'call {last + 1}', text) for text in functions]
+    forged.with_suffix('.wat').write_text(''.join([head, *functions[:last + 1], copy, rotate, *functions[last + 1:]]))
+    run(need('wat2wasm'), '--enable-all', '-o', forged, forged.with_suffix('.wat'))
+
+
+FORGERIES = (
+    ('x86_64/libproved_argon2.so.1.0.0', lead_sections_to_a_copy, 'a section of code is not what is mapped'),
+    ('x86_64/libproved_argon2.a', hide_a_member, 'its table of symbols leads to what is no member'),
+    ('x86_64/argon2', redirect_a_call, 'fill_words: it is what is called'),
+    ('x86-64-v3/libargon2_c.a', add_a_decoy, 'nothing else multiplies as they do'),
+    ('wasm32/proved_argon2.wasm', call_a_copy, 'fill_words: it is what is called'))
+
+
+def judged(release, folder):
+    """Each forgery with what is wrong with how the check judges it, or nothing."""
+    for name, forge, expected in FORGERIES:
+        forged = Path(folder, name)
+        forged.parent.mkdir(exist_ok=True)
+        forge(release / name, forged)
+        said = subprocess.run([Path(__file__).with_name('check'), forged], capture_output=True, text=True,
+                              check=False).stdout
+        yield forge.__name__, '' if re.search(f'^FAILED .*{expected}', said, re.M) else said
