@@ -25,7 +25,7 @@ LINKS_FOR_WINDOWS = 'gcc-posix', '-shared', '-nostartfiles', '-Wl,--entry=0', '-
 LABEL = re.compile(r'([0-9a-f]+) <(.*)>:')
 LINE = re.compile(r' *([0-9a-f]+):\t([0-9a-f ]+?) *\t(.*?)(?:\s*(?:# |//).*)?')
 TARGET = re.compile(r'([0-9a-f]+) <.*')  # (of a jump)
-JUMP = re.compile(r'(?:call|j\w+|bl?(?:\.\w+)?|[ct]bn?z)\s(?:.*\s)?(0x[0-9a-f]+)')
+JUMP = re.compile(r'(?:[\w.]+ +)*(?:call|j\w+|loop\w*|xbegin|bl?(?:\.\w+)?|[ct]bn?z)\s(?:.*\s)?(0x[0-9a-f]+)')
 # What multiplies numbers of 32 bits in vectors: no other instruction makes blocks as fast.
 MULTIPLIES = re.compile(r'v?pmulu?dq |vpmullq |vpmadd52|[us]m(?:ul|la|ls)l2?\tv\d+\.2d')
 
