@@ -6,7 +6,7 @@
  * usage: driver table|plots|tags SECONDS FOLDER
  *
  * SECONDS is how long each case runs, and the folder is what bench/run builds. Each line is a case, and for each
- * implementation its name, the least and the median milliseconds of a hash. bench/figures makes the tables and plots. */
+ * implementation its name, the least and the median milliseconds of a hash. bench/figures makes tables and plots. */
 #include "hashers.h"
 
 #include <dlfcn.h>

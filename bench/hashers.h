@@ -36,7 +36,7 @@ struct hasher {
     void *call;
 };
 
-/* Hashes by `hasher`: 0 where the tag was written, and else a number above 0, as the implementation has no such cost. */
+/* Hashes by `hasher`: 0 where the tag was written, and else a number above 0: the implementation has no such cost. */
 typedef int hash_function(const struct hasher *hasher, const struct cost *cost, uint8_t tag[TAG_LENGTH]);
 
 /* Our library (ours.c), which each build of it is loaded from anew, and the peers. */

@@ -12,7 +12,11 @@ pub struct Cost {
 
 fn hash(cost: &Cost, tag: &mut [u8]) -> argon2::Result<()> {
     let params = Params::new(cost.memory, cost.passes, cost.lanes, Some(tag.len()))?;
-    Argon2::new(Algorithm::Argon2id, Version::V0x13, params).hash_password_into(b"password", b"somesaltsomesalt", tag)
+    Argon2::new(Algorithm::Argon2id, Version::V0x13, params).hash_password_into(
+        b"password",
+        b"somesaltsomesalt",
+        tag,
+    )
 }
 
 /// Writes the tag of 32 bytes and returns 0, or returns 1: this crate fills in one thread alone.

@@ -46,8 +46,7 @@ static inline struct call any_call(uint32_t most_lanes)
 {
     struct call call;
     const uint32_t lanes = 1 + below(below(2) ? most_lanes : 8), version = below(2) ? 0x10 : 0x13;
-    call.settings = (proved_argon2_settings){
-        below(3), version, 8 * lanes + below(300), 1 + below(3), lanes, length(4)};
+    call.settings = (proved_argon2_settings){below(3), version, 8 * lanes + below(300), 1 + below(3), lanes, length(4)};
     call.pwd_len = some(call.pwd, 0);
     call.salt_len = some(call.salt, 8);
     call.secret_len = some(call.secret, 0);
