@@ -37,10 +37,10 @@ has_namespaces() {
         mount -t overlay overlay -o "lowerdir=/,upperdir=$1/new,workdir=$1/work" "$1/all"' bash "${TMPDIR:-/tmp}"
 }
 
-# Whether a system of a release of Debian can be made.
+# Whether a system of a release can be made: `has_release RELEASE [MIRROR SCRIPT]`, as for debootstrap.
 has_release() {
     local folder
-    folder=$(mktemp -d) && ((!EUID)) && debootstrap --print-debs --variant=minbase "$1" "$folder/root"
+    folder=$(mktemp -d) && ((!EUID)) && debootstrap --print-debs --variant=minbase "$1" "$folder/root" "${@:2}"
 }
 
 # Whether Debian's packages for another machine can be had.

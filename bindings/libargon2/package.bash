@@ -17,8 +17,10 @@ stage_libargon2() {
 
 # ---- for ./package: proved-libargon2-1 in the place of libargon2-1, and proved-libargon2-dev in that of libargon2-dev
 
-# The versions of libargon2 whose place they take, as Debian 12 and 13 number them.
-readonly libargon2_versions=('0~20171227-0.3+deb12u1' '0~20190702+dfsg-4+b2')
+# The versions of libargon2 whose place they take, as Debian 12 and 13, and Ubuntu 22.04 and 24.04, number them.
+readonly libargon2_versions=(
+    '0~20171227-0.3+deb12u1' '0~20190702+dfsg-4+b2' '0~20171227-0.3' '0~20190702+dfsg-4build1'
+)
 
 # The fields by which apt removes Debian's package alone, and leaves what needs it: `takes_place_of PACKAGE`.
 takes_place_of() {
