@@ -32,6 +32,11 @@ draws_hashes() {
     python3 vectors/drawn.py "$SRANDOM" 2000 >"$RANDOM_HASHES"
 }
 
+# Whether a service's log tells of the login that a user's name forges, and has no line of it: `forges_no_line LOG`.
+forges_no_line() {
+    grep -q 'logged in: root' "$1" && ! grep -E '^(INFO:root:)?logged in: root' "$1"
+}
+
 # `check_with COMMAND NAME COMMAND..`: a check, where the first command is there.
 check_with() {
     local needed=$1

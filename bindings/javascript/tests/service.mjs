@@ -31,6 +31,19 @@ assert.deepEqual(await logIn('somebody', 'password', '$argon2id$', secret), [nul
 assert.ok(seen.true > 0 && seen.false > 0 && seen.null > 1, JSON.stringify(seen));
 const grown = process.resourceUsage().maxRSS - before;
 assert.ok(grown <= MOST_KIB, `${grown} of ${MOST_KIB} KiB`);
+// No password is too long or no string, no name begins a line of the log, no client that has left keeps a place.
+const long = 'a'.repeat(1025);
+for (const password of [null, 5, ['password'], undefined, long]) {
+    const stored = await hash(long, { memoryCost: 64, secret });
+    assert.deepEqual(await logIn('somebody', password, stored, secret), [false, stored]);
+}
+assert.equal((await logIn('x\nlogged in: root', 'password', older, secret))[0], true);
+for (let turn = 0; turn < 3; turn += 1) {
+    const leaves = new AbortController();
+    const verdict = logIn('somebody', 'password', older, secret, leaves.signal);
+    leaves.abort();
+    assert.deepEqual(await verdict, [null, older]);
+}
 // Without random bytes nothing is hashed, and a right password still matches.
 globalThis.crypto.getRandomValues = () => { throw new Error('refused'); };
 assert.deepEqual(await logIn('somebody', 'password', older, secret), [true, older]);

@@ -36,13 +36,49 @@ ssize_t getrandom(void *bytes, size_t length, unsigned flags)
     return has_no_random_bytes ? -1 : syscall(SYS_getrandom, bytes, length, flags);
 }
 
+static const proved_argon2_settings small = {PROVED_ARGON2_ID, PROVED_ARGON2_VERSION_13, 4096, 1, 1, 32};
+
+static int has_left(void *client, uint64_t done, uint64_t all)
+{
+    (void)done, (void)all;
+    return *(const int *)client;
+}
+
+/* Writes a hash of the password with settings that are not those of today. */
+static bool hash(const char *password, char *stored)
+{
+    const proved_argon2_options options = {.size = sizeof options};
+    return proved_argon2_password_hash_with(&options, &small, stored, password, strlen(password), pepper, sizeof pepper)
+        == PROVED_ARGON2_OK;
+}
+
+/* Whether a login with the right password has this verdict, of a client that has left if this is not 0. */
+static bool gives(enum verdict expected, const char *user, const char *password, int client)
+{
+    char stored[PROVED_ARGON2_TEXT_SIZE];
+    return hash(password, stored) && log_in(&places, user, password, stored, has_left, &client) == expected;
+}
+
+/* No password is longer than LONGEST, no name begins a line of the log, and no client that has left keeps a place. */
+static bool is_bounded(void)
+{
+    char longest[LONGEST + 2];
+    memset(longest, 'a', sizeof longest);
+    longest[LONGEST + 1] = '\0';
+    bool holds = gives(DIFFERS, "somebody", longest, 0) && gives(MATCHES, "x\nlogged in: root", longest + 1, 0);
+    for (int turn = 0; turn <= PLACES; turn++) {
+        holds = holds && gives(ERROR, "somebody", "password", 1);
+    }
+    return holds && gives(MATCHES, "somebody", "password", 0);
+}
+
 /* Whether a right password still matches if it cannot be hashed again, and the old hash is kept. */
 static bool keeps_the_old_hash(void)
 {
     char stored[PROVED_ARGON2_TEXT_SIZE];
     strcpy(stored, older);
     has_no_random_bytes = true;
-    return log_in(&places, "somebody", "password", stored) == MATCHES && strcmp(stored, older) == 0;
+    return log_in(&places, "somebody", "password", stored, NULL, NULL) == MATCHES && strcmp(stored, older) == 0;
 }
 
 static void log_in_once(unsigned turn)
@@ -50,7 +86,7 @@ static void log_in_once(unsigned turn)
     char stored[PROVED_ARGON2_TEXT_SIZE] = {0};
     const int is_right = turn % 3 == 0, is_unreadable = turn % 7 == 0;
     strcpy(stored, is_unreadable ? unreadable : older);
-    const enum verdict verdict = log_in(&places, "somebody", is_right ? "password" : "Password", stored);
+    const enum verdict verdict = log_in(&places, "somebody", is_right ? "password" : "Password", stored, NULL, NULL);
     const enum verdict expected = is_unreadable ? ERROR : is_right ? MATCHES : DIFFERS;
     const int is_renewed = strstr(stored, "m=19456,t=2,p=1") != NULL;
     seen[verdict]++;
@@ -74,14 +110,9 @@ static long peak_kib(void)
 
 int main(void)
 {
-    const proved_argon2_settings small = {PROVED_ARGON2_ID, PROVED_ARGON2_VERSION_13, 4096, 1, 1, 32};
-    const uint8_t password[] = "password", salt[] = "somesaltsomesalt";
     unsigned firsts[THREADS];
     pthread_t threads[THREADS];
-    if (proved_argon2_hash_encoded(password, sizeof password - 1, salt, sizeof salt - 1, pepper, sizeof pepper, NULL, 0,
-            &small, older, sizeof older)
-            != PROVED_ARGON2_OK
-        || sem_init(&places, 0, PLACES) != 0) {
+    if (!hash("password", older) || sem_init(&places, 0, PLACES) != 0) {
         return 2;
     }
     const long before = peak_kib();
@@ -97,6 +128,6 @@ int main(void)
     const long grown = peak_kib() - before, most = PLACES * (long)proved_argon2_owasp2().mem_cost + SLACK_KIB;
     printf("%d match, %d differ, %d busy, %d errors; %d wrong; %ld KiB of %ld\n", seen[MATCHES], seen[DIFFERS],
         seen[BUSY], seen[ERROR], wrong, grown, most);
-    return !(
-        seen[MATCHES] && seen[DIFFERS] && seen[BUSY] && seen[ERROR] && !wrong && grown <= most && keeps_the_old_hash());
+    return !(seen[MATCHES] && seen[DIFFERS] && seen[BUSY] && seen[ERROR] && !wrong && grown <= most && is_bounded()
+        && keeps_the_old_hash());
 }

@@ -22,12 +22,20 @@ older = PasswordHasher(time_cost=1, memory_cost=4096, parallelism=1, secret=PEPP
 seen, wrong = {True: 0, False: 0, None: 0}, []
 
 
+def stays():
+    return False
+
+
+def leaves():
+    return True
+
+
 def logs_in(seed, end):
     draw = random.Random(seed)
     while time.monotonic() < end:
         password = draw.choice(("password", "Password"))
         stored = draw.choice((older, older.replace("argon2id", "argon3")))
-        verdict, renewed = log_in("somebody", password, stored)  # noqa: F821 (it is the page's)
+        verdict, renewed = log_in("somebody", password, stored, stays)  # noqa: F821 (it is the page's)
         seen[verdict] += 1
         allowed = (None,) if stored != older else (password == "password", None)
         if verdict not in allowed or (renewed != stored) != bool(verdict) or (verdict and "t=3" not in renewed):
@@ -42,7 +50,7 @@ def deny(hasher, text):
     raise MemoryError
 
 
-logging.disable()
+logging.basicConfig(level=logging.INFO)
 threads = [threading.Thread(target=logs_in, args=(seed, time.monotonic() + SECONDS)) for seed in range(THREADS)]
 for thread in threads:
     thread.start()
@@ -52,8 +60,14 @@ grown = resource.getrusage(resource.RUSAGE_SELF).ru_maxrss - before
 assert not wrong, wrong[0]
 assert all(seen.values()), seen
 assert 0 < grown < 2 * KIB + 32768, grown
+# No password is too long or no string, no name begins a line of the log, no client that has left keeps a place.
+for password in ("\ud800", None, 5, ["password"], b"password", "a" * 1025):
+    assert log_in("somebody", password, hasher.hash("a" * 1025), stays)[0] is False, password  # noqa: F821
+assert log_in("x\nINFO:root:logged in: root", "a" * 1024, hasher.hash("a" * 1024), stays)[0]  # noqa: F821
+for _ in range(3):
+    assert log_in("somebody", "password", older, leaves) == (None, older)  # noqa: F821
 PasswordHasher.hash = refuse
-assert log_in("somebody", "password", older) == (True, older)  # noqa: F821
-assert log_in("somebody", "Password", older) == (False, older)  # noqa: F821
+assert log_in("somebody", "password", older, stays) == (True, older)  # noqa: F821
+assert log_in("somebody", "Password", older, stays) == (False, older)  # noqa: F821
 PasswordHasher.check_needs_rehash = deny
-assert log_in("somebody", "password", older) == (True, older)  # noqa: F821
+assert log_in("somebody", "password", older, stays) == (True, older)  # noqa: F821

@@ -23,7 +23,7 @@ fn logs_in_often(free: &AtomicUsize, older: &str, first: usize, seen: &[AtomicUs
     for turn in (first..).take_while(|_| Instant::now() < end) {
         let is_right = turn % 2 == 0;
         let password: &[u8] = if is_right { b"password" } else { b"Password" };
-        match log_in(free, "somebody", password, older) {
+        match log_in(free, "somebody", password, older, || false) {
             None => seen[2].fetch_add(1, SeqCst),
             Some((verdict, renewed)) => {
                 assert_eq!(verdict, is_right);
@@ -32,6 +32,24 @@ fn logs_in_often(free: &AtomicUsize, older: &str, first: usize, seen: &[AtomicUs
             }
         };
     }
+}
+
+/// What a login with the right password returns, of a client that has left or not.
+fn logs_in(free: &AtomicUsize, user: &str, length: usize, has_left: bool) -> Option<bool> {
+    let password = vec![b'a'; length];
+    let config = argon2::Config { mem_cost: 64, secret: PEPPER, ..argon2::Config::default() };
+    let stored = argon2::hash_password_with(&password, &config).unwrap();
+    log_in(free, user, &password, &stored, || has_left).map(|(verdict, _)| verdict)
+}
+
+/// No password is too long, no name begins a line of the log, and no client that has left keeps a place.
+fn is_bounded(free: &AtomicUsize) {
+    assert_eq!(logs_in(free, "x\nlogged in: root", 1024, false), Some(true));
+    assert_eq!(logs_in(free, "somebody", 1025, false), Some(false));
+    for _ in 0..=PLACES {
+        assert_eq!(logs_in(free, "somebody", 8, true), None);
+    }
+    assert_eq!(logs_in(free, "somebody", 8, false), Some(true));
 }
 
 fn main() {
@@ -45,7 +63,8 @@ fn main() {
             scope.spawn(move || logs_in_often(free, older, first, seen));
         }
     });
-    assert!(log_in(&free, "somebody", b"password", "$argon2id$").is_none());
+    assert!(log_in(&free, "somebody", b"password", "$argon2id$", || false).is_none());
+    is_bounded(&free);
     assert!(seen.iter().all(|count| count.load(SeqCst) > 0), "{seen:?}");
     let most = PLACES * argon2::Config::default().mem_cost as usize + SLACK_KIB;
     assert!(peak_kib() - before <= most, "{} of {most} KiB", peak_kib() - before);
