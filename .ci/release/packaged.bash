@@ -188,6 +188,7 @@ crate() {
     tar -xzf "proved-argon2-$VERSION.crate"
     cd first/rust
     cargo run --offline --quiet
+    cargo run --offline --quiet --features optional
     PROVED_ARGON2_CPU=x86-64-v2 cargo run --offline --quiet
     rm "/packages/proved-argon2-$VERSION/lib/x86_64/libproved_argon2.a"
     cargo clean -q
