@@ -284,12 +284,17 @@ progress() {
     [ ! -t 2 ] || printf '\r\033[K%s' "$1" >&2
 }
 
+# `1 pass`, or so many: `count_passes PASSES`.
+count_passes() {
+    [ "$1" = 1 ] && echo '1 pass' || echo "$1 passes"
+}
+
 # Sets `took` to the milliseconds of a hash, the least of three: `measure PASSES MEMORY`. It fails where `check` would
 # reject the hash.
 measure() {
     took=
     for turn in 1 2 3; do
-        progress "$1 passes over $2 KiB, measurement $turn of 3"
+        progress "$(count_passes "$1") over $2 KiB, measurement $turn of 3"
         began=$(date +%s%N)
         said=$(printf password | call new argon2id 19 "$1" "$2" 1 32 seq "$tuned_salt" 2>&1 >/dev/null)
         status=$?
@@ -336,7 +341,7 @@ tune() {
     if [ "$took" -gt "$1" ]; then
         progress ''
         tell_of_load
-        fail 1 "tune: $passes passes over $2 KiB, the least for passwords, take $took milliseconds"
+        fail 1 "tune: $(count_passes "$passes") over $2 KiB, the least for passwords: $took milliseconds"
     fi
     add_passes "$1" "$2"
     progress ''

@@ -32,6 +32,10 @@ function presetOf(name) {
     return { memoryCost, timeCost, parallelism: name.startsWith('rfc') ? 4 : 1 };
 }
 
+/** Whether the page verifies a hash with these settings, whose lanes are within the limits. */
+const isWithinLimits = ({ memoryCost, timeCost }) => memoryCost <= defaultLimits.memoryCost
+    && timeCost <= defaultLimits.timeCost && memoryCost * timeCost <= defaultLimits.work;
+
 const counted = (count, one, many) => `${count} ${count === 1 ? one : many}`;
 
 /** Shows what a slider is at, and has it told so to whoever hears the page. */
@@ -73,8 +77,9 @@ const WORDS = {
     DecodingFail: 'This is no encoded hash of Argon2, such as $argon2id$v=19$m=19456,t=2,p=1$SALT$HASH.',
     MemoryTooLittle: 'Argon2 needs at least 8 KiB of memory for each lane.',
     OutOfMemory: 'This browser does not provide so much memory.',
-    TooCostly: `This encoded hash needs more than the page allows: ${sizeOf(defaultLimits.memoryCost)}, ` +
-        `${defaultLimits.timeCost} passes, ${defaultLimits.parallelism} lanes.`,
+    TooCostly: `This encoded hash is above a limit of the page: ${sizeOf(defaultLimits.memoryCost)}, ` +
+        `${defaultLimits.timeCost} passes, ${defaultLimits.parallelism} lanes, ` +
+        `${sizeOf(defaultLimits.work)} filled in all passes together.`,
     Unsupported: 'This browser has no WebAssembly, or its settings switch it off.',
 };
 
@@ -85,7 +90,6 @@ async function callFor(form, call) {
     const controller = new AbortController();
     const [submit, cancel, bar] = ['[type=submit]', '.cancel', 'progress'].map((part) => form.querySelector(part));
     cancel.onclick = () => {
-        cancel.disabled = true;
         showStatus(form, 'Stopping after the slice at work…');
         controller.abort();
     };
@@ -100,6 +104,8 @@ async function callFor(form, call) {
         showStatus(form, wordsOf(error), error.name === 'AbortError' ? 'quiet' : 'bad');
     } finally {
         submit.disabled = false;
+        // (a button that is disabled loses the focus)
+        if (document.activeElement === cancel) submit.focus();
         cancel.disabled = true;
     }
 }
@@ -120,7 +126,9 @@ $('hashing').onsubmit = (event) => {
         $('guess').value = $('password').value;
         showStatus($('verifying'), '');
         $('verifying').querySelector('progress').value = 0;
-        showStatus(form, `Hashed in ${timeOf(took)}. The other form can verify it now.`, 'good');
+        const next = isWithinLimits(settings) ? 'The other form can verify it now.'
+            : 'It is above the limits for verifying.';
+        showStatus(form, `Hashed in ${timeOf(took)}. ${next}`, 'good');
         showSettings();
     });
 };

@@ -68,8 +68,6 @@ export interface Keys {
 export interface HashOptions extends Settings, Keys, Running {
     /** At least 8 bytes. Without it there are 16 random ones. */
     salt?: Bytes;
-    /** `true` returns the raw hash as bytes, in place of the PHC string. */
-    raw?: boolean;
 }
 
 /** The highest costs that a PHC string may name. Those that are left out are `defaultLimits`'. */
@@ -90,7 +88,7 @@ export interface VerifyOptions extends Keys, Running {
     limits?: Limits | null;
 }
 
-/** Hashes a password to a raw hash, as bytes. A password that is a string is encoded in UTF-8. */
+/** Hashes a password to a raw hash, as bytes, in place of the PHC string. A password that is a string is encoded in UTF-8. */
 export function hash(password: string | Bytes, options: HashOptions & { raw: true }): Promise<Uint8Array>;
 /**
  * Hashes a password to an encoded hash (PHC string), to be stored. The salt is random unless one is passed. A password
@@ -98,7 +96,7 @@ export function hash(password: string | Bytes, options: HashOptions & { raw: tru
  */
 export function hash(password: string | Bytes, options?: HashOptions & { raw?: false }): Promise<string>;
 /** Hashes a password to a PHC string or, if `raw` is true, to bytes. */
-export function hash(password: string | Bytes, options?: HashOptions): Promise<string | Uint8Array>;
+export function hash(password: string | Bytes, options?: HashOptions & { raw?: boolean }): Promise<string | Uint8Array>;
 
 /**
  * Verifies a password against a PHC string. It rejects with `DecodingFail` if the string decodes to no hash, with

@@ -191,7 +191,10 @@ function tests(Browser, isIsolated) {
         await set(browser, 'encoded', encoded.slice(1));
         assert.match(await submit(browser, 'verifying'), /^This is no encoded hash of Argon2/);
         await set(browser, 'encoded', encoded.replace('m=4096', 'm=4194304'));
-        assert.match(await submit(browser, 'verifying'), /^This encoded hash needs more than .* 2 GiB, 10 passes/);
+        assert.match(await submit(browser, 'verifying'), /^This encoded hash is above a limit of the page: 2 GiB/);
+        await set(browser, 'passes', '11');
+        assert.match(await submit(browser, 'hashing'), /^Hashed in .* It is above the limits for verifying\.$/);
+        assert.match(await submit(browser, 'verifying'), /: 2 GiB, 10 passes, 16 lanes, 4 GiB filled in all passes/);
         await set(browser, 'encoded', ' ');
         assert.equal(await submit(browser, 'verifying'), 'Enter an encoded hash first.');
     });
@@ -219,9 +222,11 @@ function tests(Browser, isIsolated) {
         await browser.until(`${of('hashing', 'progress')}.value > 0`);
         await set(browser, 'passes', '1');
         assert.equal(await browser.evaluate(`document.getElementById('passes-shown').value`), '1 pass');
+        await browser.evaluate(`${of('hashing', '.cancel')}.focus()`);
         await press(browser, 'hashing', '.cancel');
         assert.match(await textOf(browser, 'hashing'), /^(Stopping|Cancelled)/);
         assert.equal(await statusOf(browser, 'hashing'), 'Cancelled. The memory is overwritten.');
+        assert.equal(await browser.evaluate(`document.activeElement === ${of('hashing', '[type=submit]')}`), true);
         assert.equal(await browser.evaluate(`${of('hashing', '[role=status]')}.className`), 'quiet');
         await set(browser, 'memory', '10');
         assert.match(await submit(browser, 'hashing'), /^Hashed in /);

@@ -10,7 +10,8 @@ export async function right(password: string, key: Uint8Array, signal: AbortSign
     const options: HashOptions = { ...settings, type: argon2id, secret: key, associatedData: key.buffer, signal };
     const encoded: string = await hash(password, { ...settings, onProgress: (done, all) => console.log(done / all) });
     const tag: Uint8Array = await hash(key, { ...settings, raw: true, salt: key, worker: false, threads: 2 });
-    const either: string | Uint8Array = await argon2.hash(password, options);
+    const other: string = await argon2.hash(password, options);
+    const either: string | Uint8Array = await argon2.hash(password, { ...options, raw: other === '' });
     const limits: Limits = { ...defaultLimits, memoryCost: 65536, timeCost: 4, parallelism: 4, work: 1048576 };
     const verdict: boolean = await verify(encoded, password, { secret: tag, limits });
     const renewed: boolean = await needsRehash(encoded, settings);
