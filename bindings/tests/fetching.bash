@@ -7,13 +7,16 @@ apt_in() {
         -o APT::Sandbox::User=root "${@:2}"
 }
 
+# The archive of Debian, or of what else its mirror has: `mirror_of debian|ubuntu`.
+mirror_of() {
+    cat /etc/apt/sources.list /etc/apt/sources.list.d/*.{list,sources} 2>/dev/null | grep -E '^(URIs:|deb )' \
+        | sed -nE "s|.* ([a-z+]+://[^ ]+/)debian/?( .*)?\$|\1$1|p;T;q"
+}
+
 # The lists of a release in a folder: `make_lists deb|deb-src RELEASE FOLDER`.
 make_lists() {
-    local mirror
-    mirror=$(cat /etc/apt/sources.list /etc/apt/sources.list.d/*.{list,sources} 2>/dev/null | grep -E '^(URIs:|deb )' \
-        | grep -oE '[a-z+]+://[^ ]+/debian/?( |$)' | head -n 1)
     mkdir -p "$3/lists/partial"
-    echo "$1 [signed-by=/usr/share/keyrings/debian-archive-keyring.gpg] $mirror $2 main" >"$3/sources.list"
+    echo "$1 [signed-by=/usr/share/keyrings/debian-archive-keyring.gpg] $(mirror_of debian) $2 main" >"$3/sources.list"
     apt_in "$3" update
 }
 
