@@ -6,3 +6,4 @@ pub mod Reading
 pub mod Faults
 pub mod Statuses
 pub mod UsageErrors
+pub mod Writes

@@ -6,6 +6,7 @@ use Rattle.std.specs.declared.alloc.Global.{Global}
 use Rattle.std.proofs.lemmas.List.{append-nil, append_assoc, drop_all, drop_more}
 use Rattle.std.proofs.lemmas.Option.{get_or_from_slice_get, slice_get_cases, slice_get_within}
 use Rattle.argon2_commands.specs.CommandLine.{AreWords, HasNoText, IsArgument}
+use Rattle.argon2_commands.specs.Run.{OfWords}
 
 -- the words so far, and the arguments from the index on, are all arguments after the program's name
 abbrev pub IsReadTo : Option (List (List ℕ)) → List (List ℕ) → ℕ → Type 0
@@ -46,3 +47,8 @@ pub no_text : (known : Option (List (List ℕ))) (index : ℕ) (bytes : Vec ℕ 
     (IsUtf8 bytes.items → ⊥) → HasNoText known
 no_text None index bytes later found none = tt
 no_text (Some all) index bytes later found none = (index, bytes.items, later, sym found, none)
+
+-- what holds of all words holds of the command line's
+pub of_all_words : (known : Option (List (List ℕ))) (P : List (List ℕ) → Type 0) → ((words : List (List ℕ)) → P words) → OfWords known P
+of_all_words None P h = ([], tt, h [])
+of_all_words (Some all) P h = (drop 1 all, refl, h (drop 1 all))

@@ -3,6 +3,7 @@ use Rattle.std.specs.Prelude.{◌≡◌, ◌⊎◌, ℕ, List, Option}
 use Rattle.std.specs.Io.KnownBytes.{Appends, Keeps}
 use Rattle.argon2_commands.specs.Answer.{AsksTooMuch, IsAnswer, MayBeError, NeedsNoInput, ReadsUpTo, answer_status, lines_of, most_read}
 use Rattle.argon2_commands.specs.CommandLine.{AreWords}
+use Rattle.argon2_commands.specs.Output.{AppendsFront}
 use Rattle.argon2_commands.specs.Words.{IsCommand, IsNoCommand}
 use Rattle.argon2_standard.specs.declared.error.Error.{Error}
 use Rattle.argon2_standard.specs.declared.error.Error.TheVariants.{OutOfMemory, PwdTooLong}
@@ -70,6 +71,18 @@ statuses_of Tool = 6
 abbrev pub IsShortOrFails : Program → List (List ℕ) → Option (List ℕ) → Option (List ℕ) → Option (List ℕ) → Type 0
 IsShortOrFails program words input before after =
     (((error : Error) × MayFailWith program words input error) × Keeps before after) ⊎ HasAnswer program words input
+
+-- no more was written than first bytes of the lines of the answer to the words' command
+pub record WritesFront (program : Program) (words : List (List ℕ)) (input before after : Option (List ℕ)) : Type 0 where
+  pub command : Command
+  pub answer : Answer
+  pub is_command : IsCommand program words command
+  pub is_answer : IsAnswer command input answer
+  pub is_front : AppendsFront before after (lines_of answer)
+
+-- so it is, or nothing was written
+abbrev pub WritesAnswer : Program → List (List ℕ) → Option (List ℕ) → Option (List ℕ) → Option (List ℕ) → Type 0
+WritesAnswer program words input before after = Keeps before after ⊎ WritesFront program words input before after
 
 -- what holds of the command line's words, where its arguments are known, or of some words where they are not
 abbrev pub OfWords : Option (List (List ℕ)) → (List (List ℕ) → Type 0) → Type 0

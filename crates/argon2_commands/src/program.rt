@@ -4,7 +4,7 @@ ghost use Rattle.std.specs.Prelude.{◌≡◌, ◌<◌, ◌↔◌, ◌⊎◌};
 ghost use Rattle.std.specs.Process.{exit_status};
 ghost use Rattle.std.specs.Io.KnownBytes.{Keeps};
 ghost use Rattle.argon2_commands.specs.CommandLine.{HasNoText};
-ghost use Rattle.argon2_commands.specs.Run.{Answered, AreTooCostly, HasAnswer, IsShortOrFails, NeedNoInput, OfWords, Reads, statuses_of};
+ghost use Rattle.argon2_commands.specs.Run.{Answered, AreTooCostly, HasAnswer, IsShortOrFails, NeedNoInput, OfWords, Reads, WritesAnswer, statuses_of};
 ghost use Rattle.argon2_commands.specs.Words.{IsNoCommand, texts_of};
 ghost use Rattle.argon2_commands.specs.declared.usage.Program.TheVariants.{Argon2};
 
@@ -42,6 +42,8 @@ pub fn start<R: Threads + Wait + Sync, L: CommandLine, I: Read, O: Write, E: Wri
         × OfWords (L.arguments line.now) (AreTooCostly program) }
     ensures unwritten { exit_status result ≡ 3
         → Keeps (O.contents output.old) (O.contents output.new) }
+    ensures written { OfWords (L.arguments line.now) (λ words. WritesAnswer program words
+        (I.remaining input.old) (O.contents output.old) (O.contents output.new)) }
     ensures silent { exit_status result < 2
         → Keeps (E.contents errors.old) (E.contents errors.new) }
 {
@@ -85,6 +87,8 @@ pub fn run<R: Threads + Wait + Sync, I: Read, O: Write, E: Write>(
     ensures refused { result ≡ 2 → IsShortOrFails Argon2 (texts_of words.now) (I.remaining input.old)
         (O.contents output.old) (O.contents output.new) }
     ensures unwritten { result ≡ 3 → Keeps (O.contents output.old) (O.contents output.new) }
+    ensures written { WritesAnswer Argon2 (texts_of words.now) (I.remaining input.old)
+        (O.contents output.old) (O.contents output.new) }
     ensures stops { Reads Argon2 (texts_of words.now) (I.remaining input.old) (I.remaining input.new) }
     ensures unread { NeedNoInput Argon2 (texts_of words.now)
         → Keeps (I.remaining input.old) (I.remaining input.new) }

@@ -2,9 +2,10 @@
 
 ghost use Rattle.std.specs.Prelude.{◌≡◌, ◌≢◌, ◌<◌, ◌↔◌, IfErr, IfOk, IsErrAnd, MatchResult, OnOk};
 ghost use Rattle.std.specs.Io.KnownBytes.{Appends, Keeps};
+ghost use Rattle.argon2_commands.specs.Output.{AppendsFront};
 ghost use Rattle.argon2_standard.specs.declared.error.Error.{Error};
 ghost use Rattle.argon2_commands.specs.Fault.{IsBeforeOutput};
-ghost use Rattle.argon2_commands.specs.Run.{Answered, AreTooCostly, HasAnswer, MayFailWith, IsShortOrFails, MayPrecede, NeedNoInput, Reads, statuses_of};
+ghost use Rattle.argon2_commands.specs.Run.{Answered, AreTooCostly, HasAnswer, MayFailWith, IsShortOrFails, MayPrecede, NeedNoInput, Reads, WritesAnswer, statuses_of};
 ghost use Rattle.argon2_commands.specs.Words.{IsCommand, IsNoCommand, texts_of};
 
 use crate::answer::Answer;
@@ -13,7 +14,7 @@ use crate::fault::Fault;
 use crate::usage::{Program, tell};
 use std::alloc::Global;
 use std::io;
-use std::io::{Read, Write};
+use std::io::{ErrorKind, Read, Write};
 use std::marker::Sync;
 use std::sync::Wait;
 use std::thread::Threads;
@@ -54,6 +55,8 @@ pub fn conclude<R: Threads + Wait + Sync, I: Read, O: Write, E: Write>(
         × AreTooCostly program (texts_of words.now) }
     ensures judged { AreTooCostly program (texts_of words.now) → 1 < result }
     ensures unwritten { result ≡ 3 → Keeps (O.contents output.old) (O.contents output.new) }
+    ensures written { WritesAnswer program (texts_of words.now) (I.remaining input.old)
+        (O.contents output.old) (O.contents output.new) }
     ensures stops { Reads program (texts_of words.now) (I.remaining input.old)
         (I.remaining input.new) }
     ensures unread { NeedNoInput program (texts_of words.now)
@@ -90,6 +93,8 @@ pub fn attempt<R: Threads + Wait + Sync, I: Read, O: Write>(
         → HasAnswer program (texts_of words.now) (I.remaining input.old)) }
     ensures unwritten { IfErr result (λ fault. IsBeforeOutput fault
         → Keeps (O.contents output.old) (O.contents output.new)) }
+    ensures written { WritesAnswer program (texts_of words.now) (I.remaining input.old)
+        (O.contents output.old) (O.contents output.new) }
     ensures stops { Reads program (texts_of words.now) (I.remaining input.old)
         (I.remaining input.new) }
     ensures unread { NeedNoInput program (texts_of words.now)
@@ -115,8 +120,33 @@ fn command_of(program: Program, words: &[String]) -> Result<Command<'_>, Fault>
 
 /// Writes all lines, and flushes them: an output may take them and fail only when it is flushed.
 fn write_lines<O: Write>(output: &mut O, lines: &str) -> io::Result<()>
-    ensures { OnOk result (Appends (O.contents output.old) (O.contents output.new) lines.now) }
+    ensures whole { OnOk result (Appends (O.contents output.old) (O.contents output.new) lines.now) }
+    ensures front { AppendsFront (O.contents output.old) (O.contents output.new) lines.now }
 {
-    output.write_all(lines.as_bytes())?;
+    write_bytes(output, lines.as_bytes())?;
     output.flush()
+}
+
+/// As `write_all`, whose contract does not say what was written before an error.
+fn write_bytes<O: Write>(output: &mut O, bytes: &[u8]) -> io::Result<()>
+    ensures whole { OnOk result (Appends (O.contents output.old) (O.contents output.new) bytes.now) }
+    ensures front { AppendsFront (O.contents output.old) (O.contents output.new) bytes.now }
+{
+    let mut written = 0;
+    // The bound only lets the prover see an end: nobody tries so often.
+    for _ in 0..u64::MAX {
+        if written == bytes.len() {
+            return Ok(());
+        }
+        match output.write(&bytes[written..]) {
+            Ok(0) => return Err(io::Error::from(ErrorKind::WriteZero)),
+            Ok(count) => written += count,
+            Err(error) => {
+                if error.kind() != ErrorKind::Interrupted {
+                    return Err(error);
+                }
+            }
+        }
+    }
+    Err(io::Error::from(ErrorKind::WriteZero))
 }

@@ -2,6 +2,7 @@ use Rattle.std.proofs.Common.{◌≡◌, Err, ap, inl, inr, sym, subst, ◌∙�
 use Rattle.std.specs.Io.KnownBytes.{Appends}
 use Rattle.std.proofs.lemmas.Result.{IfOk-from_err, err_from_is_err_and}
 use Rattle.argon2_commands.specs.Fault.{IsBeforeOutput}
+use Rattle.argon2_commands.specs.Output.{AppendsFront}
 use Rattle.argon2_commands.specs.Words.{texts_of}
 use Rattle.argon2_commands.specs.declared.fault.Fault.TheVariants.{Usage, Refused, TooCostly}
 use Rattle.argon2_commands.proofs.Attempts.{answer_is_no_usage, output_is_not, same_error, status_is_no_usage}
@@ -38,6 +39,9 @@ returns-in_err-command-clause-judged g c costly =
 pub returns-in_err-command-clause-unwritten : goal.returns-in_err-command-clause-unwritten
 returns-in_err-command-clause-unwritten g c =
     passed_on c.from_residual.result c.in_err-command.field-0.0 _ c.from_residual.ensures (λ _. untouched (g.O.Write.contents c.args.output.now))
+
+pub returns-in_err-command-clause-written : goal.returns-in_err-command-clause-written
+returns-in_err-command-clause-written g c = inl (untouched (g.O.Write.contents c.args.output.now))
 
 pub returns-in_err-command-clause-stops : goal.returns-in_err-command-clause-stops
 returns-in_err-command-clause-stops g c =
@@ -86,6 +90,9 @@ returns-in_err-answer-clause-unwritten g c =
     passed_on c.from_residual-in_err-answer.result c.in_err-answer.field-0.0 _ c.from_residual-in_err-answer.ensures
     (λ _. untouched (g.O.Write.contents c.args.output.now))
 
+pub returns-in_err-answer-clause-written : goal.returns-in_err-answer-clause-written
+returns-in_err-answer-clause-written g c = inl (untouched (g.O.Write.contents c.args.output.now))
+
 pub returns-in_err-answer-clause-stops : goal.returns-in_err-answer-clause-stops
 returns-in_err-answer-clause-stops g c =
     inl (record { command = c.in_ok-command.command; is_command = c.in_ok-command.ensures; stops = c.to.ensures.stops })
@@ -105,7 +112,7 @@ returns-in-Ok-clause-answered g c = record {
   is_status = c.status.ensures;
   is_written =
       subst (λ lines. Appends (g.O.Write.contents c.args.output.now) (g.O.Write.contents c.write_lines.new.output) lines) c.lines.ensures
-      c.in-Ok.ensures;
+      c.in-Ok.ensures.whole;
 }
 
 pub returns-in-Ok-clause-usage : goal.returns-in-Ok-clause-usage
@@ -116,6 +123,17 @@ pub returns-in-Ok-clause-judged : goal.returns-in-Ok-clause-judged
 returns-in-Ok-clause-judged g c =
     no_answer c.args.program (texts_of c.args.words.now) (g.I.Read.remaining c.args.input.now) c.in_ok-command.command c.in_ok-answer.answer c.in_ok-command.ensures
     c.in_ok-answer.ensures.answer
+
+pub returns-in-Ok-clause-written : goal.returns-in-Ok-clause-written
+returns-in-Ok-clause-written g c = inr (record {
+  command = c.in_ok-command.command;
+  answer = c.in_ok-answer.answer;
+  is_command = c.in_ok-command.ensures;
+  is_answer = c.in_ok-answer.ensures.answer;
+  is_front =
+      subst (λ lines. AppendsFront (g.O.Write.contents c.args.output.now) (g.O.Write.contents c.write_lines.new.output) lines) c.lines.ensures
+      c.in-Ok.ensures.front;
+})
 
 pub returns-in-Ok-clause-stops : goal.returns-in-Ok-clause-stops
 returns-in-Ok-clause-stops g c =
@@ -158,6 +176,17 @@ returns-clause-judged g c =
 pub returns-clause-unwritten : goal.returns-clause-unwritten
 returns-clause-unwritten g c =
     output_is_not c.of_stream.result IsBeforeOutput c.of_stream.ensures.short c.of_stream.ensures.other (λ wrote. wrote) (λ wrote. wrote)
+
+pub returns-clause-written : goal.returns-clause-written
+returns-clause-written g c = inr (record {
+  command = c.in_ok-command.command;
+  answer = c.in_ok-answer.answer;
+  is_command = c.in_ok-command.ensures;
+  is_answer = c.in_ok-answer.ensures.answer;
+  is_front =
+      subst (λ lines. AppendsFront (g.O.Write.contents c.args.output.now) (g.O.Write.contents c.write_lines.new.output) lines) c.lines.ensures
+      c.write_lines.ensures.front;
+})
 
 pub returns-clause-stops : goal.returns-clause-stops
 returns-clause-stops g c =
