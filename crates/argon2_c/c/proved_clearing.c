@@ -12,26 +12,25 @@ static proved_argon2_stored stored;
 static uint8_t hash[TAG], salt[16];
 static proved_argon2_block blocks[2048];
 
-#define MAPPED_CALL calls[MAPPED]
+#define MANY_CALL calls[MANY]
 #define TEXT_READ sought->text, strlen(sought->text)
 #define TEXT_OF(call) sought->other, strlen(sought->other), BYTES(call, pwd), BYTES(call, secret), BYTES(call, ad)
 /* clang-format off */
 #define CALL(name, ...) static uint32_t does_##name(void) { return proved_argon2_##name(__VA_ARGS__); }
 /* clang-format on */
 
-CALL(job_make, INPUTS_OF(MAPPED_CALL), &job)
-CALL(job_read, TEXT_OF(MAPPED_CALL), &job, salt, 16, hash, TAG)
+CALL(job_make, INPUTS_OF(MANY_CALL), &job)
+CALL(job_read, TEXT_OF(MANY_CALL), &job, salt, 16, hash, TAG)
 CALL(read, TEXT_READ, &stored)
-CALL(read_within, TEXT_READ, &(proved_argon2_limits){2048, 2, 4, 4096}, &stored)
-CALL(
-    check, &MAPPED_CALL.settings, MAPPED_CALL.pwd_len, MAPPED_CALL.salt_len, MAPPED_CALL.secret_len, MAPPED_CALL.ad_len)
-CALL(check_encoded, TEXT_READ, &(proved_argon2_limits){2048, 2, 4, 4096}, MAPPED_CALL.pwd_len, MAPPED_CALL.secret_len,
-    MAPPED_CALL.ad_len, &stored)
+CALL(read_within, TEXT_READ, &(proved_argon2_limits){2048, 2, 16, 4096}, &stored)
+CALL(check, &MANY_CALL.settings, MANY_CALL.pwd_len, MANY_CALL.salt_len, MANY_CALL.secret_len, MANY_CALL.ad_len)
+CALL(check_encoded, TEXT_READ, &(proved_argon2_limits){2048, 2, 16, 4096}, MANY_CALL.pwd_len, MANY_CALL.secret_len,
+    MANY_CALL.ad_len, &stored)
 CALL(read_bytes, TEXT_READ, salt, 16, hash, TAG)
-CALL(needs_rehash, TEXT_READ, &MAPPED_CALL.settings)
-CALL(encode, BYTES(MAPPED_CALL, salt), &MAPPED_CALL.settings, sought->tag, TAG, (char *)out, sizeof out)
-CALL(hash_over, INPUTS_OF(MAPPED_CALL), blocks, 2048, out, TAG)
-CALL(verify_over, INPUTS_OF(MAPPED_CALL), blocks, 2048, zeros, TAG, out, TAG)
+CALL(needs_rehash, TEXT_READ, &MANY_CALL.settings)
+CALL(encode, BYTES(MANY_CALL, salt), &MANY_CALL.settings, sought->tag, TAG, (char *)out, sizeof out)
+CALL(hash_over, INPUTS_OF(MANY_CALL), blocks, 2048, out, TAG)
+CALL(verify_over, INPUTS_OF(MANY_CALL), blocks, 2048, zeros, TAG, out, TAG)
 
 static uint32_t does_job_check(void)
 {
@@ -46,12 +45,12 @@ static uint32_t does_message(void)
 
 static uint32_t does_encoded_len(void)
 {
-    return proved_argon2_encoded_len(&MAPPED_CALL.settings, MAPPED_CALL.salt_len) == strlen(sought->text) ? 0 : 1;
+    return proved_argon2_encoded_len(&MANY_CALL.settings, MANY_CALL.salt_len) == strlen(sought->text) ? 0 : 1;
 }
 
 static uint32_t does_memory_len(void)
 {
-    return proved_argon2_memory_len(&MAPPED_CALL.settings) == sizeof blocks ? 0 : 1;
+    return proved_argon2_memory_len(&MANY_CALL.settings) == sizeof blocks ? 0 : 1;
 }
 
 /* Steps of a job. */
@@ -142,6 +141,13 @@ static int kinds_found(void)
     return bits;
 }
 
+/* Whether blocks that a call returns have the first bytes of its password or secret. */
+static bool have_inputs(void)
+{
+    return memmem(blocks, sizeof blocks, MANY_CALL.pwd, 8) != NULL
+        || memmem(blocks, sizeof blocks, MANY_CALL.secret, 8) != NULL;
+}
+
 /* Clears the caller's memory, as a caller does, and what the vector registers held, which are the driver's to clear. */
 static void clear_caller_memory(void)
 {
@@ -159,7 +165,7 @@ enum { LEAVES = 1, OVERWRITES = 2, ELSEWHERE = 4, NO_ANSWER = 8 };
 static int what_is_left(const void *arg)
 {
     const struct row *const row = arg;
-    seek(MAPPED);
+    seek(MANY);
     memset(found, 0, sizeof found);
     look_at = look_at_request;
     if (far_below(does_row, row) != row->expected || !is_nothing_found(row->name)) {
@@ -167,8 +173,9 @@ static int what_is_left(const void *arg)
     }
     look_at = NULL;
     const int bits = kinds_found(), leaves = row->leaves == KINDS ? -1 : 1 << row->leaves;
+    const bool overwrites = (bits & row->overwrites) == 0 && !have_inputs();
     clear_caller_memory();
-    return (bits & leaves ? LEAVES : 0) | (bits & row->overwrites ? OVERWRITES : 0) | (kinds_found() ? ELSEWHERE : 0);
+    return (bits & leaves ? LEAVES : 0) | (overwrites ? 0 : OVERWRITES) | (kinds_found() ? ELSEWHERE : 0);
 }
 
 static void check_row(const struct row *row)

@@ -18,9 +18,9 @@ enum kind { OF_H0, OF_SEED, OF_FIRST, OF_CHAIN, OF_BLOCKS, OF_LAST, OF_TAG, OF_I
 static const char *const of_kinds[KINDS] = {"H0", "what a first block is hashed from", "first blocks of the first pass",
     "the last hashes of a first block's chain", "blocks", "the combined last blocks", "the tag", "the inputs"};
 
-/* The calls: over a mapping, over less than that takes, and what password_hash computes. Their inputs are where nobody
- * can write, and so are not found there. */
-enum { MAPPED, SMALL, ALONE, CALLS };
+/* The calls: over a mapping, over less than that takes, what password_hash computes, and of many lanes. Their inputs
+ * are where nobody can write, and so are not found there. */
+enum { MAPPED, SMALL, ALONE, MANY, CALLS };
 
 static const struct call calls[CALLS] = {
     {{PROVED_ARGON2_ID, 0x13, 2048, 2, 4, TAG}, "the password that is looked for", "a salt of 16 byt",
@@ -30,6 +30,8 @@ static const struct call calls[CALLS] = {
     {{PROVED_ARGON2_ID, 0x13, 19456, 2, 1, TAG}, "the password that is looked for",
         {0x80, 0x81, 0x82, 0x83, 0x84, 0x85, 0x86, 0x87, 0x88, 0x89, 0x8a, 0x8b, 0x8c, 0x8d, 0x8e, 0x8f}, "", "", 31,
         16, 0, 0},
+    {{PROVED_ARGON2_ID, 0x13, 2048, 2, 16, TAG}, "the password that is looked for", "a salt of 16 byt",
+        "the secret that is looked for", "data", 31, 16, 29, 4},
 };
 
 #define BYTES(call, what) (call).what, (call).what##_len
