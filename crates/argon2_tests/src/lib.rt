@@ -5,6 +5,8 @@
 
 #[cfg(test)]
 mod documentation;
+#[cfg(test)]
+mod lengths;
 pub mod surface;
 #[cfg(test)]
 mod tests;

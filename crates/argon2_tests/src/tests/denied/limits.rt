@@ -66,6 +66,21 @@ const ABOVE: [&str; 8] = [
     "$argon2d$m=4294967295,t=0,p=0$$",
 ];
 
+// Above the default limit of the passes, in as many characters as there may be.
+const LONG: &str = "$argon2id$v=19$m=8,t=11,p=1$AAAAAAAAAAA$\
+    AAAAAAAAAAAAAAAAAAAAAAAAAAAAAAAAAAAAAAAAAAAAAAAAAAAAAAAAAAAAAAAAAAAAAAAAAAAAAAAAAAAAAAAAAAAA\
+    AAAAAAAAAAAAAAAAAAAAAAAAAAAAAAAAAAAAAAAAAAAAAAAAAAAAAAAAAAAAAAAAAAAAAAAAAAAAAAAAAAAAAAAAAAAA\
+    AAAAAAAAAAAAAAAAAAAAAAAAAAAAAAAAAAAAAAAAAAAAAAAAAAAAAAAAAAAAAAAAAAAAAAAAAAAAAAAAAAAAAAAAAAAA\
+    AAAAAAAAAAAAAAAAAAAAAAAAAAAAAAAAAAAAAAAAAAAAAAAAAAAAAAAAAAAAAAAAAAAAAAAAAAAAAAAAAAAAAAAAAAAA\
+    AAAAAAAAAAAAAAAAAAAAAAAAAAAAAAAAAAAAAAAAAAAAAAAAAAAAAAAAAAAAAAAAAAAAAAAAAAAAAAAAAAAAAAAAAAAA\
+    AAAAAAAAAAAAAAAAAAAAAAAAAAAAAAAAAAAAAAAAAAAAAAAAAAAAAAAAAAAAAAAAAAAAAAAAAAAAAAAAAAAAAAAAAAAA\
+    AAAAAAAAAAAAAAAAAAAAAAAAAAAAAAAAAAAAAAAAAAAAAAAAAAAAAAAAAAAAAAAAAAAAAAAAAAAAAAAAAAAAAAAAAAAA\
+    AAAAAAAAAAAAAAAAAAAAAAAAAAAAAAAAAAAAAAAAAAAAAAAAAAAAAAAAAAAAAAAAAAAAAAAAAAAAAAAAAAAAAAAAAAAA\
+    AAAAAAAAAAAAAAAAAAAAAAAAAAAAAAAAAAAAAAAAAAAAAAAAAAAAAAAAAAAAAAAAAAAAAAAAAAAAAAAAAAAAAAAAAAAA\
+    AAAAAAAAAAAAAAAAAAAAAAAAAAAAAAAAAAAAAAAAAAAAAAAAAAAAAAAAAAAAAAAAAAAAAAAAAAAAAAAAAAAAAAAAAAAA\
+    AAAAAAAAAAAAAAAAAAAAAAAAAAAAAAAAAAAAAAAAAAAAAAAAAAAAAAAAAAAAAAAAAAAAAAAAAAAAAAAAAAAAAAAAAAAA\
+";
+
 /// Whether both calls return this without a secret and associated data.
 fn both_answer<R: Threads + Wait + Sync>(
     rt: &R,
@@ -116,6 +131,20 @@ fn a_costly_text_allocates_nothing_refused_in_turn(rt: HostRuntime) -> Result<()
     }
     for text in ABOVE {
         let is_costly = both_answer(&rt, alloc, text, &Limits::default(), &Unverified::TooCostly);
+        assert!(rt; is_costly, "{text}");
+    }
+    tell(&rt, Ok(true))
+}
+
+// Strings of four more characters each, whose hashes are whole groups of base64.
+#[test]
+fn a_costly_text_of_any_length_allocates_nothing_refused_in_turn(
+    rt: HostRuntime,
+) -> Result<(), Fail> {
+    let (alloc, limits) = (rt.alloc(), Limits::default());
+    for groups in 10..LONG.len() / 4 {
+        let text = LONG.get(..4 * groups).unwrap_or("");
+        let is_costly = both_answer(&rt, alloc, text, &limits, &Unverified::TooCostly);
         assert!(rt; is_costly, "{text}");
     }
     tell(&rt, Ok(true))
