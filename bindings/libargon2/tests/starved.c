@@ -40,6 +40,10 @@ int pthread_create(pthread_t *thread, const pthread_attr_t *how, void *(*start)(
     if (next == NULL) {
         *(void **)&next = dlsym(RTLD_NEXT, "pthread_create");
     }
+    int state = PTHREAD_CREATE_JOINABLE;
+    if (pthread_attr_getdetachstate(how, &state) == 0 && state == PTHREAD_CREATE_DETACHED) {
+        return next(thread, how, start, arg); /* (whether such a stack is large enough) */
+    }
     if (granted >= most) {
         denied++;
         return EAGAIN;

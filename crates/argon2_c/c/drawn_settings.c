@@ -103,7 +103,7 @@ static counted counts_of(const struct call *call, enum way way, uint32_t threads
     const size_t tasks = threads_of(of, most), calls_made = way == REUSED ? 2 : 1;
     const size_t beside = way == ENCODED || way == VERIFY || way == VERIFY_ENCODED ? 1 : 0;
     return (counted){.starts = calls_made * (tasks - 1),
-        .requests = 1 + beside + (tasks == 1 ? 0 : 2 * calls_made),
+        .requests = 1 + beside + (tasks == 1 ? 0 : 3 * calls_made),
         .blocks = calls_made * blocks_of(of),
         .most_held = 4 * length_of(of) * of->lanes * BLOCK};
 }

@@ -70,9 +70,9 @@ static bool is_value(uint32_t code)
         && (is_untouched || memcmp(buffer, tag, TAG) == 0 || memcmp(buffer, text, sizeof buffer) == 0);
 }
 
-/* A call with one request refused: a shortage that writes nothing, or the value where it asked for no more, or for a
- * team of threads, which it goes on without. Nothing is held then, and errno is as it was. */
-static bool ends_well(const struct row *row, size_t number, size_t of_team)
+/* A call with one request refused: a shortage that writes nothing, or the value behind those that it needs, where it
+ * asked for no more, or for a team of threads. Nothing is held then, and errno is as it was. */
+static bool ends_well(const struct row *row, size_t number, size_t needed)
 {
     fill_bytes(buffer, sizeof buffer, 7);
     memcpy(before, buffer, sizeof buffer);
@@ -82,7 +82,7 @@ static bool ends_well(const struct row *row, size_t number, size_t of_team)
     const uint32_t code = row->does();
     const bool is_errno = errno == 77;
     const bool is_short = code == PROVED_ARGON2_OUT_OF_MEMORY && memcmp(buffer, before, sizeof buffer) == 0;
-    return is_errno && held == 0 && (requests < number || number == of_team ? is_value(code) : is_short);
+    return is_errno && held == 0 && (number > needed ? is_value(code) : is_short);
 }
 
 /* Refuses the first request, the second and so on, until a run asks for no more. */
@@ -90,13 +90,14 @@ static void check_call(const struct row *row, uint32_t threads)
 {
     const size_t blocks = (size_t)call.settings.mem_cost * 1024;
     const bool has_team = threads > 1 && call.settings.mem_cost == LARGE;
-    const size_t expected = 1 + row->bytes + (has_team ? 2 : with.tell != NULL ? 1 : 0);
+    const size_t needed = 1 + row->bytes + (has_team || with.tell != NULL ? 1 : 0);
+    const size_t expected = needed + (has_team ? 2 : 0);
     size_t number = 1;
     bool good = true;
     char name[96];
     with.threads = threads;
     do {
-        good = ends_well(row, number, has_team ? expected : 0);
+        good = ends_well(row, number, needed);
     } while (good && requests >= number++ && number < 100);
     /* (a mapping is cut out of one that has a huge page more) */
     const size_t most = blocks + 2048 + (blocks < HUGE_PAGE ? 0 : HUGE_PAGE);

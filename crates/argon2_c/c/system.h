@@ -106,8 +106,19 @@ static inline bool has_small_stack(const pthread_attr_t *attributes)
     return attributes != NULL && pthread_attr_getstacksize(attributes, &size) == 0 && size / (256 * 1024) == 1;
 }
 
+/* Whether a start asks only whether such a stack would be large enough. */
+static inline bool is_question(const pthread_attr_t *attributes)
+{
+    int state = PTHREAD_CREATE_JOINABLE;
+    return attributes != NULL && pthread_attr_getdetachstate(attributes, &state) == 0
+        && state == PTHREAD_CREATE_DETACHED;
+}
+
 int __wrap_pthread_create(pthread_t *thread, const pthread_attr_t *attributes, void *(*run)(void *), void *arg)
 {
+    if (is_question(attributes)) {
+        return __real_pthread_create(thread, attributes, run, arg);
+    }
     const size_t number = ++starts;
     large_stacks += has_small_stack(attributes) ? 0 : 1;
     if (first_refused != 0 && number >= first_refused && number <= last_refused) {
