@@ -144,9 +144,9 @@ static void start_members(team *own, uint32_t threads)
     sigset_t all, before;
     pthread_attr_t small;
     sigfillset(&all);
+    pthread_sigmask(SIG_SETMASK, &all, &before);
     pthread_attr_init(&small);
     pthread_attr_setstacksize(&small, STACK + room_for_variables());
-    pthread_sigmask(SIG_SETMASK, &all, &before);
     for (member *next = own->members + 1; own->threads < threads; own->threads++, next++) {
         next->own = own;
         sem_init(&next->woken, 0, 0);

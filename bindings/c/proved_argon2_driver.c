@@ -135,18 +135,16 @@ static void run_task(void *arg, uint32_t number)
     }
 }
 
-/* Takes a step for some workers, this one and those before it, and returns for how many. Where parts are short it takes
- * all that nobody has claimed, since their threads may come late. (A long part's comes before another is through.) */
+/* Takes a step for some workers, this one and those before it, and returns for how many. Where parts are short it goes
+ * on to the first that another has claimed, who goes on from there: their threads may come late. (A long part's comes
+ * before another is through.) */
 static uint32_t take_parts(struct call *call, uint64_t step, uint32_t number, uint32_t own)
 {
     const uint32_t most = call->slice <= (size_t)SHORT_PART * call->tasks ? call->tasks : own;
     uint32_t taken = 0;
-    for (uint32_t i = 0; i < most; i++) {
-        const uint32_t next = (number + call->tasks - i) % call->tasks;
-        if (claim(call, step, next)) {
-            take_step(call, step, next);
-            taken++;
-        }
+    for (uint32_t next = number; taken < most && claim(call, step, next); taken++) {
+        take_step(call, step, next);
+        next = (next == 0 ? call->tasks : next) - 1;
     }
     return taken;
 }

@@ -1,12 +1,14 @@
 /*
  * The threads of a call: each has the program's signals blocked and a small stack, and is joined; the lanes of those
- * that are refused are filled; and none starts where it would not pay. drawn_settings.c has how many there are. Tags
- * are compared with libargon2's. It is linked with --wrap for what it counts and refuses.
+ * that are refused are filled; none starts where it would not pay; and very many take little more of the processor
+ * than one. drawn_settings.c has how many there are. Tags are compared with libargon2's. It is linked with --wrap for
+ * what it counts and refuses.
  */
 #include "calls.h"
 #include "system.h"
+#include <sys/resource.h>
 
-enum { LARGE = 2400, PASSES = 2, LANES = 4, BESIDE = LANES - 1 };
+enum { LARGE = 2400, PASSES = 2, LANES = 4, BESIDE = LANES - 1, MANY = 16000 };
 
 static struct call call;
 static uint8_t expected[LONGEST];
@@ -71,6 +73,31 @@ static void check_small(void)
     check(good, "a hash starts threads only where they pay");
 }
 
+/* The processor's time in microseconds that a hash takes by so many threads, without the system's. */
+static int64_t time_of(uint32_t lanes, uint32_t threads)
+{
+    const proved_argon2_options with = by(threads);
+    struct rusage before, after;
+    uint8_t tag[LONGEST];
+    call.settings.lanes = lanes;
+    call.settings.mem_cost = 8 * lanes;
+    refuse_nothing();
+    getrusage(RUSAGE_SELF, &before);
+    const bool good = hash_raw(&with, &call, tag) == PROVED_ARGON2_OK;
+    getrusage(RUSAGE_SELF, &after);
+    return good ? (after.ru_utime.tv_sec - before.ru_utime.tv_sec) * 1000000LL + after.ru_utime.tv_usec
+            - before.ru_utime.tv_usec
+                : INT64_MAX;
+}
+
+/* What a thread does beside its lanes does not grow with how many there are. */
+static void check_many(void)
+{
+    const int64_t alone = time_of(MANY, 1), by_threads = time_of(MANY, MANY);
+    printf("%lld microseconds by one thread, %lld by %zu more\n", (long long)alone, (long long)by_threads, granted);
+    check(by_threads / 8 <= alone, "a hash by very many threads");
+}
+
 int main(void)
 {
     sigset_t one;
@@ -79,5 +106,6 @@ int main(void)
     pthread_sigmask(SIG_SETMASK, &one, NULL);
     check_errors();
     check_small();
+    check_many();
     return checks_failed != 0;
 }
