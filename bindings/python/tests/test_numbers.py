@@ -223,5 +223,32 @@ class OwnSettings(unittest.TestCase):
                 call(Limits(work=191))
 
 
+class Lying(bytes):
+    """Bytes of another length than they say."""
+
+    said = 0
+
+    def __len__(self):
+        return self.said
+
+
+class Lengths(unittest.TestCase):
+    hasher = PasswordHasher(**SETTINGS, secret=Lying(b"pepper"))
+
+    def setUp(self):
+        self.addCleanup(setattr, Lying, "said", 0)
+
+    def test_the_true_length_of_bytes_counts(self):
+        right = hash_secret_raw(b"password", b"somesaltsomesalt", *SETTINGS.values(), Type.ID)
+        text = PasswordHasher(**SETTINGS, secret=b"pepper").hash("password")
+        for Lying.said in (0, 2, 1000):
+            with self.subTest(said=Lying.said):
+                pieces = (Lying(b"password"), Lying(b"somesaltsomesalt"))
+                self.assertEqual(hash_secret_raw(*pieces, *SETTINGS.values(), Type.ID), right)
+                encoded = hash_secret(*pieces, *SETTINGS.values(), Type.ID)
+                self.assertIs(verify_secret(Lying(encoded), Lying(b"password"), Type.ID), True)
+                self.assertIs(self.hasher.verify(Lying(text.encode()), Lying(b"password")), True)
+
+
 if __name__ == "__main__":
     unittest.main()

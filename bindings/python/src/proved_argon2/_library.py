@@ -160,11 +160,16 @@ def require_number(name: str, number: object, error: "Type[Exception]", bits: in
         raise error(f"{name} is {number}: no number of {bits} bits")
 
 
+def _length(piece: bytes) -> int:
+    """How many bytes there are, whatever a subclass says."""
+    return bytes.__len__(piece)
+
+
 def _slices(*pieces: bytes) -> "List[Union[bytes, int]]":
     """Each piece and its length. An empty piece has an address too."""
     arguments: "List[Union[bytes, int]]" = []
     for piece in pieces:
-        arguments += [piece, len(piece)]
+        arguments += [piece, _length(piece)]
     return arguments
 
 
@@ -238,7 +243,7 @@ def hash_raw(
 ) -> bytes:
     """The tag, computed by a thread a lane. The settings are checked first, before any memory is allocated."""
     arguments = [*_slices(pwd, salt, secret, ad), settings]
-    _require(_library.proved_argon2_check(settings, len(pwd), len(salt), len(secret), len(ad)))
+    _require(_library.proved_argon2_check(settings, *map(_length, (pwd, salt, secret, ad))))
     tag = _buffer(settings.hash_length)
     _compute(
         lambda options: _library.proved_argon2_hash_raw_with(options, *arguments, tag, len(tag)),
@@ -263,8 +268,8 @@ def hash_encoded(
     allocated.
     """
     arguments = [*_slices(pwd, salt, secret, ad), settings]
-    _require(_library.proved_argon2_check(settings, len(pwd), len(salt), len(secret), len(ad)))
-    text = _buffer(_library.proved_argon2_encoded_len(settings, len(salt)) + 1)
+    _require(_library.proved_argon2_check(settings, *map(_length, (pwd, salt, secret, ad))))
+    text = _buffer(_library.proved_argon2_encoded_len(settings, _length(salt)) + 1)
     _compute(
         lambda options: _library.proved_argon2_hash_encoded_with(options, *arguments, text, len(text)),
         settings.lanes,
@@ -326,7 +331,7 @@ def default_limits() -> NumberLimits:
 def read(text: bytes) -> Stored:
     """What an encoded hash decodes to."""
     stored = Stored()
-    _require(_library.proved_argon2_read(text, len(text), stored))
+    _require(_library.proved_argon2_read(text, _length(text), stored))
     return stored
 
 
