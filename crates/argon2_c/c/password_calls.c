@@ -59,8 +59,71 @@ static void check_password(void)
     check(code == PROVED_ARGON2_OK && errno == 77, "a signal is no error");
 }
 
+/* ---- lengths */
+
+enum { LONG = 200 };
+
+static const proved_argon2_options with = PROVED_ARGON2_OPTIONS;
+static const proved_argon2_settings small = {PROVED_ARGON2_ID, PROVED_ARGON2_VERSION_13, 8, 1, 1, 4};
+static char password[LONG + 1];
+static uint8_t pepper[LONG + 1];
+
+/* What a text verifies to; without a pepper, by the call that takes none. */
+static uint32_t verdict_of(const char *text, size_t length, size_t pepper_len)
+{
+    return pepper_len == 0 ? proved_argon2_password_verify(text, password, length)
+                           : proved_argon2_password_verify_with(&with, text, password, length, pepper, pepper_len);
+}
+
+/* Whether a text that hash_encoded makes of these bytes is a call's. */
+static bool is_text_of(const char *text, const proved_argon2_settings *settings, size_t length, size_t pepper_len)
+{
+    char other[PROVED_ARGON2_TEXT_SIZE];
+    uint8_t salt[16];
+    fill_bytes(salt, sizeof salt, 0x80);
+    return proved_argon2_hash_encoded(bytes_of(password), length, salt, sizeof salt, pepper, pepper_len, NULL, 0,
+               settings, other, sizeof other)
+        == PROVED_ARGON2_OK
+        && strcmp(text, other) == 0;
+}
+
+/* Whether a text verifies, and not where a byte of the password or of the pepper is another, more, or left out. */
+static bool is_whole(const char *text, size_t length, size_t pepper_len)
+{
+    bool good = verdict_of(text, length, pepper_len) == PROVED_ARGON2_OK
+        && verdict_of(text, length + 1, pepper_len) == PROVED_ARGON2_MISMATCH
+        && verdict_of(text, length, pepper_len + 1) == PROVED_ARGON2_MISMATCH
+        && (length == 0 || verdict_of(text, 0, pepper_len) == PROVED_ARGON2_MISMATCH);
+    password[length - (length != 0)] ^= 8;
+    good &= verdict_of(text, length, pepper_len) == (length == 0 ? PROVED_ARGON2_OK : PROVED_ARGON2_MISMATCH);
+    password[length - (length != 0)] ^= 8;
+    pepper[pepper_len - (pepper_len != 0)] ^= 8;
+    good &= verdict_of(text, length, pepper_len) == (pepper_len == 0 ? PROVED_ARGON2_OK : PROVED_ARGON2_MISMATCH);
+    pepper[pepper_len - (pepper_len != 0)] ^= 8;
+    return good;
+}
+
+static void check_lengths(void)
+{
+    static const size_t lengths[] = {0, 1, 32, 33, 64, 65, 72, 73, 128, 129, LONG};
+    const proved_argon2_settings settings = proved_argon2_owasp2();
+    const size_t count = sizeof lengths / sizeof *lengths;
+    char text[PROVED_ARGON2_TEXT_SIZE];
+    bool good = true;
+    for (size_t i = 0; i < count * count; i++) {
+        const size_t length = lengths[i / count], pepper_len = lengths[i % count];
+        uint32_t code = proved_argon2_password_hash_with(&with, &small, text, password, length, pepper, pepper_len);
+        good = good && code == PROVED_ARGON2_OK && is_text_of(text, &small, length, pepper_len)
+            && is_whole(text, length, pepper_len);
+        code = pepper_len == 0 ? proved_argon2_password_hash(text, password, length) : code;
+        good = good && code == PROVED_ARGON2_OK && (pepper_len != 0 || is_text_of(text, &settings, length, 0));
+    }
+    check(good, "each byte of a password and of a pepper counts");
+}
+
 int main(void)
 {
     check_password();
+    check_lengths();
     return checks_failed != 0;
 }
