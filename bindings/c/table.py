@@ -39,6 +39,7 @@ LONGEST = 120
 
 HEAD = '''/* Made by bindings/c/table.py --write: the proved calls behind the tests of their pointers, and messages. */
 #include "builds.h"
+#include "platform.h"
 #include "proved_argon2.h"
 
 #define IS_MISSING(name) (name == NULL && name##_len != 0)
@@ -102,9 +103,14 @@ class Call:
 
     def made(self):
         passed = ", ".join(argument.passed() for argument in self.arguments())
-        jump = wrapped(f"MADE({self.own_name()}, ({passed}), {self.error('OLD_PROCESSOR')})")
-        head = broken(f"{self.answer} {self.name}({self.taken})")
+        way, attribute = ("MADE_CLEARING", "CLEARS_REGISTERS ") if self.computes() else ("MADE", "")
+        jump = wrapped(f"{way}({self.own_name()}, ({passed}), {self.error('OLD_PROCESSOR')})")
+        head = broken(f"{attribute}{self.answer} {self.name}({self.taken})")
         return f"{head}\n{{\n{''.join(self.tests())}{jump}\n}}\n"
+
+    def computes(self):
+        """Whether it writes H0, or takes blocks, and leaves words of these in registers."""
+        return re.search(r"proved_argon2_block|(?<!const )proved_argon2_job \*", self.taken) is not None
 
     def own_name(self):
         return self.name.removeprefix("proved_argon2_")

@@ -232,6 +232,22 @@ static inline void look_everywhere(void)
  * registers. */
 static void (*calls_behind)(void);
 
+/* What other registers held behind a call that it may change. */
+static uint64_t general[9];
+
+/* clang-format off */
+#define NOTE_GENERAL(instruction, number) __asm__ volatile(instruction ", %0" : "=m"(general[number]))
+#if defined(__aarch64__)
+#define NOTE_ALL_GENERAL() NOTE_GENERAL("str x8", 0); NOTE_GENERAL("str x9", 1); NOTE_GENERAL("str x10", 2); \
+    NOTE_GENERAL("str x11", 3); NOTE_GENERAL("str x12", 4); NOTE_GENERAL("str x13", 5); NOTE_GENERAL("str x14", 6); \
+    NOTE_GENERAL("str x15", 7); NOTE_GENERAL("str x17", 8)
+#else
+#define NOTE_ALL_GENERAL() NOTE_GENERAL("mov %%rax", 0); NOTE_GENERAL("mov %%rcx", 1); NOTE_GENERAL("mov %%rdx", 2); \
+    NOTE_GENERAL("mov %%rsi", 3); NOTE_GENERAL("mov %%rdi", 4); NOTE_GENERAL("mov %%r8", 5); \
+    NOTE_GENERAL("mov %%r9", 6); NOTE_GENERAL("mov %%r10", 7); NOTE_GENERAL("mov %%r11", 8)
+#endif
+/* clang-format on */
+
 /* Makes a call with so much room above it that what looks afterwards has its frames there, and not where the call's
  * frames were. */
 __attribute__((noinline)) static uint32_t far_below(uint32_t (*does)(const void *), const void *arg)
@@ -239,6 +255,7 @@ __attribute__((noinline)) static uint32_t far_below(uint32_t (*does)(const void 
     volatile uint8_t space[1 << 16];
     space[0] = 0;
     const uint32_t code = does(arg);
+    NOTE_ALL_GENERAL();
     if (calls_behind != NULL) {
         calls_behind();
     }
