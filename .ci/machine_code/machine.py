@@ -113,11 +113,14 @@ class Machine:
             raise Fault(f'it depends on data, or the condition {condition} is not known')
         return CONDITIONS[condition](*self.flags)
 
-    def fault(self, words):
-        """What is wrong with what a function left, which had to be words in the region that is written."""
+    def fault(self, words, cleared):
+        """What is wrong with what a function left, which had to be words in the region that is written, and so many
+        zeros in its own frame."""
         wrong = [at for at, word in enumerate(words) if self.word_at(self.written, WORD * at) != word]
         changed = [name for name in (*self.saved, self.stack_pointer) if self.registers[name] != self.before[name]]
+        zeros = sum(region == 'stack' and word == 0 for (region, _), word in self.memory.items())
         return (f'{len(wrong)} of {len(words)} words are other ones' if wrong else
+                f'it clears {zeros} words of its frame, of {cleared}' if zeros < cleared else
                 f'it leaves another {", ".join(changed)}' if changed else None)
 
 

@@ -25,14 +25,15 @@ def compressed_state(flag, h, m, counter):
 
 @dataclass(frozen=True)
 class Function:
-    """A function's name; what it is passed before the flag: regions of memory, by their sizes in words, and words; and
-    what it leaves in one of the regions. In a module, which may have no names, it is the one with some instructions.
-    So many instructions call it, in each build."""
+    """A function's name; what it is passed before the flag: regions of memory, by their sizes in words, and words; what
+    it leaves in one of the regions; and how many words of its own frame it clears. In a module, which may have no
+    names, it is the one with some instructions. So many instructions call it, in each build."""
     name: str
     regions: dict
     words: tuple
     written: str
     definition: Callable
+    cleared: int
     only: tuple
     calls: int
 
@@ -49,16 +50,17 @@ class Function:
                               for name, region in regions.items() for at, word in enumerate(region)}
         try:
             machine.run(machine.enter(begin, *map(variable, regions), *words, flag=flag))
-            return machine, machine.fault(self.definition(flag, *regions.values(), *([words] if words else [])))
+            defined = self.definition(flag, *regions.values(), *([words] if words else []))
+            return machine, machine.fault(defined, self.cleared)
         except (Fault, TypeError, ValueError, LookupError, AttributeError) as fault:
             # (a changed instruction can make anything of an operand; what cannot be run is wrong)
             return machine, f'{fault} ({machine.after:#x})'
 
 
 FUNCTIONS = (
-    Function('fill_words', {'prev': 128, 'reference': 128, 'next': 128}, (), 'next', compressed_block,
+    Function('fill_words', {'prev': 128, 'reference': 128, 'next': 128}, (), 'next', compressed_block, 0,
              ('i64.mul', 'i64.rotl'), 6),
-    Function('compress_f', {'h': 8, 'm': 16}, ('low', 'high'), 'h', compressed_state,
+    Function('compress_f', {'h': 8, 'm': 16}, ('low', 'high'), 'h', compressed_state, 16,
              (f'i64.const {rfc7693.IV[4]}', 'i64.rotl'), 3))
 FLAGS = 0, 1
 
