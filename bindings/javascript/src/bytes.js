@@ -39,13 +39,15 @@ function viewOf(value) {
     return new Uint8Array(...getters.map((get) => get(value)));
 }
 
+const BYTES = 'bytes: a typed array, a DataView or an ArrayBuffer, neither detached nor out of bounds';
+
 /** A copy of what a caller passes as bytes. */
-export function bytesOf(name, value) {
+export function bytesOf(name, value, expected = BYTES) {
     try {
         return copyOf(viewOf(value));
     } catch (cause) {
         if (cause instanceof TypeError) {
-            throw new TypeError(`'${name}' has to be bytes that are neither detached nor out of bounds`, { cause });
+            throw new TypeError(`'${name}' has to be ${expected}`, { cause });
         }
         throw cause;
     }
@@ -54,7 +56,7 @@ export function bytesOf(name, value) {
 /** A password as bytes: characters are UTF-8. Half a surrogate pair has none, and other text would have the same. */
 export function passwordOf(value) {
     if (typeof value !== 'string') {
-        return bytesOf('password', value);
+        return bytesOf('password', value, `a string or ${BYTES}`);
     }
     if (/\p{Surrogate}/u.test(value)) {
         throw new TypeError("'password' has to be well-formed Unicode");

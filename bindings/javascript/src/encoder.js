@@ -1,7 +1,7 @@
 // The calls that take no password and no blocks: settings are checked, and strings decoded and encoded, in the caller's
 // own thread, so that their errors come before a worker starts.
 import { NEEDS_REHASH, OK, Rejected, check } from './codes.js';
-import { JOB, SETTINGS } from './job.js';
+import { SETTINGS } from './job.js';
 import { Memory, pointer } from './memory.js';
 import { compiledModule } from './module.js';
 
@@ -12,8 +12,6 @@ const STORED = SETTINGS + 1;
 /** Of proved_argon2_limits: its bytes, and where the work is. */
 const LIMITS = 24;
 const WORK = 16;
-/** The least length of a salt (RFC 9106, 3.1). A longer one is as good. */
-const MIN_SALT = 8;
 /** What a memory may have grown to and still be reused by the next call. */
 const MAX_REUSED = 2 ** 20;
 
@@ -33,13 +31,7 @@ function textIn(memory, place) {
     return text.slice(0, text.indexOf('\0'));
 }
 
-/** Checks settings and the length of a salt as a hash does: it makes the job of an empty password. */
-function checkSettings(memory, settings, saltLength) {
-    const none = memory.take(0);
-    const salt = memory.take(Math.min(saltLength, MIN_SALT));
-    const job = memory.take(JOB);
-    check(memory.call('job_make', none, salt, none, none, pointer(memory.putNumbers(settings)), pointer(job)));
-}
+const lengthsOf = (...inputs) => inputs.map(({ length }) => BigInt(length));
 
 export class Encoder {
     #memory;
@@ -81,21 +73,21 @@ export class Encoder {
         });
     }
 
-    /** Throws where settings make no hash. */
-    checkSettings(settings, saltLength) {
-        this.#withMemory((memory) => checkSettings(memory, settings, saltLength));
+    /** Throws where settings and inputs make no hash. */
+    checkSettings(settings, { password, salt, secret, associatedData }) {
+        const lengths = lengthsOf(password, salt, secret, associatedData);
+        this.#withMemory((memory) => check(memory.call('check', pointer(memory.putNumbers(settings)), ...lengths)));
     }
 
     /** The settings of a PHC string and the length of its salt. It is checked here, against the limits first. */
-    decode(encoded, limits) {
+    decode(encoded, limits, { password, secret, associatedData }) {
+        const lengths = lengthsOf(password, secret, associatedData);
         return this.#withMemory((memory) => {
             const stored = memory.take(STORED, 4);
             const bounds = pointer(memory.put(limitsAsBytes(limits)));
-            check(memory.call('read_within', memory.put(encoded), bounds, pointer(stored)));
+            check(memory.call('check_encoded', memory.put(encoded), bounds, ...lengths, pointer(stored)));
             const numbers = memory.numbersAt(stored, STORED);
-            const [settings, saltLength] = [numbers.slice(0, SETTINGS), numbers[SETTINGS]];
-            checkSettings(memory, settings, saltLength);
-            return { settings, saltLength };
+            return { settings: numbers.slice(0, SETTINGS), saltLength: numbers[SETTINGS] };
         });
     }
 

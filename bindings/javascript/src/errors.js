@@ -40,5 +40,12 @@ export const WorkerRefused = define('WorkerRefused', 21);
 // end
 export const TooCostly = define('TooCostly', 69);
 
-/** The engine has no WebAssembly. The library for C has no such error. */
+/** The engine lacks what the package needs. The library for C has no such error. */
 export const Unsupported = define('Unsupported', 256);
+
+/** A signal without a reason of its own has stopped the call. */
+export class AbortError extends Error {}
+
+for (const [key, value] of Object.entries({ name: 'AbortError', code: 'ABORT_ERR' })) {
+    Object.defineProperty(AbortError.prototype, key, { value });
+}

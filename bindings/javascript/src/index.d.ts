@@ -44,7 +44,7 @@ export interface StopSignal {
 export interface Running {
     /** The progress callback: `done` of `all` slices are filled, four in a pass. What it throws stops the call. */
     onProgress?: (done: number, all: number) => void;
-    /** Stops the call once the slice at work is filled. The call is rejected by the signal's reason. */
+    /** Stops the call once the slice at work is filled. The call is rejected by the signal's reason, or `AbortError`. */
     signal?: StopSignal;
     /** `false` computes in the caller's thread, one call after another. It yields to other tasks after each slice. */
     worker?: boolean;
@@ -185,8 +185,16 @@ export class OutOfMemory extends Argon2Error {}
 export class WorkerRefused extends Argon2Error {}
 /** The PHC string is above the limits. No password was compared. */
 export class TooCostly extends Argon2Error {}
-/** The engine has no WebAssembly. */
+/** The engine has no WebAssembly, or is a Node that is too old. */
 export class Unsupported extends Argon2Error {}
+
+/** A signal has stopped the call, by `abort()` without a reason. `cause` is the platform's error. */
+export class AbortError extends Error {
+    /** The name of its class. */
+    readonly name: 'AbortError';
+    /** That of Node's own error. */
+    readonly code: 'ABORT_ERR';
+}
 
 /** The same by one name, for `import argon2 from`. */
 declare const argon2: {

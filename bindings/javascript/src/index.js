@@ -59,7 +59,7 @@ export async function hash(password, options = {}) {
     const inputs = inputsOf(password, own);
     const salt = copyOf(inputs.salt);
     return callWith(inputs, async (encoder) => {
-        encoder.checkSettings(settings, salt.length);
+        encoder.checkSettings(settings, inputs);
         const { code, tag } = await compute({ settings, saltLength: 0, encoded: undefined, inputs }, running, progress);
         check(code);
         return raw ? tag : encoder.encode(salt, settings, tag);
@@ -77,7 +77,7 @@ export async function verify(encoded, password, options = {}) {
     running.threads = Math.min(running.threads, MAX_THREADS_OF_STRING);
     return callWith(inputs, async (encoder) => {
         const bytes = new TextEncoder().encode(text);
-        const task = { ...encoder.decode(bytes, limits), encoded: bytes, inputs };
+        const task = { ...encoder.decode(bytes, limits, inputs), encoded: bytes, inputs };
         const { code } = await compute(task, running, progress);
         if (code !== MISMATCH) {
             check(code);

@@ -2,6 +2,7 @@
 // only an object's own ones: what somebody adds to Object.prototype is nobody's option.
 import { allocate, bytesOf, passwordOf } from './bytes.js';
 import { Inputs } from './inputs.js';
+import { requireEngine } from './platform.js';
 
 /** The variants: where a block's reference is drawn from (RFC 9106, 1). */
 export const argon2d = 0;
@@ -60,7 +61,10 @@ function ownOf(object, names, what) {
     return { __proto__: null, ...Object.fromEntries(Object.entries(all).filter(isDefined)) };
 }
 
-export const optionsOf = (options) => ownOf(options, NAMES, 'options');
+export function optionsOf(options) {
+    requireEngine();
+    return ownOf(options, NAMES, 'options');
+}
 
 function numberOf(name, value, most = MAX_NUMBER) {
     if (typeof value !== 'number') {

@@ -1,10 +1,19 @@
 // What Node and browsers do differently: files, how many processors there are, and how other tasks get their turn.
+import { Unsupported } from './errors.js';
 
 // Node's own modules are had without an import, which browsers and bundlers would stumble over.
 const builtin = (name) => globalThis.process?.getBuiltinModule?.(`node:${name}`);
 
 /** Node's workers, where this is Node. */
 export const nodeThreads = builtin('worker_threads');
+
+/** Throws where Node is too old to give its modules without an import. */
+export function requireEngine() {
+    const node = globalThis.process?.versions?.node;
+    if (node !== undefined && nodeThreads === undefined) {
+        throw new Unsupported(`Node ${node} is too old: this needs Node 20.19, 22.12 or 24`);
+    }
+}
 
 /** Whether workers can share a memory: always in Node, and in a page that is isolated from other origins. */
 export const canShare = () => nodeThreads !== undefined

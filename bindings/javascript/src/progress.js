@@ -1,4 +1,14 @@
 // The progress of a call: the callback, and what stops it.
+import { AbortError } from './errors.js';
+
+/**
+ * What a signal's call is rejected by: its reason. The platform's own has as its `code` a number of an error here: its
+ * place takes an error like those of Node's calls.
+ */
+function reasonOf({ reason }) {
+    const isPlatforms = reason instanceof DOMException && reason.name === 'AbortError';
+    return isPlatforms ? new AbortError(reason.message, { cause: reason }) : reason;
+}
 
 export class Progress {
     #onProgress;
@@ -42,6 +52,8 @@ export class Progress {
         if (this.#thrown) {
             throw this.#thrown.error;
         }
-        this.#signal?.throwIfAborted();
+        if (this.#signal?.aborted) {
+            throw reasonOf(this.#signal);
+        }
     }
 }

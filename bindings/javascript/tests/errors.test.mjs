@@ -175,7 +175,12 @@ test('an aborted signal rejects by its reason, before a worker', async () => {
     const started = countWorkers();
     const reason = new Error('no more');
     await assert.rejects(argon2.hash('password', { signal: AbortSignal.abort(reason) }), (error) => error === reason);
-    await assert.rejects(argon2.verify(ENCODED, 'password', { signal: AbortSignal.abort() }), { name: 'AbortError' });
+    const signal = AbortSignal.abort();
+    await assert.rejects(argon2.verify(ENCODED, 'password', { signal }), (error) => {
+        assert.ok(error instanceof argon2.AbortError);
+        assert.deepEqual([error.name, error.code, error.cause], ['AbortError', 'ABORT_ERR', signal.reason]);
+        return true;
+    });
     assert.equal(started(), 0);
 });
 
@@ -210,7 +215,7 @@ test('inputs are overwritten where a call is stopped before it runs', async () =
 /** What a program of these lines says, by Node with some flags. */
 async function saidWith(flags, lines) {
     const program = join(import.meta.dirname, 'flagged.mjs');
-    writeFileSync(program, `import { hash, verify } from 'proved-argon2';\n${lines}\n`);
+    writeFileSync(program, `import { hash, needsRehash, verify } from 'proved-argon2';\n${lines}\n`);
     return (await promisify(execFile)(process.execPath, [...flags, program], { timeout: 600000 })).stdout.trim();
 }
 
@@ -219,8 +224,18 @@ test('an engine without WebAssembly is Unsupported', async () => {
     assert.equal(said, 'Unsupported: This engine has no WebAssembly');
 });
 
+test('.. and so is a Node that gives no module without an import', async () => {
+    const old = 'data:text/javascript,delete process.getBuiltinModule; delete globalThis.crypto';
+    const said = await saidWith(['--import', old], `for (const call of [hash, verify, needsRehash]) {
+            console.log(await call('password', 'password').catch((error) => error.name));
+        }`);
+    assert.equal(said, 'Unsupported\nUnsupported\nUnsupported');
+});
+
 test('where Node denies workers, the caller computes', async () => {
-    const flags = ['--experimental-permission', `--allow-fs-read=${join(import.meta.dirname, '*')}`];
+    const [permission] = ['--permission', '--experimental-permission']
+        .filter((flag) => process.allowedNodeEnvironmentFlags.has(flag));
+    const flags = [permission, `--allow-fs-read=${join(import.meta.dirname, '*')}`];
     const said = await saidWith(flags, `const encoded = await hash('password', { memoryCost: 64, parallelism: 2 });
         console.log(process.permission.has('worker'), await verify(encoded, 'password'));`);
     assert.equal(said, 'false true');

@@ -12,7 +12,7 @@ const CALLS = 300;
 const SIZES = [4096, 16384];
 const LANES = [1, 4];
 /** What a process may have more than it began with: the code and the heaps of its workers. */
-const BESIDES = 64 * MIB;
+const BESIDES = 96 * MIB;
 const STAYS = 5000;
 const SOON = 50;
 

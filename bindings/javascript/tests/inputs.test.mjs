@@ -58,11 +58,11 @@ const FORGED = {
 
 for (const [what, make] of Object.entries({ ...GONE, ...FORGED })) {
     test(`${what} is a TypeError that names the input`, async () => {
-        const expected = { name: 'TypeError', message: /^'password' has to be bytes/ };
+        const expected = { name: 'TypeError', message: /^'password' has to be a string or bytes: a typed array/ };
         await assert.rejects(argon2.hash(make(), CHEAP), expected);
         await assert.rejects(argon2.verify(ENCODED, make()), expected);
         for (const name of ['salt', 'secret', 'associatedData']) {
-            const message = new RegExp(`^'${name}' has to be bytes`);
+            const message = new RegExp(`^'${name}' has to be bytes: a typed array`);
             await assert.rejects(argon2.hash('password', { ...CHEAP, [name]: make() }), { name: 'TypeError', message });
         }
     });

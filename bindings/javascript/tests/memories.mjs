@@ -2,15 +2,18 @@
 import { BroadcastChannel, isMainThread, threadId } from 'node:worker_threads';
 
 const STACK = 65536;
-/** Each instance with its memory. They are kept here, so that what the package drops can be looked at too. */
+/** Each instance of the package's with its memory, kept here, so that what the package drops can be looked at too. */
 const instances = [];
 const { instantiate } = WebAssembly;
 
-WebAssembly.instantiate = async (module, imports) => {
-    const instance = await instantiate(module, imports);
-    const { memory = imports.env.memory, __heap_base: base } = instance.exports;
-    instances.push({ base: Number(base.value), memory });
-    return instance;
+WebAssembly.instantiate = async (...values) => {
+    const made = await instantiate(...values);
+    const { exports } = made.instance ?? made;
+    if ('proved_argon2_job_make' in exports) { // (Node has modules of its own)
+        const { memory = values[1].env.memory, __heap_base: base } = exports;
+        instances.push({ base: Number(base.value), memory });
+    }
+    return made;
 };
 
 function held(memory, from, to) {

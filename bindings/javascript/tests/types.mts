@@ -1,6 +1,6 @@
 // What the types let through, and what they do not: tsc --noEmit --strict. It is never run.
 import argon2, {
-    Argon2Error, SaltTooShort, argon2id, defaultLimits, hash, needsRehash, presets, verify,
+    AbortError, Argon2Error, SaltTooShort, argon2id, defaultLimits, hash, needsRehash, presets, verify,
 } from 'proved-argon2';
 import type { HashOptions, Limits, Settings } from 'proved-argon2';
 
@@ -21,6 +21,9 @@ export async function right(password: string, key: Uint8Array, signal: AbortSign
         if (error instanceof SaltTooShort || error instanceof Argon2Error) {
             const code: number = error.code;
             return error.name === 'TooCostly' && code === 69;
+        }
+        if (error instanceof AbortError) {
+            return error.code === 'ABORT_ERR';
         }
         throw error;
     }
