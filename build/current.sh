@@ -140,7 +140,8 @@ others_of() {
         ;;
     *)
         others='VERSION build/link build/library.map build/machines.txt bindings/c crates/argon2_c/include
-            bindings/libargon2/argon2.h bindings/libargon2/command.c bindings/libargon2/libargon2.c
+            bindings/javascript/addon bindings/libargon2/argon2.h bindings/libargon2/command.c
+            bindings/libargon2/libargon2.c
             bindings/libargon2/libargon2.map bindings/shell/words.c'
         ;;
     esac

@@ -204,6 +204,7 @@ javascript() {
     [[ $(ls node_modules) == proved-argon2 ]]
     cp /packages/first/JAVASCRIPT first.mjs
     [[ $(node first.mjs) == $'true\nfalse' ]]
+    node --input-type=module --eval "await (await import('proved-argon2')).hash('password', { native: true });"
     npm uninstall "${npm[@]}" proved-argon2
     [[ ! -e node_modules/proved-argon2 ]]
 }

@@ -16,3 +16,6 @@ export function newPageWorker() {
 
 /** A new worker of Node. */
 export const newThread = (Thread, options) => new Thread(WORKER, { ...options, eval: true });
+
+/** Where an addon of Node is: beside this file, where Node loads it as CommonJS. */
+export const addonFile = (name) => `${__dirname}/${name}`;

@@ -1,5 +1,5 @@
 // The other files of the package, which lie beside this one. In the package's single file they are inlined instead.
-import { readFile } from './platform.js';
+import { fileOf, readFile } from './platform.js';
 
 // (each address is written out where it is used, so that bundlers see the files)
 
@@ -13,3 +13,6 @@ export const newPageWorker = () => new Worker(new URL('./worker.js', import.meta
 
 /** A new worker of Node. */
 export const newThread = (Thread, options) => new Thread(new URL('./worker.js', import.meta.url), options);
+
+/** Where an addon of Node is. */
+export const addonFile = (name) => fileOf(new URL(name, import.meta.url));

@@ -8,7 +8,7 @@ import { compiledModule } from './module.js';
 /** Room for the words of each error, PROVED_ARGON2_MESSAGE_SIZE. */
 const MESSAGE = 64;
 /** proved_argon2_stored: the settings, and the length of the salt. */
-const STORED = SETTINGS + 1;
+export const STORED = SETTINGS + 1;
 /** Of proved_argon2_limits: its bytes, and where the work is. */
 const LIMITS = 24;
 const WORK = 16;
@@ -18,7 +18,7 @@ const MAX_REUSED = 2 ** 20;
 let opened;
 
 /** Limits, as C lays them out. */
-function limitsAsBytes({ memoryCost, timeCost, parallelism, work }) {
+export function limitsAsBytes({ memoryCost, timeCost, parallelism, work }) {
     const view = new DataView(new ArrayBuffer(LIMITS));
     [memoryCost, timeCost, parallelism].forEach((number, i) => view.setUint32(4 * i, number, true));
     view.setBigUint64(WORK, BigInt(work), true);
@@ -31,7 +31,18 @@ function textIn(memory, place) {
     return text.slice(0, text.indexOf('\0'));
 }
 
-const lengthsOf = (...inputs) => inputs.map(({ length }) => BigInt(length));
+export const lengthsOf = (...inputs) => inputs.map(({ length }) => BigInt(length));
+
+/** What the numbers of a proved_argon2_stored say. */
+export const storedOf = (numbers) => ({ settings: numbers.slice(0, SETTINGS), saltLength: numbers[SETTINGS] });
+
+/** Whether the code of needs_rehash says so. */
+export function isRehashDue(code) {
+    if (code !== NEEDS_REHASH) {
+        check(code);
+    }
+    return code === NEEDS_REHASH;
+}
 
 export class Encoder {
     #memory;
@@ -86,8 +97,7 @@ export class Encoder {
             const stored = memory.take(STORED, 4);
             const bounds = pointer(memory.put(limitsAsBytes(limits)));
             check(memory.call('check_encoded', memory.put(encoded), bounds, ...lengths, pointer(stored)));
-            const numbers = memory.numbersAt(stored, STORED);
-            return { settings: numbers.slice(0, SETTINGS), saltLength: numbers[SETTINGS] };
+            return storedOf(memory.numbersAt(stored, STORED));
         });
     }
 
@@ -103,12 +113,7 @@ export class Encoder {
 
     /** Whether a PHC string has other settings than these. */
     needsRehash(encoded, settings) {
-        return this.#withMemory((memory) => {
-            const code = memory.call('needs_rehash', memory.put(encoded), pointer(memory.putNumbers(settings)));
-            if (code !== NEEDS_REHASH) {
-                check(code);
-            }
-            return code === NEEDS_REHASH;
-        });
+        return this.#withMemory((memory) =>
+            isRehashDue(memory.call('needs_rehash', memory.put(encoded), pointer(memory.putNumbers(settings)))));
     }
 }

@@ -1,4 +1,4 @@
-/** Argon2 password hashing (RFC 9106) by a WebAssembly module that is compiled from proved code. */
+/** Argon2 password hashing (RFC 9106) by proved code: an addon in Node, and a WebAssembly module elsewhere. */
 
 /** The variant whose references are drawn from the blocks, and so from the password (RFC 9106, 1). */
 export const argon2d: 0;
@@ -46,9 +46,12 @@ export interface Running {
     onProgress?: (done: number, all: number) => void;
     /** Stops the call once the slice at work is filled. The call is rejected by the signal's reason, or `AbortError`. */
     signal?: StopSignal;
-    /** `false` computes in the caller's thread, one call after another. It yields to other tasks after each slice. */
+    /** `true` computes by the addon of Node alone, `false` by WebAssembly. Without it, by the addon where it loads. */
+    native?: boolean;
+    /** `false` computes by WebAssembly in the caller's thread, one call after another. It yields to other tasks after
+     * each slice. */
     worker?: boolean;
-    /** The most workers, at least 1, for the lanes of a slice. Without it there is one a lane, if there are enough
+    /** The most workers or threads, at least 1, for the lanes of a slice. Without it there is one a lane, if there are enough
      * processors. */
     threads?: number;
 }
@@ -185,7 +188,7 @@ export class OutOfMemory extends Argon2Error {}
 export class WorkerRefused extends Argon2Error {}
 /** The PHC string is above the limits. No password was compared. */
 export class TooCostly extends Argon2Error {}
-/** The engine has no WebAssembly, or is a Node that is too old. */
+/** The engine has no WebAssembly, is a Node that is too old, or has no addon where `native` is `true`. */
 export class Unsupported extends Argon2Error {}
 
 /** A signal has stopped the call, by `abort()` without a reason. `cause` is the platform's error. */

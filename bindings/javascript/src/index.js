@@ -1,10 +1,11 @@
-// Argon2 password hashing (RFC 9106) by a WebAssembly module of proved code. docs/JAVASCRIPT.md says how to use it.
+// Argon2 password hashing (RFC 9106) over proved code, native in Node. docs/JAVASCRIPT.md says how to use it.
 import { copyOf } from './bytes.js';
 import { MISMATCH, OK, Rejected, check } from './codes.js';
 import { splitData } from './data.js';
 import { Encoder } from './encoder.js';
 import { runInPlace } from './in_place.js';
 import { lanesOf } from './job.js';
+import { addonFor, NativeEncoder, runByThreads } from './native.js';
 import {
     argon2d, argon2i, argon2id, defaultLimits, encodedOf, inputsOf, inputsToVerify, isRaw, limitsOf, optionsOf, presets,
     runningOf, settingsOf,
@@ -20,13 +21,20 @@ export { argon2d, argon2i, argon2id, defaultLimits, presets };
 /** As many threads for a stored string as the library's other faces have. */
 const MAX_THREADS_OF_STRING = 16;
 
+/** Runs a task where the call wants it to. */
+function run(task, { worker, threads, addon }, progress) {
+    const most = Math.min(threads, lanesOf(task.settings));
+    if (worker && addon) {
+        return runByThreads(addon, task, most, progress);
+    }
+    return worker && canStartWorkers() ? runByWorkers(task, most, progress) : runInPlace(task, progress);
+}
+
 /** The code and the tag of a task whose settings the library has checked. */
-async function compute(task, { worker, threads }, progress) {
+async function compute(task, running, progress) {
     try {
         progress.throwIfStopped();
-        const most = Math.min(threads, lanesOf(task.settings));
-        const byWorkers = worker && canStartWorkers();
-        const answer = await (byWorkers ? runByWorkers(task, most, progress) : runInPlace(task, progress));
+        const answer = await run(task, running, progress);
         progress.throwIfStopped();
         return answer;
     } catch (error) {
@@ -36,9 +44,9 @@ async function compute(task, { worker, threads }, progress) {
 }
 
 /** What a call returns. An error's number becomes the error of that name. The inputs are overwritten. */
-async function callWith(inputs, work) {
+async function callWith(addon, inputs, work) {
     try {
-        const encoder = await Encoder.open();
+        const encoder = addon ? new NativeEncoder(addon) : await Encoder.open();
         try {
             return await work(encoder);
         } catch (error) {
@@ -58,7 +66,7 @@ export async function hash(password, options = {}) {
     const progress = new Progress(running.onProgress, running.signal);
     const inputs = inputsOf(password, own);
     const salt = copyOf(inputs.salt);
-    return callWith(inputs, async (encoder) => {
+    return callWith(running.addon, inputs, async (encoder) => {
         encoder.checkSettings(settings, inputs);
         const { code, tag } = await compute({ settings, saltLength: 0, encoded: undefined, inputs }, running, progress);
         check(code);
@@ -75,7 +83,7 @@ export async function verify(encoded, password, options = {}) {
     const progress = new Progress(running.onProgress, running.signal);
     const inputs = inputsToVerify(password, { __proto__: null, associatedData: data, ...own });
     running.threads = Math.min(running.threads, MAX_THREADS_OF_STRING);
-    return callWith(inputs, async (encoder) => {
+    return callWith(running.addon, inputs, async (encoder) => {
         const bytes = new TextEncoder().encode(text);
         const task = { ...encoder.decode(bytes, limits, inputs), encoded: bytes, inputs };
         const { code } = await compute(task, running, progress);
@@ -90,7 +98,7 @@ export async function verify(encoded, password, options = {}) {
 export async function needsRehash(encoded, options = {}) {
     const { text } = splitData(encodedOf(encoded));
     const settings = settingsOf(optionsOf(options));
-    return callWith(undefined, (encoder) => encoder.needsRehash(new TextEncoder().encode(text), settings));
+    return callWith(addonFor(), undefined, (encoder) => encoder.needsRehash(new TextEncoder().encode(text), settings));
 }
 
 export default Object.freeze({ hash, verify, needsRehash, argon2d, argon2i, argon2id, presets, defaultLimits });

@@ -2,6 +2,7 @@
 // only an object's own ones: what somebody adds to Object.prototype is nobody's option.
 import { allocate, bytesOf, passwordOf } from './bytes.js';
 import { Inputs } from './inputs.js';
+import { addonFor } from './native.js';
 import { requireEngine } from './platform.js';
 
 /** The variants: where a block's reference is drawn from (RFC 9106, 1). */
@@ -40,8 +41,8 @@ const NO_LIMITS = Object.freeze({
 });
 
 const NAMES = new Set([
-    ...Object.keys(DEFAULTS), 'salt', 'secret', 'associatedData', 'raw', 'limits', 'onProgress', 'signal', 'worker',
-    'threads',
+    ...Object.keys(DEFAULTS), 'salt', 'secret', 'associatedData', 'raw', 'limits', 'onProgress', 'signal', 'native',
+    'worker', 'threads',
 ]);
 const NAMES_OF_LIMITS = new Set(Object.keys(defaultLimits));
 
@@ -135,13 +136,14 @@ function threadsOf(threads = MAX_NUMBER) {
 }
 
 /** How a call runs. */
-export function runningOf({ onProgress, signal, worker = true, threads }) {
+export function runningOf({ onProgress, signal, native, worker = true, threads }) {
     if (signal !== undefined && !(signal instanceof AbortSignal)) {
         throw typeError('signal', 'an AbortSignal');
     }
     return {
         onProgress: optionOf('onProgress', onProgress, 'function'),
         signal,
+        addon: addonFor(optionOf('native', native, 'boolean')),
         worker: optionOf('worker', worker, 'boolean'),
         threads: threadsOf(threads),
     };

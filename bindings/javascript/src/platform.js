@@ -29,6 +29,9 @@ export function processors() {
     return nodeThreads ? builtin('os').availableParallelism() : globalThis.navigator?.hardwareConcurrency ?? 1;
 }
 
+/** The name of a file, in Node. */
+export const fileOf = (url) => builtin('url').fileURLToPath(url);
+
 /** What a file of the package has. */
 export async function readFile(url) {
     if (url.protocol === 'file:' && nodeThreads) {

@@ -49,6 +49,7 @@ const HASHING = [
     ['TypeError', { onProgress: 5 }],
     ['TypeError', { signal: {} }],
     ['TypeError', { worker: 'no' }],
+    ['TypeError', { native: 0 }],
     ['TypeError', { raw: 1 }],
     ['TypeError', { memorycost: 65536 }],
     ['TypeError', { threads: 0 }],
@@ -212,15 +213,17 @@ test('inputs are overwritten where a call is stopped before it runs', async () =
     assert.ok(inputs.every((bytes) => bytes.every((byte) => byte === 0)));
 });
 
-/** What a program of these lines says, by Node with some flags. */
-async function saidWith(flags, lines) {
+/** What a program of these lines says, by Node with some flags, and with some variables. */
+async function saidWith(flags, lines, variables = {}) {
     const program = join(import.meta.dirname, 'flagged.mjs');
     writeFileSync(program, `import { hash, needsRehash, verify } from 'proved-argon2';\n${lines}\n`);
-    return (await promisify(execFile)(process.execPath, [...flags, program], { timeout: 600000 })).stdout.trim();
+    return (await promisify(execFile)(process.execPath, [...flags, program],
+        { timeout: 600000, env: { ...process.env, ...variables } })).stdout.trim();
 }
 
 test('an engine without WebAssembly is Unsupported', async () => {
-    const said = await saidWith(['--jitless'], "console.log(await hash('password').catch((error) => String(error)));");
+    const program = "console.log(await hash('password').catch((error) => String(error)));";
+    const said = await saidWith(['--jitless'], program, { PROVED_ARGON2_NATIVE: '0' });
     assert.equal(said, 'Unsupported: This engine has no WebAssembly');
 });
 
@@ -230,6 +233,12 @@ test('.. and so is a Node that gives no module without an import', async () => {
             console.log(await call('password', 'password').catch((error) => error.name));
         }`);
     assert.equal(said, 'Unsupported\nUnsupported\nUnsupported');
+});
+
+test('.. and so is an engine without the addon that a call asks for', async () => {
+    const program = "console.log(await hash('password', { native: true }).catch((error) => String(error)));";
+    const said = await saidWith([], program, { PROVED_ARGON2_NATIVE: '0' });
+    assert.equal(said, 'Unsupported: There is no addon: PROVED_ARGON2_NATIVE is 0');
 });
 
 test('where Node denies workers, the caller computes', async () => {

@@ -31,12 +31,13 @@ const { setTimeout: wait } = globalThis;
 globalThis.setTimeout = (call, delay, ...more) => wait(call, delay === STAYS ? stays : delay, ...more);
 
 const argon2 = await import('proved-argon2');
-await argon2.hash('password', { memoryCost: 64 });
+await argon2.hash('password', { memoryCost: 64, native: false });
 const start = process.memoryUsage.rss();
 const above = () => process.memoryUsage.rss() - start;
 const inMib = (bytes) => `${Math.round(bytes / MIB)} MiB`;
 
-const settingsOf = (call) => ({ memoryCost: SIZES[(call >> 1) % 2], parallelism: LANES[call % 2], timeCost: 1 });
+const settingsOf = (call) =>
+    ({ memoryCost: SIZES[(call >> 1) % 2], parallelism: LANES[call % 2], timeCost: 1, native: false });
 
 /** The most that a process had above its start, over so many calls. */
 async function highest(calls, makeCall) {
@@ -107,6 +108,11 @@ test('where workers die in a call, too, and then an idle process is back at its 
     await argon2.hash('password', settingsOf(3));
     await idle();
     assertFlat(above(), 0);
+});
+
+test('threads of the addon leave no memory', async () => {
+    const most = await highest(10 * CALLS, (call) => argon2.hash('password', { ...settingsOf(call), native: true }));
+    assertFlat(most, 0);
 });
 
 test('calls in place take one memory, however many wait', async () => {

@@ -10,8 +10,11 @@ import { look } from './memories.mjs';
 import { countWorkers, letStay, lookIntoWorkers, workers } from './watching.mjs';
 import * as argon2 from 'proved-argon2';
 
-const SMALL = { memoryCost: 1024, timeCost: 3, parallelism: 4, salt: new Uint8Array(16), raw: true };
-const RUNNINGS = { 'by one worker': { threads: 1 }, 'by four workers': { threads: 4 }, 'in place': { worker: false } };
+const SMALL = { memoryCost: 1024, timeCost: 3, parallelism: 4, salt: new Uint8Array(16), raw: true, native: false };
+const RUNNINGS = {
+    'by one worker': { threads: 1 }, 'by four workers': { threads: 4 }, 'in place': { worker: false },
+    'by one thread': { native: true, threads: 1 }, 'by four threads': { native: true, threads: 4 },
+};
 
 const hexOf = (bytes) => Buffer.from(bytes).toString('hex');
 
@@ -91,13 +94,15 @@ test('a long password is hashed in a worker, and a memory that a long salt has m
     assert.equal(look().bytes, small);
 });
 
-test('a signal stops a verification too', async () => {
+test('a signal stops a verification too', { timeout: 60000 }, async () => {
     const encoded = await argon2.hash('password', { ...SMALL, raw: false });
-    const signal = AbortSignal.timeout(5);
-    const costly = { limits: null, signal };
-    const stopped = argon2.verify(encoded.replace('t=3', 't=100000'), 'password', costly);
-    await assert.rejects(stopped, { name: 'TimeoutError' });
-    assert.equal(await argon2.verify(encoded, 'password'), true);
+    const costly = encoded.replace('t=3', 't=1000000');
+    for (const native of [true, false]) {
+        const signal = AbortSignal.timeout(5);
+        const stopped = argon2.verify(costly, 'password', { limits: null, signal, native });
+        await assert.rejects(stopped, { name: 'TimeoutError' });
+        assert.equal(await argon2.verify(encoded, 'password', { native }), true);
+    }
     await assertNothingHeld();
 });
 
@@ -158,7 +163,7 @@ test('a process ends while a worker waits for work', async () => {
     const program = `import { workers } from './watching.mjs';
         import { hash, verify } from 'proved-argon2';
         process.once('beforeExit', () => console.log(workers.length));
-        console.log(await verify(await hash('password', { memoryCost: 64 }), 'password'));`;
+        console.log(await verify(await hash('password', { memoryCost: 64, native: false }), 'password'));`;
     const words = ['--input-type=module', '--eval', program];
     const how = { cwd: import.meta.dirname, timeout: 600000 };
     const { stdout } = await promisify(execFile)(process.execPath, words, how);
@@ -168,7 +173,8 @@ test('a process ends while a worker waits for work', async () => {
 test('a memory that a port loses goes another way', async () => {
     const words = ['--import', './lost_memories.mjs', '--test-reporter=tap',
         '--test-name-pattern=by a worker for each lane', 'vectors.test.mjs'];
-    const how = { cwd: import.meta.dirname, timeout: 120000, env: { ...process.env, NODE_TEST_CONTEXT: undefined } };
+    const how = { cwd: import.meta.dirname, timeout: 120000,
+        env: { ...process.env, NODE_TEST_CONTEXT: undefined, PROVED_ARGON2_NATIVE: '0' } };
     const { stdout } = await promisify(execFile)(process.execPath, words, how);
     assert.match(stdout, /^# pass 1$/m);
 });

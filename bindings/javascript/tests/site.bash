@@ -4,11 +4,12 @@
 site=${work:?}/site
 export SOURCE_DATE_EPOCH=0 PAGE=$PWD/../docs/demo VECTORS=$PWD/vectors
 
-# With the modules of these sources. Without npm, it is unpacked where npm would put it.
+# With the modules and the addon of these sources. Without npm, it is unpacked where npm would put it.
 installs() {
     local modules=$site/node_modules
-    ../build/all wasm32 || return
-    mkdir -p "$modules" && javascript/pack "$work/package.tgz" out/wasm32 && cp javascript/tests/* "$site" || return
+    ../build/all wasm32 "$(uname -m)" || return
+    mkdir -p "$modules" && javascript/pack "$work/package.tgz" out/wasm32 "out/$(uname -m)" || return
+    cp javascript/tests/* "$site"
     if command -v npm >/dev/null; then
         (cd "$site" && npm install --offline --no-audit --no-fund --cache "$work/cache" "$work/package.tgz")
     else

@@ -1,4 +1,4 @@
-// The outside vectors (bindings/vectors), and 2,000 random hashes beside libargon2's (bindings/vectors/drawn.py writes them).
+// The outside vectors, and 2,000 random hashes beside libargon2's (both of bindings/vectors).
 import assert from 'node:assert/strict';
 import { readFileSync } from 'node:fs';
 import os from 'node:os';

@@ -1,0 +1,161 @@
+// The library as an addon of Node, where it loads: its calls, and runs in threads of its own.
+import { addonFile } from './assets.js';
+import { allocate } from './bytes.js';
+import { check, OK, OUT_OF_MEMORY, Rejected, STOPPED } from './codes.js';
+import { isRehashDue, lengthsOf, limitsAsBytes, STORED, storedOf } from './encoder.js';
+import { Unsupported } from './errors.js';
+import { hashLengthOf } from './job.js';
+import { nodeThreads, processors } from './platform.js';
+import { Queue } from './queue.js';
+
+const NOT_WANTED = '0';
+const queue = new Queue();
+/** How many threads compute. */
+let busy = 0;
+/** What a thread reads and writes, which is not to be collected meanwhile. */
+const kept = new Set();
+let loaded;
+
+/** The addon, or why there is none. */
+function load() {
+    const { process } = globalThis;
+    const made = { exports: {} };
+    try {
+        if (process.env.PROVED_ARGON2_NATIVE === NOT_WANTED) {
+            throw new Error(`PROVED_ARGON2_NATIVE is ${NOT_WANTED}`);
+        }
+        process.dlopen(made, addonFile(`./${process.platform}-${process.arch}.node`));
+        // (the library may have no build for this processor)
+        check(made.exports.check(Uint32Array.of(2, 0x13, 8, 1, 1, 4), BigUint64Array.of(0n, 8n, 0n, 0n)));
+        return { addon: made.exports };
+    } catch (cause) {
+        return { cause };
+    }
+}
+
+/** The addon: none where `native` is false or it does not load, an error where that is true. */
+export function addonFor(native) {
+    if (native === false || nodeThreads === undefined && native === undefined) {
+        return undefined;
+    }
+    loaded ??= load();
+    const { addon, cause } = loaded;
+    if (native && addon === undefined) {
+        throw new Unsupported(`There is no addon: ${cause.message}`, { cause });
+    }
+    return addon;
+}
+
+/** What an encoder does, by the addon. */
+export class NativeEncoder {
+    #addon;
+
+    constructor(addon) {
+        this.#addon = addon;
+    }
+
+    message(code) {
+        return this.#addon.message(Uint32Array.of(code));
+    }
+
+    checkSettings(settings, { password, salt, secret, associatedData }) {
+        const lengths = BigUint64Array.from(lengthsOf(password, salt, secret, associatedData));
+        check(this.#addon.check(Uint32Array.from(settings), lengths));
+    }
+
+    decode(encoded, limits, { password, secret, associatedData }) {
+        const stored = new Uint32Array(STORED);
+        const lengths = BigUint64Array.from(lengthsOf(password, secret, associatedData));
+        check(this.#addon.checkEncoded(encoded, limitsAsBytes(limits), lengths, stored));
+        return storedOf([...stored]);
+    }
+
+    encode(salt, settings, tag) {
+        const numbers = Uint32Array.from(settings);
+        const text = new Uint8Array(this.#addon.encodedLength(salt, numbers) + 1);
+        check(this.#addon.encode(salt, numbers, tag, text));
+        return new TextDecoder().decode(text).slice(0, -1);
+    }
+
+    needsRehash(encoded, settings) {
+        return isRehashDue(this.#addon.needsRehash(encoded, Uint32Array.from(settings)));
+    }
+}
+
+/** A thread at once or in its turn, and as many that help it as there are processors without work. */
+async function takeThreads(most, progress) {
+    if (busy < processors()) {
+        busy += 1;
+    } else {
+        await queue.wait(progress);
+    }
+    const helpers = Math.max(0, Math.min(most - 1, processors() - busy));
+    busy += helpers;
+    return 1 + helpers;
+}
+
+function giveBack(threads) {
+    busy -= threads;
+    while (busy < processors() && !queue.isEmpty) {
+        busy += 1;
+        queue.give();
+    }
+}
+
+/** Room for a tag. The engine may have none. */
+function allocateTag(length) {
+    try {
+        return allocate(length);
+    } catch (error) {
+        throw error instanceof RangeError ? new Rejected(OUT_OF_MEMORY) : error;
+    }
+}
+
+/** What the addon is passed of a task: what it looks at while it computes, the inputs, and where a tag goes. */
+function partsOf({ settings, encoded, inputs }, control) {
+    const { password, salt, secret, associatedData } = inputs;
+    if (encoded !== undefined) {
+        return [control, password, encoded, secret, associatedData];
+    }
+    const tag = allocateTag(hashLengthOf(settings));
+    return [control, password, salt, secret, associatedData, Uint32Array.from(settings), tag];
+}
+
+/** The code of a run, once its thread has ended. */
+function codeOf(begin, parts, progress) {
+    const [control] = parts;
+    const stop = () => Atomics.store(control, 0, 1);
+    const forget = progress.whenAborted(stop);
+    kept.add(parts);
+    return new Promise((resolve) => {
+        const hear = (done, value) => {
+            if (done === 0) {
+                resolve(value);
+            } else if (progress.report(done, value)) {
+                stop();
+            }
+        };
+        const code = begin(...parts, hear);
+        if (code !== OK) {
+            resolve(code);
+        }
+    }).finally(() => {
+        kept.delete(parts);
+        forget();
+    });
+}
+
+/** Runs a task by at most so many threads, and returns its code and its tag. */
+export async function runByThreads(addon, task, most, progress) {
+    const threads = await takeThreads(most, progress);
+    try {
+        if (progress.isStopped) {
+            throw new Rejected(STOPPED);
+        }
+        const parts = partsOf(task, Int32Array.of(0, threads, progress.isReported ? 1 : 0));
+        const code = await codeOf(task.encoded === undefined ? addon.hash : addon.verify, parts, progress);
+        return { code, tag: parts.at(-1) };
+    } finally {
+        giveBack(threads);
+    }
+}
