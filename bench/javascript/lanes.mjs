@@ -6,10 +6,10 @@ import { serve } from './server.mjs';
 const [page, rounds] = process.argv.slice(2);
 
 /** Milliseconds: of the default settings, and of four lanes by one, two and four workers. Pages get it as its text. */
-async function times({ hash }, count) {
-    const lanes = { memoryCost: 65536, timeCost: 3, parallelism: 4 };
+async function times({ hash }, count, native) {
+    const lanes = { memoryCost: 65536, timeCost: 3, parallelism: 4, native };
     const by = (threads) => ({ ...lanes, threads });
-    const cases = { default: {}, 1: by(1), 2: by(2), 4: by(4) };
+    const cases = { default: { native }, 1: by(1), 2: by(2), 4: by(4) };
     const least = {};
     for (let round = 0; round <= count; round++) {
         for (const [name, options] of Object.entries(cases)) {
@@ -47,7 +47,8 @@ async function inPage(Browser) {
 const HEAD = ['Engine', '19 MiB, 2 passes, 1 lane', '64 MiB, 3 passes, 4 lanes: by 1 worker', 'by 2', 'by 4',
     'time of 4 workers / 1'];
 console.log(`| ${HEAD.join(' | ')} |\n|---${'|---:'.repeat(HEAD.length - 1)}|`);
-say(`Node ${process.versions.node}`, await times(argon2, Number(rounds)));
+say(`Node ${process.versions.node}, native`, await times(argon2, Number(rounds), true));
+say(`Node ${process.versions.node}, WebAssembly`, await times(argon2, Number(rounds), false));
 await inPage(Chromium);
 await inPage(Firefox);
 await inPage(WebKit);
