@@ -15,7 +15,7 @@ export class Queue {
             const call = { resolve, reject };
             this.#waiting.push(call);
             forget = progress.whenAborted(() => {
-                this.#waiting.splice(this.#waiting.indexOf(call), 1);
+                this.#waiting = this.#waiting.filter((other) => other !== call);
                 reject(new Rejected(STOPPED));
             });
         });

@@ -136,6 +136,21 @@ test('a call that waits for a worker can be stopped', async () => {
     await argon2.hash('password', SMALL);
 });
 
+test('a call that is stopped as its turn comes takes no other from the line', async () => {
+    const [{ Queue }, { Progress }] = await Promise.all(['./queue.js', './progress.js'].map((name) =>
+        import(new URL(name, import.meta.resolve('proved-argon2')))));
+    const queue = new Queue();
+    const controller = new AbortController();
+    const first = queue.wait(new Progress(undefined, controller.signal));
+    const second = queue.wait(new Progress());
+    queue.give('first');
+    controller.abort();
+    assert.equal(await first, 'first');
+    assert.equal(queue.isEmpty, false);
+    queue.give('second');
+    assert.equal(await second, 'second');
+});
+
 test('a worker that fails is WorkerRefused, and the next call has another', async () => {
     const large = { ...SMALL, memoryCost: 65536, timeCost: 20 };
     for (const running of [{ threads: 1 }, { threads: 4 }]) {
