@@ -95,7 +95,8 @@ class Hash(NamedTuple):
     @functools.cache
     def output(self):
         """What is written, by libargon2."""
-        tag, text = ctypes.create_string_buffer(self.length), ctypes.create_string_buffer(2 * (self.length + len(self.salt)) + 200)
+        room = 2 * (self.length + len(self.salt)) + 200
+        tag, text = ctypes.create_string_buffer(self.length), ctypes.create_string_buffer(room)
         arguments = [argument for data in (PASSWORD, self.salt, tag, text)
                      for argument in (data, ctypes.c_size_t(len(data)))]
         kind = VARIANTS.index(self.variant), self.version
