@@ -10,11 +10,12 @@ from rfc9106 import MASK, rotated
 from terms import BITS, Fault, picked, variable
 
 OLD = 'ax', 'bx', 'cx', 'dx', 'si', 'di', 'bp', 'sp'
-# The registers for integers, the names of their lower halves, those for vectors, and sizes in words.
+# The registers for integers, the names of their lower halves; those for vectors, how many of them are older than
+# AVX-512, and how many words one has; and sizes in words.
 WHOLE = [f'r{name}' for name in (*OLD, *range(8, 16))]
 LOWER = dict(zip([*(f'e{name}' for name in OLD), *(f'r{number}d' for number in range(8, 16))], WHOLE))
-VECTORS = [f'mm{number}' for number in range(16)]
-SIZES = {'x': 2, 'y': 4, 'QWORD': 1, 'XMMWORD': 2, 'YMMWORD': 4}
+VECTORS, OF_VEX, WIDEST = [f'mm{number}' for number in range(32)], 16, 8
+SIZES = {'x': 2, 'y': 4, 'z': 8, 'QWORD': 1, 'XMMWORD': 2, 'YMMWORD': 4, 'ZMMWORD': 8}
 PLACE = re.compile(r'(?:(\w+) PTR )?\[(\w+)(?:\+(\w+)\*(\d))?([+-]0x[0-9a-f]+)?\]')
 PARTS = re.compile(r'(?:[^,\[]|\[[^\]]*\])+')
 LOW, NAMES_OF_LOW = (1 << 32) - 1, {'mov', 'add', 'sub', 'xor', 'cmp', 'test'}
@@ -27,7 +28,7 @@ class X86(Machine):
     @staticmethod
     def fresh(when):
         return {name: variable(f'{when} {name}') for name in WHOLE} | \
-            {name: tuple(variable(f'{when} {name} {at}') for at in range(4)) for name in VECTORS}
+            {name: tuple(variable(f'{when} {name} {at}') for at in range(WIDEST)) for name in VECTORS}
 
     def enter(self, address, *arguments, flag):
         """Begins a function, which is passed the flag as 32 bits."""
@@ -47,10 +48,19 @@ class X86(Machine):
 
     return_address = pop
 
+    def fault(self, words):
+        """What is wrong too where words of blocks stay in a vector, but in the halves that the driver clears: memset
+        leaves nothing there."""
+        known = self.fresh('left')
+        stay = [name for at, name in enumerate(VECTORS) if not all(
+            word in (0, before, left) for word, before, left in [
+                *zip(self.registers[name], self.before[name], known[name])][2 if at < OF_VEX else 0:])]
+        return super().fault(words) or (f'it leaves words in {", ".join(stay)}' if stay else None)
+
 
 def vector(name, size, keeps_rest):
     def write(machine, words):
-        machine.registers[name] = (*words, *(machine.registers[name][size:] if keeps_rest else (0,) * (4 - size)))
+        machine.registers[name] = (*words, *(machine.registers[name][size:] if keeps_rest else (0,) * (WIDEST - size)))
     return (lambda machine: machine.registers[name][:size]), write
 
 
@@ -116,13 +126,31 @@ def four_of(order):
     return tuple(order >> 2 * index & 3 for index in range(4))
 
 
+def by_fours(words, order):
+    return tuple(words[at + place] for at in range(0, len(words), 4) for place in four_of(order))
+
+
+def by_pairs(one, other, order):
+    """Two pairs of one vector's words, and two of another's."""
+    if len(one) < WIDEST:
+        raise Fault('it shuffles fewer than four pairs')
+    return tuple(chain.from_iterable(
+        words[2 * place:2 * place + 2] for words, place in zip((one, one, other, other), four_of(order))))
+
+
+def added_to_both(words, one, other, table):
+    if table != 0x96:
+        raise Fault(f'the table {table:#x} is not known')
+    return tuple(x ^ y ^ z for x, y, z in zip(words, one, other))
+
+
 # What instructions make of the operands that they read. For old ones of vectors the first is the one that is written.
-UNALIGNED = 'movups', 'movupd', 'movdqu'
-MOVES = 'movaps', 'movapd', 'movdqa', *UNALIGNED
-XOR = dict.fromkeys(('pxor', 'xorps', 'xorpd'), each(lambda x, y: x ^ y))
+UNALIGNED = 'movups', 'movupd', 'movdqu', 'movdqu32', 'movdqu64'
+MOVES = 'movaps', 'movapd', 'movdqa', 'movdqa32', 'movdqa64', *UNALIGNED
+XOR = dict.fromkeys(('pxor', 'pxord', 'pxorq', 'xorps', 'xorpd'), each(lambda x, y: x ^ y))
 ONTO = {
     **XOR, 'paddq': each(add), 'pmuludq': each(lambda x, y: (x & LOW) * (y & LOW)), 'por': each(lambda x, y: x | y),
-    'psrlq': each(right), 'psllq': each(left),
+    'psrlq': each(right), 'psllq': each(left), 'vpternlogd': added_to_both, 'vpternlogq': added_to_both,
     'pshufb': by_lanes(lambda words, order: picked(words, places(order, 8, 16), 8)),
     'palignr': by_lanes(lambda high, low, count: picked((*low, *high), tuple(range(count, count + 16)), 8)),
     'punpcklqdq': by_lanes(lambda one, other: (one[0], other[0])),
@@ -132,8 +160,10 @@ FROM = {
     'movq': lambda word: ((word[0] if isinstance(word, tuple) else word), 0),
     'vinserti128': lambda words, other, upper: (*words[:2], *other) if upper else (*other, *words[2:]),
     'vextracti128': lambda words, upper: words[2:] if upper else words[:2],
-    'vpermq': lambda words, order: picked(words, four_of(order), 64),
-    'vpermd': lambda order, words: picked(words, places(order, 32, 8), 32)}
+    'vpermq': by_fours, 'vshufi64x2': by_pairs,
+    'vprorq': each(lambda word, count: rotated(word, count % BITS)),
+    'vprolq': each(lambda word, count: rotated(word, -count % BITS)),
+    'vpermd': lambda order, words: picked(words, places(order, 32, 2 * len(words)), 32)}
 VECTOR = FROM | ONTO | {f'v{name}': function for name, function in (FROM | ONTO).items() if name[0] != 'v'}
 PLAIN = {**dict.fromkeys(('mov', 'movabs', 'lea'), lambda x: x), 'rorx': lambda x, count: rotated(x, below_size(count))}
 WITH_FLAGS = {
@@ -158,7 +188,7 @@ def call(to):
 
 
 def clear_upper(machine):
-    machine.registers |= {name: (*machine.registers[name][:2], 0, 0) for name in VECTORS}
+    machine.registers |= {name: (*machine.registers[name][:2], *(0,) * (WIDEST - 2)) for name in VECTORS[:OF_VEX]}
 
 
 def control(mnemonic, sources, target):
