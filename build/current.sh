@@ -73,12 +73,17 @@ list_states() {
 }
 
 # A machine of build/machines.txt, by its name or that of a build: `find_machine NAME` leaves what the table has of it
-# in `machine`, `number`, `target`, `tool_prefix`, `base` and `builds`.
+# in `machine`, `number`, `target`, `tool_prefix`, `base` and `builds`, and those of them that the toolchain makes in
+# `proved`, and the others in `kernels`.
 find_machine() {
     while read -r machine number target tool_prefix base builds; do
         case $machine:" $machine $builds " in
         '#'*) ;;
-        *" $1 "*) tool_prefix=${tool_prefix#-} base=${base%:} && return ;;
+        *" $1 "*)
+            tool_prefix=${tool_prefix#-} base=${base%:} proved=${builds%% + *} kernels=''
+            [ "$proved" = "$builds" ] || kernels=${builds#* + } builds="$proved $kernels"
+            return
+            ;;
         esac
     done <"$root/build/machines.txt"
     why="nothing is built for $1"
@@ -130,19 +135,23 @@ others_of() {
     case $1 in
     wasm32) others='build/link_wasm bindings/wasm/instance.s' ;;
     windows-x86_64)
-        others='build/link_windows build/coff build/machines.txt bindings/c bindings/windows crates/argon2_c/include'
+        others='build/link_windows build/coff build/machines.txt bindings/c bindings/kernels bindings/windows
+            crates/argon2_c/include'
         ;;
-    x86-64-* | armv8-a) others='' ;;
+    x86-64-* | armv8-a)
+        others=''
+        [ ! -e "$root/bindings/kernels/$1.c" ] || others="build/kernel build/machines.txt bindings/kernels/$1.c"
+        ;;
     portable)
         others='build/portable bindings/wasm/instance.s bindings/portable/translate.py bindings/portable/module.h
             bindings/portable/platform_other.c bindings/portable/proved_argon2_module.c bindings/c bindings/windows
             crates/argon2_c/include'
         ;;
     *)
-        others='VERSION build/link build/library.map build/machines.txt bindings/c crates/argon2_c/include
-            bindings/javascript/addon bindings/libargon2/argon2.h bindings/libargon2/command.c
-            bindings/libargon2/libargon2.c
-            bindings/libargon2/libargon2.map bindings/shell/words.c'
+        others='VERSION build/link build/library.map build/machines.txt bindings/c bindings/kernels
+            bindings/javascript/addon crates/argon2_c/include bindings/libargon2/argon2.h
+            bindings/libargon2/command.c bindings/libargon2/libargon2.c bindings/libargon2/libargon2.map
+            bindings/shell/words.c'
         ;;
     esac
 }

@@ -12,11 +12,14 @@ class Machine(NamedTuple):
     prefix: str
     base: str
     builds: list
+    proved: list  # those that the toolchain makes, which come first
 
 
 def read_machine(line):
-    (name, number, target, prefix, base), builds = (part.split() for part in line.split(":"))
-    return Machine(name, int(number), target, prefix.removeprefix("-"), base, builds)
+    head, builds = line.split(":")
+    name, number, target, prefix, base = head.split()
+    proved, kernels = (part.split() for part in builds.partition("+")[::2])
+    return Machine(name, int(number), target, prefix.removeprefix("-"), base, proved + kernels, proved)
 
 
 def machines():

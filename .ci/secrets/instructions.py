@@ -9,10 +9,12 @@ from collections import Counter
 from plant_leak import run
 
 X86 = re.compile(
-    r'v?p((add|sub)[bdwq]|and|xor|or|mul(udq|ld)|maddwd|(max|min)ud|cmp(eq|gt)[bdq]|s[rl][la]v?[dwq]|shuf[bd]'
+    r'v?p((add|sub)[bdwq]|and|xor[dq]?|or|ternlog[dq]|ro[lr][dq]'
+    r'|mul(udq|ld)|maddwd|(max|min)ud|cmp(eq|gt)[bdq]|s[rl][la]v?[dwq]|shuf[bd]'
     r'|shuf[lh]w|alignr|erm[dq]|unpck[lh](bw|wd|dq|qdq)|ack[us]s(dw|wb)|blend[dw]|broadcast[bdq]'
     r'|(ext|ins)r[bdwq]|mov[sz]x[a-z]+|test)'
-    r'|v?mov[adhlpqsuz]+|mov([zs][bw]|ab|[bw]|be)?[lqsw]*|v?movmskpd|vpmaskmovd|xchg|v?(xor|shuf)p[ds]'
+    r'|v?mov[adhlpqsuz]+(32|64)?|vshufi64x2'
+    r'|mov([zs][bw]|ab|[bw]|be)?[lqsw]*|v?movmskpd|vpmaskmovd|xchg|v?(xor|shuf)p[ds]'
     r'|vzeroupper|vbroadcasti128|v(insert|extract)i128|push|pop|lea|tzcnt'
     r'|(i?mul|mulx)[lq]?|(add|adc|sub|sbb|inc|dec|xor|or|and|not|neg|shl|shr|sar|shld|ror|rol|rorx'
     r'|bswap|cmp|test)[bwlq]?'
@@ -34,7 +36,7 @@ PRODUCT = re.compile('v?pmuludq|um(ull|lal)2?')
 # segment have the lane that a block draws, which the address of the next one tells anyhow.
 DIVIDING = {'accepted_context': 1, 'proved_argon2_memory_len': 1, 'fill_caller_segment': 3}
 # What the calls of a build begin with, in the archive that has both.
-OF_BUILD = re.compile(r'^proved_(?:x86_64_v[23]|armv8_a)_')
+OF_BUILD = re.compile(r'^proved_(?:x86_64_v\d|armv8_a)_')
 
 
 def instructions(path, prefix=''):

@@ -15,6 +15,12 @@ def cache_of(rt, crate):
     return own if os.path.isdir(own) else None
 
 
+def has_processor(build):
+    """Whether the processor runs a build of build/machines.txt for x86-64."""
+    supported = subprocess.run(['/lib64/ld-linux-x86-64.so.2', '--help'], stdout=subprocess.PIPE, text=True, check=True)
+    return f'{build} (supported, searched)' in supported.stdout
+
+
 def checks_at_once(rt):
     """As many as memory holds: one of the largest crate was seen to take four fifths of 3 GB."""
     return max(1, min(rt.processors(), int(rt.free() / 3_000_000_000)))

@@ -34,7 +34,10 @@ static bool hashes(int build)
 static int newest_build(void)
 {
     __builtin_cpu_init();
-    return __builtin_cpu_supports("x86-64-v3") ? X86_64_V3 : __builtin_cpu_supports("x86-64-v2") ? X86_64_V2 : NO_BUILD;
+    return __builtin_cpu_supports("x86-64-v4") ? X86_64_V4
+        : __builtin_cpu_supports("x86-64-v3")  ? X86_64_V3
+        : __builtin_cpu_supports("x86-64-v2")  ? X86_64_V2
+                                               : NO_BUILD;
 }
 
 static void name_build(const char *name)
@@ -89,7 +92,7 @@ static void check_in_process(bool (*holds)(const char *, int), const char *name,
 int main(int count, char **words)
 {
     const int newest = newest_build(), second = newest < X86_64_V2 ? newest : X86_64_V2;
-    const int third = newest < X86_64_V3 ? NO_BUILD : X86_64_V3;
+    const int third = newest < X86_64_V3 ? NO_BUILD : X86_64_V3, fourth = newest < X86_64_V4 ? NO_BUILD : X86_64_V4;
     if (count > 1 && strcmp(words[1], "--name") == 0) {
         printf("%d of %d\n", build_here(), newest);
         return 0;
@@ -99,6 +102,7 @@ int main(int count, char **words)
     check_in_process(is_taken, "x86-64-v2", second, "the build for x86-64-v2, where it is named");
     check_in_process(
         is_taken, "x86-64-v3", third, "the build for x86-64-v3, where it is named and the processor has it");
+    check_in_process(is_taken, "x86-64-v4", fourth, "so that for x86-64-v4");
     check_in_process(is_taken, "x86-64-v1", NO_BUILD, "no build, where one is named that there is not");
     check_in_process(is_taken, "x86-64-v2 ", NO_BUILD, "no build, where a name is not to the letter");
     check_in_process(is_taken_by_threads, NULL, newest, "threads that choose at the same time take one build");

@@ -55,7 +55,7 @@ LEAKS = {
 # What a machine's tools begin with, its jump, and how many bytes that has.
 X86, ARM64 = ('', 'jmp', 5), ('aarch64-linux-gnu-', 'b', 4)
 # What may be moved from the front of a function: it knows no place.
-MOVABLE = re.compile(r'(push|sub|mov|xor|movabs|cmp|test|st[pr])[bwlq]?\b(?!.*%rip)')
+MOVABLE = re.compile(r'(push|sub|mov|vmovdqu32|xor|movabs|cmp|test|st[pr])[bwlq]?\b(?!.*%rip)')
 # The section of a function with code behind it, to which its front jumps, and where the front is.
 BEHIND = """
     {jump} planted
