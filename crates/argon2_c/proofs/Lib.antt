@@ -5,3 +5,4 @@ pub mod Heads
 pub mod JobNumbers
 pub mod StoredJobs
 pub mod Runs
+pub mod Turns

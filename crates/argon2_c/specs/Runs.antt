@@ -6,6 +6,7 @@ use Rattle.argon2_standard.specs.declared.config.Config.{Config}
 use Rattle.argon2_standard.specs.Standard.Prehash.{setting_of}
 use Rattle.argon2_standard.specs.Standard.SettingsTable.{table_error}
 use Rattle.argon2_standard.specs.Standard.Tag.{tag_of}
+use Rattle.argon2_fill.specs.Theorems.Turns.{EachHasATurn}
 use Rattle.argon2_c.specs.Jobs.{job_of, setting_of_job}
 use Rattle.argon2_c.specs.Steps.{Begins, Fills, Finishes, Verifies}
 use Rattle.argon2_c.specs.CallerBlocks.{HashesJob, JudgesJob, BlocksAndTag}
@@ -27,6 +28,11 @@ pub record IsMade (pwd salt : List ℕ) (config : Config) (len : ℕ) (job : Cal
   pub accepted : table_error config (length pwd) (length salt) len ≡ None
   pub made : job ≡ job_of (setting_of pwd salt config len) len
 
+-- a step that answered 0 fills a lane's segment of slice number n, counted over all passes, beside the three others
+abbrev pub FillsLane : CallerJob → ℕ → ℕ → List (List (List ℕ)) → List (List ℕ) → List (List ℕ) → Type 0
+FillsLane job n lane slices old new = let beside = remove slices (n % 4) in
+    Fills (setting_of_job job) (n / 4) (n % 4) lane (slice_at beside 0) (slice_at beside 1) (slice_at beside 2) old new (Ok tt)
+
 -- the four slices before slice number n, counted over all passes, for each n; and that each step answered 0. A
 -- lane's step is told by its own segment and the three other slices, which no step writes meanwhile: so the order
 -- of a slice's lanes is not said
@@ -36,9 +42,38 @@ pub record IsRun (job : CallerJob) (slices : ℕ → List (List (List ℕ))) : T
   pub begun : (lane : ℕ) → lane < job.lanes
       → (old : List (List ℕ)) × Begins (setting_of_job job) lane old (segment_of job (slice_at (slices 0) 0) lane) (Ok tt)
   pub others : (n k : ℕ) → n < 4 * job.passes → k ≢ n % 4 → slice_at (slices (suc n)) k ≡ slice_at (slices n) k
-  pub filled : (n lane : ℕ) → n < 4 * job.passes → lane < job.lanes → let beside = remove (slices n) (n % 4) in
-      Fills (setting_of_job job) (n / 4) (n % 4) lane (slice_at beside 0) (slice_at beside 1) (slice_at beside 2)
-      (segment_of job (slice_at (slices n) (n % 4)) lane) (segment_of job (slice_at (slices (suc n)) (n % 4)) lane) (Ok tt)
+  pub filled : (n lane : ℕ) → n < 4 * job.passes → lane < job.lanes → FillsLane job n lane (slices n)
+      (segment_of job (slice_at (slices n) (n % 4)) lane) (segment_of job (slice_at (slices (suc n)) (n % 4)) lane)
+
+-- ---- turns
+
+-- of four slices, only a lane's segment of one is written
+pub record WritesLane (job : CallerJob) (slice lane : ℕ) (before after : List (List (List ℕ))) : Type 0 where
+  pub beside : remove after slice ≡ remove before slice
+  pub lanes : (l : ℕ) → l ≢ lane → segment_of job (slice_at after slice) l ≡ segment_of job (slice_at before slice) l
+
+-- a lane's turn to begin
+pub record IsBegin (job : CallerJob) (lane : ℕ) (before after : List (List (List ℕ))) : Type 0 where
+  pub begun : Begins (setting_of_job job) lane (segment_of job (slice_at before 0) lane) (segment_of job (slice_at after 0) lane) (Ok tt)
+  pub only : WritesLane job 0 lane before after
+
+-- and its turn in slice number n: both see what the turns before them left
+pub record IsFill (job : CallerJob) (n lane : ℕ) (before after : List (List (List ℕ))) : Type 0 where
+  pub filled : FillsLane job n lane before (segment_of job (slice_at before (n % 4)) lane) (segment_of job (slice_at after (n % 4)) lane)
+  pub only : WritesLane job (n % 4) lane before after
+
+-- from four slices on, each lane has one turn to begin, and then one in each slice
+pub record IsRunOfTurns (job : CallerJob) (start : List (List (List ℕ))) (slices : ℕ → List (List (List ℕ))) : Type 0 where
+  pub four : (n : ℕ) → length (slices n) ≡ 4
+  pub long : (k : ℕ) → k < 4 → length (slice_at (slices 0) k) ≡ job.lanes * job.segment_length
+  pub begun : EachHasATurn (IsBegin job) job.lanes start (slices 0)
+  pub filled : (n : ℕ) → n < 4 * job.passes → EachHasATurn (IsFill job n) job.lanes (slices n) (slices (suc n))
+
+-- whatever the order of the turns in each slice, they are a run
+abbrev pub EveryOrderOfTurnsIsARun : Type 0
+EveryOrderOfTurnsIsARun = (job : CallerJob) (start : List (List (List ℕ))) (slices : ℕ → List (List (List ℕ))) → IsRunOfTurns job start slices → IsRun job slices
+
+-- ---- what runs give
 
 -- what is finished then is the tag
 abbrev pub EveryRunGivesTheTag : Type 0

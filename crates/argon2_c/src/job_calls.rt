@@ -8,7 +8,7 @@ ghost use Rattle.argon2_c.specs.Jobs.{MakesJob, MakesStoredJob, WritesTagText, s
 ghost use Rattle.argon2_c.specs.Steps.{Begins, Fills, Finishes, Verifies};
 ghost use Rattle.argon2_c.specs.CallerBlocks.{HashesJob, JudgesJob};
 ghost use Rattle.argon2_c.specs.ErrorNumbers.{IsCodeOf};
-ghost use Rattle.argon2_c.specs.Runs.{EveryRunGivesTheTag, EveryRunGivesTheVerdict, OneCallGivesTheTag, OneCallGivesTheVerdict};
+ghost use Rattle.argon2_c.specs.Runs.{EveryOrderOfTurnsIsARun, EveryRunGivesTheTag, EveryRunGivesTheVerdict, OneCallGivesTheTag, OneCallGivesTheVerdict};
 ghost use Rattle.argon2_c.specs.Settings.{config_of};
 
 use crate::ending::cleared;
@@ -163,6 +163,7 @@ pub extern "C" fn proved_argon2_encode(
 /// is finished then is the tag, and what is verified is whether a hash is it. The calls that take
 /// all steps in one order return the same. It does nothing when it runs.
 pub fn any_order_of_steps()
+    ensures turns { EveryOrderOfTurnsIsARun }
     ensures tag { EveryRunGivesTheTag }
     ensures verdict { EveryRunGivesTheVerdict }
     ensures one_call { OneCallGivesTheTag }

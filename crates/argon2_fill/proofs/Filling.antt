@@ -2,3 +2,5 @@
 pub mod First
 pub mod Passes
 pub mod CallerBlocks
+pub mod Turns
+pub mod Chunks

@@ -1,2 +1,3 @@
 -- Statements about the definitions. The contracts of calls without arguments make them.
 pub mod Lanes
+pub mod Turns

@@ -3,3 +3,4 @@ pub mod Replay
 pub mod Boards
 pub mod Slots
 pub mod Permits
+pub mod Chunks

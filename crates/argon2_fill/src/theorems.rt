@@ -1,6 +1,7 @@
 //! Theorems about the definitions that contracts cite.
 
 ghost use Rattle.argon2_fill.specs.Theorems.Lanes.{EveryRunOfLanesAgrees};
+ghost use Rattle.argon2_fill.specs.Theorems.Turns.{EveryOrderOfTurnsAgrees};
 
 /// Whatever the order of the fills of lanes within each slice, and also at the same time: where the
 /// first blocks are there, and each lane of each slice of each pass is filled once in the order of
@@ -10,4 +11,10 @@ ghost use Rattle.argon2_fill.specs.Theorems.Lanes.{EveryRunOfLanesAgrees};
 /// It does nothing when it runs.
 pub fn any_order_of_lanes()
     ensures { EveryRunOfLanesAgrees }
+{}
+
+/// The same where the fills of a slice's lanes come one after another, in any order, and each sees
+/// what those before it left.
+pub fn any_order_of_turns()
+    ensures { EveryOrderOfTurnsAgrees }
 {}

@@ -1,0 +1,5 @@
+use Rattle.argon2_fill.proofs.Filling.Turns.{every_order_of_turns}
+use Rattle.argon2_fill.proofs.theorems.any_order_of_turns.Goals as goal
+
+pub returns : goal.returns
+returns c s places run slice below = every_order_of_turns s places run slice below
