@@ -1,0 +1,69 @@
+-- The theorems about every schedule. The code is what the prover has of a call and of all that it reaches.
+use Rattle.std.specs.Prelude.{ℕ, ◌<◌, ◌^◌, List, [], ◌∷◌, ◌++◌, IsUtf8, length}
+use denote.Param as Param
+use denote.RattleType.{RattleType}
+use denote.Signature.{type_at}
+use mir.Syntax.{w32}
+use mir.Val.{vint}
+use prog.Wired.{Code}
+use Rattle.argon2.specs.declared.limits.Limits.{Limits}
+use Rattle.argon2_schedule.specs.Answers.{Inputs, IsTextLength, JudgesHash, JudgesText, JudgesTextWithin, ReturnsTag, ReturnsText, Stored}
+use Rattle.argon2_schedule.specs.Schedules.{AreInputs, AreLimits, AreStored, FitArray, OfCall, Runtime, limit_vals, setting_vals}
+use Rattle.argon2_schedule.specs.contracts.hash_raw_by_value as HashRaw
+use Rattle.argon2_schedule.specs.contracts.hash_raw_by_value.Key as HashRawKey
+use Rattle.argon2_schedule.specs.contracts.hash_encoded_by_value as HashEncoded
+use Rattle.argon2_schedule.specs.contracts.hash_encoded_by_value.Key as HashEncodedKey
+use Rattle.argon2_schedule.specs.contracts.verify_raw_by_value as VerifyRaw
+use Rattle.argon2_schedule.specs.contracts.verify_raw_by_value.Key as VerifyRawKey
+use Rattle.argon2_schedule.specs.contracts.verify_encoded_by_value as VerifyEncoded
+use Rattle.argon2_schedule.specs.contracts.verify_encoded_by_value.Key as VerifyEncodedKey
+use Rattle.argon2_schedule.specs.contracts.verify_within_by_value as VerifyWithin
+use Rattle.argon2_schedule.specs.contracts.verify_within_by_value.Key as VerifyWithinKey
+
+abbrev pub size_of : List ℕ → RattleType
+size_of bytes = Param.number (length bytes)
+
+-- `hash_raw` in any thread mode: the tag, the parameter table's error, or a resource error
+abbrev pub HashRawReturned : Inputs → RattleType
+HashRawReturned x = type_at (HashRaw.signature (size_of x.pwd) (size_of x.salt) (size_of x.secret) (size_of x.ad) (Param.number x.length) Runtime).result ([], ([], ([], ([], ([], ([], tt))))))
+
+abbrev pub TagUnderEverySchedule : Code → Type 0
+TagUnderEverySchedule code = (x : Inputs) → AreInputs x
+    → OfCall code HashRawKey.name (x.pwd ∷ x.salt ∷ x.secret ∷ x.ad ∷ []) (x.length ∷ []) (setting_vals x)
+    (HashRawReturned x) (λ r. ReturnsTag x r.0)
+
+-- `hash_encoded`: the PHC string of the tag instead
+abbrev pub HashEncodedReturned : Inputs → ℕ → RattleType
+HashEncodedReturned x size = type_at (HashEncoded.signature (size_of x.pwd) (size_of x.salt) (size_of x.secret) (size_of x.ad) (Param.number size) Runtime).result ([], ([], ([], ([], ([], ([], tt))))))
+
+abbrev pub TextUnderEverySchedule : Code → Type 0
+TextUnderEverySchedule code = (x : Inputs) → AreInputs x → (size : ℕ) → size < 2 ^ 63 → IsTextLength x size
+    → OfCall code HashEncodedKey.name (x.pwd ∷ x.salt ∷ x.secret ∷ x.ad ∷ []) (size ∷ []) (setting_vals x ++ vint w32 x.length ∷ [])
+    (HashEncodedReturned x size) (λ r. ReturnsText x r.0)
+
+-- `verify_raw`: whether a hash is the tag of its own length, the parameter table's error, or a resource error
+abbrev pub VerifyRawReturned : Inputs → List ℕ → RattleType
+VerifyRawReturned x hash = type_at (VerifyRaw.signature (size_of x.pwd) (size_of x.salt) (size_of hash) (size_of x.secret) (size_of x.ad) Runtime).result ([], ([], ([], ([], ([], ([], tt))))))
+
+abbrev pub VerdictUnderEverySchedule : Code → Type 0
+VerdictUnderEverySchedule code = (x : Inputs) → AreInputs x → (hash : List ℕ) → FitArray hash
+    → OfCall code VerifyRawKey.name (x.pwd ∷ x.salt ∷ hash ∷ x.secret ∷ x.ad ∷ []) [] (setting_vals x ++ vint w32 x.length ∷ [])
+    (VerifyRawReturned x hash) (λ r. JudgesHash x hash r.0)
+
+-- `verify_encoded_ext`: the same of a PHC string, or `DecodingFail`
+abbrev pub VerifyEncodedReturned : Stored → RattleType
+VerifyEncodedReturned x = type_at (VerifyEncoded.signature (size_of x.encoded) (size_of x.pwd) (size_of x.secret) (size_of x.ad) Runtime).result ([], ([], ([], ([], ([], tt)))))
+
+abbrev pub TextVerdictUnderEverySchedule : Code → Type 0
+TextVerdictUnderEverySchedule code = (x : Stored) → AreStored x → IsUtf8 x.encoded
+    → OfCall code VerifyEncodedKey.name (x.encoded ∷ x.pwd ∷ x.secret ∷ x.ad ∷ []) [] []
+    (VerifyEncodedReturned x) (λ r. JudgesText x r.0)
+
+-- `verify_encoded_within`: the same within limits, or `TooCostly`
+abbrev pub VerifyWithinReturned : Stored → RattleType
+VerifyWithinReturned x = type_at (VerifyWithin.signature (size_of x.encoded) (size_of x.pwd) (size_of x.secret) (size_of x.ad) Runtime).result ([], ([], ([], ([], ([], tt)))))
+
+abbrev pub VerdictWithinUnderEverySchedule : Code → Type 0
+VerdictWithinUnderEverySchedule code = (x : Stored) → AreStored x → IsUtf8 x.encoded → (limits : Limits) → AreLimits limits
+    → OfCall code VerifyWithinKey.name (x.encoded ∷ x.pwd ∷ x.secret ∷ x.ad ∷ []) [] (limit_vals limits)
+    (VerifyWithinReturned x) (λ r. JudgesTextWithin x limits r.0)
