@@ -47,7 +47,8 @@ class Copy:
 def can_be_copied(edit, folder):
     """Whether an edit changes the body of one function alone, which is no trait's and does not call itself."""
     function = edit.function
-    if {*edit.functions} != {function} or function is None or function.owner and ' for ' in function.owner:
+    is_of_trait = function is None or function.owner and ' for ' in function.owner
+    if edit.is_of_theorem or {*edit.functions} != {function} or is_of_trait:
         return False
     return not folder.joinpath('proofs', *function.folders, f'+{function.name}').exists()
 

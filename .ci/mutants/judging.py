@@ -177,6 +177,10 @@ def fault_of_the_rest(report, copies):
 
 def judge(edit, places, report):
     """Whether a mutant passes, and why."""
+    if edit.is_of_theorem:
+        open_in = {f'{path} {name[1]}': why for path, _, why in report.errors if (name := re.match(r'`(\w+)`', why))}
+        return (all(goal in open_in for goal in edit.goals),
+                f'{edit.goals[0]}: {open_in.get(edit.goals[0], f"not refused there, but: {[*open_in]}")}')
     refused = [*filter(report.is_refused, places)]
     said = '; '.join(report.verdicts[place] for place in places) or 'the check refuses no function'
     if edit.is_equal:

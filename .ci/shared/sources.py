@@ -29,6 +29,8 @@ PROMISE = re.compile(r'^( *)(?:requires|ensures|ghost)\b.*(?:\n\1(?: .*|\}.*))*'
 AROUND = r'(?:Array|Slice|Ref|Tuple\d+)*'
 # A crate's mutants: those that `rt ci` tries too have a file each in a folder, and all others a block each in one file.
 TRIED_ALONE, MUTANTS = 'must-fail', 'mutants.txt'
+# Theorems that no contract names: mutants of their crate may change what is stated, also clauses.
+STATEMENTS = 'specs/Statements.antt'
 REFUSED, PROVED = 'refused', 'proved'
 PAIR = re.compile(r'(?:^file: (.+)\n)?^old: (.+)\nnew: ?(.*)$', re.M)
 
@@ -178,6 +180,7 @@ class Edit:
         files = accumulate((path for path, *_ in found), lambda last, path: path or last)
         self.pairs = [(TOP / 'crates' / crate / file, *texts) for file, (_, *texts) in zip(files, found)]
         self.goals, self.functions = re.findall(r'^goal: (.+)$', self.text, re.M), []
+        self.is_of_theorem = any(goal.startswith('proofs/') for goal in self.goals)
         faults, texts = [] if is_edit else [f'it is no edit: {self.text}'], {}
         if verdict not in (REFUSED, PROVED):
             faults.append(f'it is neither {REFUSED} nor {PROVED}, but {verdict}')
@@ -197,6 +200,8 @@ class Edit:
     def lost_promise(self, file, text):
         """A clause or ghost item that stands in a file and not in its edited text: a mutant promises what the original
         does."""
+        if (TOP / 'crates' / self.crate / STATEMENTS).exists():
+            return None
         if 'src' not in file.relative_to(TOP / 'crates' / self.crate).parts:
             return f'it changes {file.relative_to(TOP)}, which has no bodies'
         before, after = (Counter(map(str.strip, promises(code))) for code in (file.read_text(encoding='utf-8'), text))

@@ -1,5 +1,6 @@
 pub mod Among
 pub mod Elsewhere
+pub mod Explicit
 pub mod HashEncoded
 pub mod HashRaw
 pub mod Plain

@@ -1,14 +1,23 @@
 -- The theorems about every schedule. The code is what the prover has of a call and of all that it reaches.
-use Rattle.std.specs.Prelude.{ℕ, ◌<◌, ◌^◌, List, [], ◌∷◌, ◌++◌, IsUtf8, length}
+use Rattle.std.specs.Prelude.{◌≡◌, ◌⊎◌, ℕ, ◌<◌, ◌^◌, Bool, List, [], ◌∷◌, ◌++◌, None, Err, IsUtf8, length}
+use denote.Array.{array_val}
+use denote.Laws.{Is}
 use denote.Param as Param
+use denote.Triple.Started.{granted}
+use types.Match.{live}
+use Rattle.argon2_standard.specs.declared.error.Error.{Error}
+use Rattle.argon2_standard.specs.Standard.Outcome.{IsResourceError}
+use Rattle.argon2_standard.specs.Standard.SettingsTable.{table_error}
+use Rattle.argon2_standard.specs.Standard.Tag.{tag_of}
+use Rattle.argon2_standard.specs.Standard.ThreadModes.{may_lack_workers}
 use denote.RattleType.{RattleType}
 use denote.Signature.{type_at}
 use mir.Syntax.{w32}
-use mir.Val.{vint}
+use mir.Val.{Val, vcons, vint, vnil, vstruct}
 use prog.Wired.{Code}
 use Rattle.argon2.specs.declared.limits.Limits.{Limits}
-use Rattle.argon2_schedule.specs.Answers.{Inputs, IsTextLength, JudgesHash, JudgesText, JudgesTextWithin, ReturnsTag, ReturnsText, Stored}
-use Rattle.argon2_schedule.specs.Schedules.{AreInputs, AreLimits, AreStored, FitArray, OfCall, Runtime, limit_vals, setting_vals}
+use Rattle.argon2_schedule.specs.Answers.{Anywhere, config_at, Inputs, IsTextLength, JudgesHash, JudgesText, JudgesTextWithin, ReturnsTag, ReturnsText, Stored}
+use Rattle.argon2_schedule.specs.Schedules.{EverySchedule, arrays, byte_vals, instance_at, AreInputs, AreLimits, AreStored, FitArray, OfCall, Runtime, limit_vals, setting_vals}
 use Rattle.argon2_schedule.specs.contracts.hash_raw_by_value as HashRaw
 use Rattle.argon2_schedule.specs.contracts.hash_raw_by_value.Key as HashRawKey
 use Rattle.argon2_schedule.specs.contracts.hash_encoded_by_value as HashEncoded
@@ -31,6 +40,21 @@ abbrev pub TagUnderEverySchedule : Code → Type 0
 TagUnderEverySchedule code = (x : Inputs) → AreInputs x
     → OfCall code HashRawKey.name (x.pwd ∷ x.salt ∷ x.secret ∷ x.ad ∷ []) (x.length ∷ []) (setting_vals x)
     (HashRawReturned x) (λ r. ReturnsTag x r.0)
+
+-- the machine value of a tag, beside the runtime
+abbrev pub tag_value : List ℕ → Val
+tag_value tag = vstruct (vcons (live 0 (vcons (array_val (byte_vals tag)) vnil)) (vcons granted vnil))
+
+abbrev pub IsTagOrResourceError : Inputs → List ℕ → Bool → Val → Type 0
+IsTagOrResourceError x tag workers v = (v ≡ tag_value tag) ⊎ ((e : Error) × IsResourceError workers e × Is (HashRawReturned x) (Err e, record { seal = tt }) (v ∷ []))
+
+-- the same where the parameter table accepts the settings: the tag's bytes in the machine value, or a resource error
+abbrev pub ExplicitTagUnderEverySchedule : Code → Type 0
+ExplicitTagUnderEverySchedule code = (x : Inputs) → AreInputs x → Anywhere x.secret x.ad (λ s a. let config = config_at x s a in
+    table_error config (length x.pwd) (length x.salt) x.length ≡ None
+    → EverySchedule code (HashRawKey.name (instance_at (length x.pwd ∷ length x.salt ∷ length x.secret ∷ length x.ad ∷ x.length ∷ [])))
+    (granted ∷ vstruct (vcons granted vnil) ∷ arrays (x.pwd ∷ x.salt ∷ x.secret ∷ x.ad ∷ []) (setting_vals x))
+    (IsTagOrResourceError x (tag_of x.pwd x.salt config x.length) (may_lack_workers config)))
 
 -- `hash_encoded`: the PHC string of the tag instead
 abbrev pub HashEncodedReturned : Inputs → ℕ → RattleType
