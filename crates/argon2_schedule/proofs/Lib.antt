@@ -2,6 +2,7 @@ pub mod Among
 pub mod Elsewhere
 pub mod Explicit
 pub mod HashEncoded
+pub mod HashJob
 pub mod HashRaw
 pub mod Plain
 pub mod VerifyEncoded

@@ -1,3 +1,5 @@
 pub mod Answers
+pub mod Jobs
+pub mod JobStatements
 pub mod Schedules
 pub mod Statements

@@ -3,6 +3,8 @@
 //! schedule of the machine's model can speak of it.
 #![tactic(auto)]
 
+pub mod jobs;
+
 ghost use Rattle.std.specs.Prelude.{◌≡◌, ◌<◌, ◌^◌, IsUtf8, length};
 ghost use Rattle.argon2_schedule.specs.Answers.{
   IsTextLength,
