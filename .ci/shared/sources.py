@@ -29,7 +29,8 @@ PROMISE = re.compile(r'^( *)(?:requires|ensures|ghost)\b.*(?:\n\1(?: .*|\}.*))*'
 AROUND = r'(?:Array|Slice|Ref|Tuple\d+)*'
 # A crate's mutants: those that `rt ci` tries too have a file each in a folder, and all others a block each in one file.
 TRIED_ALONE, MUTANTS = 'must-fail', 'mutants.txt'
-# Theorems that no contract names: mutants of their crate may change what is stated, also clauses.
+# Theorems that no contract names: mutants of their crate may change what is stated, also clauses. Elsewhere a mutant
+# whose goal is a lemma may.
 STATEMENTS = 'specs/Statements.antt'
 REFUSED, PROVED = 'refused', 'proved'
 PAIR = re.compile(r'(?:^file: (.+)\n)?^old: (.+)\nnew: ?(.*)$', re.M)
@@ -200,7 +201,7 @@ class Edit:
     def lost_promise(self, file, text):
         """A clause or ghost item that stands in a file and not in its edited text: a mutant promises what the original
         does."""
-        if (TOP / 'crates' / self.crate / STATEMENTS).exists():
+        if self.is_of_theorem or (TOP / 'crates' / self.crate / STATEMENTS).exists():
             return None
         if 'src' not in file.relative_to(TOP / 'crates' / self.crate).parts:
             return f'it changes {file.relative_to(TOP)}, which has no bodies'
