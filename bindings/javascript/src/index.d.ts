@@ -107,6 +107,23 @@ export function hash(password: string | Bytes, options?: HashOptions & { raw?: b
  */
 export function verify(encoded: string, password: string | Bytes, options?: VerifyOptions): Promise<boolean>;
 
+/** The options of `verifyAndUpdate`: the settings are those of the new hash. */
+export interface UpdateOptions extends Settings, VerifyOptions {}
+
+/** What `verifyAndUpdate` found. */
+export interface Updated {
+    /** Whether the password matches. */
+    matches: boolean;
+    /** The PHC string to store in place of the old one, or null if that stays. */
+    update: string | null;
+}
+
+/**
+ * Verifies a password against a PHC string as `verify` does, and hashes it anew where it matches and the string was made
+ * with other settings than the options. If only the new hash fails, the old string stays.
+ */
+export function verifyAndUpdate(encoded: string, password: string | Bytes, options?: UpdateOptions): Promise<Updated>;
+
 /** Whether a PHC string was made with other settings than these; those that are left out are the defaults. */
 export function needsRehash(encoded: string, options?: Settings): Promise<boolean>;
 
@@ -203,6 +220,7 @@ export class AbortError extends Error {
 declare const argon2: {
     hash: typeof hash;
     verify: typeof verify;
+    verifyAndUpdate: typeof verifyAndUpdate;
     needsRehash: typeof needsRehash;
     argon2d: typeof argon2d;
     argon2i: typeof argon2i;

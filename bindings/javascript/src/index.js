@@ -1,8 +1,9 @@
 // Argon2 password hashing (RFC 9106) over proved code, native in Node. docs/JAVASCRIPT.md says how to use it.
-import { copyOf } from './bytes.js';
+import { copyOf, passwordOf } from './bytes.js';
 import { MISMATCH, OK, Rejected, check } from './codes.js';
 import { splitData } from './data.js';
 import { Encoder } from './encoder.js';
+import { Argon2Error } from './errors.js';
 import { runInPlace } from './in_place.js';
 import { lanesOf } from './job.js';
 import { addonFor, NativeEncoder, runByThreads } from './native.js';
@@ -101,4 +102,35 @@ export async function needsRehash(encoded, options = {}) {
     return callWith(addonFor(), undefined, (encoder) => encoder.needsRehash(new TextEncoder().encode(text), settings));
 }
 
-export default Object.freeze({ hash, verify, needsRehash, argon2d, argon2i, argon2id, presets, defaultLimits });
+/**
+ * Verifies a password, and hashes it anew where it matches and the PHC string has other settings than the options. A
+ * new hash that cannot be computed is left out: the password matches all the same.
+ */
+export async function verifyAndUpdate(encoded, password, options = {}) {
+    const own = { __proto__: null, ...optionsOf(options), salt: undefined, raw: undefined };
+    const copy = passwordOf(password);
+    try {
+        if (!(await verify(encoded, copy, own))) {
+            return { matches: false, update: null };
+        }
+        return { matches: true, update: await renewed(encoded, copy, own) };
+    } finally {
+        copy.fill(0);
+    }
+}
+
+/** The PHC string to store in place of one, or null if there is none. */
+async function renewed(encoded, password, options) {
+    try {
+        return (await needsRehash(encoded, options)) ? await hash(password, options) : null;
+    } catch (error) {
+        if (error instanceof Argon2Error) {
+            return null;
+        }
+        throw error;
+    }
+}
+
+export default Object.freeze({
+    hash, verify, verifyAndUpdate, needsRehash, argon2d, argon2i, argon2id, presets, defaultLimits,
+});

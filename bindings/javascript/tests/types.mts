@@ -1,6 +1,6 @@
 // What the types let through, and what they do not: tsc --noEmit --strict. It is never run.
 import argon2, {
-    AbortError, Argon2Error, SaltTooShort, argon2id, defaultLimits, hash, needsRehash, presets, verify,
+    AbortError, Argon2Error, SaltTooShort, argon2id, defaultLimits, hash, needsRehash, presets, verify, verifyAndUpdate,
 } from 'proved-argon2';
 import type { HashOptions, Limits, Settings } from 'proved-argon2';
 
@@ -15,6 +15,8 @@ export async function right(password: string, key: Uint8Array, signal: AbortSign
     const limits: Limits = { ...defaultLimits, memoryCost: 65536, timeCost: 4, parallelism: 4, work: 1048576 };
     const verdict: boolean = await verify(encoded, password, { secret: tag, limits });
     const renewed: boolean = await needsRehash(encoded, settings);
+    const { matches, update } = await verifyAndUpdate(encoded, password, { ...settings, secret: key, limits });
+    console.log(matches, update?.length);
     try {
         return verdict && renewed && await argon2.verify(encoded, key, { limits: null }) && either !== tag;
     } catch (error) {
