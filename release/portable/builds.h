@@ -9,26 +9,39 @@
 #define IN_BUILD(build, name) NAMED_IN(build, name)
 #define NAMED_IN(build, name) proved_##build##_##name
 
+/* What a call returns: by a jump, or where it clears registers, which a jump would not. */
+#define MADE(...) MADE_BY(JUMP, __VA_ARGS__)
+#define MADE_CLEARING(...) MADE_BY(RETURN, __VA_ARGS__)
+#define JUMP(made) return made
+#define RETURN(made) \
+    do { \
+        uint32_t code = made; \
+        __asm__ volatile("" : "+r"(code)); \
+        return code; \
+    } while (0)
+
 #ifdef ONLY_BUILD /* (where there is no other) */
 
 #define DECLARED(answer, name, taken) answer IN_BUILD(ONLY_BUILD, name) taken;
-#define MADE(name, arguments, otherwise) return IN_BUILD(ONLY_BUILD, name) arguments;
+#define MADE_BY(answer, name, arguments, otherwise) answer(IN_BUILD(ONLY_BUILD, name) arguments);
 
 #else
 
 /* (in Linux's convention for calls, which a compiler for Windows has beside its own) */
 #define DECLARED(answer, name, taken) \
     __attribute__((sysv_abi)) answer IN_BUILD(x86_64_v2, name) taken; \
-    __attribute__((sysv_abi)) answer IN_BUILD(x86_64_v3, name) taken;
-#define MADE(name, arguments, otherwise) \
+    __attribute__((sysv_abi)) answer IN_BUILD(x86_64_v3, name) taken; \
+    __attribute__((sysv_abi)) answer IN_BUILD(x86_64_v4, name) taken;
+#define MADE_BY(answer, name, arguments, otherwise) \
     switch (build_here()) { \
-    case X86_64_V3: return IN_BUILD(x86_64_v3, name) arguments; \
-    case X86_64_V2: return IN_BUILD(x86_64_v2, name) arguments; \
+    case X86_64_V4: answer(IN_BUILD(x86_64_v4, name) arguments); \
+    case X86_64_V3: answer(IN_BUILD(x86_64_v3, name) arguments); \
+    case X86_64_V2: answer(IN_BUILD(x86_64_v2, name) arguments); \
     default: return otherwise; \
     }
 
 /* The builds, the newest last. */
-enum build { NOT_CHOSEN, NO_BUILD, X86_64_V2, X86_64_V3 };
+enum build { NOT_CHOSEN, NO_BUILD, X86_64_V2, X86_64_V3, X86_64_V4 };
 
 /* (their names in an archive, beside a program's own) */
 #define build_in_use proved_driver_build

@@ -49,13 +49,10 @@ struct call {
     atomic_bool is_astray; /* a task was run that is not there, or once too often */
 };
 
-/* How many bytes the blocks of a job have: with addresses of 32 bits, where they are more than there are, so many that
- * no memory has them. */
-static inline size_t bytes_of(const proved_argon2_job *job)
+/* How many bytes the blocks of a job have, which may be more than there are addresses. */
+static inline uint64_t bytes_of(const proved_argon2_job *job)
 {
-    const uint64_t bytes = (uint64_t)4 * sizeof(block) * job->lanes * job->segment_length;
-    const size_t most = SIZE_MAX / 16 * 15;
-    return bytes < most ? (size_t)bytes : most;
+    return (uint64_t)4 * sizeof(block) * job->lanes * job->segment_length;
 }
 
 /* (their names in an archive, beside a program's own) */
@@ -70,7 +67,7 @@ static inline size_t bytes_of(const proved_argon2_job *job)
 uint32_t begin_call(struct call *call, const options *with, int is_missing);
 
 /* Memory of malloc for so many bytes, which the end of the call clears and frees. */
-uint32_t take_bytes(struct call *call, size_t len);
+uint32_t take_bytes(struct call *call, uint64_t len);
 
 /* Writes the tag of a job that the library has checked, or returns whether a hash is it; the tag is then there. */
 uint32_t compute(struct call *call, const uint8_t *hash, uint8_t *tag);
@@ -79,7 +76,7 @@ uint32_t compute(struct call *call, const uint8_t *hash, uint8_t *tag);
 CLEARS_REGISTERS uint32_t end_call(struct call *call, uint32_t code);
 
 /* Memory for blocks, or null: malloc's, or a mapping, in huge pages where the system has them and in no core dump. */
-void *take_blocks(size_t bytes);
+void *take_blocks(uint64_t bytes);
 
 #pragma GCC visibility pop
 

@@ -4,7 +4,6 @@
 #include "platform.h"
 
 #include <errno.h>
-#include <link.h>
 #include <pthread.h>
 #include <semaphore.h>
 #include <signal.h>
@@ -17,7 +16,9 @@
 #define LINE 64
 #define HUGE_PAGE ((size_t)2 << 20)
 #define POPULATE 23        /* MADV_POPULATE_WRITE of Linux 5.14 */
-#define STACK (256 * 1024) /* bytes of a thread, beside the program's own variables of a thread */
+#define STACK (128 * 1024) /* bytes of a thread, beside as many or more for the program's own variables of a thread */
+#define MOST_VARIABLES ((size_t)1 << 30)
+#define NO_MEMORY (SIZE_MAX / 16 * 15) /* bytes: more than there are */
 
 caller keep_caller(void)
 {
@@ -42,11 +43,20 @@ void free_lines(void *lines)
     free(lines);
 }
 
+static void *take_pages(size_t bytes)
+{
+    void *const pages = mmap(NULL, bytes, PROT_READ | PROT_WRITE, MAP_PRIVATE | MAP_ANONYMOUS, -1, 0);
+    return pages == MAP_FAILED ? NULL : pages;
+}
+
 void *map_pages(size_t bytes)
 {
+    if (bytes > SIZE_MAX - 2 * HUGE_PAGE) {
+        return NULL;
+    }
     const size_t page = (size_t)sysconf(_SC_PAGESIZE), whole = (bytes + page - 1) / page * page;
-    char *const all = mmap(NULL, whole + HUGE_PAGE, PROT_READ | PROT_WRITE, MAP_PRIVATE | MAP_ANONYMOUS, -1, 0);
-    if (all == MAP_FAILED) {
+    char *const all = take_pages(whole + HUGE_PAGE);
+    if (all == NULL) {
         return NULL;
     }
     const size_t before = (HUGE_PAGE - (uintptr_t)all % HUGE_PAGE) % HUGE_PAGE;
@@ -90,7 +100,7 @@ typedef struct member {
 } member;
 
 struct team {
-    pid_t process;
+    pid_t *process;   /* on a page that is zeros in a forked child, whose number may be the same in its namespace */
     uint32_t threads; /* beside the caller's */
     void (*run)(void *arg, team *own, uint32_t number);
     void *arg;
@@ -104,28 +114,40 @@ static void *run_member(void *arg)
     return NULL;
 }
 
-/* Adds what an object of the program has of variables of a thread, which some systems take of its stack. */
-static int add_variables(struct dl_phdr_info *object, size_t size, void *sum)
+static void *end_at_once(void *arg)
 {
-    (void)size;
-    for (size_t i = 0; i < object->dlpi_phnum; i++) {
-        const ElfW(Phdr) *const part = &object->dlpi_phdr[i];
-        *(size_t *)sum += part->p_type == PT_TLS ? part->p_memsz + part->p_align : 0;
+    return arg;
+}
+
+/* As many bytes as the program's variables of a thread need, which some systems take of its stack: these reject too
+ * small a one before they ask for what guards it, which is more here than there is, so that nothing starts. (What lists
+ * the variables waits for a lock that a forked child may find taken for ever.) */
+static size_t room_for_variables(void)
+{
+    size_t room = STACK;
+    pthread_t none;
+    pthread_attr_t unlimited;
+    pthread_attr_init(&unlimited);
+    pthread_attr_setdetachstate(&unlimited, PTHREAD_CREATE_DETACHED);
+    if (pthread_attr_setguardsize(&unlimited, NO_MEMORY) == 0) {
+        while (room < MOST_VARIABLES && pthread_attr_setstacksize(&unlimited, room) == 0
+            && pthread_create(&none, &unlimited, end_at_once, NULL) == EINVAL) {
+            room *= 2;
+        }
     }
-    return 0;
+    pthread_attr_destroy(&unlimited);
+    return room;
 }
 
 /* Starts threads until one is denied; the program's signals go to its own threads. */
 static void start_members(team *own, uint32_t threads)
 {
-    size_t stack = STACK;
     sigset_t all, before;
     pthread_attr_t small;
-    dl_iterate_phdr(add_variables, &stack);
     sigfillset(&all);
-    pthread_attr_init(&small);
-    pthread_attr_setstacksize(&small, stack);
     pthread_sigmask(SIG_SETMASK, &all, &before);
+    pthread_attr_init(&small);
+    pthread_attr_setstacksize(&small, STACK + room_for_variables());
     for (member *next = own->members + 1; own->threads < threads; own->threads++, next++) {
         next->own = own;
         sem_init(&next->woken, 0, 0);
@@ -137,13 +159,25 @@ static void start_members(team *own, uint32_t threads)
     pthread_attr_destroy(&small);
 }
 
+static pid_t *mark_process(void)
+{
+    pid_t *const mark = take_pages(sizeof *mark);
+    if (mark != NULL) {
+        madvise(mark, sizeof *mark, MADV_WIPEONFORK);
+        *mark = getpid();
+    }
+    return mark;
+}
+
 team *start_team(uint32_t threads, void (*run)(void *arg, team *own, uint32_t number), void *arg)
 {
     team *const own = calloc(1, sizeof *own + (threads + 1) * sizeof *own->members);
-    if (own == NULL) {
+    pid_t *const process = own == NULL ? NULL : mark_process();
+    if (process == NULL) {
+        free(own);
         return NULL;
     }
-    own->process = getpid();
+    own->process = process;
     own->run = run;
     own->arg = arg;
     sem_init(&own->members[0].woken, 0, 0);
@@ -154,7 +188,7 @@ team *start_team(uint32_t threads, void (*run)(void *arg, team *own, uint32_t nu
 /* Whether the threads are in this process: none of them is in a child that was forked. */
 static bool is_here(const team *own)
 {
-    return own != NULL && own->process == getpid();
+    return own != NULL && *own->process == getpid();
 }
 
 uint32_t members(const team *own)
@@ -183,6 +217,9 @@ void end_team(team *own)
     }
     if (is_here(own)) {
         sem_destroy(&own->members[0].woken);
+    }
+    if (own != NULL) {
+        munmap(own->process, sizeof *own->process);
     }
     free(own);
 }

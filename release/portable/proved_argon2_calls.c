@@ -104,7 +104,7 @@ static uint32_t read_text(struct call *call, STORED)
         return code;
     }
     const size_t len = stored.settings.hash_length, salt_len = stored.salt_length;
-    code = take_bytes(call, 2 * len + salt_len);
+    code = take_bytes(call, 2 * (uint64_t)len + salt_len);
     if (code != PROVED_ARGON2_OK) {
         return code;
     }
@@ -185,14 +185,14 @@ uint32_t proved_argon2_memory_new(const proved_argon2_settings *settings, void *
         return code;
     }
     const caller saved = keep_caller();
-    const size_t len = (size_t)proved_argon2_memory_len(settings);
+    const uint64_t len = proved_argon2_memory_len(settings);
     void *const blocks = take_blocks(len);
     restore_caller(saved);
     if (blocks == NULL) {
         return PROVED_ARGON2_OUT_OF_MEMORY;
     }
     *memory = blocks;
-    *memory_len = len;
+    *memory_len = (size_t)len;
     return PROVED_ARGON2_OK;
 }
 

@@ -11,14 +11,15 @@
 #define STACK_BELOW 16384                /* bytes: a call needs two thirds */
 
 /* Whether memory is mapped: to map less than a huge page takes longer than a hash over it. */
-static bool is_mapped(size_t bytes)
+static bool is_mapped(uint64_t bytes)
 {
     return bytes >= HUGE_PAGE;
 }
 
-void *take_blocks(size_t bytes)
+void *take_blocks(uint64_t bytes)
 {
-    return is_mapped(bytes) ? map_pages(bytes) : take_lines(bytes);
+    const size_t len = (size_t)bytes;
+    return len != bytes ? NULL : is_mapped(len) ? map_pages(len) : take_lines(len);
 }
 
 void proved_argon2_memory_free(void *memory, size_t memory_len)
@@ -59,10 +60,10 @@ uint32_t begin_call(struct call *call, const options *with, int is_missing)
     return are_known(with) ? PROVED_ARGON2_OK : PROVED_ARGON2_WRONG_LENGTH;
 }
 
-uint32_t take_bytes(struct call *call, size_t len)
+uint32_t take_bytes(struct call *call, uint64_t len)
 {
-    call->bytes = malloc(len);
-    call->len = len;
+    call->len = (size_t)len;
+    call->bytes = call->len == len ? malloc(call->len) : NULL;
     return call->bytes == NULL ? PROVED_ARGON2_OUT_OF_MEMORY : PROVED_ARGON2_OK;
 }
 
@@ -90,7 +91,7 @@ uint32_t end_call(struct call *call, uint32_t code)
 /* Has a worker's part of the pages be there at once. */
 static uint32_t populate(const struct call *call, uint32_t number)
 {
-    const size_t all = bytes_of(&call->job), bytes = call->with.memory == NULL && is_mapped(all) ? all : 0;
+    const size_t all = (size_t)bytes_of(&call->job), bytes = call->with.memory == NULL && is_mapped(all) ? all : 0;
     const size_t part = (bytes / call->tasks / HUGE_PAGE + 1) * HUGE_PAGE, from = part * number;
     const size_t left = from >= bytes ? 0 : bytes - from;
     return left == 0 || populate_pages((char *)call->blocks + from, left < part ? left : part)
@@ -135,18 +136,16 @@ static void run_task(void *arg, uint32_t number)
     }
 }
 
-/* Takes a step for some workers, this one and those before it, and returns for how many. Where parts are short it takes
- * all that nobody has claimed, since their threads may come late. (A long part's comes before another is through.) */
+/* Takes a step for some workers, this one and those before it, and returns for how many. Where parts are short it goes
+ * on to the first that another has claimed, who goes on from there: their threads may come late. (A long part's comes
+ * before another is through.) */
 static uint32_t take_parts(struct call *call, uint64_t step, uint32_t number, uint32_t own)
 {
     const uint32_t most = call->slice <= (size_t)SHORT_PART * call->tasks ? call->tasks : own;
     uint32_t taken = 0;
-    for (uint32_t i = 0; i < most; i++) {
-        const uint32_t next = (number + call->tasks - i) % call->tasks;
-        if (claim(call, step, next)) {
-            take_step(call, step, next);
-            taken++;
-        }
+    for (uint32_t next = number; taken < most && claim(call, step, next); taken++) {
+        take_step(call, step, next);
+        next = (next == 0 ? call->tasks : next) - 1;
     }
     return taken;
 }
@@ -240,14 +239,14 @@ static uint32_t compute_over(struct call *call, const uint8_t *hash, uint8_t *ta
 
 /* How many threads a call takes of as many as it may have: over less memory, or in less work, others than its own take
  * longer to start and to wake than they save (docs/DECISIONS.md). A pool is asked for as many tasks as it may be. */
-static uint32_t tasks_of(const struct call *call, size_t bytes)
+static uint32_t tasks_of(const struct call *call, uint64_t bytes)
 {
     const uint32_t most = call->with.threads < call->job.lanes ? call->with.threads : call->job.lanes;
     const bool is_paying = is_mapped(bytes) && bytes >= WORK_FOR_THREADS / call->job.passes;
     return most > 1 && (is_paying || call->with.run != NULL) ? most : 1;
 }
 
-static uint32_t memory_error(const struct call *call, size_t bytes)
+static uint32_t memory_error(const struct call *call, uint64_t bytes)
 {
     const bool is_callers = call->with.memory != NULL;
     if ((uintptr_t)call->blocks % sizeof(uint64_t) != 0) {
@@ -260,16 +259,16 @@ static uint32_t memory_error(const struct call *call, size_t bytes)
 /* Over blocks of the call's own, or of the caller's; neither has any left afterwards. */
 uint32_t compute(struct call *call, const uint8_t *hash, uint8_t *tag)
 {
-    const size_t bytes = bytes_of(&call->job);
+    const uint64_t bytes = bytes_of(&call->job);
     void *const own = call->with.memory == NULL ? take_blocks(bytes) : NULL;
     call->blocks = own == NULL ? call->with.memory : own;
     call->tasks = tasks_of(call, bytes);
-    call->slice = bytes / sizeof(block) / 4;
+    call->slice = (size_t)(bytes / sizeof(block) / 4);
     uint32_t code = memory_error(call, bytes);
     if (code == PROVED_ARGON2_OK) {
         code = compute_over(call, hash, tag);
-        overwrite(call->blocks, own == NULL ? bytes : 0);
+        overwrite(call->blocks, own == NULL ? (size_t)bytes : 0);
     }
-    proved_argon2_memory_free(own, bytes);
+    proved_argon2_memory_free(own, (size_t)bytes);
     return code;
 }

@@ -25,10 +25,10 @@
  * that is not a multiple of 8. No call can check that the blocks exist, and that no other thread writes to them
  * meanwhile.
  *
- * Each call that computes overwrites the stack below it before it returns. The caller clears the memory that it
- * provided: with H0, which the job contains, a password guess is tested by one BLAKE2b, and the blocks can be tested
- * against too. proved_argon2_job_run (proved_argon2_threads.h) provides memory and threads for a job, and clears them
- * and the vector registers.
+ * Each call that computes overwrites the stack below it before it returns and, compiled by GCC 11, clang 15 or newer,
+ * the registers that it may change. The caller clears the memory that it provided: with H0, which the job contains, a
+ * password guess is tested by one BLAKE2b, and the blocks can be tested against too. proved_argon2_job_run
+ * (proved_argon2_threads.h) provides memory and threads for a job, and clears them.
  */
 #ifndef PROVED_ARGON2_JOBS_H
 #define PROVED_ARGON2_JOBS_H

@@ -1,6 +1,7 @@
 /* Made by bindings/c/table.py --write: the proved calls behind the tests of their pointers, and messages. */
 #define ONLY_BUILD portable
 #include "builds.h"
+#include "platform.h"
 #include "proved_argon2.h"
 
 #define IS_MISSING(name) (name == NULL && name##_len != 0)
@@ -124,7 +125,7 @@ uint64_t proved_argon2_encoded_len(const proved_argon2_settings *settings, uint3
     MADE(encoded_len, (settings, salt_len), (uint64_t){0})
 }
 
-uint32_t proved_argon2_hash_over(const uint8_t *pwd, size_t pwd_len,
+CLEARS_REGISTERS uint32_t proved_argon2_hash_over(const uint8_t *pwd, size_t pwd_len,
     const uint8_t *salt, size_t salt_len,
     const uint8_t *secret, size_t secret_len,
     const uint8_t *ad, size_t ad_len,
@@ -139,11 +140,12 @@ uint32_t proved_argon2_hash_over(const uint8_t *pwd, size_t pwd_len,
     if (IS_MISALIGNED(blocks)) {
         return PROVED_ARGON2_MISALIGNED;
     }
-    MADE(hash_over, (SOME(pwd), SOME(salt), SOME(secret), SOME(ad), settings, SOME(blocks), SOME(out)),
-        PROVED_ARGON2_OLD_PROCESSOR)
+    MADE_CLEARING(hash_over, (SOME(pwd), SOME(salt), SOME(secret), SOME(ad), settings, SOME(blocks),
+        SOME(out)), PROVED_ARGON2_OLD_PROCESSOR)
 }
 
-uint32_t proved_argon2_job_begin(const proved_argon2_job *job, uint32_t lane, proved_argon2_block *own, size_t own_len)
+CLEARS_REGISTERS uint32_t proved_argon2_job_begin(const proved_argon2_job *job, uint32_t lane, proved_argon2_block *own,
+    size_t own_len)
 {
     if (job == NULL || IS_MISSING(own)) {
         return PROVED_ARGON2_NULL_POINTER;
@@ -151,7 +153,7 @@ uint32_t proved_argon2_job_begin(const proved_argon2_job *job, uint32_t lane, pr
     if (IS_MISALIGNED(own)) {
         return PROVED_ARGON2_MISALIGNED;
     }
-    MADE(job_begin, (job, lane, SOME(own)), PROVED_ARGON2_OLD_PROCESSOR)
+    MADE_CLEARING(job_begin, (job, lane, SOME(own)), PROVED_ARGON2_OLD_PROCESSOR)
 }
 
 uint32_t proved_argon2_job_check(const proved_argon2_job *job)
@@ -162,11 +164,9 @@ uint32_t proved_argon2_job_check(const proved_argon2_job *job)
     MADE(job_check, (job), PROVED_ARGON2_OLD_PROCESSOR)
 }
 
-uint32_t proved_argon2_job_fill(const proved_argon2_job *job, uint32_t pass, uint32_t slice, uint32_t lane,
-    const proved_argon2_block *first, size_t first_len,
-    const proved_argon2_block *second, size_t second_len,
-    const proved_argon2_block *third, size_t third_len,
-    proved_argon2_block *own, size_t own_len)
+CLEARS_REGISTERS uint32_t proved_argon2_job_fill(const proved_argon2_job *job, uint32_t pass, uint32_t slice, uint32_t
+    lane,     const proved_argon2_block *first, size_t first_len,     const proved_argon2_block *second, size_t
+    second_len,     const proved_argon2_block *third, size_t third_len,     proved_argon2_block *own, size_t own_len)
 {
     if (job == NULL || IS_MISSING(first) || IS_MISSING(second) || IS_MISSING(third) || IS_MISSING(own)) {
         return PROVED_ARGON2_NULL_POINTER;
@@ -174,12 +174,12 @@ uint32_t proved_argon2_job_fill(const proved_argon2_job *job, uint32_t pass, uin
     if (IS_MISALIGNED(first) || IS_MISALIGNED(second) || IS_MISALIGNED(third) || IS_MISALIGNED(own)) {
         return PROVED_ARGON2_MISALIGNED;
     }
-    MADE(job_fill, (job, pass, slice, lane, SOME(first), SOME(second), SOME(third), SOME(own)),
+    MADE_CLEARING(job_fill, (job, pass, slice, lane, SOME(first), SOME(second), SOME(third), SOME(own)),
         PROVED_ARGON2_OLD_PROCESSOR)
 }
 
-uint32_t proved_argon2_job_finish(const proved_argon2_job *job, const proved_argon2_block *last, size_t last_len,
-    uint8_t *out, size_t out_len)
+CLEARS_REGISTERS uint32_t proved_argon2_job_finish(const proved_argon2_job *job, const proved_argon2_block *last, size_t
+    last_len, uint8_t *out, size_t out_len)
 {
     if (job == NULL || IS_MISSING(last) || IS_MISSING(out)) {
         return PROVED_ARGON2_NULL_POINTER;
@@ -187,11 +187,11 @@ uint32_t proved_argon2_job_finish(const proved_argon2_job *job, const proved_arg
     if (IS_MISALIGNED(last)) {
         return PROVED_ARGON2_MISALIGNED;
     }
-    MADE(job_finish, (job, SOME(last), SOME(out)), PROVED_ARGON2_OLD_PROCESSOR)
+    MADE_CLEARING(job_finish, (job, SOME(last), SOME(out)), PROVED_ARGON2_OLD_PROCESSOR)
 }
 
-uint32_t proved_argon2_job_hash_over(const proved_argon2_job *job, proved_argon2_block *blocks, size_t blocks_len,
-    uint8_t *out, size_t out_len)
+CLEARS_REGISTERS uint32_t proved_argon2_job_hash_over(const proved_argon2_job *job, proved_argon2_block *blocks, size_t
+    blocks_len, uint8_t *out, size_t out_len)
 {
     if (job == NULL || IS_MISSING(blocks) || IS_MISSING(out)) {
         return PROVED_ARGON2_NULL_POINTER;
@@ -199,10 +199,10 @@ uint32_t proved_argon2_job_hash_over(const proved_argon2_job *job, proved_argon2
     if (IS_MISALIGNED(blocks)) {
         return PROVED_ARGON2_MISALIGNED;
     }
-    MADE(job_hash_over, (job, SOME(blocks), SOME(out)), PROVED_ARGON2_OLD_PROCESSOR)
+    MADE_CLEARING(job_hash_over, (job, SOME(blocks), SOME(out)), PROVED_ARGON2_OLD_PROCESSOR)
 }
 
-uint32_t proved_argon2_job_make(const uint8_t *pwd, size_t pwd_len,
+CLEARS_REGISTERS uint32_t proved_argon2_job_make(const uint8_t *pwd, size_t pwd_len,
     const uint8_t *salt, size_t salt_len,
     const uint8_t *secret, size_t secret_len,
     const uint8_t *ad, size_t ad_len,
@@ -213,11 +213,11 @@ uint32_t proved_argon2_job_make(const uint8_t *pwd, size_t pwd_len,
         == NULL) {
         return PROVED_ARGON2_NULL_POINTER;
     }
-    MADE(job_make, (SOME(pwd), SOME(salt), SOME(secret), SOME(ad), settings, job),
+    MADE_CLEARING(job_make, (SOME(pwd), SOME(salt), SOME(secret), SOME(ad), settings, job),
         PROVED_ARGON2_OLD_PROCESSOR)
 }
 
-uint32_t proved_argon2_job_read(const char *text, size_t text_len,
+CLEARS_REGISTERS uint32_t proved_argon2_job_read(const char *text, size_t text_len,
     const uint8_t *pwd, size_t pwd_len,
     const uint8_t *secret, size_t secret_len,
     const uint8_t *ad, size_t ad_len,
@@ -229,12 +229,12 @@ uint32_t proved_argon2_job_read(const char *text, size_t text_len,
         IS_MISSING(salt) || IS_MISSING(hash)) {
         return PROVED_ARGON2_NULL_POINTER;
     }
-    MADE(job_read, (SOME(text), SOME(pwd), SOME(secret), SOME(ad), job, SOME(salt), SOME(hash)),
+    MADE_CLEARING(job_read, (SOME(text), SOME(pwd), SOME(secret), SOME(ad), job, SOME(salt), SOME(hash)),
         PROVED_ARGON2_OLD_PROCESSOR)
 }
 
-uint32_t proved_argon2_job_verify(const proved_argon2_job *job, const proved_argon2_block *last, size_t last_len,
-    const uint8_t *hash, size_t hash_len, uint8_t *tag, size_t tag_len)
+CLEARS_REGISTERS uint32_t proved_argon2_job_verify(const proved_argon2_job *job, const proved_argon2_block *last, size_t
+    last_len,     const uint8_t *hash, size_t hash_len, uint8_t *tag, size_t tag_len)
 {
     if (job == NULL || IS_MISSING(last) || IS_MISSING(hash) || IS_MISSING(tag)) {
         return PROVED_ARGON2_NULL_POINTER;
@@ -242,11 +242,11 @@ uint32_t proved_argon2_job_verify(const proved_argon2_job *job, const proved_arg
     if (IS_MISALIGNED(last)) {
         return PROVED_ARGON2_MISALIGNED;
     }
-    MADE(job_verify, (job, SOME(last), SOME(hash), SOME(tag)), PROVED_ARGON2_OLD_PROCESSOR)
+    MADE_CLEARING(job_verify, (job, SOME(last), SOME(hash), SOME(tag)), PROVED_ARGON2_OLD_PROCESSOR)
 }
 
-uint32_t proved_argon2_job_verify_over(const proved_argon2_job *job, proved_argon2_block *blocks, size_t blocks_len,
-    const uint8_t *hash, size_t hash_len, uint8_t *tag, size_t tag_len)
+CLEARS_REGISTERS uint32_t proved_argon2_job_verify_over(const proved_argon2_job *job, proved_argon2_block *blocks,
+    size_t blocks_len,     const uint8_t *hash, size_t hash_len, uint8_t *tag, size_t tag_len)
 {
     if (job == NULL || IS_MISSING(blocks) || IS_MISSING(hash) || IS_MISSING(tag)) {
         return PROVED_ARGON2_NULL_POINTER;
@@ -254,7 +254,7 @@ uint32_t proved_argon2_job_verify_over(const proved_argon2_job *job, proved_argo
     if (IS_MISALIGNED(blocks)) {
         return PROVED_ARGON2_MISALIGNED;
     }
-    MADE(job_verify_over, (job, SOME(blocks), SOME(hash), SOME(tag)), PROVED_ARGON2_OLD_PROCESSOR)
+    MADE_CLEARING(job_verify_over, (job, SOME(blocks), SOME(hash), SOME(tag)), PROVED_ARGON2_OLD_PROCESSOR)
 }
 
 uint32_t proved_argon2_library_version(void)
@@ -339,7 +339,7 @@ proved_argon2_settings proved_argon2_rfc9106_low_mem(void)
     MADE(rfc9106_low_mem, (), (proved_argon2_settings){0})
 }
 
-uint32_t proved_argon2_verify_over(const uint8_t *pwd, size_t pwd_len,
+CLEARS_REGISTERS uint32_t proved_argon2_verify_over(const uint8_t *pwd, size_t pwd_len,
     const uint8_t *salt, size_t salt_len,
     const uint8_t *secret, size_t secret_len,
     const uint8_t *ad, size_t ad_len,
@@ -355,8 +355,8 @@ uint32_t proved_argon2_verify_over(const uint8_t *pwd, size_t pwd_len,
     if (IS_MISALIGNED(blocks)) {
         return PROVED_ARGON2_MISALIGNED;
     }
-    MADE(verify_over, (SOME(pwd), SOME(salt), SOME(secret), SOME(ad), settings, SOME(blocks), SOME(hash),
-        SOME(tag)), PROVED_ARGON2_OLD_PROCESSOR)
+    MADE_CLEARING(verify_over, (SOME(pwd), SOME(salt), SOME(secret), SOME(ad), settings, SOME(blocks),
+        SOME(hash), SOME(tag)), PROVED_ARGON2_OLD_PROCESSOR)
 }
 
 const char *proved_argon2_message(uint32_t number)
