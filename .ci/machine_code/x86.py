@@ -48,14 +48,14 @@ class X86(Machine):
 
     return_address = pop
 
-    def fault(self, words):
+    def fault(self, words, cleared):
         """What is wrong too where words of blocks stay in a vector, but in the halves that the driver clears: memset
         leaves nothing there."""
         known = self.fresh('left')
         stay = [name for at, name in enumerate(VECTORS) if not all(
             word in (0, before, left) for word, before, left in [
                 *zip(self.registers[name], self.before[name], known[name])][2 if at < OF_VEX else 0:])]
-        return super().fault(words) or (f'it leaves words in {", ".join(stay)}' if stay else None)
+        return super().fault(words, cleared) or (f'it leaves words in {", ".join(stay)}' if stay else None)
 
 
 def vector(name, size, keeps_rest):
