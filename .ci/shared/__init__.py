@@ -1,7 +1,15 @@
 """What the scripts of the folders beside this one share."""
 
+import subprocess
 import sys
 from pathlib import Path
 
 TOP = Path(__file__).resolve().parents[2]
 sys.path += [str(TOP / 'build'), str(TOP / 'docs')]  # `machines`, `toolchain` and `parts`
+
+
+def run(*words, **how):
+    """Runs a command from the top, and gives its status and all that it says."""
+    return subprocess.run([str(word) for word in words],
+                          **{'cwd': TOP, 'stdin': subprocess.DEVNULL, 'stdout': subprocess.PIPE,
+                             'stderr': subprocess.STDOUT, 'text': True, 'check': False, **how})

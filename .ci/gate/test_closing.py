@@ -1,0 +1,60 @@
+"""What .ci/run makes of tests that pass, fail, are skipped or never begin."""
+
+import re
+import shutil
+
+import pytest
+from shared import TOP, run
+
+# What CTest is to run | what .ci/run has to end with.
+RUNS = {
+    'all pass': ('judge(one QUICK COMMAND true)', '1 passed, 0 failed, 0 skipped'),
+    'one fails': ('judge(one QUICK COMMAND true)\njudge(two QUICK COMMAND false)', '1 passed, 1 failed, 0 skipped'),
+    'one is skipped': ('judge(one QUICK COMMAND true)\njudge(two QUICK COMMAND sh -c "exit 77")',
+                       '1 passed, 0 failed, 1 skipped'),
+    'nothing passes': ('judge(two QUICK COMMAND sh -c "exit 77")', '0 passed, 1 failed, 1 skipped'),
+    'nothing is there': ('', '0 passed, 1 failed, 0 skipped'),
+    'one cannot begin': ('judge(one QUICK COMMAND true)\njudge(two QUICK COMMAND /no/program)',
+                         '1 passed, 1 failed, 0 skipped'),
+    'what others need fails': ('judge(one EARLY MAKES built COMMAND false)\njudge(two COMMAND true)',
+                               '0 passed, 2 failed, 0 skipped'),
+    'a module of pytest has no test': ('judge_file(test_none.py QUICK)', '0 passed, 1 failed, 0 skipped'),
+    'a table of tests is empty': ('judge_file(test_empty.py QUICK)', '0 passed, 1 failed, 0 skipped'),
+    'one of its tests is skipped': ('judge_file(test_lacks.py QUICK)', '1 passed, 0 failed, 0 skipped'),
+}
+MODULES = {
+    'none': '',
+    'lacks': '@pytest.mark.skip(reason="there is no such thing")\ndef test_it(): pass\ndef test_more(): pass',
+    'empty': '@pytest.mark.parametrize("row", [])\ndef test_it(row): pass\ndef test_more(): pass',
+}
+
+
+@pytest.fixture
+def tree(tmp_path):
+    """A repository of CI alone, where nothing has to be installed or taken away."""
+    (tmp_path / '.ci/gate').mkdir(parents=True)
+    (tmp_path / 'build').mkdir()
+    for file in ('.ci/run', '.ci/gate/closing', 'pytest.ini'):
+        shutil.copy(TOP / file, tmp_path / file)
+    for file in ('build/clean', '.ci/gate/packages'):
+        (tmp_path / file).write_text('#!/bin/sh\n', encoding='utf-8')
+        (tmp_path / file).chmod(0o755)
+    for name, text in MODULES.items():
+        (tmp_path / f'test_{name}.py').write_text(f'import pytest\n{text}\n', encoding='utf-8')
+    return tmp_path
+
+
+@pytest.mark.parametrize('tests, last', RUNS.values(), ids=RUNS)
+def test_the_last_line_says_what_came(tree, tests, last):
+    functions = re.split(r'^# ----', (TOP / '.ci/CMakeLists.txt').read_text(encoding='utf-8'), flags=re.M)[0]
+    (tree / '.ci/CMakeLists.txt').write_text(functions + tests, encoding='utf-8')
+    ran = run(tree / '.ci/run', cwd=tree)
+    assert ran.stdout.splitlines()[-1] == last
+    assert (ran.returncode == 0) == (' 0 failed,' in last)
+    assert ('there is no such thing' in ran.stdout) == ('test_lacks' in tests)
+
+
+def test_what_cannot_be_taken_away_ends_it(tree):
+    (tree / 'build/clean').write_text('#!/bin/sh\nexit 1\n', encoding='utf-8')
+    ran = run(tree / '.ci/run', cwd=tree)
+    assert ran.returncode and ran.stdout.splitlines()[-1] == '0 passed, 1 failed, 0 skipped'
