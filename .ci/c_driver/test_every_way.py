@@ -1,0 +1,86 @@
+"""Runs a call of the driver for C (bindings/c/proved_argon2_driver.c) in every way in which it can go, for some lanes,
+threads and passes, and counts the runs. Each request may be denied, each thread may be, each proved call may fail, and
+the callback may stop or fork; a pool may be wrong in each of four ways. every_way.c says what must not come of it. Then
+each fault of faults.txt is planted in the driver, and has to be found.
+"""
+
+import itertools
+import subprocess
+from pathlib import Path
+
+import pytest
+from shared import TOP
+from shared.ahead import ahead
+from shared.tables import blocks, rows
+
+HERE = Path(__file__).resolve().parent
+DRIVER = (TOP / 'bindings/c/proved_argon2_driver.c').read_text(encoding='utf-8')
+COMPILER = ('gcc', '-std=c11', '-O1', '-g', '-fsanitize=address,undefined', '-fno-sanitize-recover=all',
+            '-Wall', '-Wextra', '-Werror', '-I', TOP / 'crates/argon2_c/include', '-I', TOP / 'bindings/c')
+WRAPPED = [f'-Wl,--wrap={name}' for name in ('malloc', 'calloc', 'free')]
+# Lanes, threads and passes.
+CASES = list(itertools.product((1, 2, 3), (1, 2, 3), (1, 2)))
+# By threads and passes, how often another thread goes on than has to at most.
+SWITCHES = {(1, 1): 0, (1, 2): 0, (2, 1): 2, (2, 2): 2, (3, 1): 2, (3, 2): 1}
+RUNS = {tuple(map(int, case.split())): f'{runs} runs' for case, runs in rows(HERE / 'runs.txt')}
+# Each by its name, with what it takes the place of; the lines of a piece stand apart by @.
+FAULTS = {name: [piece.replace('@', '\n') for _, piece in pieces] for name, pieces in blocks(HERE / 'faults.txt')}
+FAULTS_IN_ALL = 39
+
+
+def compiled(source, made):
+    subprocess.run([*COMPILER, '-c', source, '-o', made], check=True)
+    return made
+
+
+@pytest.fixture(scope='module')
+def program_over(tmp_path_factory):
+    """What builds the program over a driver with some text, and gives its path."""
+    folder = tmp_path_factory.mktemp('made')
+    rest, numbers = compiled(HERE / 'every_way.c', folder / 'every_way.o'), itertools.count()
+
+    def over(text):
+        made = folder / f'driver{next(numbers)}'
+        source = made.with_suffix('.c')
+        source.write_text(text, encoding='utf-8')
+        driver = compiled(source, made.with_suffix('.o'))
+        subprocess.run([*COMPILER, rest, driver, *WRAPPED, '-o', made], check=True)
+        return made
+    return over
+
+
+def said_by(program, case):
+    """The status of a case, and what is said of it."""
+    words = [str(number) for number in (*case, SWITCHES[case[1:]])]
+    done = subprocess.run([program, *words], capture_output=True, text=True, check=False)
+    return done.returncode, (done.stdout.strip() or done.stderr.strip()[-2000:])
+
+
+@pytest.fixture(scope='module')
+def came(request, program_over):
+    program = program_over(DRIVER)
+    yield from ahead(request, 'case', lambda case: said_by(program, case))
+
+
+@pytest.fixture(scope='module')
+def found(request, program_over):
+    def first_fault(name):
+        program = program_over(DRIVER.replace(*FAULTS[name]))
+        ran = (said_by(program, case) for case in sorted(CASES, key=lambda case: (case[2], sum(case))))
+        return next((said for status, said in ran if status != 0), None)
+    yield from ahead(request, 'name', first_fault)
+
+
+def test_the_lists_are_whole():
+    assert [*RUNS] == CASES and len(FAULTS) == FAULTS_IN_ALL
+
+
+@pytest.mark.parametrize('case', CASES, ids=str)
+def test_nothing_goes_wrong(came, case):
+    assert came(case) == (0, RUNS[case])
+
+
+@pytest.mark.parametrize('name', FAULTS)
+def test_each_fault_is_found(found, name):
+    assert DRIVER.count(FAULTS[name][0]) == 1, 'it cannot be planted'
+    assert found(name), 'it is in no run'
