@@ -1,10 +1,8 @@
-"""Forgeries that run another compression than the one that tools print. Each is made of a file of release/, and has to
-fail in `check` by what it says."""
+"""Forgeries that run another compression than the one that tools print, each made of a file of release/."""
 
 import re
 import struct
 import subprocess
-from pathlib import Path
 
 from linked import need, run
 from mapped import HEADER_SIZE, members
@@ -68,22 +66,3 @@ def call_a_copy(file, forged):
     functions = [re.sub(rf'\bcall {number}\b', f'call {last + 1}', text) for text in functions]
     forged.with_suffix('.wat').write_text(''.join([head, *functions[:last + 1], copy, rotate, *functions[last + 1:]]))
     run(need('wat2wasm'), '--enable-all', '-o', forged, forged.with_suffix('.wat'))
-
-
-FORGERIES = (
-    ('x86_64/libproved_argon2.so.1.0.0', lead_sections_to_a_copy, 'a section of code is not what is mapped'),
-    ('x86_64/libproved_argon2.a', hide_a_member, 'its table of symbols leads to what is no member'),
-    ('x86_64/argon2', redirect_a_call, 'fill_words: it is what is called'),
-    ('x86-64-v3/libargon2_c.a', add_a_decoy, 'nothing else multiplies as they do'),
-    ('wasm32/proved_argon2.wasm', call_a_copy, 'fill_words: it is what is called'))
-
-
-def judged(release, folder):
-    """Each forgery with what is wrong with how the check judges it, or nothing."""
-    for name, forge, expected in FORGERIES:
-        forged = Path(folder, name)
-        forged.parent.mkdir(exist_ok=True)
-        forge(release / name, forged)
-        said = subprocess.run([Path(__file__).with_name('check'), forged], capture_output=True, text=True,
-                              check=False).stdout
-        yield forge.__name__, '' if re.search(f'^FAILED .*{expected}', said, re.M) else said

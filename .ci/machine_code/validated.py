@@ -8,6 +8,7 @@ import rfc7693
 import rfc9106
 from linked import Code
 from machine import WORD
+from machines import machines
 from terms import Fault, variable
 from wasm import Module
 
@@ -73,6 +74,39 @@ def code_of(path):
     return Module(path) if path.suffix == '.wasm' else Code(path)
 
 
-def missed(code, begin, met):
-    """The instructions of a function that were not met."""
-    return [text for at, (text, _) in code.bodies[begin].items() if at not in met and not IDLE.match(text)]
+def builds_of(path):
+    """The builds for a file's machine."""
+    folder = path.parent.name
+    found = machines().get(folder.removeprefix('windows-'))
+    return found.builds if found else [folder]
+
+
+def faults_of_function(code, function, begin):
+    """What is wrong with a function, for both flags, wherever the stack begins, and which instructions were run."""
+    runs = [function.run(code, begin, flag, entry) for flag in FLAGS for entry in code.kind.entries]
+    met = set.union(*(machine.met for machine, _ in runs))
+    faults, below = {fault for _, fault in runs if fault}, max(machine.below for machine, _ in runs)
+    missed = [text for at, (text, _) in code.bodies[begin].items() if at not in met and not IDLE.match(text)]
+    if below:
+        faults.add(f'it looks {below} times at what is below the stack pointer')
+    if missed and not faults:
+        faults.add(f'it is not run: {missed}')
+    if code.calls(begin) != function.calls:
+        faults.add(f'{code.calls(begin)} instructions call it')
+    return [f'{function.name} at {begin}: {fault}' for fault in faults], met
+
+
+def faults_of(path):
+    """What is wrong with both functions in a file, for each build of its machine."""
+    try:
+        code = code_of(path)
+        code.validate()
+    except Fault as fault:
+        return [str(fault)]
+    places = [(function, begin) for function in FUNCTIONS for begin in code.begins(function)]
+    counts = [len(code.begins(function)) for function in FUNCTIONS]
+    came = [faults_of_function(code, *place) for place in places]
+    others = code.multiplications().difference(*(met for _, met in came))
+    return [*(fault for faults, _ in came for fault in faults),
+            *(f'the functions are there {count} times' for count in counts if count != len(builds_of(path))),
+            *(f'something else multiplies as they do: {code.instructions[at][0]}' for at in others)]

@@ -1,8 +1,6 @@
-#!/usr/bin/env -S python3 -B
-"""Attacks .ci/machine_code/check: of the machine code of both functions, one bit at a time is another one. Each change
-has to be found, or else to compute the same. So has each forgery of forged.py.
-
-    .ci/machine_code/attack [SEED]     the last line is 'N passed, M failed, K skipped'
+"""Attacks what test_machine_code.py judges by: of the machine code of both functions, one bit at a time is another one.
+Each change has to be found, or else to compute the same. And each forgery of forged.py has to be, which runs another
+compression than the one that tools print. What is drawn is by SEED of the environment, or else by one that is printed.
 
 For each build these are a bit of every byte of the constants, those that instructions have in them too, and bits of
 instructions drawn from each function, until `DRAWN` have become others of the same length. What a change leaves that is
@@ -11,28 +9,42 @@ not found is compared for drawn numbers besides.
 
 import copy
 import gc
+import os
 import random
 import re
-import sys
 import tempfile
 from pathlib import Path
 
-TOP = Path(__file__).resolve().parents[2]
-sys.path[:0] = [str(TOP / folder) for folder in ('.ci', 'build', '.ci/machine_code', 'crates/argon2_vectors')]
-from forged import judged  # noqa: E402
-from linked import Missing  # noqa: E402
-from shared.checks import Checks  # noqa: E402
-from terms import BITS, Fault, forget  # noqa: E402
-from validated import FLAGS, FUNCTIONS, code_of  # noqa: E402
+import forged
+import pytest
+from linked import Missing
+from shared import TOP
+from terms import BITS, Fault, forget
+from validated import FLAGS, FUNCTIONS, builds_of, code_of, faults_of
 
-FILES = 'x86_64/libproved_argon2.a', 'aarch64/libproved_argon2.a', 'wasm*/proved_argon2.wasm'
+pytestmark = pytest.mark.timeout(3600)
+RELEASE, SEED = TOP / 'release', os.environ.get('SEED') or random.randrange(1 << 32)
+FILES = 'x86_64/libproved_argon2.a', 'aarch64/libproved_argon2.a', 'wasm32/proved_argon2.wasm'
 # This module has the same instructions, but for the numbers of the functions that are called.
-SAME = 'proved_argon2_shared.wasm'
+SAME = 'wasm32/proved_argon2_shared.wasm'
 DRAWN, UNTIL_FORGOTTEN = 300, 100
 # The instructions that have constants of the definitions in them, and of which bytes to which these are.
 WIDE = (re.compile('movabs .*'), 2, 10), (re.compile(r'movk\t.*|mov\tx\d+, #0x[0-9a-f]{3,}'), 0, 4), \
     (re.compile(r'i64\.const -?\d{11,}'), 1, 11)
-checks = Checks()
+# Each forgery is made of a file, and is found by what is said of it.
+FORGERIES = (
+    ('x86_64/libproved_argon2.so.1.0.0', forged.lead_sections_to_a_copy, 'a section of code is not what is mapped'),
+    ('x86_64/libproved_argon2.a', forged.hide_a_member, 'its table of symbols leads to what is no member'),
+    ('x86_64/argon2', forged.redirect_a_call, 'fill_words .* instructions call it'),
+    ('x86-64-v3/libargon2_c.a', forged.add_a_decoy, 'something else multiplies as they do'),
+    ('wasm32/proved_argon2.wasm', forged.call_a_copy, 'fill_words .* instructions call it'))
+
+
+def code_in(name):
+    try:
+        return code_of(RELEASE / name)
+    except Missing as program:
+        pytest.skip(f'there is no {program}')
 
 
 def read_with(code, bits):
@@ -90,7 +102,7 @@ class Attacked:
         self.same.append(what)
         for flag in FLAGS:
             _, fault = self.function.run(code, self.begin, flag, code.kind.entries[0], lambda: random.getrandbits(BITS))
-            checks.need(f'{what} computes the same', not fault, fault)
+            assert not fault, f'{what} does not compute the same: {fault}'
 
     def change_instructions(self, bits):
         """Tries changes, and gives how many made other instructions of the same length."""
@@ -124,43 +136,44 @@ class Attacked:
                                       if at in places})
 
 
-def attack(file, seed):
-    code = code_of(file)
-    for function in FUNCTIONS:
-        for begin in code.begins(function):
-            name = f'{file.parent.name}/{file.name}, {function.name} at {begin}'
-            random.seed(f'{seed} {name}')  # (so that what is drawn for one depends on no other)
-            attacked = Attacked(code, function, begin)
-            attacked.draw()
-            attacked.change_constants()
-            checks.hold(name, attacked.found + len(attacked.same) == attacked.tried >= DRAWN)
-            print(f'{name}: {attacked.found} changes are found, and compute the same: {attacked.same}', flush=True)
+@pytest.fixture(autouse=True)
+def without_collection():
+    """Terms have no cycles, and the collector looks through all of them."""
+    gc.disable()
+    yield
+    gc.enable()
+    forget()
 
 
-def compare(*files):
-    """Whether two modules have the same instructions, so that one attack is on both."""
+@pytest.mark.parametrize('function', FUNCTIONS, ids=lambda function: function.name)
+@pytest.mark.parametrize('name', FILES)
+def test_each_change_is_found(name, function):
+    code = code_in(name)
+    begins = code.begins(function)
+    assert len(begins) == len(builds_of(RELEASE / name))
+    for begin in begins:
+        own = f'{SEED} {name}, {function.name} at {begin}'
+        print('seed', own)
+        random.seed(own)  # (so that what is drawn for one depends on no other)
+        attacked = Attacked(code, function, begin)
+        attacked.draw()
+        attacked.change_constants()
+        assert attacked.found + len(attacked.same) == attacked.tried >= DRAWN
+        print(f'{attacked.found} changes are found, and compute the same: {attacked.same}')
+
+
+def test_both_modules_have_the_same_instructions():
+    """So one attack is on both."""
     texts = [[re.sub(r'^call .*', 'call', text) for function in FUNCTIONS for begin in code.begins(function)
               for text, _ in code.bodies[begin].values() if not text.startswith('local[')]
-             for code in map(code_of, files)]
-    checks.hold(f'{files[1].name} has the same instructions', texts[0] and texts[0] == texts[1])
+             for code in map(code_in, (FILES[-1], SAME))]
+    assert texts[0] and texts[0] == texts[1]
 
 
-def main(words):
-    seed = int(words[0]) if words else random.randrange(1 << 32)
-    gc.disable()  # (terms have no cycles, and it looks through all of them)
-    print(f'seed {seed}')
-    for file in (file for pattern in FILES for file in (TOP / 'release').glob(pattern)):
-        try:
-            attack(file, seed)
-            if file.suffix == '.wasm':
-                compare(file, file.with_name(SAME))
-        except Missing as program:
-            checks.skip(file.name, f'there is no {program}')
-    with tempfile.TemporaryDirectory() as folder:
-        for name, fault in judged(TOP / 'release', folder):
-            checks.hold(name, not fault, fault)
-    return checks.close()
-
-
-if __name__ == '__main__':
-    sys.exit(main(sys.argv[1:]))
+@pytest.mark.parametrize('name, forge, expected', FORGERIES)
+def test_each_forgery_is_found(tmp_path, name, forge, expected):
+    made = tmp_path / name
+    made.parent.mkdir()
+    forge(RELEASE / name, made)
+    faults = faults_of(made)
+    assert re.search(expected, '\n'.join(faults)), faults

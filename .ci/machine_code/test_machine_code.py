@@ -1,0 +1,35 @@
+"""Translation validation of release/: the machine code of the compression computes G of RFC 9106, and that of BLAKE2b's
+compression F of RFC 7693, for all inputs, in each file and each build. Neither branches on anything but the flag that
+it is passed, computes an address from data, looks at memory but its arguments, its constants and its own frame, or
+leaves other registers than it may; and BLAKE2b's clears its working vector.
+
+The code is run over terms in place of numbers, as binutils and wabt disassemble it. What it leaves has to be the terms
+that the definitions make. An instruction, or a form of one, that is not known fails by its name.
+"""
+
+import re
+
+import pytest
+import rfc7693
+import rfc9106
+from linked import Missing
+from shared import TOP
+from validated import faults_of
+
+LISTED = re.findall(r'^[0-9a-f]{64}  (\S+)$', (TOP / 'release/MANIFEST').read_text(encoding='utf-8'), re.M)
+# (that with two endings names a DLL)
+FILES = [name for name in LISTED if not re.search(r'\.[ch]$|\.dll\.a$', name)]
+
+
+def test_the_definitions():
+    assert rfc7693.check(), "RFC 7693's hashes do not come out of its definition"
+    rfc9106.check()
+
+
+@pytest.mark.parametrize('name', FILES)
+def test_machine_code(name):
+    try:
+        faults = faults_of(TOP / 'release' / name)
+    except Missing as program:
+        pytest.skip(f'there is no {program}')
+    assert not faults
