@@ -1,17 +1,12 @@
-#!/usr/bin/env python3
-"""The manual pages and the help against the header, the library and the program: a line for each check.
-
-bindings/tests/manual PROGRAM COMMAND..
-"""
+"""The manual pages and the help against the header, the library and the program."""
 import ctypes
 import os
 import re
-import sys
 
-sys.dont_write_bytecode = True
-from shell_checks import COSTLY, ROOT, STORED, TOOL, check, main, piped, require  # noqa: E402
+from commands import COSTLY, ROOT, STORED, TOOL, each_command, piped  # noqa: F401
+from running import VERSION, built
 
-LIBRARY = ROOT / "bindings/out" / os.uname().machine / "libproved_argon2.so"
+LIBRARY = built() / os.uname().machine / f"libproved_argon2.so.{VERSION}"
 HELP = (ROOT / "bindings/shell/help.txt").read_text()
 PAGES = {section: (ROOT / f"bindings/man/{name}.{section}.in").read_text() for section, name in (
     (1, "proved-argon2"),
@@ -29,7 +24,7 @@ def plain(roff):
 def part(section, title):
     """The words of a part of a page."""
     found = re.search(rf'^\.SH "?{title}"?\n(.*?)(?=^\.SH )', PAGES[section], re.MULTILINE | re.DOTALL)
-    require(found, title)
+    assert found, title
     return found.group(1)
 
 
@@ -58,19 +53,17 @@ def header():
     return prototypes(code_of_the_header())
 
 
-@check
-def the_synopsis_declares_each_function_of_the_header():
+def test_the_synopsis_declares_each_function_of_the_header():
     declared, documented = header(), prototypes(plain(part(3, "SYNOPSIS")).replace("#include <proved_argon2.h>", ""))
-    require(len(documented) >= 40 and set(documented) == set(declared), sorted(set(documented) ^ set(declared)))
+    assert len(documented) >= 40 and set(documented) == set(declared), sorted(set(documented) ^ set(declared))
     for name, text in documented.items():
-        require(declared[name] == text, text, declared[name])
+        assert declared[name] == text, (text, declared[name])
 
 
-@check
-def the_description_names_each_function_of_the_header_and_no_other():
+def test_the_description_names_each_function_of_the_header_and_no_other():
     documented = plain(part(3, "DESCRIPTION")).replace(" (", "(")
     documented = set(re.findall(r"\bproved_argon2_[a-z0-9_]+(?=\()", documented))
-    require(documented == set(header()), sorted(documented ^ set(header())))
+    assert documented == set(header()), sorted(documented ^ set(header()))
 
 
 def types(code):
@@ -79,28 +72,25 @@ def types(code):
     return {one or other: text for text, one, other in found}
 
 
-@check
-def the_manual_defines_each_type_of_the_header():
+def test_the_manual_defines_each_type_of_the_header():
     defined, documented = types(code_of_the_header()), types(plain(part(3, "TYPES")))
-    require(len(documented) >= 8 and documented == defined, sorted(documented.items() ^ defined.items()))
+    assert len(documented) >= 8 and documented == defined, sorted(documented.items() ^ defined.items())
 
 
-@check
-def the_manual_has_each_error_of_the_header():
+def test_the_manual_has_each_error_of_the_header():
     text = (ROOT / "crates/argon2_c/include/proved_argon2.h").read_text()
     numbers = re.search(r"^enum proved_argon2_code \{(.*?)^\};", text, re.MULTILINE | re.DOTALL).group(1)
     declared = re.findall(r"^ *(PROVED_ARGON2_\w+) = (\d+)", numbers, re.MULTILINE)[1:]
     documented = re.findall(r"^(PROVED_ARGON2_\w+) +\((\d+)\)\n\w", plain(part(3, "ERRORS")), re.MULTILINE)
-    require(len(documented) >= 30 and documented == declared, documented, declared)
+    assert len(documented) >= 30 and documented == declared, (documented, declared)
 
 
-@check
-def the_manual_has_the_numbers_of_the_header():
+def test_the_manual_has_the_numbers_of_the_header():
     text = (ROOT / "crates/argon2_c/include/proved_argon2.h").read_text()
     value = plain(part(3, "RETURN VALUE"))
     for name, number in re.findall(r"\b(PROVED_ARGON2_[A-Z_]+)\s+\((\d+)\)", value):
-        require(re.search(rf"^ *{name} = {number}\b", text, re.MULTILINE), name, number)
-    require(re.findall(r"\((\d+)\)", value)[:2] == ["0", "64"], value)
+        assert re.search(rf"^ *{name} = {number}\b", text, re.MULTILINE), (name, number)
+    assert re.findall(r"\((\d+)\)", value)[:2] == ["0", "64"], value
 
 
 def statuses(table):
@@ -118,8 +108,7 @@ def statuses_by_page():
     return pages
 
 
-@check
-def each_page_gives_each_status_its_meaning():
+def test_each_page_gives_each_status_its_meaning():
     meanings = {
         0: (["verify", STORED], b"password", b"true\n", "true", "false"),
         1: (["verify", STORED], b"Password", b"false\n", "false", "true"),
@@ -129,11 +118,11 @@ def each_page_gives_each_status_its_meaning():
         5: (["check", COSTLY], b"password", b"", "above the limits", "true"),
     }
     for status, (words, password, output, meaning, other) in meanings.items():
-        require(piped(words, password)[:2] == (status, output), status, piped(words, password))
+        assert piped(words, password)[:2] == (status, output), (status, piped(words, password))
         for page, documented in statuses_by_page().items():
-            require(sorted(documented)[:6] == [0, 1, 2, 3, 4, 5], page, documented)
-            require(meaning in documented[status], page, status, documented[status])
-            require(other not in documented[status], page, status, documented[status])
+            assert sorted(documented)[:6] == [0, 1, 2, 3, 4, 5], (page, documented)
+            assert meaning in documented[status], (page, status, documented[status])
+            assert other not in documented[status], (page, status, documented[status])
 
 
 def forms(text):
@@ -141,25 +130,23 @@ def forms(text):
     return {" ".join(line.split()).replace("'TEXT'", "TEXT") for line in text}
 
 
-@check
-def both_pages_have_the_same_forms():
+def test_both_pages_have_the_same_forms():
     found = plain(part(1, "SYNOPSIS")).replace("\n", " ")
     documented = forms(form for form in re.split(r"\s*proved-argon2 |\s*SETTINGS are the", found) if form.strip(" ."))
     documented = {re.sub(r"\[ (\w+) \]|\[ ?(\w+) ?\]", lambda match: f"[{match.group(1) or match.group(2)}]", form)
                   for form in documented}
     expected = forms(re.findall(r"^  NAME ((?:new|check|tune|hash|verify|rehash)\b.*[A-Z].*)$", HELP, re.MULTILINE))
-    require(expected <= documented, sorted(expected), sorted(documented))
+    assert expected <= documented, (sorted(expected), sorted(documented))
     words = {form.split()[0] for form in expected}
-    require(words == {"new", "check", "tune", "hash", "verify", "rehash"}, words)
+    assert words == {"new", "check", "tune", "hash", "verify", "rehash"}, words
 
 
-@check
-def the_script_does_what_the_manual_says_alone():
+def test_the_script_does_what_the_manual_says_alone():
     found = re.search(r"It measures for (\w+) itself, and passes all other commands on", " ".join(
         plain(part(1, "DESCRIPTION")).split()))
     said = {word: piped([word], command=[TOOL])[2] for word in ("new", "check", "tune", "hash", "verify", "rehash")}
     unknown = [word for word, text in said.items() if b"there is no command" in text]
-    require(found and unknown == [found[1]], found and found[1], said)
+    assert found and unknown == [found[1]], (found and found[1], said)
 
 
 class Settings(ctypes.Structure):
@@ -177,8 +164,7 @@ def preset(name):
     return call()
 
 
-@check
-def each_page_names_the_settings_that_the_library_recommends():
+def test_each_page_names_the_settings_that_the_library_recommends():
     owasp2 = preset("owasp2")
     variant = ("argon2d", "argon2i", "argon2id")[owasp2.variant]
     right = f"{variant} {owasp2.version} {owasp2.time_cost} {owasp2.mem_cost} {owasp2.lanes} {owasp2.hash_length} seq"
@@ -189,11 +175,10 @@ def each_page_names_the_settings_that_the_library_recommends():
         named = set(re.findall(r"argon2id \d+ \d+ \d+ \d+ \d+ seq", text))
         # (README need not name any, and SHELL.md names others beside them)
         required = {right} if page != "README.md" else named & {right}
-        require(named == required or page == "docs/SHELL.md" and right in named, page, named)
+        assert named == required or page == "docs/SHELL.md" and right in named, (page, named)
 
 
-@check
-def each_page_has_the_limits_of_the_library():
+def test_each_page_has_the_limits_of_the_library():
     call = ctypes.CDLL(str(LIBRARY)).proved_argon2_default_limits
     call.argtypes, call.restype = [], Limits
     limits = call()
@@ -202,24 +187,20 @@ def each_page_has_the_limits_of_the_library():
     pattern = r"(\d+) GiB(?: of memory)?, (\d+) passes, (\d+) lanes,? (?:and|or) the work of (\d+) GiB in one pass"
     for text in (HELP, plain(PAGES[1]), *((ROOT / page).read_text() for page in pages)):
         named = re.findall(pattern, " ".join(text.split()))
-        require(named and {tuple(map(int, numbers)) for numbers in named} == {right}, right, named)
-    require(limits.mem_cost % (1 << 20) == 0 and limits.work % (1 << 20) == 0, limits.mem_cost, limits.work)
+        assert named and {tuple(map(int, numbers)) for numbers in named} == {right}, (right, named)
+    assert limits.mem_cost % (1 << 20) == 0 and limits.work % (1 << 20) == 0, (limits.mem_cost, limits.work)
 
 
-@check
-def the_words_of_settings_are_in_the_order_of_the_pages():
+def test_the_words_of_settings_are_in_the_order_of_the_pages():
     order = "VARIANT VERSION T M P LEN MODE".split()
     values = dict(zip(order, "argon2d 16 3 64 2 24 seq".split()))
     for text in (HELP, plain(PAGES[1])):
         found = re.search(r"VARIANT VERSION [A-Z ]+ MODE", text)
-        require(found and found.group().split() == order, found)
+        assert found and found.group().split() == order, found
         meanings = {"T": "passes", "M": "memory in KiB", "P": "lanes", "LEN": "length of the tag in bytes"}
         for word, meaning in meanings.items():
             pattern = rf"^ *{word}\s[^\n]*{meaning}|^{word}\n[^\n]*{meaning}"
-            require(re.search(pattern, text, re.IGNORECASE | re.MULTILINE), word, meaning)
+            assert re.search(pattern, text, re.IGNORECASE | re.MULTILINE), (word, meaning)
     text = piped(["hash", *(values[word] for word in order), "somesalt"], b"password")[1].decode().splitlines()[1]
-    require(text.startswith("$argon2d$m=64,t=3,p=2$") or text.startswith("$argon2d$v=16$m=64,t=3,p=2$"), text)
-    require(len(text.split("$")[-1]) == 32, text)
-
-
-main()
+    assert text.startswith("$argon2d$m=64,t=3,p=2$") or text.startswith("$argon2d$v=16$m=64,t=3,p=2$"), text
+    assert len(text.split("$")[-1]) == 32, text

@@ -1,16 +1,13 @@
-#!/usr/bin/env python3
-"""The program on a terminal: bindings/tests/terminal PROGRAM COMMAND.."""
+"""The program on a terminal."""
 import fcntl
 import os
 import select
 import signal
 import subprocess
-import sys
 import termios
 import time
 
-sys.dont_write_bytecode = True
-from shell_checks import COMMAND, COSTLY, SMALL, STORED, TOOL, check, clock, main, require, verifies  # noqa: E402
+from commands import COMMAND, COSTLY, SMALL, STORED, TOOL, clock, each_command, verifies  # noqa: F401
 
 HINT = b"--help"
 
@@ -32,8 +29,8 @@ class Terminal:
         )
         for prompt, keys in enumerate(typed, start=1):
             self.wait_for(lambda: self.shown.count(b": ") >= prompt)
-            require(not self.echoes(), "the terminal echoes at a prompt", self.shown)
-            require(self.ignores(signal.SIGTSTP), "it can be suspended without an echo")
+            assert not self.echoes(), ("the terminal echoes at a prompt", self.shown)
+            assert self.ignores(signal.SIGTSTP), "it can be suspended without an echo"
             os.write(self.master, keys)
         self.output = self.run.communicate(timeout=6000)[0]
         self.status = self.run.returncode
@@ -58,21 +55,19 @@ class Terminal:
         limit = time.monotonic() + 600
         while not holds():
             self.read()
-            require(time.monotonic() < limit, "nothing was asked", self.shown)
+            assert time.monotonic() < limit, ("nothing was asked", self.shown)
 
 
-@check
-def usage_points_to_the_help_on_a_terminal_too():
+def test_usage_points_to_the_help_on_a_terminal_too():
     run = Terminal(["hash"])
-    require(run.status == 3 and run.output == b"", run.status, run.output)
-    require(run.shown.startswith(b"usage\r\n") and HINT in run.shown, run.shown)
+    assert run.status == 3 and run.output == b"", (run.status, run.output)
+    assert run.shown.startswith(b"usage\r\n") and HINT in run.shown, run.shown
     run = Terminal(["rehash", *"argon2i 19 3 256 1 32".split(), "x"])
-    require(run.status == 2 and run.shown.startswith(b"Decoding failed\r\n"), run.status, run.shown)
-    require(HINT not in run.shown, run.shown)
+    assert run.status == 2 and run.shown.startswith(b"Decoding failed\r\n"), (run.status, run.shown)
+    assert HINT not in run.shown, run.shown
 
 
-@check
-def a_right_command_is_run_in_place_of_the_shell():
+def test_a_right_command_is_run_in_place_of_the_shell():
     master, slave = os.openpty()
     words = ["hash", *"argon2id 19 400000000 1024 1 32 max2 somesalt".split()]
     run = subprocess.Popen([*COMMAND, *words], stdin=subprocess.PIPE, stdout=subprocess.DEVNULL, stderr=slave)
@@ -80,18 +75,17 @@ def a_right_command_is_run_in_place_of_the_shell():
     try:
         limit = time.monotonic() + 600
         while os.path.basename(os.readlink(f"/proc/{run.pid}/exe")) != os.path.basename(TOOL):
-            require(run.poll() is None and time.monotonic() < limit, "the shell stays")
+            assert run.poll() is None and time.monotonic() < limit, "the shell stays"
             time.sleep(0.02)
     finally:
         run.terminate()
         run.wait(timeout=600)
         os.close(master)
         os.close(slave)
-    require(run.returncode == -signal.SIGTERM, run.returncode)
+    assert run.returncode == -signal.SIGTERM, run.returncode
 
 
-@check
-def words_of_a_wrong_form_point_to_the_help():
+def test_words_of_a_wrong_form_point_to_the_help():
     for words in (
         ["hash", *"argon2x 19 2 256 1 32 seq somesalt".split()],
         ["hash", *"argon2id 18 2 256 1 32 seq somesalt".split()],
@@ -104,98 +98,85 @@ def words_of_a_wrong_form_point_to_the_help():
         ["hlep"],
     ):
         run = Terminal(words)
-        require(run.status == 3 and run.shown.startswith(b"usage\r\n") and HINT in run.shown, words, run.shown)
+        assert run.status == 3 and run.shown.startswith(b"usage\r\n") and HINT in run.shown, (words, run.shown)
 
 
 # ---- new and check on a terminal
 
 
-@check
-def new_asks_twice_without_echo():
+def test_new_asks_twice_without_echo():
     run = Terminal(["new", *SMALL], [b"my secret\n", b"my secret\n"])
-    require(run.status == 0 and run.echo_is_back, run.status, run.shown)
-    require(b"secret" not in run.shown and run.shown.count(b": ") == 2, run.shown)
-    require(verifies(run.output.decode(), b"my secret"), run.output)
+    assert run.status == 0 and run.echo_is_back, (run.status, run.shown)
+    assert b"secret" not in run.shown and run.shown.count(b": ") == 2, run.shown
+    assert verifies(run.output.decode(), b"my secret"), run.output
 
 
-@check
-def new_takes_blanks_backslashes_and_bytes_that_are_no_text():
+def test_new_takes_blanks_backslashes_and_bytes_that_are_no_text():
     for password in (b"  two  blanks  ", b"back\\slash\\n", b"\xff\xfe\x81\x88", b"-e $HOME `id` '\"", b"\xc3\xa9"):
         run = Terminal(["new", *SMALL], [password + b"\n"] * 2)
-        require(run.status == 0 and verifies(run.output.decode(), password), password, run.status, run.shown)
+        assert run.status == 0 and verifies(run.output.decode(), password), (password, run.status, run.shown)
 
 
-@check
-def new_refuses_two_that_differ():
+def test_new_refuses_two_that_differ():
     run = Terminal(["new", *SMALL], [b"one\n", b"two\n"])
-    require(run.status == 1 and run.output == b"" and run.echo_is_back, run.status, run.output)
-    require(b"not the same" in run.shown, run.shown)
+    assert run.status == 1 and run.output == b"" and run.echo_is_back, (run.status, run.output)
+    assert b"not the same" in run.shown, run.shown
 
 
-@check
-def new_refuses_the_empty_password_on_a_terminal():
+def test_new_refuses_the_empty_password_on_a_terminal():
     run = Terminal(["new", *SMALL], [b"\n", b"\n"])
-    require(run.status == 2 and run.output == b"" and b"empty" in run.shown, run.status, run.shown)
+    assert run.status == 2 and run.output == b"" and b"empty" in run.shown, (run.status, run.shown)
 
 
-@check
-def a_line_that_the_terminal_cuts_is_refused():
+def test_a_line_that_the_terminal_cuts_is_refused():
     run = Terminal(["new", *SMALL], [b"a" * 4094 + b"\n"] * 2)
-    require(run.status == 0 and verifies(run.output.decode(), b"a" * 4094), run.status, run.shown)
+    assert run.status == 0 and verifies(run.output.decode(), b"a" * 4094), (run.status, run.shown)
     for length in (4095, 6000):
         run = Terminal(["new", *SMALL], [b"a" * length + b"\n"])
-        require(run.status == 4 and run.output == b"" and b"too long" in run.shown, run.status, run.shown)
+        assert run.status == 4 and run.output == b"" and b"too long" in run.shown, (run.status, run.shown)
 
 
-@check
-def an_end_of_input_is_no_password():
+def test_an_end_of_input_is_no_password():
     run = Terminal(["new", *SMALL], [b"\x04"])
-    require(run.status == 4 and run.output == b"" and run.echo_is_back, run.status, run.shown)
+    assert run.status == 4 and run.output == b"" and run.echo_is_back, (run.status, run.shown)
     run = Terminal(["check", STORED], [b"\x04"])
-    require(run.status == 4 and run.output == b"" and run.echo_is_back, run.status, run.shown)
+    assert run.status == 4 and run.output == b"" and run.echo_is_back, (run.status, run.shown)
 
 
-@check
-def an_interrupt_ends_it_and_the_echo_is_back():
+def test_an_interrupt_ends_it_and_the_echo_is_back():
     for words in (["new", *SMALL], ["check", STORED]):
         run = Terminal(words, [b"half\x03"])
-        require(run.status == -signal.SIGINT, run.status)
-        require(run.output == b"" and run.echo_is_back, run.output, run.echo_is_back)
+        assert run.status == -signal.SIGINT, run.status
+        assert run.output == b"" and run.echo_is_back, (run.output, run.echo_is_back)
 
 
-@check
-def check_asks_once_and_answers():
+def test_check_asks_once_and_answers():
     run = Terminal(["check", STORED], [b"password\n"])
-    require((run.status, run.output) == (0, b"true\n") and run.echo_is_back, run.status, run.output)
-    require(b"password" not in run.shown.replace(b"Password", b""), run.shown)
+    assert (run.status, run.output) == (0, b"true\n") and run.echo_is_back, (run.status, run.output)
+    assert b"password" not in run.shown.replace(b"Password", b""), run.shown
     run = Terminal(["check", STORED], [b"Password\n"])
-    require((run.status, run.output) == (1, b"false\n") and run.echo_is_back, run.status, run.output)
+    assert (run.status, run.output) == (1, b"false\n") and run.echo_is_back, (run.status, run.output)
     run = Terminal(["check", STORED], [b"\n"])
-    require((run.status, run.output) == (1, b"false\n"), run.status, run.output)
+    assert (run.status, run.output) == (1, b"false\n"), (run.status, run.output)
     run = Terminal(["check", "x"], [b"password\n"])
-    require(run.status == 2 and b"Decoding failed" in run.shown, run.status, run.shown)
+    assert run.status == 2 and b"Decoding failed" in run.shown, (run.status, run.shown)
     run = Terminal(["check", COSTLY], [b"password\n"])
-    require((run.status, run.output) == (5, b"") and b"above the limits" in run.shown, run.status, run.shown)
+    assert (run.status, run.output) == (5, b"") and b"above the limits" in run.shown, (run.status, run.shown)
 
 
-@check
-def hash_and_verify_ask_once_without_echo():
+def test_hash_and_verify_ask_once_without_echo():
     run = Terminal(["hash", *"argon2i 19 2 256 1 32 seq somesalt".split()], [b"password\n"])
     text = run.output.decode().splitlines()[1:2]
-    require(run.status == 0 and run.echo_is_back and text == [STORED], run.status, run.output)
-    require(b"password" not in run.shown.replace(b"Password", b""), run.shown)
+    assert run.status == 0 and run.echo_is_back and text == [STORED], (run.status, run.output)
+    assert b"password" not in run.shown.replace(b"Password", b""), run.shown
     for typed, expected in ((b"password\n", (0, b"true\n")), (b"passwor\n", (1, b"false\n"))):
         run = Terminal(["verify", STORED], [typed])
-        require((run.status, run.output) == expected and run.echo_is_back, run.status, run.output)
-        require(b"passw" not in run.shown.replace(b"Passw", b""), run.shown)
+        assert (run.status, run.output) == expected and run.echo_is_back, (run.status, run.output)
+        assert b"passw" not in run.shown.replace(b"Passw", b""), run.shown
 
 
-@check
-def tune_shows_its_progress_on_a_terminal():
+def test_tune_shows_its_progress_on_a_terminal():
     with clock(45, 30, 35, 70, 90, 80, 58, 55, 57) as environment:
         run = Terminal(["tune", "60", "7168"], env=environment)
-    require(run.status == 0 and run.output == b"argon2id 19 7 7168 1 32 seq\n", run.status, run.output)
-    require(b"\r" in run.shown and b"measurement 1 of 3" in run.shown and b"56 milliseconds" in run.shown, run.shown)
-
-
-main()
+    assert run.status == 0 and run.output == b"argon2id 19 7 7168 1 32 seq\n", (run.status, run.output)
+    assert b"\r" in run.shown and b"measurement 1 of 3" in run.shown and b"56 milliseconds" in run.shown, run.shown

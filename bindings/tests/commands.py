@@ -1,21 +1,18 @@
-"""What the tests of the shell share: each takes the words PROGRAM COMMAND.. and prints a line for each check.
-
-PROGRAM is the file of the program, and COMMAND runs it through the script around it.
-"""
+"""What the tests of the shell's commands share."""
 import contextlib
 import itertools
 import os
-import pathlib
-import re
 import subprocess
-import sys
 import tempfile
-import traceback
 
-PROGRAM, *COMMAND = sys.argv[1:]
-TOOL = str(pathlib.Path(PROGRAM).with_name("argon2_tool"))
-ROOT = pathlib.Path(__file__).resolve().parents[2]
-VERSION = (ROOT / "VERSION").read_text().strip()
+import pytest
+import running
+from running import TOP as ROOT
+
+PROGRAM = str(running.built() / "x86-64-v2/argon2_program")
+TOOL = str(running.built() / "x86-64-v2/argon2_tool")
+# What runs the program through the script around it, as `each_command` sets it.
+COMMAND = []
 SMALL = "argon2id 19 1 8 1 16 seq".split()
 STORED = "$argon2i$v=19$m=256,t=2,p=1$c29tZXNhbHQ$iekCn0Y3spW+sCcFanM2xBT63UP2sghkUoHLIUpWRS8"
 # A text above a limit of `check`, which names 11 passes.
@@ -24,17 +21,14 @@ COSTLY = "$argon2id$v=19$m=8,t=11,p=1$c29tZXNhbHQ$c29tZWhhc2g"
 ABOVE = b"""The encoded hash is above the limits
 check and new take at most 2 GiB, 10 passes, 16 lanes and the work of 4 GiB in one pass
 """
-CHECKS = []
 
 
-def check(function):
-    CHECKS.append(function)
-    return function
-
-
-def require(holds, *seen):
-    if not holds:
-        raise AssertionError(" ".join(map(repr, seen)))
+@pytest.fixture(scope="module", autouse=True, params=["sh", "bash", "./argon2"])
+def each_command(request, installed):
+    """The installed program by the shell of the system and by bash, and that of the repository."""
+    script = str(installed / "bin/proved-argon2")
+    COMMAND[:] = {"sh": [script], "bash": ["bash", script]}.get(request.param, [str(ROOT / "argon2")])
+    piped(["new", *SMALL], b"password")  # (a clone says once which program it runs)
 
 
 def piped(words, stdin=b"", command=None, **more):
@@ -56,17 +50,3 @@ def clock(*milliseconds):
 
 def verifies(text, password):
     return piped(["verify", text.strip()], password, command=[PROGRAM])[0] == 0
-
-
-def main():
-    failed = 0
-    for function in CHECKS:
-        name = re.sub(r"_s_|_s$", "'s ", function.__name__).replace("_", " ").strip()
-        try:
-            function()
-            print(f"passed: {name}", flush=True)
-        except Exception:
-            failed += 1
-            print(f"FAILED: {name}", flush=True)
-            print("    " + traceback.format_exc().replace("\n", "\n    "), flush=True)
-    sys.exit(failed > 0)

@@ -1,0 +1,83 @@
+"""What the tests here share: what is built, commands, and what they need."""
+import functools
+import os
+import pathlib
+import re
+import shutil
+import subprocess
+
+import pytest
+
+TOP = pathlib.Path(__file__).resolve().parents[2]
+MACHINE = os.uname().machine
+VERSION = (TOP / "VERSION").read_text().strip()
+# Debian's crates in place of a registry, since cargo looks for what is optional too.
+CRATES_OF_DEBIAN = """[source.crates-io]
+replace-with = "debian"
+[source.debian]
+directory = "/usr/share/cargo/registry"
+"""
+
+
+def needs(*programs):
+    """Skips a test where a program is not there."""
+    lacking = [program for program in programs if not shutil.which(program)]
+    return pytest.mark.skipif(bool(lacking), reason=f"there is no {', '.join(lacking)}")
+
+
+def start(*words, env=(), cwd=TOP, timeout=2400, **named):
+    """A command that has ended, with what it said."""
+    named = {"stdin": None if "input" in named else subprocess.DEVNULL, "capture_output": True, "text": True, **named}
+    without = {name: value for name, value in {**os.environ, **dict(env)}.items() if value is not None}
+    return subprocess.run([*map(str, words)], env={name: str(value) for name, value in without.items()}, cwd=cwd,
+                          timeout=timeout, **named)
+
+
+def run(*words, **named):
+    """What a command says that has to succeed."""
+    done = start(*words, **named)
+    assert done.returncode == 0, f"{words} ended with {done.returncode}\n{done.stdout[-9000:]}\n{done.stderr[-9000:]}"
+    return done.stdout
+
+
+def refuses(status, text, *words, **named):
+    """A command has to end with this status, and to say this on standard error, which is given."""
+    done = start(*words, **named)
+    assert done.returncode == status and text in done.stderr, (words, done.returncode, done.stdout, done.stderr)
+    return done.stderr
+
+
+@functools.lru_cache(None)
+def built(part=MACHINE):
+    """The folder that has a part, linked, as it is proved and built here or in release/."""
+    return pathlib.Path(run("build/ready", part, timeout=4800).strip())
+
+
+def block_of(page, title=None, number=0):
+    """A block of code of a page: of so many, under a title or in all."""
+    text = (TOP / "docs" / page).read_text()
+    if title is not None:
+        text = re.search(rf"^## {re.escape(title)}\n(.*?)(?=^## |\Z)", text, re.M | re.S)[1]
+    return re.findall(r"^```\w*\n(.*?)^```", text, re.M | re.S)[number]
+
+
+def first_lines(page, count=5):
+    """The lines with which a page begins, which are so many."""
+    lines = block_of(page)
+    assert lines.count("\n") == count, lines
+    return lines
+
+
+def project(folder, main, dependencies=f'argon2 = {{ package = "proved-argon2", path = "{TOP}/bindings/rust" }}',
+            file="main.rs", more=""):
+    """A program in Rust, or a library."""
+    (folder / "src").mkdir(parents=True, exist_ok=True)
+    (folder / "Cargo.toml").write_text(
+        f'[package]\nname = "{folder.name}"\nversion = "0.0.0"\nedition = "2021"\n[workspace]\n'
+        f"[dependencies]\n{dependencies}\n{more}")
+    (folder / "src" / file).write_text(main)
+    return folder
+
+
+def with_feature(name):
+    return f'argon2 = {{ package = "proved-argon2", path = "{TOP}/bindings/rust", features = ["{name}"] }}\n'
