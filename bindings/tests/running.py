@@ -3,6 +3,7 @@ import functools
 import os
 import pathlib
 import re
+import shlex
 import shutil
 import subprocess
 
@@ -10,6 +11,7 @@ import pytest
 
 TOP = pathlib.Path(__file__).resolve().parents[2]
 MACHINE = os.uname().machine
+CC = os.environ.get("CC", "cc")
 VERSION = (TOP / "VERSION").read_text().strip()
 # Debian's crates in place of a registry, since cargo looks for what is optional too.
 CRATES_OF_DEBIAN = """[source.crates-io]
@@ -51,6 +53,12 @@ def refuses(status, text, *words, **named):
 def built(part=MACHINE):
     """The folder that has a part, linked, as it is proved and built here or in release/."""
     return pathlib.Path(run("build/ready", part, timeout=4800).strip())
+
+
+def flags_of(prefix):
+    """What pkg-config says that a compiler needs for the library in a prefix."""
+    said = run("pkg-config", "--cflags", "--libs", "proved_argon2", env={"PKG_CONFIG_PATH": prefix / "lib/pkgconfig"})
+    return shlex.split(said)
 
 
 def block_of(page, title=None, number=0):
