@@ -1,0 +1,209 @@
+"""When and how the script `argon2` builds the program, in a tree with a stand-in for the toolchain: where there is no
+program, where a source or the kit is another, and not else. And what it does in a clone with a release."""
+import os
+import re
+import resource
+import shutil
+import subprocess
+import time
+
+import pytest
+from running import TOP, needs, refuses, run, start
+
+CHEAP = "hash argon2id 19 1 8 1 4 seq somesalt".split()
+# What proves and builds: it counts its runs and makes a program that says its arguments.
+PROVED = """#!/bin/sh
+echo "$*" >>"$RUNS"
+echo 'the stand-in says why' >&2
+[ ! -e "$RUNS.refuse" ] || exit 1
+cd "$(dirname "$0")/.." || exit
+crate=${1#*/} line=$(build/stamp "${1#*/}")
+[ ! -e "$RUNS.change" ] || echo more >>"crates/$crate/src/file"
+mkdir -p "bindings/out/${1%/*}"
+printf '#!/bin/sh\\necho "the program: $*"\\n' >"bindings/out/$1"
+chmod +x "bindings/out/$1"
+build/stamp --mark "$crate" "$line" "bindings/out/$1" 2>/dev/null || :
+"""
+RT = """#!/bin/sh
+echo "${PWD##*/} $*" >>"$RUNS"
+! grep -qsx "${PWD##*/}" "$RUNS.refuse"
+"""
+BELOW = {line.split(":")[0]: [name for name in line.split(":")[1].split() if (TOP / "crates" / name).is_dir()]
+         for line in (TOP / "crates.txt").read_text().splitlines() if re.match(r"\w+:", line)}
+
+
+def layers_of(crate):
+    """A crate and those below it."""
+    return {crate}.union(*map(layers_of, BELOW[crate]))
+
+
+LAYERS = sorted(layers_of("argon2_tool"))
+
+
+def write_program(file, text):
+    file.parent.mkdir(exist_ok=True)
+    file.write_text(text)
+    file.chmod(0o755)
+
+
+class Tree:
+    """The sources that the script looks at, a word each, and nothing of the toolchain but its name."""
+
+    def __init__(self, folder):
+        self.folder, self.runs = folder, folder / "runs"
+        self.environment = {"RUNS": self.runs, "PATH": f"{folder}/bin:{os.environ['PATH']}"}
+        shutil.copytree(TOP / "bindings/shell", folder / "bindings/shell")
+        shutil.copytree(TOP / "build", folder / "build")
+        for name in ("argon2", "VERSION", "crates.txt"):
+            shutil.copy(TOP / name, folder)
+        (folder / "KIT-ID").write_text("a kit\n")
+        for part in ("src", "specs", "proofs"):
+            for source in TOP.glob(f"crates/*/{part}"):
+                made = folder / source.relative_to(TOP)
+                made.mkdir(parents=True)
+                (made / "file").write_text("text\n")
+        write_program(folder / "build/proved", PROVED)
+        write_program(folder / "bin/rt", RT)
+
+    def builds(self, count):
+        """A call has to come to the program, after so many builds since the last one."""
+        said = run(self.folder / "argon2", "hash", "some", "words", env=self.environment)
+        found = self.runs.read_text().count("\n") if self.runs.exists() else 0
+        self.runs.unlink(missing_ok=True)
+        assert (said, found) == ("the program: hash some words\n", count)
+
+    def change(self, name):
+        files = [*self.folder.glob(name)]
+        for file in files:
+            with open(file, "a") as opened:
+                opened.write("more\n")
+        assert files
+
+    def change_without_a_trace(self, name):
+        """Other text under the times of the old one, as a copy with its times gives it."""
+        status = (self.folder / name).stat()
+        self.change(name)
+        os.utime(self.folder / name, ns=(status.st_atime_ns, status.st_mtime_ns))
+
+
+@pytest.fixture
+def tree(tmp_path):
+    made = Tree(tmp_path)
+    made.builds(1)
+    made.builds(0)
+    return made
+
+
+def prove_layers(tree):
+    status = start(tree.folder / "build/layers", "argon2_tool", tree.folder / "log", env=tree.environment).returncode
+    return status, tree.runs.read_text().splitlines()
+
+
+def test_each_layer_is_proved_once_after_those_below_it(tree):
+    status, proved = prove_layers(tree)
+    assert status == 0 and sorted(proved) == [f"{layer} lib" for layer in LAYERS if layer != "argon2_tool"]
+    for layer in {*LAYERS} - {"argon2_tool"}:
+        for below in BELOW[layer]:
+            assert proved.index(f"{below} lib") < proved.index(f"{layer} lib")
+
+
+def test_a_layer_that_is_not_proved_ends_it(tree):
+    (tree.folder / "runs.refuse").write_text("argon2_fill\n")
+    status, proved = prove_layers(tree)
+    assert status != 0 and proved[-1] == "argon2_fill lib"
+
+
+@pytest.mark.parametrize("layer", LAYERS)
+def test_a_changed_source_of_any_layer_is_built(tree, layer):
+    for file in (tree.folder / "crates" / layer).glob("*/file"):
+        tree.change(str(file.relative_to(tree.folder)))
+        tree.builds(1)
+        tree.builds(0)
+
+
+@pytest.mark.parametrize("change, count", [
+    (lambda tree: tree.change_without_a_trace("crates/argon2_text/specs/file"), 1),
+    (lambda tree: os.utime(tree.folder / "crates/argon2_tool/src/file"), 0),
+    (lambda tree: (tree.folder / "crates/argon2_text/specs/file").unlink(), 1),
+    (lambda tree: tree.change("crates.txt"), 1),
+    (lambda tree: tree.change("KIT-ID"), 1),
+    (lambda tree: (tree.folder / "KIT-ID").unlink(), 0),
+    (lambda tree: tree.change("bindings/out/*/argon2_tool"), 1),
+], ids=["old times", "newer alone", "gone", "crates.txt", "another kit", "no kit", "another program"])
+def test_what_is_another_is_built_and_nothing_else(tree, change, count):
+    change(tree)
+    tree.builds(count)
+    tree.builds(0)
+
+
+def test_a_source_that_changes_during_the_build_is_built_next(tree):
+    (tree.folder / "runs.change").touch()
+    tree.change("crates/argon2_tool/src/file")
+    tree.builds(1)
+    (tree.folder / "runs.change").unlink()
+    tree.builds(1)
+    tree.builds(0)
+
+
+def test_a_build_that_fails_is_status_70_with_its_words_also_where_there_was_a_program(tree):
+    tree.change("crates/argon2_tool/src/file")
+    (tree.folder / "runs.refuse").touch()
+    for _ in range(2):
+        refuses(70, "the stand-in says why", tree.folder / "argon2", "hash", env=tree.environment)
+    for name in ("runs.refuse", "runs"):
+        (tree.folder / name).unlink()
+    tree.builds(1)
+
+
+@pytest.fixture(scope="module")
+def clone(built, tmp_path_factory):
+    """A copy of the repository, with a release that is what is built here, and nothing else."""
+    folder = tmp_path_factory.mktemp("clone")
+    run("sh", "-c", "git ls-files -z --cached --others --exclude-standard -- ':!release' | tar -c --null -T - | "
+        'tar -x -C "$0"', folder)
+    for name in ("x86_64", "x86-64-v2", "x86-64-v3", "x86-64-v4"):
+        shutil.copytree(built / name, folder / "release" / name, symlinks=True,
+                        ignore=shutil.ignore_patterns("*.said", "*.sources"))
+    sums = run("sh", "-c", "find . -type f -printf '%P\\n' | xargs sha256sum", cwd=folder / "release")
+    (folder / "release/MANIFEST").write_text(run(folder / "build/released", "--sources") + sums)
+    time.sleep(3)  # (no note is taken of what has just changed)
+    run(folder / "argon2", *CHEAP)
+    run(folder / "argon2", *CHEAP)
+    return folder
+
+
+@needs("strace")
+@pytest.mark.parametrize("where", ["clone", "here"])
+def test_a_warm_call_starts_at_most_8_processes(clone, tmp_path, where):
+    """The program left out."""
+    program = (clone if where == "clone" else TOP) / "argon2"
+    for _ in range(2):
+        run(program, *CHEAP)
+    run("strace", "-f", "-qq", "-e", "trace=clone,clone3,fork,vfork", "-o", tmp_path / "trace", program, *CHEAP)
+    count = len(re.findall(r"^\d+ +(?:clone3?|v?fork)\(", (tmp_path / "trace").read_text(), re.M))
+    assert 0 < count <= 8
+
+
+def test_a_warm_call_takes_at_most_20_milliseconds_more_than_the_program(clone):
+    """Of the processor, by turns, the least of ten."""
+    def cost(program):
+        before = resource.getrusage(resource.RUSAGE_CHILDREN)
+        subprocess.run([program, *CHEAP], stdin=subprocess.DEVNULL, stdout=subprocess.DEVNULL, check=True)
+        now = resource.getrusage(resource.RUSAGE_CHILDREN)
+        return 1000 * (now.ru_utime + now.ru_stime - before.ru_utime - before.ru_stime)
+    both = [(cost(clone / "argon2"), cost(clone / "release/x86-64-v2/argon2_tool")) for _ in range(10)]
+    whole, alone = map(min, zip(*both))
+    assert whole - alone <= 20
+
+
+def test_without_the_toolchain_what_is_not_proved_is_linked_anew_and_what_is_proved_is_proved(clone):
+    write_program(clone / "build/proved", '#!/bin/sh\necho "it asks for $*" >&2\nexit 1\n')
+    with open(clone / "bindings/c/driver.h", "a") as opened:
+        opened.write("/* another comment */\n")
+    run(clone / "install", "/usr", env={"DESTDIR": clone / "installed"})
+    assert (clone / "installed/usr/lib/libproved_argon2.a").stat().st_size > 0
+    assert run(clone / "argon2", *"new argon2id 19 1 8 1 4 seq".split(), input="password").startswith("$argon2id$")
+    with open(clone / "crates/argon2/src/lib.rt", "a") as opened:
+        opened.write("// another comment\n")
+    refuses(1, "it asks for x86-64-v2/libargon2_c.a", clone / "install", "/usr", env={"DESTDIR": clone / "other"})
+    refuses(70, "it asks for x86-64-v", clone / "argon2", *CHEAP)
