@@ -196,7 +196,7 @@ static void begin_member(uint32_t number)
     thread->woken = thread->waited = 0;
 }
 
-team *start_team(uint32_t count, void (*runs)(void *arg, team *own, uint32_t number), void *arg)
+team *proved_driver_start_team(uint32_t count, void (*runs)(void *arg, team *own, uint32_t number), void *arg)
 {
     must(!is_team && count < asked.threads && count < asked.lanes, "one team, of as many as there may be");
     const uint32_t granted = choose(count + 2);
@@ -217,12 +217,12 @@ team *start_team(uint32_t count, void (*runs)(void *arg, team *own, uint32_t num
     return &one_team;
 }
 
-uint32_t members(const team *own)
+uint32_t proved_driver_members(const team *own)
 {
     return own == NULL || run.is_forked ? 0 : own->members;
 }
 
-void wake(team *own, uint32_t number)
+void proved_driver_wake(team *own, uint32_t number)
 {
     must(is_team && own == &one_team && !run.is_forked && number <= own->members, "a thread of the team is woken");
     threads[number].woken++;
@@ -230,7 +230,7 @@ void wake(team *own, uint32_t number)
     go_on();
 }
 
-void await(team *own, uint32_t number)
+void proved_driver_await(team *own, uint32_t number)
 {
     struct thread *const self = &threads[number];
     if (own == NULL || run.is_forked) {
@@ -252,7 +252,7 @@ static void look_at_member(const struct thread *thread)
     must(run.code != PROVED_ARGON2_OK || thread->woken == 4 * asked.passes + 2, "a thread is woken for each step");
 }
 
-void end_team(team *own)
+void proved_driver_end_team(team *own)
 {
     must(own == NULL || is_team, "a team ends once");
     must(current == 0, "the caller's thread ends it");
@@ -272,13 +272,13 @@ void end_team(team *own)
 
 /* ---- the rest of the system */
 
-caller keep_caller(void)
+caller proved_driver_keep_caller(void)
 {
     run.is_caller_saved = true;
     return (caller){.error = errno, .cancel = 5};
 }
 
-void restore_caller(caller saved)
+void proved_driver_restore_caller(caller saved)
 {
     must(saved.cancel == 5, "what was saved of the caller is restored");
     errno = saved.error;
@@ -306,31 +306,31 @@ static size_t give_back(void *at, enum kind kind)
     return 0;
 }
 
-void *take_lines(size_t bytes)
+void *proved_driver_take_lines(size_t bytes)
 {
     must(!asked.is_large && !asked.is_callers && bytes == arena_len(), "a little memory is the heap's");
     return fails(PROVED_ARGON2_OUT_OF_MEMORY) ? NULL : take(arena, bytes, LINES);
 }
 
-void free_lines(void *lines)
+void proved_driver_free_lines(void *lines)
 {
     give_back(lines, LINES);
     must(!run.is_dirty, "blocks are cleared before they are freed");
 }
 
-void *map_pages(size_t bytes)
+void *proved_driver_map_pages(size_t bytes)
 {
     must(asked.is_large && !asked.is_callers && bytes == arena_len(), "much memory is mapped");
     return fails(PROVED_ARGON2_OUT_OF_MEMORY) ? NULL : take(arena, bytes, PAGES);
 }
 
-void unmap_pages(void *pages, size_t bytes)
+void proved_driver_unmap_pages(void *pages, size_t bytes)
 {
     must(give_back(pages, PAGES) == bytes, "all pages are unmapped");
     run.is_dirty = false;
 }
 
-bool populate_pages(void *pages, size_t bytes)
+bool proved_driver_populate_pages(void *pages, size_t bytes)
 {
     const size_t from = (size_t)((char *)pages - (char *)arena);
     go_on();
@@ -339,7 +339,7 @@ bool populate_pages(void *pages, size_t bytes)
     return !fails(PROVED_ARGON2_OUT_OF_MEMORY);
 }
 
-void overwrite(void *bytes, size_t len)
+void proved_driver_overwrite(void *bytes, size_t len)
 {
     if (bytes == arena && len == arena_len()) {
         run.is_dirty = false;
@@ -539,14 +539,14 @@ static uint32_t make_call(uint8_t *tag)
     with.pool = &job;
     with.tell = asked.has_progress ? tell : NULL;
     with.arg = &asked;
-    uint32_t code = begin_call(&call, &with, false);
+    uint32_t code = proved_driver_begin_call(&call, &with, false);
     call.job = job;
     if (!asked.is_verdict) {
-        code = compute(&call, NULL, tag);
-    } else if ((code = take_bytes(&call, TAG)) == PROVED_ARGON2_OK) {
-        code = compute(&call, hash, call.bytes);
+        code = proved_driver_compute(&call, NULL, tag);
+    } else if ((code = proved_driver_take_bytes(&call, TAG)) == PROVED_ARGON2_OK) {
+        code = proved_driver_compute(&call, hash, call.bytes);
     }
-    code = end_call(&call, code);
+    code = proved_driver_end_call(&call, code);
     for (size_t i = 0; i < sizeof call; i++) {
         must(((const unsigned char *)&call)[i] == 0, "the call is cleared");
     }

@@ -16,7 +16,7 @@
 #define VECTORS_OF_V3 0x6u            /* the system keeps XMM and YMM registers for each thread */
 #define VECTORS_OF_V4 0xE6u           /* those of masks and ZMM too */
 
-_Atomic int build_in_use;
+_Atomic int proved_driver_build;
 
 static int has(unsigned word, unsigned bits)
 {
@@ -40,7 +40,7 @@ static int newest_build(void)
     return has(leaf_7, LEAF_7_OF_V4) && has(saved, VECTORS_OF_V4) ? X86_64_V4 : X86_64_V3;
 }
 
-int choose_build(void)
+int proved_driver_choose_build(void)
 {
     static const char *const names[] = {
         [X86_64_V2] = "x86-64-v2", [X86_64_V3] = "x86-64-v3", [X86_64_V4] = "x86-64-v4"};
@@ -49,6 +49,6 @@ int choose_build(void)
     while (named != NULL && named[0] != 0 && build != NO_BUILD && strcmp(named, names[build]) != 0) {
         build--;
     }
-    atomic_store_explicit(&build_in_use, build, memory_order_relaxed);
+    atomic_store_explicit(&proved_driver_build, build, memory_order_relaxed);
     return build;
 }

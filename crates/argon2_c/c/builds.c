@@ -53,9 +53,9 @@ static void name_build(const char *name)
 static bool is_taken(const char *name, int build)
 {
     name_build(name);
-    const bool before = build_in_use == NOT_CHOSEN && hashes(build) && build_in_use == build;
+    const bool before = proved_driver_build == NOT_CHOSEN && hashes(build) && proved_driver_build == build;
     name_build(name == NULL ? "x86-64-v2" : NULL);
-    return before && hashes(build) && build_in_use == build;
+    return before && hashes(build) && proved_driver_build == build;
 }
 
 static void *hash_in_thread(void *build)
@@ -76,7 +76,7 @@ static bool is_taken_by_threads(const char *name, int build)
     for (size_t i = 0; i < THREADS; i++) {
         good &= pthread_join(threads[i], &answer) == 0 && answer != NULL;
     }
-    return good && build_in_use == build;
+    return good && proved_driver_build == build;
 }
 
 static void check_in_process(bool (*holds)(const char *, int), const char *name, int build, const char *what)

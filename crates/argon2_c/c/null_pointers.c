@@ -187,7 +187,7 @@ static bool refuses_the_processor(const struct row *row)
 static void check_without_a_build(void)
 {
     char name[96];
-    build_in_use = NO_BUILD;
+    proved_driver_build = NO_BUILD;
     for (size_t i = 0; i < sizeof rows / sizeof *rows; i++) {
         snprintf(name, sizeof name, "%s on an older processor", rows[i].name);
         check(refuses_the_processor(&rows[i]), name);
