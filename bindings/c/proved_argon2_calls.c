@@ -119,7 +119,9 @@ uint32_t proved_argon2_verify_encoded_with(const options *with, STORED)
     if (code != PROVED_ARGON2_OK) {
         goto end;
     }
-    call.with.threads = call.with.threads < 16 ? call.with.threads : 16; /* as Rattle's library for an encoded hash */
+    if (call.with.threads > PROVED_ARGON2_MAX_VERIFYING_THREADS) {
+        call.with.threads = PROVED_ARGON2_MAX_VERIFYING_THREADS;
+    }
     code = read_text(&call, OF_STORED);
     if (code != PROVED_ARGON2_OK) {
         goto end;

@@ -10,7 +10,6 @@
 
 #define DIGITS "0123456789"
 #define HEX DIGITS "abcdefABCDEF"
-#define MOST_THREADS 16 /* for an encoded hash */
 
 enum status { TRUE, FALSE, REFUSED, USAGE, STREAM, TOO_COSTLY };
 enum action { HASH, VERIFY, REHASH };
@@ -102,7 +101,7 @@ static const char *fault_of(char kind, const char *word, uint32_t *number)
 static int is_command(int count, char **word)
 {
     proved_argon2_stored stored;
-    with.threads = MOST_THREADS;
+    with.threads = UINT32_MAX; /* as many as there are lanes, or as the library has for an encoded hash */
     /* (the library tells bytes that are not UTF-8 from those that are no encoded hash) */
     for (int i = 0; i < count; i++)
         if (proved_argon2_read(word[i], strlen(word[i]), &stored) == PROVED_ARGON2_NOT_UTF8)

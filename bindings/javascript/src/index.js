@@ -19,8 +19,10 @@ import { errorOf } from './rejection.js';
 export * from './errors.js';
 export { argon2d, argon2i, argon2id, defaultLimits, presets };
 
-/** As many threads for a stored string as the library's other faces have. */
+/** The most threads for a stored string, as in the library's other languages. */
+// most threads of a string, by .ci/pages/presets
 const MAX_THREADS_OF_STRING = 16;
+// end
 
 /** Runs a task where the call wants it to. */
 function run(task, { worker, threads, addon }, progress) {

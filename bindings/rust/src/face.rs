@@ -96,8 +96,8 @@ pub struct Extras<'call, 'a> {
     pub progress: Option<&'call mut Progress<'a>>,
 }
 
-/// The most threads that the library uses for an encoded hash.
-const MOST_FOR_A_TEXT: u32 = 16;
+/// As many threads as the library has for an encoded hash.
+const ALL_THREADS: u32 = u32::MAX;
 
 impl Options {
     /// The fields that C leaves out of an initializer.
@@ -215,7 +215,7 @@ pub fn verify_raw(pwd: &[u8], salt: &[u8], hash: &[u8], config: &Config<'_>, ext
 
 /// Verifies a password against an encoded hash.
 pub fn verify_encoded(text: &str, pwd: &[u8], secret: &[u8], ad: &[u8], extras: Extras<'_, '_>) -> u32 {
-    verify_with(&Options::by(MOST_FOR_A_TEXT, extras), text, pwd, secret, ad)
+    verify_with(&Options::by(ALL_THREADS, extras), text, pwd, secret, ad)
 }
 
 /// Verifies a password against an encoded hash that is within the limits.
@@ -229,7 +229,7 @@ pub fn verify_encoded_within(
 ) -> u32 {
     let LimitsOfCrate { lanes, mem_cost, time_cost, work } = *limits;
     let limits = Limits { mem_cost, time_cost, lanes, work };
-    verify_with(&Options { limits: &limits, ..Options::by(MOST_FOR_A_TEXT, extras) }, text, pwd, secret, ad)
+    verify_with(&Options { limits: &limits, ..Options::by(ALL_THREADS, extras) }, text, pwd, secret, ad)
 }
 
 #[rustfmt::skip]

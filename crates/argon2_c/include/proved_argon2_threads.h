@@ -34,13 +34,19 @@ typedef int proved_argon2_run(void *pool, uint32_t tasks, void (*task)(void *arg
  */
 typedef int proved_argon2_tell(void *arg, uint64_t done, uint64_t all);
 
+/* The most threads that verify an encoded hash, however many lanes it names, since a stranger's could name millions. */
+/* most threads of a string, by .ci/pages/presets */
+#define PROVED_ARGON2_MAX_VERIFYING_THREADS 16
+/* end */
+
 /* How a call computes. A field that is left out of an initializer is 0, and then the call chooses. */
 typedef struct proved_argon2_options {
     /* sizeof(proved_argon2_options), set by PROVED_ARGON2_OPTIONS. Longer options, of a later version, are taken if
      * what they have more is zero. Otherwise, and for a size of 0, the call returns PROVED_ARGON2_WRONG_LENGTH. */
     size_t size;
-    /* the maximum number of threads, or of tasks of run, capped at the number of lanes, and at 16 when verifying an
-     * encoded hash. 0 is 1. Without run, one is the calling thread, and a small hash has that only. */
+    /* the maximum number of threads, or of tasks of run, capped at the number of lanes, and at
+     * PROVED_ARGON2_MAX_VERIFYING_THREADS when verifying an encoded hash. 0 is 1. Without run, one is the calling
+     * thread, and a small hash has that only. */
     uint32_t threads;
     /* a buffer for the blocks, or null. It starts at a multiple of 8 (else PROVED_ARGON2_MISALIGNED), best of 64. The
      * call clears it before it returns. */

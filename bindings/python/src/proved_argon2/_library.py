@@ -25,9 +25,6 @@ NOT_UTF8 = 66
 UNKNOWN_NUMBER = 67
 TOO_COSTLY = 69
 
-# The most threads that the library uses for an encoded hash.
-MOST_FOR_A_TEXT = 16
-
 # The greatest number that a setting has.
 MAX_NUMBER = 0xFFFFFFFF
 
@@ -291,12 +288,12 @@ def verify_encoded(
     progress: "Optional[Progress]" = None,
 ) -> None:
     """Return if the encoded hash of these settings matches the password and is within the limits, and otherwise raise
-    `Refused`. There are as many threads as the hash has lanes, and at most 16.
+    `Refused`. It is computed by a thread a lane, up to the library's own maximum.
     """
     arguments = _slices(text, pwd, secret, ad)
     _compute(
         lambda options: _library.proved_argon2_verify_encoded_with(options, *arguments),
-        MOST_FOR_A_TEXT,
+        settings.lanes,
         settings,
         memory,
         progress,
