@@ -1,12 +1,12 @@
 """Passwords as encoded hashes, to be stored."""
 import os
 
-from ._library import require_number
+from ._library import Refused, Settings, read, require_number
 from ._limits import DEFAULT_LIMITS, Limits, default_limits_of
 from ._memory import Memory
 from ._parameters import Parameters, extract_parameters
-from .exceptions import Argon2Error, HashingError, InvalidHashError, VerificationError, VerifyMismatchError
-from .low_level import ARGON2_VERSION, Type, hash_secret, verify_secret
+from .exceptions import HashingError, InvalidHashError, VerificationError, VerifyMismatchError
+from .low_level import ARGON2_VERSION, Type, hash_secret, numbers_of, reading_error, verify_of_settings
 from .profiles import RFC_9106_LOW_MEMORY
 
 TYPE_CHECKING = False
@@ -202,16 +202,9 @@ class PasswordHasher:
         `InvalidHashError` if the string does not begin as a hash, and `VerificationError` if it decodes to none, its
         settings are rejected or memory cannot be allocated.
         """
-        text = self._text_bytes(hash)
-        return verify_secret(
-            text,
-            self._password_bytes(password),
-            self._variant_of(text),
-            key=self._secret,
-            limits=self.limits,
-            memory=self._memory,
-            progress=progress,
-        )
+        text, secret = self._text_bytes(hash), self._password_bytes(password)
+        settings, limits = self._settings_of(text), numbers_of(self.limits)
+        return verify_of_settings(text, settings, secret, self._secret, b"", limits, self._memory, progress)
 
     def verify_and_update(
         self,
@@ -246,16 +239,15 @@ class PasswordHasher:
         return self._parameters != extract_parameters(self._text_bytes(hash))
 
     @staticmethod
-    def _variant_of(text: bytes) -> Type:
-        """The variant of an encoded hash. A string that begins as a hash and decodes to none cannot be verified."""
+    def _settings_of(text: bytes) -> Settings:
+        """The settings of an encoded hash. A string that begins as a hash and decodes to none cannot be verified."""
         try:
-            return extract_parameters(text).type
-        except InvalidHashError as error:
-            if text.startswith(_BEGINNINGS):
-                raise VerificationError(str(error)) from None
-            raise
-        except (Argon2Error, MemoryError) as error:
-            raise VerificationError(str(error)) from None
+            return read(text).settings
+        except Refused as refused:
+            error = reading_error(refused)
+        if isinstance(error, InvalidHashError) and not text.startswith(_BEGINNINGS):
+            raise error
+        raise VerificationError(str(error))
 
     def _password_bytes(self, password: "Union[str, bytes]") -> bytes:
         if isinstance(password, str):

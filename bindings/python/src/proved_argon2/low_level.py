@@ -162,22 +162,39 @@ def verify_secret(
     allocated. Without limits, memory and passes are those that the hash names.
     """
     _require_bytes(hash=hash, secret=secret, key=key, associated_data=associated_data)
-    numbers = None if limits is None else _numbers(limits)
+    numbers = numbers_of(limits)
     try:
         settings = read(hash).settings
         if settings.variant != Type(type).value:
             raise Refused(DECODING_FAIL)
     except Refused as refused:
         raise VerificationError(str(refused)) from None
+    return verify_of_settings(hash, settings, secret, key, associated_data, numbers, memory, progress)
+
+
+def verify_of_settings(
+    hash: bytes,
+    settings: Settings,
+    secret: bytes,
+    key: bytes,
+    associated_data: bytes,
+    limits: "Optional[NumberLimits]",
+    memory: "Optional[Memory]",
+    progress: "Optional[Progress]",
+) -> "Literal[True]":
+    """`verify_secret` of an encoded hash that was read: of these settings."""
     try:
-        verify_encoded(hash, settings, secret, key, associated_data, numbers, memory, progress)
+        verify_encoded(hash, settings, secret, key, associated_data, limits, memory, progress)
     except Refused as refused:
         errors = {MISMATCH: VerifyMismatchError, TOO_COSTLY: TooCostlyError}
         raise errors.get(refused.number, VerificationError)(str(refused)) from None
     return True
 
 
-def _numbers(limits: Limits) -> NumberLimits:
+def numbers_of(limits: "Optional[Limits]") -> "Optional[NumberLimits]":
+    """Limits as the library takes them, or none."""
+    if limits is None:
+        return None
     if not isinstance(limits, Limits):
         raise TypeError(f"'limits' must be Limits, not {limits.__class__.__name__}")
     return NumberLimits(limits.memory_cost, limits.time_cost, limits.parallelism, limits.work)
