@@ -38,6 +38,7 @@ struct call {
     proved_argon2_job job;
     uint8_t *bytes; /* malloc's, for a hash, a tag and a salt */
     size_t len;
+    bool is_rehash_due; /* the encoded hash has other settings than the options' */
     caller saved;
     block *blocks;
     size_t slice; /* how many blocks one of their four slices has */

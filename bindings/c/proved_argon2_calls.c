@@ -92,6 +92,12 @@ uint32_t proved_argon2_verify_raw(INPUTS, const uint8_t *hash, size_t hash_len)
     return proved_argon2_verify_raw_with(&plain, OF_INPUTS, hash, hash_len);
 }
 
+static bool are_same(const proved_argon2_settings *one, const proved_argon2_settings *other)
+{
+    return one->variant == other->variant && one->version == other->version && one->mem_cost == other->mem_cost
+        && one->time_cost == other->time_cost && one->lanes == other->lanes && one->hash_length == other->hash_length;
+}
+
 /* Reads the job of an encoded hash, its tag with as much room behind it for the computed one, and its salt. A rejected
  * hash costs no memory: it is judged first. */
 static uint32_t read_text(struct call *call, STORED)
@@ -103,6 +109,7 @@ static uint32_t read_text(struct call *call, STORED)
     if (code != PROVED_ARGON2_OK) {
         return code;
     }
+    call->is_rehash_due = call->with.today != NULL && !are_same(&stored.settings, call->with.today);
     const size_t len = stored.settings.hash_length, salt_len = stored.salt_length;
     code = proved_driver_take_bytes(call, 2 * (uint64_t)len + salt_len);
     if (code != PROVED_ARGON2_OK) {
@@ -127,6 +134,9 @@ uint32_t proved_argon2_verify_encoded_with(const options *with, STORED)
         goto end;
     }
     code = proved_driver_compute(&call, call.bytes, call.bytes + call.job.hash_length);
+    if (code == PROVED_ARGON2_OK && call.is_rehash_due) {
+        code = PROVED_ARGON2_NEEDS_REHASH;
+    }
 end:
     return proved_driver_end_call(&call, code);
 }

@@ -86,6 +86,7 @@ pub struct Options {
     limits: *const Limits,
     tell: Option<extern "C" fn(*mut c_void, u64, u64) -> c_int>,
     arg: *mut c_void,
+    today: *const Settings,
     // end
 }
 
@@ -112,6 +113,7 @@ impl Options {
         limits: null(),
         tell: None,
         arg: null_mut(),
+        today: null(),
         // end
     };
 

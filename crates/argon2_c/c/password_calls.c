@@ -121,9 +121,71 @@ static void check_lengths(void)
     check(good, "each byte of a password and of a pepper counts");
 }
 
+/* ---- a rehash that is due */
+
+static int stop(void *arg, uint64_t done, uint64_t all)
+{
+    (void)arg, (void)done, (void)all;
+    return 1;
+}
+
+/* What verifies a text of the password "password" with these settings and this pepper. */
+static uint32_t rehash_verdict(proved_argon2_options options, const char *text, const char *guess, size_t pepper_len)
+{
+    return proved_argon2_password_verify_with(&options, text, guess, strlen(guess), pepper, pepper_len);
+}
+
+/* Each setting that is another one makes a rehash due, and no wrong password or pepper does. */
+static void check_other_settings(const char *text)
+{
+    proved_argon2_settings today = small;
+    uint32_t *const fields[] = {
+        &today.variant, &today.version, &today.mem_cost, &today.time_cost, &today.lanes, &today.hash_length};
+    const proved_argon2_options options = {.size = sizeof options, .today = &today};
+    bool is_due = rehash_verdict(options, text, "password", 5) == PROVED_ARGON2_OK, is_wrong = true;
+    for (size_t i = 0; i < sizeof fields / sizeof *fields; i++) {
+        ++*fields[i];
+        is_due = is_due && rehash_verdict(options, text, "password", 5) == PROVED_ARGON2_NEEDS_REHASH;
+        is_wrong = is_wrong && rehash_verdict(options, text, "Password", 5) == PROVED_ARGON2_MISMATCH
+            && rehash_verdict(options, text, "password", 4) == PROVED_ARGON2_MISMATCH;
+        --*fields[i];
+    }
+    check(is_due, "a match with one other setting, and with none");
+    check(is_wrong, "a wrong password, and a wrong pepper, with one other setting");
+}
+
+static void check_rehash(void)
+{
+    static const char old[] = "$argon2i$m=256,t=2,p=2$c29tZXNhbHQ$tsEVYKap1h6scGt5ovl9aLRGOqOth+AMB+KwHpDFZPs";
+    static uint64_t one_block[128];
+    const proved_argon2_settings today = proved_argon2_owasp2();
+    const proved_argon2_limits least = {8, 1, 1, 8};
+    proved_argon2_options options = {.size = sizeof options, .today = &today};
+    char text[PROVED_ARGON2_TEXT_SIZE];
+    const uint32_t code = proved_argon2_password_hash_with(&with, &small, text, "password", 8, pepper, 5);
+    check_code(code, PROVED_ARGON2_OK, "a text with a pepper");
+    check_other_settings(text);
+    check_code(rehash_verdict(options, old, "password", 0), PROVED_ARGON2_NEEDS_REHASH, "a text of libargon2");
+    check_code(rehash_verdict(options, old, "Password", 0), PROVED_ARGON2_MISMATCH, "a wrong password of it");
+    check_code(rehash_verdict(options, old + 1, "password", 0), PROVED_ARGON2_DECODING_FAIL, "no text");
+    options.limits = &least;
+    check_code(rehash_verdict(options, old, "password", 0), PROVED_ARGON2_TOO_COSTLY, "a text above limits");
+    options.limits = NULL;
+    options.memory = one_block;
+    options.memory_len = sizeof one_block;
+    check_code(rehash_verdict(options, old, "password", 0), PROVED_ARGON2_OUT_OF_MEMORY, "a buffer that is too small");
+    options.memory = NULL;
+    options.tell = stop;
+    check_code(rehash_verdict(options, old, "password", 0), PROVED_ARGON2_STOPPED, "a call that is stopped");
+    options.tell = NULL;
+    options.size = offsetof(proved_argon2_options, today);
+    check_code(rehash_verdict(options, old, "password", 0), PROVED_ARGON2_OK, "options of a program that is older");
+}
+
 int main(void)
 {
     check_password();
     check_lengths();
+    check_rehash();
     return checks_failed != 0;
 }

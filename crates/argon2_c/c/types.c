@@ -36,9 +36,10 @@ AT(proved_argon2_options, pool, 40, 8);
 AT(proved_argon2_options, limits, 48, 8);
 AT(proved_argon2_options, tell, 56, 8);
 AT(proved_argon2_options, arg, 64, 8);
+AT(proved_argon2_options, today, 72, 8);
 /* end */
 /* size of options, by .ci/pages/presets */
-_Static_assert(sizeof(proved_argon2_options) == 72, "proved_argon2_options");
+_Static_assert(sizeof(proved_argon2_options) == 80, "proved_argon2_options");
 /* end */
 _Static_assert(sizeof(proved_argon2_settings) == 24, "proved_argon2_settings");
 _Static_assert(sizeof(proved_argon2_stored) == 28, "proved_argon2_stored");

@@ -65,10 +65,14 @@ typedef struct proved_argon2_options {
     proved_argon2_tell *tell;
     /* what tell is passed */
     void *arg;
+    /* the settings of new hashes, or null: a call that verifies an encoded hash returns PROVED_ARGON2_NEEDS_REHASH in
+     * place of PROVED_ARGON2_OK if the password matches and the hash was made with other settings than these. Then the
+     * user is let in as well. */
+    const proved_argon2_settings *today;
 } proved_argon2_options;
 
 /* clang-format off */
-#define PROVED_ARGON2_OPTIONS {sizeof(proved_argon2_options), 0, NULL, 0, NULL, NULL, NULL, NULL, NULL}
+#define PROVED_ARGON2_OPTIONS {sizeof(proved_argon2_options), 0, NULL, 0, NULL, NULL, NULL, NULL, NULL, NULL}
 
 /* proved_argon2_hash_raw with options. */
 PROVED_ARGON2_CHECKED
@@ -103,7 +107,7 @@ uint32_t proved_argon2_verify_raw_with(
     const proved_argon2_settings *settings,
     const uint8_t *hash, size_t hash_len);
 
-/* proved_argon2_verify_encoded with options, limits among them. */
+/* proved_argon2_verify_encoded with options, limits and the settings of new hashes among them. */
 PROVED_ARGON2_CHECKED
 uint32_t proved_argon2_verify_encoded_with(
     const proved_argon2_options *options,

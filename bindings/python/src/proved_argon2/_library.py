@@ -73,6 +73,7 @@ class Options(ctypes.Structure):
         ("limits", ctypes.POINTER(NumberLimits)),
         ("tell", _Tell),
         ("arg", ctypes.c_void_p),
+        ("today", ctypes.POINTER(Settings)),
         # end
     ]
 
