@@ -135,7 +135,7 @@ others_of() {
     case $1 in
     wasm32) others='build/link_wasm bindings/wasm/instance.s' ;;
     windows-x86_64)
-        others='build/link_windows build/coff build/machines.txt bindings/c bindings/kernels bindings/windows
+        others='build/link build/coff build/machines.txt bindings/c bindings/kernels bindings/windows
             crates/argon2_c/include'
         ;;
     x86-64-* | armv8-a)
@@ -156,12 +156,11 @@ others_of() {
     esac
 }
 
-# Which proved crate a file of release/ is built of: `crate_of FILE` leaves it in `crate_of`.
-crate_of() {
-    crate_of=argon2_c
-    case $1 in
-    x86-64-*/argon2_program | x86-64-*/argon2_tool) crate_of=${1#*/} ;;
-    esac
+# The hash of all that a folder of release/ is built from: `sum_part FOLDER`.
+sum_part() {
+    find_sources argon2_c argon2_program argon2_tool && others_of "$1" || return
+    # shellcheck disable=SC2086 # they are words
+    sum_files $sources $others
 }
 
 # Whether the manifest has a line: `says LINE`.
@@ -171,44 +170,24 @@ $1
 "*) ;; *) return 1 ;; esac
 }
 
-# Reads the manifest, once.
-read_manifest() {
-    [ ! "${manifest-}" ] || return 0
-    why='there is no release/MANIFEST'
-    [ -f "$root/release/MANIFEST" ] || return
-    manifest='
-'
-    while read -r line; do
-        manifest="$manifest$line
+# Whether release/ is of these sources, as its manifest says: `is_of_sources FOLDER`. It reads the manifest once.
+is_of_sources() {
+    [ "${manifest-}" ] || manifest="
+$(cat "$root/release/MANIFEST" 2>/dev/null)
 "
-    done <"$root/release/MANIFEST"
+    sum_part "$1" || return
+    why="release/MANIFEST is of other sources of $1"
+    says "# sources $1 $sum"
 }
 
-# Whether the manifest is of these sources of a crate, or of a folder's others: `is_of NAME SUM..`
-is_of() {
-    part=$1
-    shift
-    case ${known-} in *" $part "*) return ;; esac
-    "$@" || return
-    why="release/MANIFEST is of other sources of $part"
-    says "# sources $part $sum" && known="${known-} $part "
-}
-
-# Whether a file of release/ is of these sources, and what the manifest says: `is_released FILE`. Fails by 1 where it is
-# of other sources, and by 2 where it was changed.
-is_released() {
-    read_manifest || return 1
-    crate_of "$1"
-    is_of "$crate_of" sum_crates "$crate_of" || return 1
-    others_of "${1%%/*}"
-    # shellcheck disable=SC2086 # they are words
-    [ ! "$others" ] || is_of "${1%%/*}" sum_files $others || return 1
+# Whether a file is there as the manifest has it: `is_listed FILE`.
+is_listed() {
     why="release/MANIFEST does not name $1"
-    case $1 in *[!A-Za-z0-9_./-]* | */*/* | *..*) return 2 ;; esac
+    case $1 in *[!A-Za-z0-9_./-]* | */*/* | *..*) return 1 ;; esac
     case $manifest in *"  $1
-"*) ;; *) return 2 ;; esac
+"*) ;; *) return 1 ;; esac
     why="release/$1 is not there, and release/MANIFEST names it"
-    [ -f "$root/release/$1" ] || return 2
+    [ -f "$root/release/$1" ] || return
     why="release/$1 is not the file that release/MANIFEST names: it was changed"
-    sum=$(sha256sum <"$root/release/$1") && says "${sum%% *}  $1" || return 2
+    sum=$(sha256sum <"$root/release/$1") && says "${sum%% *}  $1"
 }
