@@ -5,11 +5,7 @@
 # The crates that are named, or all, and those below them, each behind those below it: `find_crates NAME..` leaves them
 # in `found`. Fails where one is not there, or stands above one below it.
 find_crates() {
-    lines='' seen=' ' requested=" $* " found=''
-    while read -r line; do
-        lines="$line
-$lines"
-    done <"$root/crates.txt"
+    seen=' ' requested=" $* " found=''
     while IFS=':' read -r named below; do
         crate=${named%% *}
         seen="$seen$crate "
@@ -23,7 +19,7 @@ $lines"
         esac
         found="$crate $found"
     done <<END
-${lines%?}
+$(tac "$root/crates.txt")
 END
     for asked; do
         case $seen in *" $asked "*) ;; *) why="crates.txt has no $asked" && return 1 ;; esac
@@ -92,10 +88,7 @@ find_machine() {
 
 # The names of all machines, into `machines`.
 find_machines() {
-    machines=''
-    while read -r machine number; do
-        case $machine in '#'*) ;; *) machines="$machines $machine" ;; esac
-    done <"$root/build/machines.txt"
+    machines=$(sed -n 's/^\([^# ]*\) .*/\1/p' "$root/build/machines.txt")
 }
 
 # ---- what is built here
