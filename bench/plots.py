@@ -7,7 +7,7 @@ import re
 import textwrap
 from html import escape
 
-WIDTH, MARGIN, LINE = 480, 16, 18
+WIDTH, MARGIN, LINE, HEIGHT = 480, 16, 18, 260
 # How many letters a line has at most: of a caption, and in bold.
 LETTERS, BOLD_LETTERS = 62, 52
 # The colour and the dashes of a series, in the order in which they are drawn.
@@ -70,59 +70,75 @@ def apart(places, least):
     return moved
 
 
-class LogScale:
-    """Numbers on a logarithmic axis from below to above all of them, at powers of ten and their halves."""
-    height = 260
-
-    def __init__(self, numbers):
-        self.low, self.high = math.log10(min(numbers)) - 0.1, math.log10(max(numbers)) + 0.1
-
-    def place(self, number):
-        """How high it is above the bottom."""
-        return self.height * (math.log10(number) - self.low) / (self.high - self.low)
-
-    def marks(self):
-        steps = (1, 10) if self.high - self.low > 2.5 else (1, 2, 5, 10)
-        marks = {base * 10 ** power for power in range(-4, 6) for base in steps}
-        return sorted(mark for mark in marks if self.low <= math.log10(mark) <= self.high)
+def heights(numbers, height):
+    """A logarithmic axis from below to above all numbers: how high one is, and the powers of ten and their halves."""
+    low, high = math.log10(min(numbers)) - 0.1, math.log10(max(numbers)) + 0.1
+    steps = (1, 10) if high - low > 2.5 else (1, 2, 5, 10)
+    marks = {base * 10 ** power for power in range(-4, 6) for base in steps}
+    return (lambda number: height * (math.log10(number) - low) / (high - low),
+            sorted(mark for mark in marks if low <= math.log10(mark) <= high))
 
 
-def panel(top, title, places, series, scale):
-    """A plot below `top`: `places` are the words below, and each series has milliseconds at some of them."""
-    left, right, bottom = 54, 150, top + scale.height
-    at_x = [left + (WIDTH - left - right) * (index + 0.3) / len(places) for index in range(len(places))]
-    out = [text(MARGIN, top - 8, title, kind='own')]
-    for number in scale.marks():
-        y = bottom - scale.place(number)
-        out += [f'<line class="grid" x1="{left}" x2="{WIDTH - right}" y1="{y:.1f}" y2="{y:.1f}"/>',
+def series_of(name, spots, end, right):
+    """The line of a series through its spots, and its name at the end, which is so high."""
+    colour, dashes = STYLES[name]
+    x, y = spots[-1]
+    return [
+        f'<polyline points="{" ".join(f"{x:.1f},{y:.1f}" for x, y in spots)}" fill="none" stroke="{colour}" '
+        f'stroke-width="2.5" stroke-dasharray="{dashes or "none"}"/>',
+        *(f'<circle cx="{x:.1f}" cy="{y:.1f}" r="4" fill="{colour}"/>' for x, y in spots),
+        f'<line x1="{x + 6:.1f}" y1="{y:.1f}" x2="{right + 6}" y2="{end:.1f}" stroke="{colour}" stroke-opacity="0.5"/>',
+        f'<circle cx="{right + 10}" cy="{end:.1f}" r="4" fill="{colour}"/>',
+        text(right + 18, end + 5, LABELS.get(name, name).replace('this library', 'ours'),
+             kind='head' if name.startswith('v') else 'caption')]
+
+
+def panel(bottom, title, cases, word, axis):
+    """A plot above `bottom` of the times of each series by case, on an axis (heights), with the word of each case."""
+    (height_of, marks), left, right = axis, 54, WIDTH - 150
+    at_x = [left + (right - left) * (index + 0.3) / len(cases) for index in range(len(cases))]
+    out = [text(MARGIN, bottom - HEIGHT - 8, title, kind='own')]
+    for number in marks:
+        y = bottom - height_of(number)
+        out += [f'<line class="grid" x1="{left}" x2="{right}" y1="{y:.1f}" y2="{y:.1f}"/>',
                 text(left - 8, y + 5, f'{number:g}', 'end')]
-    out += [text(x, bottom + 20 + LINE * at, word, 'middle') for x, place in zip(at_x, places)
-            for at, word in enumerate(place.split())]
-    drawn = [(name, series[name]) for name in STYLES if name in series]
-    ends = apart({name: bottom - scale.place(points[max(points)]) for name, points in drawn}, 18)
-    for name, points in drawn:
-        colour, dashes = STYLES[name]
-        spots = [(at_x[index], bottom - scale.place(number)) for index, number in sorted(points.items())]
-        out.append(f'<polyline points="{" ".join(f"{x:.1f},{y:.1f}" for x, y in spots)}" fill="none" stroke="{colour}" '
-                   f'stroke-width="2.5" stroke-dasharray="{dashes or "none"}"/>')
-        out += [f'<circle cx="{x:.1f}" cy="{y:.1f}" r="4" fill="{colour}"/>' for x, y in spots]
-        x, y = spots[-1]
-        out += [f'<line x1="{x + 6:.1f}" y1="{y:.1f}" x2="{WIDTH - right + 6}" y2="{ends[name]:.1f}" stroke="{colour}" '
-                'stroke-opacity="0.5"/>',
-                f'<circle cx="{WIDTH - right + 10}" cy="{ends[name]:.1f}" r="4" fill="{colour}"/>',
-                text(WIDTH - right + 18, ends[name] + 5, LABELS.get(name, name).replace('this library', 'ours'),
-                     kind='head' if name.startswith('v') else 'caption')]
-    return out
+    out += [text(x, bottom + 20 + LINE * at, part, 'middle') for x, case in zip(at_x, cases)
+            for at, part in enumerate(word(case).split())]
+    spots = {name: [(x, bottom - height_of(times[name])) for x, times in zip(at_x, cases.values()) if name in times]
+             for name in STYLES if any(name in times for times in cases.values())}
+    ends = apart({name: points[-1][1] for name, points in spots.items()}, 18)
+    return out + [line for name, points in spots.items() for line in series_of(name, points, ends[name], right)]
 
 
-def draw_lines(path, title, caption, below, panels):
-    """Plots below one another, as (title, places, series), on one logarithmic axis."""
-    scale = LogScale([number for _, _, series in panels for points in series.values() for number in points.values()])
-    out, top = [text(MARGIN, 50, 'milliseconds a hash, on a logarithmic axis')], 90
-    for words, places, series in panels:
-        out += panel(top, words, places, series, scale)
-        top += scale.height + 82
-    picture(path, top - 12, title, caption, [*out, text(WIDTH / 2, top - 20, below, 'middle', 'caption')])
+def size(case):
+    """The memory of a case as people write it."""
+    kib = int(re.match(r'\((\d+),', case)[1])
+    power = (kib.bit_length() - 1) // 10
+    return f'{kib >> 10 * power} {("KiB", "MiB", "GiB")[power]}'
+
+
+# A picture of lines: its question, which cases it has, what an axis says of one, and what is below.
+BY_CASE = {
+    'time-by-memory.svg': ('How long does a hash take with more memory?', ', 2, 1)', size,
+                           'memory, in 2 passes, 1 lane, 1 thread'),
+    'time-by-threads.svg': ('How long does a hash take with more threads?', ', 3, ',
+                            lambda case: case.rsplit(' ', 1)[1],
+                            'threads, and as many lanes, over 64 MiB in 3 passes'),
+}
+
+
+def draw_lines(folder, caption, kinds, times):
+    """For each kind of kernel a plot, below one another on one logarithmic axis; the times are by kind and case."""
+    for name, (title, part, word, below) in BY_CASE.items():
+        shown = {key: {name: of[name] for name in STYLES if name in of} for key, of in times.items() if part in key[1]}
+        axis = heights([number for of in shown.values() for number in of.values()], HEIGHT)
+        out, top = [text(MARGIN, 50, 'milliseconds a hash, on a logarithmic axis')], 90
+        for kind, kernel in kinds.items():
+            cases = {case: of for (its, case), of in shown.items() if its == kind}
+            out += panel(top + HEIGHT, kernel, cases, word, axis)
+            top += HEIGHT + 82
+        out.append(text(WIDTH / 2, top - 20, below, 'middle', 'caption'))
+        picture(folder / name, top - 12, title, caption, out)
 
 
 def draw_bars(path, title, caption, groups):
@@ -143,42 +159,3 @@ def draw_bars(path, title, caption, groups):
             y += row
         y += 16
     picture(path, y - 10, title, caption, out)
-
-
-def by_name(cases):
-    """The times of each name that has a style, by the place of their case."""
-    series = {}
-    for place, times in enumerate(cases.values()):
-        for name in STYLES.keys() & times.keys():
-            series.setdefault(name, {})[place] = times[name]
-    return series
-
-
-def size(case):
-    """The memory of a case as people write it."""
-    kib = int(re.match(r'\((\d+),', case)[1])
-    for unit in ('KiB', 'MiB', 'GiB'):
-        if kib < 1024:
-            return f'{kib} {unit}'
-        kib //= 1024
-    raise ValueError(kib)
-
-
-def panels(runs, is_of_plot, word):
-    """A panel of each kind of kernel, over the cases of a plot."""
-    chosen = {kernel: {case: times for case, times in cases.items() if is_of_plot(case)}
-              for kernel, cases in runs.items()}
-    return [(kernel, [word(case) for case in cases], by_name(cases)) for kernel, cases in chosen.items()]
-
-
-def draw_by_memory(path, caption, runs):
-    """Two passes in one lane."""
-    draw_lines(path, 'How long does a hash take with more memory?', caption, 'memory, in 2 passes, 1 lane, 1 thread',
-               panels(runs, lambda case: ', 2, 1)' in case, size))
-
-
-def draw_by_threads(path, caption, runs):
-    """64 MiB in three passes."""
-    draw_lines(path, 'How long does a hash take with more threads?', caption,
-               'threads, and as many lanes, over 64 MiB in 3 passes',
-               panels(runs, lambda case: ', 3, ' in case, lambda case: case.rsplit(' ', 1)[1]))

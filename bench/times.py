@@ -1,0 +1,154 @@
+#!/usr/bin/env python3
+"""Times whole hashes of our library beside its peers, in one process, by turns:
+
+    bench/times.py FOLDER SECONDS table|plots [NAME]    one implementation, or all but OpenSSL
+
+Each round runs every implementation once, so that a slow moment of the machine falls on all of them. Each tag is
+compared before it is timed. FOLDER is what bench/run builds, and SECONDS is how long a case runs. Each line is a case,
+and for each implementation its name, the least and the median milliseconds of a hash.
+"""
+import ctypes
+import mmap
+import os
+import statistics
+import struct
+import sys
+import time
+from ctypes import addressof, c_size_t, c_uint32, c_uint64, c_void_p, create_string_buffer
+from functools import partial
+from pathlib import Path
+
+PASSWORD, SALT = create_string_buffer(b'password', 8), create_string_buffer(b'somesaltsomesalt', 16)
+TAG_LENGTH, HUGE_PAGE, ARGON2ID, VERSION = 32, 2 << 20, 2, 0x13
+# KiB, passes, lanes, and the threads that fill them.
+RUNS = {
+    'table': [(256, 2, 1, 1), (1024, 2, 1, 1), (19456, 2, 1, 1), (65536, 3, 1, 1), (65536, 3, 4, 1), (65536, 3, 4, 4),
+              (262144, 1, 4, 4)],
+    'plots': [*((65536, 3, threads, threads) for threads in (1, 2, 4, 8)),
+              *((64 << power, 2, 1, 1) for power in range(0, 15, 2))],
+}
+# What an implementation has addresses of, in a case.
+kept = []
+
+
+def ours(library, cost, tag, memory=0, length=0):
+    """By the call with options, which Rust and Python make too. It gives what hashes and then gives 0, as the next ones
+    do; or None, where an implementation has no such case."""
+    options, settings = 'NIPNPPPPP', struct.pack('6I', ARGON2ID, VERSION, *cost[:3], TAG_LENGTH)
+    packed = struct.pack(options, struct.calcsize(options), cost[3], memory, length, 0, 0, 0, 0, 0)
+    nothing = None, c_size_t(0)
+    return partial(library.proved_argon2_hash_raw_with, packed, PASSWORD, c_size_t(8), SALT, c_size_t(16), *nothing,
+                   *nothing, settings, tag, c_size_t(TAG_LENGTH))
+
+
+def reusing(library, cost, tag):
+    """Over a buffer of whole huge pages."""
+    length = cost[0] * 1024
+    if cost[3] != 1:
+        return None
+    pages = mmap.mmap(-1, length + HUGE_PAGE, mmap.MAP_PRIVATE | mmap.MAP_ANONYMOUS)
+    pages.madvise(mmap.MADV_HUGEPAGE)
+    kept.append(ctypes.c_char.from_buffer(pages))
+    begin = addressof(kept[-1])
+    return ours(library, cost, tag, begin + -begin % HUGE_PAGE, length)
+
+
+def upstream(library, cost, tag):
+    """libargon2, and the C reference with vectors."""
+    memory, passes, lanes, threads = cost
+    context = struct.pack('PIPIPIPIPI5IPPI', addressof(tag), TAG_LENGTH, addressof(PASSWORD), 8, addressof(SALT), 16,
+                          0, 0, 0, 0, passes, memory, lanes, threads, VERSION, 0, 0, 0)
+    return partial(library.argon2_ctx, context, ARGON2ID)
+
+
+def libsodium(library, cost, tag):
+    """Its call has no parameter for lanes."""
+    memory, passes, lanes, _ = cost
+    library.sodium_init()
+    return None if lanes != 1 else partial(
+        library.crypto_pwhash_argon2id, tag, c_uint64(TAG_LENGTH), PASSWORD, c_uint64(8), SALT, c_uint64(passes),
+        c_size_t(memory * 1024), ARGON2ID)
+
+
+def crate(library, cost, tag):
+    return partial(library.bench_hash, *cost, tag)
+
+
+def openssl(library, cost, tag):
+    """Its parameters are as openssl/params.h has them: a name, a kind (2 a number, 5 bytes), and where it is."""
+    library.EVP_KDF_fetch.restype = library.EVP_KDF_CTX_new.restype = c_void_p
+    library.OSSL_set_max_threads(None, c_uint64(8))
+    kdf = c_void_p(library.EVP_KDF_fetch(None, b'ARGON2ID', None))
+    names = [*map(create_string_buffer, (b'memcost', b'iter', b'lanes', b'threads', b'pass', b'salt'))]
+    values = [*map(c_uint32, cost), PASSWORD, SALT]
+    kept.append((names, values))
+    parameters = b''.join(struct.pack('PIPNN', addressof(name), kind, addressof(value), ctypes.sizeof(value), 0)
+                          for name, kind, value in zip(names, (2, 2, 2, 2, 5, 5), values)) + bytes(40)
+
+    def run():
+        context = c_void_p(library.EVP_KDF_CTX_new(kdf))
+        is_done = library.EVP_KDF_derive(context, tag, c_size_t(TAG_LENGTH), parameters) == 1
+        library.EVP_KDF_CTX_free(context)
+        return not is_done
+    return run
+
+
+PEERS = {'reusing': ('reusing.so', reusing), 'libsodium': ('libsodium.so.23', libsodium),
+         'reference-v3': ('reference-v3.so', upstream), 'reference-native': ('reference-native.so', upstream),
+         'libargon2': ('libargon2.so.1', upstream), 'rust-argon2': ('rust-argon2.so', crate),
+         'rustcrypto': ('rustcrypto.so', crate), 'openssl': ('libcrypto.so.3', openssl)}
+
+
+def load(path):
+    """A library of the folder, or else of the system; None, where it is not there. Ours chooses the build that its file
+    is named by, in its first call."""
+    try:
+        library = ctypes.CDLL(str(path) if path.exists() else path.name)
+    except OSError:
+        return None
+    if path.name[0] == 'v':
+        os.environ['PROVED_ARGON2_CPU'] = f'x86-64-{path.stem}'
+        ours(library, (8, 1, 1, 1), create_string_buffer(TAG_LENGTH))()
+        del os.environ['PROVED_ARGON2_CPU']
+    return library
+
+
+def prepare(implementations, cost):
+    """What hashes in a case, by the name of each that has it, where it gives the tag of the first one."""
+    hashes, tags = {}, {}
+    kept.clear()
+    for name, (library, make) in implementations.items():
+        kept.append(tag := create_string_buffer(TAG_LENGTH))
+        hashes[name] = make(library, cost, tag)
+        if not hashes[name] or hashes[name]():
+            del hashes[name]
+        elif tags.setdefault('first', tag.raw) != tag.raw:
+            sys.exit(f'{name} gives another tag')
+    return hashes
+
+
+def time_round(hashes, spent):
+    for name, times in spent.items():
+        begin = time.perf_counter_ns()
+        hashes[name]()
+        times.append((time.perf_counter_ns() - begin) / 1e6)
+
+
+def main(folder, seconds, run, only=''):
+    builds = {path.stem: (path.name, ours) for path in sorted(Path(folder).glob('v*.so'))}
+    loaded = {name: (library, make) for name, (file, make) in {**builds, **PEERS}.items()
+              if (name == only or name in builds or not only and name != 'openssl')
+              and (library := load(Path(folder, file)))}
+    for cost in RUNS[run]:
+        hashes = prepare(loaded, cost)
+        spent = {name: [] for name in hashes if only in ('', name)}
+        end = time.perf_counter() + float(seconds)
+        # (the first round is a cold one)
+        while min(map(len, spent.values())) < 2 or time.perf_counter() < end:
+            time_round(hashes, spent)
+        times = (f'{name} {min(taken):.4g} {statistics.median_high(taken):.4g}' for name, taken in spent.items())
+        print('({}, {}, {}) x {}'.format(*cost), *times, sep='\t', flush=True)
+
+
+if __name__ == '__main__':
+    main(*sys.argv[1:])
