@@ -6,6 +6,7 @@ import math
 import re
 import textwrap
 from html import escape
+from pathlib import Path
 
 WIDTH, MARGIN, LINE, HEIGHT = 480, 16, 18, 260
 # How many letters a line has at most: of a caption, and in bold.
@@ -19,12 +20,9 @@ STYLES = {
     'reference-native': ('#009e73', ''),
     'libargon2': ('#cc79a7', ''),
 }
-LABELS = {
-    'ours': 'this library', 'v2': 'this library, no AVX2', 'v3': 'this library, AVX2', 'v4': 'this library, AVX-512',
-    'reusing': 'this library, reusable buffer', 'reference-v3': 'C reference, AVX2',
-    'reference-native': 'C reference, native', 'rust-argon2': 'rust-argon2 3.0.0', 'rustcrypto': 'RustCrypto argon2',
-    'openssl': 'OpenSSL',
-}
+TABLE = [[cell.strip() for cell in line.split('|')]
+         for line in Path(__file__).with_name('peers.txt').read_text(encoding='utf-8').splitlines() if line[0] != '#']
+LABELS = {name: label for name, label, *_ in TABLE}
 SHEET = '''text { font: 14px system-ui, sans-serif; fill: #6e7781 }
 .title { font-size: 16px; font-weight: 600 }
 .own { font-weight: 600 }
@@ -89,7 +87,7 @@ def series_of(name, spots, end, right):
         *(f'<circle cx="{x:.1f}" cy="{y:.1f}" r="4" fill="{colour}"/>' for x, y in spots),
         f'<line x1="{x + 6:.1f}" y1="{y:.1f}" x2="{right + 6}" y2="{end:.1f}" stroke="{colour}" stroke-opacity="0.5"/>',
         f'<circle cx="{right + 10}" cy="{end:.1f}" r="4" fill="{colour}"/>',
-        text(right + 18, end + 5, LABELS.get(name, name).replace('this library', 'ours'),
+        text(right + 18, end + 5, LABELS[name].replace('this library', 'ours'),
              kind='head' if name.startswith('v') else 'caption')]
 
 

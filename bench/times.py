@@ -1,7 +1,8 @@
 #!/usr/bin/env python3
 """Times whole hashes of our library beside its peers, in one process, by turns:
 
-    bench/times.py FOLDER SECONDS table|plots [NAME]    one implementation, or all but OpenSSL
+    bench/times.py FOLDER SECONDS table|plots [NAME]    one implementation of peers.txt, or all but OpenSSL
+    bench/times.py FOLDER                               prints what each is
 
 Each round runs every implementation once, so that a slow moment of the machine falls on all of them. Each tag is
 compared before it is timed. FOLDER is what bench/run builds, and SECONDS is how long a case runs. Each line is a case,
@@ -10,13 +11,18 @@ and for each implementation its name, the least and the median milliseconds of a
 import ctypes
 import mmap
 import os
+import re
 import statistics
 import struct
+import subprocess
 import sys
 import time
+from collections import Counter
 from ctypes import addressof, c_size_t, c_uint32, c_uint64, c_void_p, create_string_buffer
 from functools import partial
 from pathlib import Path
+
+from plots import TABLE
 
 PASSWORD, SALT = create_string_buffer(b'password', 8), create_string_buffer(b'somesaltsomesalt', 16)
 TAG_LENGTH, HUGE_PAGE, ARGON2ID, VERSION = 32, 2 << 20, 2, 0x13
@@ -93,10 +99,7 @@ def openssl(library, cost, tag):
     return run
 
 
-PEERS = {'reusing': ('reusing.so', reusing), 'libsodium': ('libsodium.so.23', libsodium),
-         'reference-v3': ('reference-v3.so', upstream), 'reference-native': ('reference-native.so', upstream),
-         'libargon2': ('libargon2.so.1', upstream), 'rust-argon2': ('rust-argon2.so', crate),
-         'rustcrypto': ('rustcrypto.so', crate), 'openssl': ('libcrypto.so.3', openssl)}
+MAKERS = {make.__name__: make for make in (ours, reusing, upstream, libsodium, crate, openssl)}
 
 
 def load(path):
@@ -134,11 +137,10 @@ def time_round(hashes, spent):
         times.append((time.perf_counter_ns() - begin) / 1e6)
 
 
-def main(folder, seconds, run, only=''):
-    builds = {path.stem: (path.name, ours) for path in sorted(Path(folder).glob('v*.so'))}
-    loaded = {name: (library, make) for name, (file, make) in {**builds, **PEERS}.items()
-              if (name == only or name in builds or not only and name != 'openssl')
-              and (library := load(Path(folder, file)))}
+def measure(folder, seconds, run, only=''):
+    loaded = {name: (library, MAKERS[make]) for name, _, file, make, *_ in TABLE
+              if make and (name == only or make == 'ours' or not only and make != 'openssl')
+              and (library := load(folder / file))}
     for cost in RUNS[run]:
         hashes = prepare(loaded, cost)
         spent = {name: [] for name in hashes if only in ('', name)}
@@ -150,5 +152,37 @@ def main(folder, seconds, run, only=''):
         print('({}, {}, {}) x {}'.format(*cost), *times, sep='\t', flush=True)
 
 
+def multiplications(path, functions):
+    """How many vector multiplications of 32 bits a library has, by the width of their registers. The compression has
+    one in each step, so a library with none computes it word by word."""
+    functions_of = subprocess.check_output(['objdump', '-d', '--no-show-raw-insn', path], text=True).split('\n\n')
+    widths = Counter(width for text in functions_of if re.search(functions, text.split('\n', 1)[0])
+                     for width in re.findall('pmuludq.*%([xyz])mm', text))
+    return ', '.join(str(widths[width]) for width in 'xyz') if widths else 'none'
+
+
+def version(asked, newer):
+    """Of a tool, or a package: `newer PACKAGE` is one of Debian 13, which is in a folder."""
+    tools = {'gcc': 'gcc -dumpfullversion', 'rustc': 'rustc --version'}
+    root = f'--admindir={newer}/var/lib/dpkg' if asked.startswith('newer ') else ''
+    return subprocess.getoutput(tools.get(asked, f"dpkg-query {root} -Wf '${{source:Package}} ${{Version}}' "
+                                          f"{asked.removeprefix('newer ')}"))
+
+
+def describe(folder):
+    """A line for each that is there. (OpenSSL's Argon2 has no names in its library)"""
+    for name, _, file, _, functions, what in TABLE:
+        path = folder / ('newer/usr/lib/x86_64-linux-gnu' if name == 'openssl' else '') / file
+        if what and (path.exists() or load(path)):
+            maps = Path('/proc/self/maps').read_text(encoding='utf-8')
+            found = path if path.exists() else re.search(rf'/\S*{re.escape(file)}\S*', maps)[0]
+            count = multiplications(found, functions) if functions else 'not counted'
+            print('peer', name, re.sub('{(.*?)}', lambda asked: version(asked[1], folder / 'newer'), what), count,
+                  sep='\t')
+
+
 if __name__ == '__main__':
-    main(*sys.argv[1:])
+    if len(sys.argv) == 2:
+        describe(Path(sys.argv[1]))
+    else:
+        measure(Path(sys.argv[1]), *sys.argv[2:])
