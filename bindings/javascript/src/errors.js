@@ -39,6 +39,7 @@ export const OutOfMemory = define('OutOfMemory', 20);
 export const WorkerRefused = define('WorkerRefused', 21);
 // end
 export const TooCostly = define('TooCostly', 69);
+export const NoRandomBytes = define('NoRandomBytes', 129);
 
 /** The engine lacks what the package needs. The library for C has no such error. */
 export const Unsupported = define('Unsupported', 256);

@@ -124,6 +124,62 @@ export interface Updated {
  */
 export function verifyAndUpdate(encoded: string, password: string | Bytes, options?: UpdateOptions): Promise<Updated>;
 
+/** The options of a `PepperedHasher`, of all its calls or of one. */
+export type PepperOptions = Omit<UpdateOptions, 'secret'>;
+
+/** What to store for a user: the ID of the pepper, and the PHC string, which does not contain it. */
+export interface Peppered {
+    /** The ID. */
+    keyId: string;
+    /** The PHC string. */
+    encoded: string;
+}
+
+/**
+ * Hashes with the newest of several peppers, and verifies with the one of a stored hash. To rotate, put a new pair
+ * first; once `verifyAndUpdate` has replaced all hashes of an old key, leave that out.
+ */
+export class PepperedHasher {
+    /** The peppers are pairs of an ID and a key, the newest first, as in an array or a `Map`. Keys are copied. */
+    constructor(peppers: Iterable<readonly [string, Bytes]>, options?: PepperOptions);
+    /** The ID of the newest pepper. */
+    readonly newest: string;
+    /** Hashes a password with the newest pepper. */
+    hash(password: string | Bytes, options?: PepperOptions): Promise<Peppered>;
+    /**
+     * As the function of this name, with the pepper of an ID, or none for null. A hash of another pepper than the newest
+     * is hashed anew with that. For an unknown ID it rejects with `RangeError`.
+     */
+    verifyAndUpdate(
+        keyId: string | null, encoded: string, password: string | Bytes, options?: PepperOptions,
+    ): Promise<{ matches: boolean, update: Peppered | null }>;
+}
+
+/** The options of `tune`. */
+export interface TuneOptions extends Running {
+    /** The most memory in KiB. Without it 64 MiB. */
+    memoryCost?: number;
+    /** The lanes. Without it one. */
+    parallelism?: number;
+}
+
+/** Settings that `tune` found. */
+export interface Tuning {
+    /** The settings. */
+    parameters: Required<Settings>;
+    /** The milliseconds that a hash takes, the least of several. */
+    milliseconds: number;
+    /** How many programs ran at once in the last minute, beside which hashes take longer, or null in a page. */
+    load: number | null;
+}
+
+/**
+ * The strongest settings whose hash takes at most so many milliseconds here: as much memory as that leaves time for, and
+ * then as many passes, within the default limits. It rejects with `RangeError` if the least settings for passwords (7
+ * MiB, 5 passes, or their work) take longer.
+ */
+export function tune(milliseconds: number, options?: TuneOptions): Promise<Tuning>;
+
 /** Whether a PHC string was made with other settings than these; those that are left out are the defaults. */
 export function needsRehash(encoded: string, options?: Settings): Promise<boolean>;
 
@@ -205,6 +261,8 @@ export class OutOfMemory extends Argon2Error {}
 export class WorkerRefused extends Argon2Error {}
 /** The PHC string is above the limits. No password was compared. */
 export class TooCostly extends Argon2Error {}
+/** The engine had no random bytes for a salt. `cause` says why. */
+export class NoRandomBytes extends Argon2Error {}
 /** The engine has no WebAssembly, is a Node that is too old, or has no addon where `native` is `true`. */
 export class Unsupported extends Argon2Error {}
 
@@ -222,6 +280,8 @@ declare const argon2: {
     verify: typeof verify;
     verifyAndUpdate: typeof verifyAndUpdate;
     needsRehash: typeof needsRehash;
+    PepperedHasher: typeof PepperedHasher;
+    tune: typeof tune;
     argon2d: typeof argon2d;
     argon2i: typeof argon2i;
     argon2id: typeof argon2id;

@@ -1,6 +1,7 @@
 // What a caller passes: checked, and copied at once, since it may change what it has passed. Options are read once, and
 // only an object's own ones: what somebody adds to Object.prototype is nobody's option.
 import { allocate, bytesOf, passwordOf } from './bytes.js';
+import { NoRandomBytes } from './errors.js';
 import { Inputs } from './inputs.js';
 import { addonFor } from './native.js';
 import { requireEngine } from './platform.js';
@@ -113,7 +114,15 @@ export function encodedOf(encoded) {
 const bytesOrNone = (name, value) => (value === undefined ? allocate(0) : bytesOf(name, value));
 
 /** The salt that is given, or a new one of 16 bytes (RFC 9106, 3.1). */
-const saltOf = (salt) => (salt === undefined ? crypto.getRandomValues(allocate(SALT_LENGTH)) : bytesOf('salt', salt));
+const saltOf = (salt) => (salt === undefined ? randomSalt() : bytesOf('salt', salt));
+
+function randomSalt() {
+    try {
+        return crypto.getRandomValues(allocate(SALT_LENGTH));
+    } catch (cause) {
+        throw new NoRandomBytes('There are no random bytes', { cause });
+    }
+}
 
 /** The inputs of a hash. */
 export function inputsOf(password, { salt, secret, associatedData }) {

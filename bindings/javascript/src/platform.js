@@ -29,6 +29,9 @@ export function processors() {
     return nodeThreads ? builtin('os').availableParallelism() : globalThis.navigator?.hardwareConcurrency ?? 1;
 }
 
+/** How many programs ran at once in the last minute, as far as Node says it: on Windows always 0. */
+export const loadOfSystem = () => builtin('os')?.loadavg()[0] ?? null;
+
 /** The name of a file, in Node. */
 export const fileOf = (url) => builtin('url').fileURLToPath(url);
 

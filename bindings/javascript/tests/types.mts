@@ -1,6 +1,7 @@
 // What the types let through, and what they do not: tsc --noEmit --strict. It is never run.
 import argon2, {
-    AbortError, Argon2Error, SaltTooShort, argon2id, defaultLimits, hash, needsRehash, presets, verify, verifyAndUpdate,
+    AbortError, Argon2Error, PepperedHasher, SaltTooShort, argon2id, defaultLimits, hash, needsRehash, presets, tune,
+    verify, verifyAndUpdate,
 } from 'proved-argon2';
 import type { HashOptions, Limits, Settings } from 'proved-argon2';
 
@@ -16,7 +17,11 @@ export async function right(password: string, key: Uint8Array, signal: AbortSign
     const verdict: boolean = await verify(encoded, password, { secret: tag, limits });
     const renewed: boolean = await needsRehash(encoded, settings);
     const { matches, update } = await verifyAndUpdate(encoded, password, { ...settings, secret: key, limits });
-    console.log(matches, update?.length);
+    const hasher = new PepperedHasher([['2026', key]], { ...settings, limits });
+    const stored: { keyId: string, encoded: string } = await hasher.hash(password, { associatedData: key });
+    const peppered = await hasher.verifyAndUpdate(null, stored.encoded, password);
+    const { parameters, milliseconds, load } = await tune(250, { memoryCost: 65536, signal });
+    console.log(matches, update?.length, peppered.update?.keyId, parameters.timeCost, milliseconds, load?.toFixed());
     try {
         return verdict && renewed && await argon2.verify(encoded, key, { limits: null }) && either !== tag;
     } catch (error) {
@@ -52,6 +57,8 @@ export async function wrong(password: string): Promise<void> {
     await verify('', password, { salt: new Uint8Array() });
     // @ts-expect-error: limits have no such number
     await verify('', password, { limits: { memory: 5 } });
+    // @ts-expect-error: an object does not keep the order of its IDs
+    new PepperedHasher({ 2026: new Uint8Array(1) });
     // @ts-expect-error: presets cannot be changed
     presets.owasp1.timeCost = 5;
 }

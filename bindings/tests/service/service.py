@@ -12,7 +12,6 @@ from proved_argon2.exceptions import (  # noqa: F401 (the page's lines use them)
     HashingError,
     InvalidHashError,
     VerificationError,
-    VerifyMismatchError,
 )
 
 PEPPER, SECONDS, THREADS, KIB = b"pepper", 3, 8, 65536
@@ -42,7 +41,7 @@ def logs_in(seed, end):
             wrong.append((password, stored, verdict, renewed))
 
 
-def refuse(hasher, password):
+def refuse(hasher, password, progress):
     raise HashingError("refused")
 
 

@@ -1,0 +1,58 @@
+// Settings for this machine, by measuring hashes.
+import { allocate } from './bytes.js';
+import { hash } from './calls.js';
+import { DEFAULTS, defaultLimits } from './options.js';
+import { loadOfSystem } from './platform.js';
+
+/** Of OWASP's choices the least memory, and the least work: of less a hash protects no password. */
+const LEAST_MEMORY = 7168;
+const LEAST_WORK = 5 * LEAST_MEMORY;
+const ROUNDS = 3;
+
+/** The strongest settings whose hash takes at most so many milliseconds here. */
+export async function tune(milliseconds, { memoryCost = 65536, parallelism = 1, ...running } = {}) {
+    const settingsOf = (memory, timeCost) => ({ ...DEFAULTS, memoryCost: memory, timeCost, parallelism });
+    const measure = (memory, passes) => leastOf({ ...running, ...settingsOf(memory, passes), salt: allocate(8) });
+    const { memory, passes, took } = await fittingCosts(milliseconds, memoryCost, measure);
+    return { parameters: settingsOf(memory, passes), milliseconds: took, load: loadOfSystem() };
+}
+
+/** As much memory as there is time for, and then as many passes. */
+export async function fittingCosts(milliseconds, memoryCost, measure) {
+    if (typeof milliseconds !== 'number') {
+        throw new TypeError("'milliseconds' has to be a number");
+    }
+    for (let memory = memoryCost; memory >= LEAST_MEMORY; memory = Math.floor(memory / 2)) {
+        const passes = Math.ceil(LEAST_WORK / memory);
+        const took = await measure(memory, passes);
+        if (took <= milliseconds) {
+            return withPasses(milliseconds, { memory, passes, took }, measure);
+        }
+    }
+    throw new RangeError(`no settings for passwords within ${memoryCost} KiB take ${milliseconds} milliseconds here`);
+}
+
+/** Costs with as many passes as there is time for. */
+async function withPasses(milliseconds, costs, measure) {
+    const { memory, passes: least, took: tookLeast } = costs;
+    const { timeCost, work } = defaultLimits;
+    const most = Math.min(Math.floor(least * milliseconds / tookLeast), timeCost, Math.floor(work / memory));
+    for (let passes = most; passes > least; passes -= 1) {
+        const took = await measure(memory, passes);
+        if (took <= milliseconds) {
+            return { memory, passes, took };
+        }
+    }
+    return costs;
+}
+
+/** The milliseconds of a hash, the least of a few. */
+async function leastOf(options) {
+    let least = Infinity;
+    for (let round = 0; round < ROUNDS; round += 1) {
+        const begun = performance.now();
+        await hash('', options);
+        least = Math.min(least, performance.now() - begun);
+    }
+    return least;
+}

@@ -1,0 +1,125 @@
+// What a service calls beside hash and verify: peppers that rotate, and settings for this machine.
+import assert from 'node:assert/strict';
+import os from 'node:os';
+import { readFileSync, writeFileSync } from 'node:fs';
+import { test } from 'node:test';
+import { inspect } from 'node:util';
+import * as argon2 from 'proved-argon2';
+
+const { PepperedHasher } = argon2;
+const { fittingCosts } = await import(new URL('tuning.js', import.meta.resolve('proved-argon2')));
+const small = { memoryCost: 64, timeCost: 1, parallelism: 2 };
+const bytes = (text) => new TextEncoder().encode(text);
+const wrong = { matches: false, update: null };
+const right = { matches: true, update: null };
+
+test('hashes have the newest pepper, and others are renewed with it', async () => {
+    const old = new PepperedHasher([['2025', bytes('old')]], small);
+    const both = new PepperedHasher(new Map([['2026', bytes('new')], ['2025', bytes('old')]]), small);
+    for (const [keyId, secret] of [['2025', bytes('old')], [null, undefined]]) {
+        const stored = await argon2.hash('password', { ...small, secret });
+        assert.deepEqual(await both.verifyAndUpdate(keyId, stored, 'Password'), wrong);
+        const { matches, update } = await both.verifyAndUpdate(keyId, stored, 'password');
+        assert.deepEqual([matches, update.keyId], [true, '2026']);
+        assert.equal(await argon2.verify(update.encoded, 'password', { secret: bytes('new') }), true);
+        assert.deepEqual(await both.verifyAndUpdate('2026', update.encoded, 'password'), right);
+    }
+    const { keyId, encoded } = await old.hash('password');
+    assert.deepEqual([keyId, await old.verifyAndUpdate(keyId, encoded, 'password')], ['2025', right]);
+    assert.deepEqual(await both.verifyAndUpdate('2026', encoded, 'password'), wrong);
+    assert.deepEqual(await both.verifyAndUpdate(null, encoded, 'password'), wrong);
+});
+
+test('a hash of the newest pepper is renewed where it has other settings', async () => {
+    const peppers = [['2026', bytes('new')]];
+    const { encoded } = await new PepperedHasher(peppers, { ...small, timeCost: 2 }).hash('password');
+    const hasher = new PepperedHasher(peppers, small);
+    assert.deepEqual(await hasher.verifyAndUpdate('2026', encoded, 'Password'), wrong);
+    const { update } = await hasher.verifyAndUpdate('2026', encoded, 'password');
+    assert.match(update.encoded, /m=64,t=1,p=2/);
+    assert.equal(await argon2.verify(update.encoded, 'password', { secret: bytes('new') }), true);
+});
+
+test('each call has options of its own, and no salt', async () => {
+    const hasher = new PepperedHasher([['2026', bytes('new')]], small);
+    const options = { associatedData: bytes('user 7'), salt: bytes('some salt'), raw: true };
+    const hashes = [await hasher.hash('password', options), await hasher.hash('password', options)];
+    assert.notEqual(hashes[0].encoded, hashes[1].encoded);
+    assert.deepEqual(await hasher.verifyAndUpdate('2026', hashes[0].encoded, 'password', options), right);
+    assert.deepEqual(await hasher.verifyAndUpdate('2026', hashes[0].encoded, 'password'), wrong);
+});
+
+test('what is no pepper is rejected, and keys are copied and not shown', async () => {
+    const key = bytes('a key');
+    const hasher = new PepperedHasher([['2026', key]], small);
+    key.fill(0);
+    const { encoded } = await hasher.hash('password');
+    assert.equal(await argon2.verify(encoded, 'password', { secret: bytes('a key') }), true);
+    await assert.rejects(hasher.verifyAndUpdate('2024', encoded, 'password'), /RangeError: there is no pepper '2024'/);
+    await assert.rejects(hasher.verifyAndUpdate(undefined, encoded, 'password'), RangeError);
+    await assert.rejects(hasher.verifyAndUpdate('2026', 'x', 'password'), argon2.DecodingFail);
+    const peppers = [[], [['2026', bytes('')]], [[2026, key]], [['2026', bytes('a')], ['2026', bytes('b')]]];
+    peppers.forEach((some) => assert.throws(() => new PepperedHasher(some), RangeError));
+    for (const some of [{ 2026: key }, [['2026', 'a key']], undefined]) {
+        assert.throws(() => new PepperedHasher(some), TypeError);
+    }
+    assert.deepEqual([inspect(hasher), JSON.stringify(hasher)].filter((text) => /a key|97/.test(text)), []);
+});
+
+test('a new hash that has no salt makes no password wrong', async () => {
+    const { getRandomValues } = globalThis.crypto;
+    const old = await argon2.hash('password', { ...small, timeCost: 2 });
+    globalThis.crypto.getRandomValues = () => {
+        throw new Error('refused');
+    };
+    try {
+        assert.deepEqual(await argon2.verifyAndUpdate(old, 'password', small), right);
+        await assert.rejects(argon2.hash('password', small), argon2.NoRandomBytes);
+    } finally {
+        globalThis.crypto.getRandomValues = getRandomValues;
+    }
+});
+
+test('as much memory as there is time for, and then passes', async () => {
+    const measure = async (memory, passes) => memory * passes / 1000;
+    const known = [
+        [70, 65536, 1], [140, 65536, 2], [65.6, 65536, 1], [65, 16384, 3], [41, 8192, 5], [1e6, 65536, 10],
+    ];
+    for (const [milliseconds, memory, passes] of known) {
+        const found = await fittingCosts(milliseconds, 65536, measure);
+        assert.deepEqual([found.memory, found.passes], [memory, passes]);
+    }
+    assert.deepEqual((await fittingCosts(1e6, 2 ** 21, measure)).passes, 2);
+    // (of two passes fewer than are measured first, and of less memory than any hash for passwords has)
+    const slower = async (memory, passes) => measure(memory, passes ** 2);
+    assert.deepEqual((await fittingCosts(350, 65536, slower)).passes, 2);
+    await assert.rejects(fittingCosts(5000, 65536, async (memory) => memory), RangeError);
+    await assert.rejects(fittingCosts(10, 65536, measure), /RangeError: .* 65536 KiB take 10 milliseconds/);
+});
+
+test('settings that are found are measured here', async () => {
+    const { loadavg } = os;
+    os.loadavg = () => [1.5, 0, 0];
+    try {
+        const { parameters, milliseconds, load } = await argon2.tune(2000, { memoryCost: 16384, threads: 1 });
+        assert.ok(milliseconds > 0 && milliseconds <= 2000);
+        assert.ok(parameters.timeCost >= 3);
+        const { timeCost, ...others } = parameters;
+        assert.deepEqual(others, { type: 2, version: 19, memoryCost: 16384, parallelism: 1, hashLength: 32 });
+        assert.equal(load, 1.5);
+        assert.match(await argon2.hash('password', parameters), new RegExp(`m=16384,t=${timeCost},p=1`));
+    } finally {
+        os.loadavg = loadavg;
+    }
+    await assert.rejects(argon2.tune(0.001, { memoryCost: 7168 }), RangeError);
+    await assert.rejects(argon2.tune('250'), TypeError);
+});
+
+test('the example of the page runs', async () => {
+    const page = readFileSync(new URL('../../../docs/JAVASCRIPT.md', `file://${process.env.HEADER}`), 'utf8');
+    const [, example] = page.match(/(?<=^```js\n).*?(?=^```)/gms);
+    const known = "const newKey = Uint8Array.of(1), oldKey = newKey, password = 'password', store = () => {};\n";
+    writeFileSync('page_example.mjs', `${known}${example}export { keyId, matches, update };\n`);
+    const { keyId, matches, update } = await import(new URL('page_example.mjs', import.meta.url));
+    assert.deepEqual({ keyId, matches, update }, { keyId: '2026', matches: true, update: null });
+});
