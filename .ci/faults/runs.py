@@ -1,36 +1,28 @@
-"""Runs the programs and the tests that `.ci/gate/proofs` leaves, over faults.c, and says what came of a run. The
-scripts of this folder find `shared` by it."""
+"""Runs the programs and the tests that the proofs leave in crates/*/out, over faults.c, and says what came of a run."""
 
 import ctypes
 import functools
 import os
+import random
 import re
-import shutil
 import subprocess
-import sys
-import tempfile
 from collections import Counter
 from concurrent.futures import ThreadPoolExecutor
-from pathlib import Path
 from typing import NamedTuple
 
-sys.path.insert(0, str(Path(__file__).resolve().parents[1]))
-from shared import TOP  # noqa: E402
-from shared.checks import Checks  # noqa: E402
-from shared.toolchain import build_preloaded  # noqa: E402
-from toolchain import is_current  # noqa: E402
+from shared import TOP
+from toolchain import is_current
 
-PROGRAM, TOOL = (TOP / f'crates/{name}/out/{name}' for name in ('argon2_program', 'argon2_tool'))
 PASSWORD = b'password'
 PROCESSORS = sorted(os.sched_getaffinity(0))
 SECONDS = 600  # after which a run hangs
 TRIES = 100  # of a start, before it counts as refused (`TRIES` of argon2_fill/src/workers/crew.rt)
 SLICES = 4  # of a pass
-IN_TURN = '_refused_in_turn'  # ends the names of tests that .ci/faults/refusals runs
 NOTE = re.compile(r'(request|freed|start|refused|denied|late|VmHWM:.*)\n')
 VALUE, NO_MEMORY, NO_WORKER = 'value', 'Out of memory\n', 'A worker was refused\n'
 VARIANTS, VERSIONS = ('argon2d', 'argon2i', 'argon2id'), (16, 19)
 PEER = ctypes.CDLL('libargon2.so.1')
+SEED = os.environ.get('SEED') or str(random.randrange(1 << 32))
 
 
 class Came:
@@ -107,29 +99,8 @@ class Hash(NamedTuple):
         return self.output().split()[-1]
 
 
-def is_ours(checks, binary):
-    """Whether `.ci/gate/proofs` left a binary of a crate, of these sources."""
-    return checks.need(binary.name, is_current(binary.parents[1].name, binary, says_why=True), 'it is of other sources')
-
-
-def tests(checks):
-    """The binary and the name of each test. A binary that is not built is named all the same."""
-    files = (path for path in TOP.glob('crates/*/src/**/*.rt') if '#[test]' in path.read_text(encoding='utf-8'))
-    for crate in sorted({path.relative_to(TOP).parts[1] for path in files}):
-        binary = TOP / f'crates/{crate}/out/{crate}_tests'
-        if is_ours(checks, binary):
-            yield from ((binary, name) for name in re.findall(r'^(.*): test$', run([binary, '--list']).output, re.M))
-
-
-def judge(judged, *programs, words=()):
-    """Has `judged` judge copies of the programs among the words, or else of these, if they are of these sources: by
-    checks, faults.c in a folder, the copies, and the number among the words. Gives the script's status."""
-    checks, others = Checks(), [Path(word) for word in words if not word.isdigit()]
-    if others or all([is_ours(checks, program) for program in programs]):
-        with tempfile.TemporaryDirectory() as folder:
-            os.chmod(folder, 0o711)  # (for users who are not root)
-            copies = [Path(shutil.copy(program, f'{folder}/{at}.{program.name}'))
-                      for at, program in enumerate(others or programs)]
-            judged(checks, build_preloaded('faults/faults', folder), copies,
-                   *(int(word) for word in words if word.isdigit()))
-    return checks.close()
+def left(name, suffix=''):
+    """The binary of a crate that the proofs left, of these sources."""
+    binary = TOP / f'crates/{name.removesuffix("_tests")}/out/{name}{suffix}'
+    assert is_current(binary.parents[1].name, binary, says_why=True), f'{binary.name} is of other sources'
+    return binary

@@ -1,27 +1,27 @@
-#!/usr/bin/env -S python3 -B
-"""Runs the program and the shell's tool that `.ci/gate/proofs` leaves in crates/NAME/out over real pipes: each exit
-status, what is written for it, words that no shell would pass, and inputs that are longer than any password. The proofs
-know the bytes of no standard stream and the arguments of no process. The tool has the program's commands too, and adds
-a line to some errors. Hashes of libargon2 that are drawn anew each time, of all lengths, come from both, and from
-Rattle's calls by argon2_vectors: no resource error comes without a shortage. The last line is 'N passed, M failed'.
+"""Runs the program and the shell's tool over real pipes: each exit status, what is written for it, words that no shell
+would pass, and inputs that are longer than any password. The proofs know the bytes of no standard stream and the
+arguments of no process. The tool has the program's commands too, and adds a line to some errors. Hashes of libargon2
+that are drawn from SEED of the environment, or else from a seed that is printed, of all lengths, come from both, and
+from Rattle's calls by argon2_vectors: no resource error comes without a shortage.
 
-    .ci/faults/program --over TOOL    the same over another tool alone, which has the same words
+Where the environment has OVER, the path of another tool that has the same words, this is over it alone.
 """
 
 import base64
 import os
 import re
-import resource
 import subprocess
 import sys
 from itertools import chain
+from pathlib import Path
 
-from runs import PROGRAM, TOOL, TOP, Hash, is_ours, judge, run
+import pytest
+from runs import SEED, TOP, Hash, run
 
-VECTORS, DRAWS = TOP / 'crates/argon2_vectors/out/argon2_vectors', 1000
-OTHERS = sys.argv[2:] if sys.argv[1:2] == ['--over'] else []
+OTHER, DRAWS = os.environ.get('OVER'), 1000
+BINARIES = ['argon2_tool'] if OTHER else ['argon2_program', 'argon2_tool']
 # The longest password that any call accepts, and that the tool takes; and the address space that is left beside it.
-LONGEST, LONGEST_OF_TOOL, BESIDE = (1 << 32) - 1, 1 << 16, 6 << 30 if OTHERS else 16 << 20
+LONGEST, LONGEST_OF_TOOL, BESIDE = (1 << 32) - 1, 1 << 16, 6 << 30 if OTHER else 16 << 20
 # What a run comes to: its status, and what stands on the output and on the error stream.
 TRUE, FALSE, USAGE, INPUT = (0, 'true\n', ''), (1, 'false\n', ''), (3, '', 'usage\n'), (4, '', 'input\n')
 ABOVE, TOO_LONG = (5, '', 'The encoded hash is above the limits\n'), (2, '', 'Password is too long\n')
@@ -90,21 +90,31 @@ def streams():
     """An input that is longer than any password is not read on, in address space that leaves little room beside the
     longest: a program that read on would lack memory. Status 4: the input cannot be read, or the output cannot be
     written. Errors may be read by nobody."""
-    folder, (reader, writer), above = os.open(TOP, os.O_RDONLY), os.pipe(), [*asking(8, 11, 1)]
-    os.close(reader)
-    with open('/dev/zero', 'rb') as endless, open('/dev/full', 'wb') as full:
-        for space, every in ((LONGEST + BESIDE, [HASH, VERIFY]), (BESIDE, [[*NEW, DIGITS], CHECK])):
-            limit = resource.RLIMIT_AS, (space, space)
-            yield TOO_LONG, every, {'stdin': endless, 'preexec_fn': lambda limit=limit: resource.setrlimit(*limit)}
-        yield FALSE, [CHECK], {'input_bytes': b'x' * LONGEST_OF_TOOL}
-        yield TOO_LONG, [CHECK, ['check', 'x']], {'input_bytes': b'x' * (LONGEST_OF_TOOL + 1)}
-        yield INPUT, [VERIFY, *above], {'stdin': folder}
-        yield USAGE, [['verify'], [*NEW, '0']], {'stdin': folder}
-        yield FALSE, [[*REHASH, STORED]], {'stdin': folder}
-        yield (4, '', ''), [VERIFY, HASH], {'stdout': full}
-        yield from (((status, '', ''), [words], {'stderr': full}) for status, words in ((2, ['verify', 'x']), (3, []),
-                                                                                        (5, above[0])))
-        yield ((4, '', ''), (-13, '', '')), [VERIFY], {'stdout': writer}
+    above = [*asking(8, 11, 1)]
+    for space, every in ((LONGEST + BESIDE, [HASH, VERIFY]), (BESIDE, [[*NEW, DIGITS], CHECK])):
+        yield TOO_LONG, every, {'by': f'exec prlimit --as={space} "$0" "$@" </dev/zero'}
+    yield FALSE, [CHECK], {'input_bytes': b'x' * LONGEST_OF_TOOL}
+    yield TOO_LONG, [CHECK, ['check', 'x']], {'input_bytes': b'x' * (LONGEST_OF_TOOL + 1)}
+    for expected, every in (INPUT, [VERIFY, *above]), (USAGE, [['verify'], [*NEW, '0']]), (FALSE, [[*REHASH, STORED]]):
+        yield expected, every, {'by': 'exec "$0" "$@" <.'}
+    yield (4, '', ''), [VERIFY, HASH], {'by': 'exec "$0" "$@" >/dev/full'}
+    for status, words in ((2, ['verify', 'x']), (3, []), (5, above[0])):
+        yield (status, '', ''), [words], {'by': 'exec "$0" "$@" 2>/dev/full'}
+    yield ((4, '', ''), (-13, '', '')), [VERIFY], {'by': 'exec 3> >(:); wait $!; exec "$0" "$@" >&3'}
+
+
+def rows():
+    """Each row's binary, its words, how it is run, and what it comes to."""
+    for expected, every, *how in chain(answers(), usage(), streams()):
+        for words, own in ((words, dict(*how)) for words in every):
+            of_tool, of_program = words[:1] in (['new'], ['check'], [b'check']), own.pop('of_program', False)
+            names = ['argon2_program'] if of_program else ['argon2_tool'] if of_tool else BINARIES
+            yield from ((name, words, own, expected) for name in names if name in BINARIES)
+
+
+@pytest.fixture(scope='session')
+def binaries(copy_of):
+    return {name: Path(OTHER) if OTHER else copy_of(name) for name in BINARIES}
 
 
 def first_line(errors):
@@ -114,40 +124,12 @@ def first_line(errors):
     return line if len(others) == (added is not None) and re.search(added or '', ''.join(others)) else errors
 
 
-def drawn():
-    """Hashes of libargon2: each as its fields, in the form of bindings/vectors/raw.txt, and its encoded hash."""
-    seed = str(int.from_bytes(os.urandom(4), 'big'))
-    print(f'drawn from seed {seed}')
-    maker = [sys.executable, TOP / 'bindings/vectors/drawn.py', seed, str(DRAWS)]
-    for line in subprocess.run(maker, check=True, capture_output=True, text=True).stdout.splitlines():
-        variant, version, passes, memory, lanes, _, _, salt, *_, tag = fields = line.split(' ')
-        items = (base64.b64encode(bytes.fromhex(item)).decode().rstrip('=') for item in (salt, tag))
-        yield fields, f'${variant}$v={version}$m={memory},t={passes},p={lanes}${"$".join(items)}'
-
-
-def judge_calls(checks, hashes):
-    """Rattle's calls, in each thread mode."""
-    rows = [row for fields, text in hashes for *settings, password, salt, secret, data, tag in [fields] for row in (
-        (f'hash_raw {" ".join(settings)} all {password} {salt} {secret} {data}', tag),
-        (f'verify_encoded_ext {password} {secret} {data} {text}', 'true'))]
-    came = run([VECTORS], input_bytes=''.join(f'{question}\n' for question, _ in rows).encode())
-    wrong = [(*row, answer) for row, answer in zip(rows, came.output.splitlines()) if answer != row[1]]
-    checks.hold('drawn hashes by the calls', not wrong and came.output.count('\n') == len(rows), str(wrong[:3]))
-
-
-def judge_commands(checks, binary, hashes):
-    """The commands, for hashes that take neither a secret nor associated data, with a salt that is text."""
-    wrong, count = [], 0
-    for (*settings, password, salt, secret, data, tag), text in hashes:
-        if secret == data == '-' and bytes.fromhex(salt).isalpha():
-            count += 1
-            hash_words = ['hash', *settings, 'par', bytes.fromhex(salt).decode()]
-            rows = (hash_words, (0, f'{tag}\n{text}\n', '')), (['verify', text], TRUE)
-            pwd = bytes.fromhex(password.replace('-', ''))
-            ends = [(came.status, came.output, came.errors) for words, _ in rows
-                    for came in [run([binary, *words], input_bytes=pwd)]]
-            wrong += [(*row, end) for row, end in zip(rows, ends) if end != row[1]]
-    checks.hold(f'{binary.name}: drawn hashes', not wrong and count > DRAWS / 8, str(wrong[:3]))
+@pytest.mark.parametrize('name, words, how, expected', rows(), ids=lambda value: f'{value!r:.60}')
+def test_words(binaries, name, words, how, expected):
+    shell = ['bash', '-c', how['by']] if 'by' in how else []
+    came = run([*shell, binaries[name], *words], input_bytes=how.get('input_bytes', b'password'))
+    end = came.status, came.output, first_line(came.errors) if name == 'argon2_tool' else came.errors
+    assert end == expected or end in expected
 
 
 def whole_words():
@@ -161,31 +143,48 @@ def whole_words():
             yield FALSE, ['rehash', *of_size.settings()[:-1], of_size.text()]
 
 
-def judge_whole_words(checks, programs):
-    for binary in programs:
-        wrong = [f'{words[0]}: {len(words[-1])}' for expected, words in whole_words()
-                 for came in [run([binary, *words])] if (came.status, came.output, came.errors) != expected]
-        checks.hold(f'{binary.name}: words of each length', not wrong, f'{len(wrong)}, as {wrong[:9]}')
+@pytest.mark.parametrize('name', BINARIES)
+def test_words_of_each_length(binaries, name):
+    wrong = [f'{words[0]}: {len(words[-1])}' for expected, words in whole_words()
+             for came in [run([binaries[name], *words])] if (came.status, came.output, came.errors) != expected]
+    assert not wrong
 
 
-def judge_words(checks, _, programs):
-    *program, tool = programs
-    judge_whole_words(checks, programs)
-    rows = chain(answers(), usage(), streams())
-    for expected, words, how in ((expected, words, dict(*how)) for expected, every, *how in rows for words in every):
-        input_bytes, of_program = how.pop('input_bytes', b'password'), how.pop('of_program', False)
-        of_tool = words[:1] in (['new'], ['check'], [b'check'])
-        for binary in [tool] * (not of_program) + program * (of_program or not of_tool):
-            came = run([binary, *words], input_bytes=input_bytes, how=how)
-            end = came.status, came.output, first_line(came.errors) if binary == tool else came.errors
-            is_right = end == expected or end in expected
-            checks.hold(f'{binary.name} {str(words):.200} {how}', is_right, f'{end}, and not {expected}'[:1000])
-    hashes = [*drawn()]
-    for binary in programs:
-        judge_commands(checks, binary, hashes)
-    if not OTHERS and is_ours(checks, VECTORS):
-        judge_calls(checks, hashes)
+@pytest.fixture(scope='session')
+def hashes():
+    """Drawn hashes of libargon2: each as its fields, in the form of bindings/vectors/raw.txt, and its encoded hash."""
+    maker = [sys.executable, TOP / 'bindings/vectors/drawn.py', SEED, str(DRAWS)]
+    found = []
+    for line in subprocess.run(maker, check=True, capture_output=True, text=True).stdout.splitlines():
+        variant, version, passes, memory, lanes, _, _, salt, *_, tag = fields = line.split(' ')
+        items = (base64.b64encode(bytes.fromhex(item)).decode().rstrip('=') for item in (salt, tag))
+        found.append((fields, f'${variant}$v={version}$m={memory},t={passes},p={lanes}${"$".join(items)}'))
+    assert len(found) == DRAWS
+    return found
 
 
-if __name__ == '__main__':
-    sys.exit(judge(judge_words, PROGRAM, TOOL, words=OTHERS))
+@pytest.mark.parametrize('name', BINARIES)
+def test_drawn_hashes(binaries, hashes, name):
+    """The commands, for hashes that take neither a secret nor associated data, with a salt that is text."""
+    own = [(fields, text) for fields, text in hashes
+           if fields[8] == fields[9] == '-' and bytes.fromhex(fields[7]).isalpha()]
+    assert len(own) > DRAWS / 8
+    rows = [(words, end, bytes.fromhex(password.replace('-', '')))
+            for (*settings, password, salt, _, _, tag), text in own for words, end in (
+                (['hash', *settings, 'par', bytes.fromhex(salt).decode()], (0, f'{tag}\n{text}\n', '')),
+                (['verify', text], TRUE))]
+    ends = [(came.status, came.output, came.errors) for words, _, password in rows
+            for came in [run([binaries[name], *words], input_bytes=password)]]
+    assert not [(row, end) for row, end in zip(rows, ends) if end != row[1]]
+
+
+@pytest.mark.skipif(bool(OTHER), reason="OVER has no calls of Rattle's")
+def test_drawn_hashes_by_the_calls(copy_of, hashes):
+    """Rattle's calls, in each thread mode."""
+    rows = [row for (*settings, password, salt, secret, data, tag), text in hashes for row in (
+        (f'hash_raw {" ".join(settings)} all {password} {salt} {secret} {data}', tag),
+        (f'verify_encoded_ext {password} {secret} {data} {text}', 'true'))]
+    came = run([copy_of('argon2_vectors')], input_bytes=''.join(f'{question}\n' for question, _ in rows).encode())
+    answered = came.output.splitlines()
+    assert len(answered) == len(rows)
+    assert not [(row, answer) for row, answer in zip(rows, answered) if answer != row[1]]

@@ -1,27 +1,22 @@
-#!/usr/bin/env -S python3 -B
 """Runs the program again and again where things go wrong, as each kind says, many processes at once. Each run has to
 end within its time with libargon2's tag and text, or with a refusal by name where one thing was refused for good. A
-kind in which too few runs met what they were to meet fails. The programs are those that `.ci/gate/proofs` leaves, as
-both compilers make them. What goes wrong is drawn from the number of the run, but not what the threads make of it.
-
-    .ci/faults/random_denials [RUNS] [PROGRAM..]
-
-The last line is 'N passed, M failed'.
+kind in which too few runs met what they were to meet fails. The programs are those that both compilers make. What goes
+wrong is drawn from SEED of the environment, or else from one that is printed, but not what the threads make of it.
 """
 
 import contextlib
 import os
 import random
 import signal
-import sys
 import time
 from collections import Counter
 from concurrent.futures import ThreadPoolExecutor
 
-from runs import NO_MEMORY, NO_WORKER, PROCESSORS, PROGRAM, SECONDS, TRIES, VALUE, VARIANTS, VERSIONS, Hash, judge, run
+import pytest
+from runs import NO_MEMORY, NO_WORKER, PROCESSORS, SECONDS, SEED, TRIES, VALUE, VARIANTS, VERSIONS, Hash, run
 
 AT_ONCE = 8 * len(PROCESSORS)
-RUNS, MOST_LATE, MOST_MOMENT = 2400, 1000, 0.003  # microseconds, and seconds
+RUNS, MOST_LATE, MOST_MOMENT = 75, 1000, 0.003  # of each kind; microseconds, and seconds
 
 
 def drawn(draw, kind):
@@ -65,15 +60,22 @@ def stop(process):
 # Each kind: of a hundred runs how many have to meet what goes wrong, how it is seen that one did, and what that is. A
 # start or request is drawn among more than there may be, and a stop may find that the workers have just ended.
 KINDS = {
-    'plain': (100, 'start == starts', lambda draw, settings: {}),
-    'memory': (50, 'refused > 0', lambda draw, settings: {'REFUSE_REQUEST': draw.randint(1, 120)}),
-    'starts': (50, 'refused > 0', lambda draw, settings: refused_start(draw, settings, TRIES)),
-    'tries': (50, 'refused > 0', lambda draw, settings: refused_start(draw, settings, draw.randint(1, TRIES - 1))),
-    'late': (100, 'late == starts', late),
-    'stopped': (50, 'seen > 1', lambda draw, settings: {'meanwhile': stop}),
-    'one processor': (100, 'seen', one_processor),
-    'late on one processor': (100, 'seen and late == starts', lambda *how: {**late(*how), **one_processor(*how)}),
+    'plain': (100, ['start'], lambda draw, settings: {}),
+    'memory': (50, ['refused'], lambda draw, settings: {'REFUSE_REQUEST': draw.randint(1, 120)}),
+    'starts': (50, ['refused'], lambda draw, settings: refused_start(draw, settings, TRIES)),
+    'tries': (50, ['refused'], lambda draw, settings: refused_start(draw, settings, draw.randint(1, TRIES - 1))),
+    'late': (100, ['late'], late),
+    'stopped': (50, ['stopped'], lambda draw, settings: {'meanwhile': stop}),
+    'one processor': (100, ['moved'], one_processor),
+    'late on one processor': (100, ['moved', 'late'], lambda *how: {**late(*how), **one_processor(*how)}),
 }
+
+
+def has_met(came, starts):
+    """What a run is seen to have met."""
+    met, seen = came.met, came.seen or 0
+    return {'start': met['start'] == starts, 'late': met['late'] == starts, 'refused': met['refused'] > 0,
+            'moved': seen is True, 'stopped': seen > 1}
 
 
 def expected_end(kind, came):
@@ -87,33 +89,23 @@ def expected_end(kind, came):
 
 def attempt(number, kind, program, library):
     """One run of a kind: what came of it, whether that is right, and whether it met what was to go wrong."""
-    draw, (_, meets, injury) = random.Random(f'{kind} {number}'), KINDS[kind]
+    draw, (_, seen_by, injury) = random.Random(f'{SEED} {kind} {number}'), KINDS[kind]
     settings = drawn(draw, kind)
     came = run([program, *settings.words()], library, **injury(draw, settings))
     end = came.end(0, settings.output())
     if kind == 'plain' and end == VALUE:
         end = run([program, 'verify', settings.text()]).end(0, 'true\n')
-    known = Counter({**came.met, 'starts': settings.starts(), 'seen': came.seen})
-    return end, end == expected_end(kind, came), bool(eval(meets, {}, known))  # pylint: disable=eval-used
+    met = has_met(came, settings.starts())
+    return end, end == expected_end(kind, came), all(met[what] for what in seen_by)
 
 
-def judge_kind(checks, kind, came):
-    """Judges what came of the runs of a kind, and how many of them met what was to go wrong."""
-    ends, met, floor = Counter(end for end, *_ in came), sum(is_met for *_, is_met in came), KINDS[kind][0]
-    for number, (end, is_right, _) in enumerate(came):
-        checks.hold(f'{kind}, run {number}', is_right, end)
-    print(f'{kind}: {dict(ends)}; {met} of {len(came)} met it')
-    checks.need(kind, 100 * met >= floor * len(came) > 0, f'at least {floor} of 100 runs have to meet it')
-
-
-def judge_all(checks, library, programs, runs=RUNS):
-    kinds = [[*KINDS][number // len(programs) % len(KINDS)] for number in range(runs)]
+@pytest.mark.timeout(3600)
+@pytest.mark.parametrize('kind', KINDS)
+def test_each_run_ends_well(copy_of, program, library, kind):
+    programs = program, copy_of('argon2_program', '.by-rattle')
     with ThreadPoolExecutor(AT_ONCE) as pool:
-        came = [*pool.map(lambda number, of: attempt(number, of, programs[number % len(programs)], library),
-                          range(runs), kinds)]
-    for kind in KINDS:
-        judge_kind(checks, kind, [result for result, of in zip(came, kinds) if of == kind])
-
-
-if __name__ == '__main__':
-    sys.exit(judge(judge_all, PROGRAM, PROGRAM.with_suffix('.by-rattle'), words=sys.argv[1:]))
+        came = [*pool.map(lambda number: attempt(number, kind, programs[number % 2], library), range(RUNS))]
+    ends, met = Counter(end for end, *_ in came), sum(is_met for *_, is_met in came)
+    print(f'{dict(ends)}; {met} of {RUNS} met it')
+    wrong = {number: end for number, (end, is_right, _) in enumerate(came) if not is_right}
+    assert not wrong and 100 * met >= KINDS[kind][0] * RUNS

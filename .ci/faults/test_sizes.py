@@ -1,0 +1,111 @@
+"""Runs the program with settings of all sizes, drawn from SEED of the environment or else from one that is printed: up
+to 512 MiB, or a quarter of what the system has left, 300 lanes and workers and a tag of 90,000 bytes. Each has
+libargon2's tag and text, which verifies; starts as many workers as its settings say; and asks for memory as often as
+with the least memory, but for the two lines that are printed: their string grows with their length, and nothing of it
+is secret. With less memory valgrind also counts the blocks that are compressed, and by argon2_vectors those of the
+calls that work in one thread whatever the mode, which the program does not make. So nothing is refused, done by one
+thread, or done twice from some size on.
+"""
+
+import random
+import re
+from itertools import accumulate
+from pathlib import Path
+
+import pytest
+from runs import PASSWORD, SEED, SLICES, VALUE, VARIANTS, VERSIONS, Hash, run
+
+# Where argon2_vectors is asked for `all` modes, it makes Rattle's calls in so many, and then that of one thread.
+MODES = 7
+DRAWS, DRAWS_OF_MODES = 24, 4
+ABOUT = Path('/proc/meminfo').read_text(encoding='utf-8')
+MOST_MEMORY = min(512 << 10, int(re.search(r'^MemAvailable: +(\d+) kB$', ABOUT, re.M)[1]) // 4)
+MOST_COUNTED, MOST_OF_MODES = 24 << 10, 6 << 10  # KiB
+MOST_LANES, MOST_PASSES, MOST_TAG, MOST_FOR_A_TEXT = 300, 6, 90_000, 16
+# Segments of more than 2^16 blocks, whose addresses are made anew for each 128 blocks as in smaller ones.
+# And several lanes of more memory than is counted of those that are drawn.
+LARGE = Hash('argon2i', 19, 1, SLICES * (1 << 16) + 4 * SLICES, 1, 32), Hash('argon2d', 19, 1, 96 << 10, 3, 32)
+# What compresses a block, and how many blocks are drawn from one.
+COMPRESSION, DRAWN_AT_ONCE = 'argon2_blocks::block::kernel::fill_words', 128
+DRAW = random.Random(SEED)
+
+
+def of_a_magnitude(least, most):
+    """A number between two, of a drawn magnitude."""
+    return min(most, int(least * (most / least) ** DRAW.random()) + DRAW.randint(0, 1))
+
+
+def drawn(number, most_memory, most_lanes=MOST_LANES):
+    """A hash of a drawn size; the first few are the largest of a kind."""
+    lanes = most_lanes if number == 0 else of_a_magnitude(1, min(most_lanes, most_memory // 8))
+    memory = most_memory if number == 1 else of_a_magnitude(8 * lanes, most_memory)
+    passes = of_a_magnitude(1, max(1, min(MOST_PASSES, most_memory // memory)))
+    length = MOST_TAG if number == 2 else of_a_magnitude(4, MOST_TAG)
+    most = DRAW.choice((None, 0, of_a_magnitude(2, MOST_LANES))) if number > 2 else None
+    return Hash(DRAW.choice(VARIANTS), DRAW.choice(VERSIONS), passes, memory, lanes, length, most)
+
+
+HASHES = [drawn(number, MOST_MEMORY) for number in range(DRAWS)]
+OF_MODES = [drawn(number, MOST_OF_MODES, MOST_FOR_A_TEXT) for number in range(DRAWS_OF_MODES)]
+
+
+def named(settings):
+    return '-'.join(settings.settings())
+
+
+def blocks(settings):
+    """How many blocks are compressed: those of the matrix, in each pass, but for the first two of each lane; and two
+    for each 128 numbers that are drawn from no block, for each segment that has more than those two."""
+    length = settings.memory // (SLICES * settings.lanes)
+    slices = {'argon2d': 0, 'argon2id': 2, 'argon2i': SLICES * settings.passes}[settings.variant]
+    slices -= slices > 0 and length == 2
+    drawing = 2 * -(-length // DRAWN_AT_ONCE)
+    return (SLICES * length * settings.passes - 2 + drawing * slices) * settings.lanes
+
+
+def compressed_by(program, *words, input_bytes=PASSWORD):
+    """What a program writes, and how many blocks it compresses, by callgrind."""
+    profile = program.with_suffix('.profile')
+    callgrind = ['valgrind', '--quiet', '--tool=callgrind', '--compress-strings=no', f'--callgrind-out-file={profile}']
+    came = run([*callgrind, program, *words], input_bytes=input_bytes)
+    calls = re.findall(rf'^cfn={COMPRESSION}\ncalls=(\d+)', profile.read_text(encoding='utf-8'), re.M)
+    return came.output, sum(map(int, calls))
+
+
+def growths(settings):
+    """How often the string of the lines that a hash prints grows, to which `format!` adds piece by piece."""
+    capacity = count = 0
+    for end in accumulate(map(len, re.findall(r'.+|\n', settings.output()))):
+        if end > capacity:
+            capacity, count = max(2 * capacity, end), count + 1
+    return count
+
+
+@pytest.mark.parametrize('settings', HASHES, ids=named)
+def test_what_a_hash_takes(program, library, settings):
+    """What it writes, starts, and asks for as with less memory; and that its text is verified."""
+    both = settings._replace(memory=8 * settings.lanes), settings
+    least, came = (run([program, *of.words()], library, REFUSE_REQUEST=0) for of in both)
+    fewest, requests = (run.met['request'] and run.met['request'] - growths(of) for of, run in zip(both, (least, came)))
+    verified = run([program, 'verify', settings.text()], library)
+    assert came.end(0, settings.output()) == VALUE
+    assert came.met['start'] == settings.starts()
+    assert requests == fewest > 0
+    assert verified.end(0, 'true\n') == VALUE
+    assert verified.met['start'] == settings._replace(most=MOST_FOR_A_TEXT).starts()
+
+
+@pytest.mark.parametrize(
+    'settings', [*(one for one in HASHES if one.memory * one.passes <= MOST_COUNTED), *LARGE], ids=named)
+def test_blocks_that_are_compressed(program, settings):
+    assert compressed_by(program, *settings.words()) == (settings.output(), blocks(settings))
+
+
+@pytest.mark.parametrize('settings', OF_MODES, ids=named)
+def test_blocks_in_each_mode(copy_of, settings):
+    """The same of Rattle's calls in each mode, and in one thread."""
+    tag, text = settings.output().split()
+    inputs = f"{' '.join(map(str, settings[:6]))} all '{PASSWORD.decode()} '{settings.salt.decode()} - -"
+    lines = f'hash_raw {inputs}\nhash_encoded {inputs}\nverify_raw {inputs} {tag}\n'
+    expected = f'{tag}\n{text}\ntrue\n', 3 * (MODES + 1) * blocks(settings)
+    assert compressed_by(copy_of('argon2_vectors'), input_bytes=lines.encode()) == expected
