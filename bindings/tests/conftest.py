@@ -21,10 +21,10 @@ def installed(tmp_path_factory):
 
 @pytest.fixture(scope="session")
 def cargo(tmp_path_factory):
-    """The variables by which cargo takes Debian's crates."""
+    """The variables by which cargo takes Debian's crates, and compiles into one folder."""
     home = tmp_path_factory.mktemp("cargo")
     (home / "config.toml").write_text(running.CRATES_OF_DEBIAN)
-    return {"CARGO_HOME": home}
+    return {"CARGO_HOME": home, "CARGO_TARGET_DIR": home / "target"}
 
 
 @pytest.fixture(scope="session")

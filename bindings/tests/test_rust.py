@@ -1,0 +1,325 @@
+"""The crate for Rust: its own tests, those of the crates that it replaces, and where it finds the library."""
+import os
+import re
+import resource
+import shutil
+
+import pytest
+from running import CC, MACHINE, TOP, built as built_part, needs, project, refuses, run, start, with_feature
+
+CRATE, HERE = TOP / "bindings/rust", TOP / "bindings/tests"
+PAGE = (TOP / "docs/RUST.md").read_text()
+pytestmark = [needs("cargo"), pytest.mark.timeout(2400)]
+RUN = "cargo", "run", "--offline", "--quiet"
+WRAPPED = " ".join(f"-Clink-arg=-Wl,--wrap=proved_argon2_memory_{name}" for name in ("new", "free"))
+# The lines of `hex` that rust-argon2's tests use.
+HEX = """pub trait ToHex {
+    fn encode_hex<T: From<String>>(&self) -> T;
+}
+impl ToHex for Vec<u8> {
+    fn encode_hex<T: From<String>>(&self) -> T {
+        self.iter().map(|byte| format!("{byte:02x}")).collect::<String>().into()
+    }
+}
+"""
+SERDE = """use serde::de::{value::StrDeserializer, Deserialize, IntoDeserializer};
+fn main() {
+    fn is_writable<T: serde::Serialize>() {}
+    is_writable::<argon2::Error>();
+    let name: StrDeserializer<serde::de::value::Error> = "lanes_too_many".into_deserializer();
+    assert_eq!(argon2::Error::deserialize(name), Ok(argon2::Error::LanesTooMany));
+}
+"""
+# The page's lines of a run, with what they name: a right password, one that is stopped, and a costly text.
+TELLS = """use argon2::{Config, Error, Limits, Memory, Run, Unverified};
+use std::ops::ControlFlow;
+use std::sync::atomic::{AtomicBool, Ordering::Relaxed};
+
+fn verify(text: &str, stop: &AtomicBool) -> Result<bool, Unverified> {
+    let (pwd, secret, ad, limits) = (b"password", &[], &[], Limits::default());
+%s
+    verdict
+}
+
+fn main() {
+    let text = argon2::hash_encoded(b"password", b"somesalt", &Config::owasp5()).unwrap();
+    assert_eq!(verify(&text, &AtomicBool::new(false)), Ok(true));
+    assert_eq!(verify(&text, &AtomicBool::new(true)), Err(Unverified::Refused(Error::Stopped)));
+    assert_eq!(verify(&text.replace("t=5", "t=11"), &AtomicBool::new(true)), Err(Unverified::TooCostly));
+}
+"""
+# A program of rust-argon2, by the name of that crate. With an argument it asks for more memory than it may have, which
+# leaves the system's error number as it was.
+PROGRAM = """extern crate argon2;
+use argon2::{Config, ThreadMode, Variant, Version};
+
+fn main() -> Result<(), Box<dyn std::error::Error>> {
+    let config = Config {
+        variant: Variant::Argon2i,
+        version: Version::Version13,
+        mem_cost: 256,
+        time_cost: 2,
+        lanes: 1,
+        thread_mode: ThreadMode::Parallel,
+        secret: &[],
+        ad: &[],
+        hash_length: 32,
+    };
+    let text = argon2::hash_encoded(b"password", b"somesalt", &config.clone())?;
+    assert_eq!(text, "$argon2i$v=19$m=256,t=2,p=1$c29tZXNhbHQ$iekCn0Y3spW+sCcFanM2xBT63UP2sghkUoHLIUpWRS8");
+    assert!(argon2::verify_encoded(&text, b"password")?);
+    let error: argon2::Error = argon2::verify_encoded("x", b"password").unwrap_err();
+    assert_eq!(error.to_string(), "Decoding failed");
+    if std::env::args().count() > 1 {
+        let long = Config { hash_length: u32::MAX, ..config };
+        assert_eq!(argon2::hash_raw(b"password", b"salt", &long), Err(argon2::Error::SaltTooShort));
+        assert_eq!(argon2::hash_raw(b"password", b"somesalt", &long), Err(argon2::Error::OutOfMemory));
+        // (no such file: that is the system's error from here on)
+        std::fs::File::open("/nowhere/at/all").unwrap_err();
+        let large = Config { mem_cost: u32::MAX, ..config };
+        assert_eq!(argon2::hash_encoded(b"password", b"somesalt", &large), Err(argon2::Error::OutOfMemory));
+        let mut memory = argon2::Memory::new();
+        let answer = argon2::hash_encoded_in(&mut memory, b"password", b"somesalt", &large);
+        assert_eq!(answer, Err(argon2::Error::OutOfMemory));
+        assert_eq!(std::io::Error::last_os_error().kind(), std::io::ErrorKind::NotFound);
+    }
+    Ok(())
+}
+"""
+
+
+@pytest.fixture(scope="module")
+def cargo(built, cargo):
+    """The variables for a program whose crate finds the library by the one that names its folder."""
+    return {**cargo, "PROVED_ARGON2_LIB_DIR": built / MACHINE, "PKG_CONFIG_PATH": None}
+
+
+def test_its_own_tests_pass(cargo, drawn):
+    assert "test result: ok. " in run("cargo", "test", "--offline", "--no-fail-fast", cwd=CRATE, env={**cargo, **drawn})
+
+
+def test_each_number_that_the_library_answers(cargo, tmp_path):
+    run(CC, "-Wall", "-Wextra", "-Werror", "-O1", "-I", TOP / "crates/argon2_c/include", "-c", HERE / "answers.c",
+        "-o", tmp_path / "answers.o")
+    run("ar", "rcs", tmp_path / "libproved_argon2.a", tmp_path / "answers.o")
+    folder = project(tmp_path / "answers", (HERE / "answers.rs").read_text())
+    run(*RUN, cwd=folder, env={**cargo, "PROVED_ARGON2_LIB_DIR": tmp_path})
+
+
+@pytest.mark.parametrize("name, flags, more", [
+    ("memory", WRAPPED, {}), ("traits", "", {"dependencies": with_feature("password-hash")}),
+])
+def test_the_memory_that_is_kept_and_the_traits_of_password_hash(cargo, tmp_path, name, flags, more):
+    """The linker gives the first program the calls for a memory. The other is a service over RustCrypto's argon2 with
+    Debian's crate of its traits, of which the manifest alone names another package."""
+    folder = project(tmp_path / name, (HERE / f"{name}.rs").read_text(), **more)
+    run(*RUN, cwd=folder, env={**cargo, "RUSTFLAGS": f"{os.environ.get('RUSTFLAGS', '')} {flags}"})
+
+
+def test_the_tests_of_rust_argon2_pass(cargo, tmp_path):
+    """Of Debian's package, unchanged."""
+    words = "-qq", "-o", "APT::Sandbox::User=root", "download", "librust-rust-argon2-dev"
+    if start("apt-get", *words, cwd=tmp_path).returncode:
+        pytest.skip("there is no librust-rust-argon2-dev")
+    run("dpkg", "-x", *tmp_path.glob("*.deb"), tmp_path / "files")
+    project(tmp_path / "hex", HEX, "", "lib.rs")
+    folder = project(tmp_path / "theirs", "", f'{with_feature("crossbeam-utils")}hex = {{ path = "../hex" }}', "lib.rs",
+                     '[features]\ndefault = ["crossbeam-utils"]\ncrossbeam-utils = []\n')
+    (found,) = tmp_path.glob("files/usr/share/cargo/registry/rust-argon2-*/tests/integration_test.rs")
+    shutil.copytree(found.parent, folder / "tests")
+    words = "--offline", "--release", "--test", "integration_test", "--", "--test-threads", "2"
+    said = run("cargo", "test", *words, cwd=folder, env=cargo)
+    assert "test result: ok. 65 passed; 0 failed; 0 ignored" in said
+
+
+def test_errors_are_written_and_read_by_serde(cargo, tmp_path):
+    """With Debian's serde, as rust-argon2's are."""
+    run(*RUN, cwd=project(tmp_path / "with_serde", SERDE, f'{with_feature("serde")}serde = "1"'), env=cargo)
+
+
+def test_the_page_s_lines_of_a_run_tell_how_far_it_is(cargo, tmp_path):
+    (lines,) = [lines for lines in re.findall(r"^```rust\n(.*?)^```", PAGE, re.M | re.S) if "Run::new" in lines]
+    run(*RUN, cwd=project(tmp_path / "tells", TELLS % lines), env=cargo)
+
+
+def test_the_calls_of_the_library_are_declared_as_in_its_headers():
+    run("bindings/rust/declare.py")
+
+
+def test_the_page_has_the_arguments_of_the_calls():
+    """In their order. Those over a memory share a row: each takes it first, and then what the call without `_in` does,
+    with a secret."""
+    same = {"text": "encoded", "mem": "mem_cost", "time": "time_cost", "lanes": "parallelism"}
+    code = "".join(file.read_text() for file in CRATE.glob("src/*.rs") if file.name != "face.rs")
+    calls = re.findall(r"^pub fn (\w+)\(([^)]*)\)", code, re.M)
+    taken = {name: re.findall(r"(\w+):", arguments) for name, arguments in calls}
+    rows = re.findall(r"^\| `(\w+)\(([^).]*)\)` \|", PAGE, re.M)
+    documented = {name: [same.get(word, word) for word in re.findall(r"\w+", arguments)] for name, arguments in rows}
+    (shared,) = re.findall(r"^\| (`\w+_in\(&mut memory, \.\.\)`.*?) \|", PAGE, re.M)
+    for name in re.findall(r"(\w+)_in\b", shared):
+        documented[f"{name}_in"] = ["memory", *documented.get(f"{name}_ext", documented[name])]
+    assert documented == taken and len(taken) == 18
+
+
+def test_the_manifest_says_what_the_page_does_and_has_the_address_of_debian_s_packages():
+    lines = (CRATE / "Cargo.toml").read_text().splitlines()
+    (oldest,) = re.findall(r"is for Rust ([\d.]*) and later", PAGE)
+    address = re.search(r"^ -- (.*@.*>)  ", (TOP / "bindings/packages/changelog").read_text(), re.M)[1]
+    assert {f'rust-version = "{oldest}"', f'authors = ["{address}"]', "crossbeam-utils = []",
+            'license = "(MIT OR Apache-2.0) AND LicenseRef-none-named"'} <= {*lines}
+
+
+def test_unsafe_code_stands_in_one_module_and_each_block_is_explained():
+    files = [*CRATE.glob("src/**/*.rs"), *CRATE.glob("tests/*.rs"), CRATE / "build.rs"]
+    face = [CRATE / "src/face.rs", *CRATE.glob("src/face/*.rs")]
+    assert {file for file in files if "unsafe" in file.read_text()} <= {*face, CRATE / "src/lib.rs"}
+    lines = "".join(file.read_text() for file in face).splitlines()
+    blocks = [at for at, line in enumerate(lines) if "unsafe {" in line]
+    assert blocks and all("SAFETY:" in "".join(lines[at - 2:at]) for at in blocks)
+
+
+def test_clippy_and_rustdoc_find_nothing(cargo):
+    if start("cargo", "clippy", "--version").returncode:
+        pytest.skip("there is no clippy")
+    (CRATE / "src/lib.rs").touch()
+    run("cargo", "clippy", "--offline", "--all-targets", "--all-features", "--", "-D", "warnings", cwd=CRATE, env=cargo)
+    words = "--offline", "--no-deps", "--all-features"
+    run("cargo", "doc", *words, cwd=CRATE, env={**cargo, "RUSTDOCFLAGS": "-D warnings"})
+
+
+# ---- a program that depends on a copy of the crate, which has no repository around it
+
+
+@pytest.fixture(scope="module")
+def program(tmp_path_factory):
+    folder = tmp_path_factory.mktemp("alone")
+    shutil.copytree(CRATE / "src", folder / "copy/src")
+    for name in ("Cargo.toml", "build.rs"):
+        shutil.copy(CRATE / name, folder / "copy")
+    return project(folder / "program", PROGRAM, 'argon2 = { package = "proved-argon2", path = "../copy" }')
+
+
+def test_the_crate_alone_passes_its_own_tests(cargo, program):
+    run("cargo", "test", "--offline", "--quiet", cwd=program.parent / "copy", env=cargo)
+
+
+def test_settings_are_refused_first_and_then_memory_is(cargo, program):
+    """With 1 GB of memory and a hash of 4 GiB."""
+    run(*RUN, cwd=program, env=cargo)
+    made = cargo["CARGO_TARGET_DIR"] / "debug/program"
+    run(made, "long", preexec_fn=lambda: resource.setrlimit(resource.RLIMIT_AS, (1 << 30, 1 << 30)))
+
+
+def test_the_library_is_where_pkg_config_says(built, cargo, program, tmp_path):
+    (tmp_path / "proved_argon2.pc").write_text(
+        f"libdir={built / MACHINE}\nName: proved_argon2\nDescription: x\nVersion: 1\n")
+    run(*RUN, cwd=program, env={**cargo, "PROVED_ARGON2_LIB_DIR": None, "PKG_CONFIG_PATH": tmp_path})
+
+
+@pytest.mark.parametrize("folder, why", [
+    (None, "run ./install"), ("/nowhere", "PROVED_ARGON2_LIB_DIR is /nowhere, which has no libproved_argon2.a"),
+])
+def test_it_says_where_there_is_no_library(cargo, program, folder, why):
+    refuses(101, why, *RUN, cwd=program,
+            env={**cargo, "PROVED_ARGON2_LIB_DIR": folder, "PKG_CONFIG_LIBDIR": "/nowhere"})
+
+
+# ---- other targets
+
+TARGET = "x86_64-unknown-linux-gnu x86_64 linux gnu 64"
+WINDOWS = "x86_64-pc-windows-gnu x86_64 windows gnu 64"
+NAMES = "TARGET", *(f"CARGO_CFG_TARGET_{name}" for name in ("ARCH", "OS", "ENV", "POINTER_WIDTH", "ENDIAN"))
+
+
+class Repository:
+    """One with the build script of this crate, a build and a release, which is of the sources where that is said."""
+
+    def __init__(self, folder, is_current):
+        self.folder, self.released = folder, folder / "release/x86_64"
+        for name in ("bindings/rust", "bindings/out/x86_64", "release/x86_64", "build"):
+            (folder / name).mkdir(parents=True)
+        (folder / "build/released").write_text(f"#!/bin/sh\necho it is of other sources >&2\nexit {not is_current:d}\n")
+        (folder / "build/released").chmod(0o755)
+        for name in ("bindings/out/x86_64", "release/x86_64"):
+            (folder / name / "libproved_argon2.a").touch()
+        run("rustc", CRATE / "build.rs", "-o", folder / "script", env={"CARGO_MANIFEST_DIR": folder / "bindings/rust"})
+
+    def variables(self, target, **named):
+        names = dict(zip(NAMES, [*target.split(), "little"]))
+        return {"PROVED_ARGON2_LIB_DIR": None, "PKG_CONFIG_LIBDIR": "/nowhere", "PKG_CONFIG_PATH": None,
+                "HOST": "x86_64-unknown-linux-gnu", **names, **named}
+
+    def links(self, target, folder, **named):
+        said = run(self.folder / "script", env=self.variables(target, **named))
+        assert f"link-search=native={folder}\n" in said
+        return said
+
+    def refuses(self, why, target, **named):
+        refuses(1, why, self.folder / "script", env=self.variables(target, **named))
+
+    def has_sources(self):
+        """The library as C."""
+        shutil.copytree(built_part("portable") / "portable", self.folder / "release/portable")
+
+
+@pytest.fixture(scope="module")
+def current(tmp_path_factory):
+    return Repository(tmp_path_factory.mktemp("current"), True)
+
+
+@pytest.fixture
+def other(tmp_path):
+    return Repository(tmp_path, False)
+
+
+@pytest.mark.parametrize("target", """x86_64-apple-darwin x86_64 macos - 64
+aarch64-apple-darwin aarch64 macos - 64
+x86_64-pc-windows-msvc x86_64 windows msvc 64
+i686-pc-windows-gnu x86 windows gnu 32
+aarch64-pc-windows-gnullvm aarch64 windows gnu 64
+x86_64-unknown-linux-uclibc x86_64 linux uclibc 64
+aarch64-linux-android aarch64 android - 64
+x86_64-unknown-linux-gnux32 x86_64 linux gnu 32
+i686-unknown-linux-gnu x86 linux gnu 32
+aarch64_be-unknown-linux-gnu aarch64 linux gnu 64 big
+riscv64gc-unknown-linux-gnu riscv64 linux gnu 64
+x86_64-pc-windows-gnu x86_64 windows gnu 64""".splitlines())
+def test_it_stops_for_a_target_that_nothing_is_built_for(current, target):
+    name = target.split()[0]
+    what = "libproved_argon2.a" if target == WINDOWS or "riscv64" in name else "archive"
+    current.refuses(f"there is no {what} for {name}", target)
+
+
+def test_it_takes_what_release_has_for_the_target_where_it_is_of_the_sources(tmp_path, other):
+    repository = Repository(tmp_path / "current", True)
+    for env in ("gnu", "musl"):
+        repository.links(TARGET.replace("gnu", env), repository.released)
+    windows = repository.released.with_name("windows-x86_64")
+    windows.mkdir()
+    (windows / "libproved_argon2.a").touch()
+    repository.links(WINDOWS, windows)
+    other.refuses("it is of other sources", TARGET)
+
+
+@needs("aarch64-linux-gnu-gcc")
+def test_it_compiles_the_library_as_c_for_a_target_that_has_no_archive(tmp_path, other):
+    """By the compiler that is named."""
+    repository, made = Repository(tmp_path / "current", True), tmp_path / "made"
+    made.mkdir()
+    for one in (repository, other):
+        one.has_sources()
+    said = repository.links("aarch64_be-unknown-linux-gnu aarch64_be linux gnu 64 big", made, OUT_DIR=made,
+                            CC="aarch64-linux-gnu-gcc", AR="aarch64-linux-gnu-ar")
+    assert "cargo:warning=there is no archive for aarch64_be-" in said
+    assert " T proved_argon2_hash_raw\n" in run("aarch64-linux-gnu-nm", made / "libproved_argon2.a")
+    old = "i686-unknown-linux-gnu x86 linux gnu 32"
+    repository.refuses("name a compiler and an archiver for it in CC and AR", old)
+    other.refuses("it is of other sources", old)
+
+
+def test_it_takes_no_installation_for_another_machine(built, other, tmp_path):
+    shutil.rmtree(other.folder / "release")
+    (tmp_path / "proved_argon2.pc").write_text(f"libdir={built / MACHINE}\nName: x\nDescription: x\nVersion: 1\n")
+    target = "aarch64-unknown-linux-gnu"
+    other.refuses(f"there is no libproved_argon2.a for {target}", f"{target} aarch64 linux gnu 64",
+                  PKG_CONFIG_PATH=tmp_path)
