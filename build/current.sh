@@ -88,7 +88,7 @@ find_machine() {
 
 # The names of all machines, into `machines`.
 find_machines() {
-    machines=$(sed -n 's/^\([^# ]*\) .*/\1/p' "$root/build/machines.txt")
+    machines=$(sed -n 's/^\([^# ]*\) .*/\1/p' "$root/build/machines.txt" | tr '\n' ' ')
 }
 
 # ---- what is built here
