@@ -151,14 +151,14 @@ def test_the_page_has_the_arguments_of_the_calls():
     with a secret."""
     same = {"text": "encoded", "mem": "mem_cost", "time": "time_cost", "lanes": "parallelism"}
     code = "".join(file.read_text() for file in CRATE.glob("src/*.rs") if file.name != "face.rs")
-    calls = re.findall(r"^pub fn (\w+)\(([^)]*)\)", code, re.M)
+    calls = re.findall(r"^pub fn (\w+)(?:<'\w+>)?\(([^)]*)\)", code, re.M)
     taken = {name: re.findall(r"(\w+):", arguments) for name, arguments in calls}
     rows = re.findall(r"^\| `(\w+)\(([^).]*)\)` \|", PAGE, re.M)
     documented = {name: [same.get(word, word) for word in re.findall(r"\w+", arguments)] for name, arguments in rows}
     (shared,) = re.findall(r"^\| (`\w+_in\(&mut memory, \.\.\)`.*?) \|", PAGE, re.M)
     for name in re.findall(r"(\w+)_in\b", shared):
         documented[f"{name}_in"] = ["memory", *documented.get(f"{name}_ext", documented[name])]
-    assert documented == taken and len(taken) == 18
+    assert documented == taken and len(taken) == 19
 
 
 def test_the_manifest_says_what_the_page_does_and_has_the_address_of_debian_s_packages():

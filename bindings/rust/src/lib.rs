@@ -68,6 +68,7 @@ mod stored;
 mod thread_mode;
 #[cfg(feature = "password-hash")]
 mod traits;
+mod tuning;
 mod variant;
 mod verifying;
 mod version;
@@ -88,6 +89,7 @@ pub use stored::{read, Stored};
 pub use thread_mode::ThreadMode;
 #[cfg(feature = "password-hash")]
 pub use traits::{Argon2, Params};
+pub use tuning::{tune, Tuning};
 pub use variant::Variant;
 #[cfg(feature = "password-hash")]
 pub use variant::Variant as Algorithm;

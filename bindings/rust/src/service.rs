@@ -1,6 +1,4 @@
-use crate::{
-    hash_password_with, needs_rehash, verify_encoded_within, Config, Error, Limits, Result, Unverified,
-};
+use crate::{face, hash_password_with, needs_rehash, Config, Error, Limits, Result, Run, Unverified};
 use std::result;
 
 /// Verifies a password against an encoded hash within limits, as [`verify_encoded_within`] does, with the secret
@@ -29,21 +27,39 @@ pub fn verify_and_update(
     pwd: &[u8],
     config: &Config<'_>,
 ) -> result::Result<(bool, Option<String>), Unverified> {
-    renew(encoded, pwd, config, config)
+    Run::new().verify_and_update(encoded, pwd, config)
+}
+
+impl Run<'_> {
+    /// As [`verify_and_update`]. A call that is stopped while it hashes anew leaves the new hash out.
+    ///
+    /// # Errors
+    ///
+    /// As there, and [`Unverified::Refused`] with [`Error::Stopped`].
+    pub fn verify_and_update(
+        &mut self,
+        encoded: &str,
+        pwd: &[u8],
+        config: &Config<'_>,
+    ) -> result::Result<(bool, Option<String>), Unverified> {
+        renew(self, encoded, pwd, config, config)
+    }
 }
 
 /// Verifies with the secret of one configuration, and hashes anew with another.
 fn renew(
+    run: &mut Run<'_>,
     encoded: &str,
     pwd: &[u8],
     old: &Config<'_>,
     new: &Config<'_>,
 ) -> result::Result<(bool, Option<String>), Unverified> {
-    if !verify_encoded_within(encoded, pwd, old.secret, old.ad, &Limits::at_least(new))? {
+    if !run.verify_encoded_within(encoded, pwd, old.secret, old.ad, &Limits::at_least(new))? {
         return Ok((false, None));
     }
     let is_due = old.secret != new.secret || needs_rehash(encoded, new) != Ok(false);
-    Ok((true, if is_due { hash_password_with(pwd, new).ok() } else { None }))
+    let salt = if is_due { face::new_salt() } else { None };
+    Ok((true, salt.and_then(|salt| run.hash_encoded(pwd, &salt, new).ok())))
 }
 
 /// A pepper that rotates: keys by an ID that is stored beside each encoded hash, which does not contain it. `None`
@@ -101,7 +117,8 @@ impl<'a> Peppers<'a> {
         let found =
             key_id.map(|key_id| self.keys.iter().find(|key| key.0 == key_id).ok_or(Error::SecretTooShort));
         let old = Config { secret: found.transpose()?.map_or(&[], |key| key.1), ..self.config };
-        let (is_match, update) = renew(encoded, pwd, &old, &Config { secret, ..self.config })?;
+        let (is_match, update) =
+            renew(&mut Run::new(), encoded, pwd, &old, &Config { secret, ..self.config })?;
         Ok((is_match, update.map(|update| (newest, update))))
     }
 }
@@ -110,7 +127,8 @@ impl<'a> Peppers<'a> {
 mod tests {
     use super::{verify_and_update, Peppers};
     use crate::{hash_password_with, needs_rehash, verify_encoded_ext};
-    use crate::{Config, Error, ThreadMode, Unverified, Variant, Version};
+    use crate::{Config, Error, Run, ThreadMode, Unverified, Variant, Version};
+    use std::ops::ControlFlow;
 
     const SMALL: Config<'static> = Config {
         ad: &[],
@@ -146,6 +164,30 @@ mod tests {
         );
         let costly = stored.replace("m=64", "m=4294967295");
         assert_eq!(verify_and_update(&costly, b"password", &SMALL), Err(Unverified::TooCostly));
+    }
+
+    #[test]
+    fn a_run_reports_both_and_stops_either() {
+        let stored = hash_password_with(b"password", &Config { time_cost: 2, ..SMALL }).unwrap();
+        let by = |pwd: &[u8], most: u32| {
+            let mut left = most;
+            let answer = Run::new()
+                .telling(|_, _| {
+                    left = left.saturating_sub(1);
+                    if left > 0 {
+                        ControlFlow::Continue(())
+                    } else {
+                        ControlFlow::Break(())
+                    }
+                })
+                .verify_and_update(&stored, pwd, &SMALL);
+            (answer, most - left)
+        };
+        let (answer, slices) = by(b"password", 100);
+        assert!(matches!(answer, Ok((true, Some(_)))) && slices == 12);
+        assert_eq!(by(b"Password", 100), (Ok((false, None)), 8));
+        assert_eq!(by(b"password", 9), (Ok((true, None)), 9));
+        assert_eq!(by(b"password", 8).0, Err(Unverified::Refused(Error::Stopped)));
     }
 
     #[test]

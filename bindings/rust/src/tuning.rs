@@ -1,0 +1,147 @@
+use crate::{hash_raw, Config, Limits, Result};
+use std::fs;
+use std::time::{Duration, Instant};
+
+/// Of OWASP's choices the least memory, and the least work: of less a hash protects no password.
+const LEAST_MEMORY: u32 = 7168;
+const LEAST_WORK: u32 = 5 * LEAST_MEMORY;
+const ROUNDS: u32 = 3;
+
+/// Settings that [`tune`] found.
+#[derive(Clone, Copy, Debug, PartialEq)]
+pub struct Tuning<'a> {
+    /// The settings.
+    pub config: Config<'a>,
+
+    /// What a hash takes, the least of several.
+    pub time: Duration,
+
+    /// How many programs ran at once in the last minute, beside which hashes take longer, where Linux says it.
+    pub load: Option<f64>,
+}
+
+/// The strongest settings whose hash takes at most so long here: as much memory as that leaves time for, at most
+/// that of `config`, and then as many passes, within the default limits. All else is as in `config`.
+///
+/// It is `None` if the least settings for passwords (7 MiB, 5 passes, or their work) take longer.
+///
+/// # Errors
+///
+/// As [`hash_raw`].
+///
+/// # Examples
+///
+/// ```
+/// use proved_argon2::{self as argon2, Config};
+/// use std::time::Duration;
+///
+/// let most = Config { mem_cost: 65536, ..Config::default() };
+/// let found = argon2::tune(Duration::from_secs(60), &most)?.expect("a minute is enough");
+/// let stored = argon2::hash_password_with(b"correct horse", &found.config)?;
+/// # assert!(argon2::verify_password(&stored, b"correct horse").unwrap() && found.config.time_cost > 1);
+/// # Ok::<(), argon2::Error>(())
+/// ```
+pub fn tune<'a>(within: Duration, config: &Config<'a>) -> Result<Option<Tuning<'a>>> {
+    search(within, config, &measure)
+}
+
+type Measure<'a> = dyn Fn(&Config<'a>) -> Result<Duration> + 'a;
+
+fn search<'a>(within: Duration, most: &Config<'a>, measure: &Measure<'a>) -> Result<Option<Tuning<'a>>> {
+    let mut config = *most;
+    while config.mem_cost >= LEAST_MEMORY {
+        config.time_cost = (LEAST_WORK - 1) / config.mem_cost + 1;
+        let time = measure(&config)?;
+        if time <= within {
+            return with_passes(within, config, time, measure).map(Some);
+        }
+        config.mem_cost /= 2;
+    }
+    Ok(None)
+}
+
+/// Settings with as many passes as there is time for.
+fn with_passes<'a>(
+    within: Duration,
+    least: Config<'a>,
+    took: Duration,
+    measure: &Measure<'a>,
+) -> Result<Tuning<'a>> {
+    let limits = Limits::default();
+    let by_work = u32::try_from(limits.work / u64::from(least.mem_cost)).unwrap_or(u32::MAX);
+    let by_time = f64::from(least.time_cost) * within.as_secs_f64() / took.as_secs_f64();
+    let most = limits.time_cost.min(by_work).min(by_time as u32);
+    for time_cost in (least.time_cost + 1..=most).rev() {
+        let config = Config { time_cost, ..least };
+        let time = measure(&config)?;
+        if time <= within {
+            return Ok(Tuning { config, time, load: load() });
+        }
+    }
+    Ok(Tuning { config: least, time: took, load: load() })
+}
+
+/// What a hash takes, the least of a few.
+fn measure(config: &Config<'_>) -> Result<Duration> {
+    let mut least = Duration::MAX;
+    for _ in 0..ROUNDS {
+        let begun = Instant::now();
+        hash_raw(b"", b"somesalt", config)?;
+        least = least.min(begun.elapsed());
+    }
+    Ok(least)
+}
+
+fn load() -> Option<f64> {
+    fs::read_to_string("/proc/loadavg").ok()?.split(' ').next()?.parse().ok()
+}
+
+#[cfg(test)]
+mod tests {
+    use super::{load, search, tune};
+    use crate::{Config, Error, Result};
+    use std::path::Path;
+    use std::time::Duration;
+
+    const MOST: u32 = 65536;
+
+    /// The memory and the passes that are found where a hash takes so many microseconds.
+    fn found(within: u64, mem_cost: u32, measure: fn(u64, u64) -> u64) -> Result<Option<(u32, u32)>> {
+        let most = Config { mem_cost, ..Config::default() };
+        let found = search(Duration::from_micros(within), &most, &|config| {
+            Ok(Duration::from_micros(measure(config.mem_cost.into(), config.time_cost.into())))
+        })?;
+        Ok(found.map(|found| (found.config.mem_cost, found.config.time_cost)))
+    }
+
+    #[test]
+    fn there_is_as_much_memory_as_there_is_time_for_and_then_passes() {
+        let linear = |memory, passes| memory * passes;
+        for (within, memory, passes) in [
+            (70_000, 65536, 1),
+            (140_000, 65536, 2),
+            (65_600, 65536, 1),
+            (65_000, 16384, 3),
+            (41_000, 8192, 5),
+            (10_000_000, 65536, 10),
+        ] {
+            assert_eq!(found(within, MOST, linear), Ok(Some((memory, passes))), "{within}");
+        }
+        assert_eq!(found(10_000_000, 1 << 21, linear), Ok(Some((1 << 21, 2))));
+        assert_eq!(found(350_000, MOST, |memory, passes| memory * passes * passes), Ok(Some((MOST, 2))));
+        assert_eq!(found(10_000, MOST, linear), Ok(None));
+        assert_eq!(found(5000, MOST, |memory, _| memory), Ok(None));
+    }
+
+    #[test]
+    fn settings_are_measured_here() {
+        let most = Config { mem_cost: 16384, secret: b"pepper", ..Config::default() };
+        let found = tune(Duration::from_secs(60), &most).unwrap().unwrap();
+        assert!(found.time > Duration::ZERO && found.config.time_cost >= 3);
+        assert_eq!(found.config, Config { time_cost: found.config.time_cost, ..most });
+        assert_eq!(load().is_some(), Path::new("/proc/loadavg").exists());
+        assert_eq!(tune(Duration::ZERO, &most), Ok(None));
+        let rejected = Config { lanes: 0, ..most };
+        assert_eq!(tune(Duration::from_secs(1), &rejected), Err(Error::LanesTooFew));
+    }
+}
