@@ -1,5 +1,5 @@
-# shellcheck shell=bash disable=SC2154 # the variables are those of ./install and ./package
-# How ./install and ./package ship pages of the repository. They source it.
+# shellcheck shell=bash disable=SC2154 # the variable is that of ./install and debian/papers
+# How ./install and debian/papers ship pages of the repository. They source it.
 
 # Copies pages, below the folder at their paths here: `ship_pages FOLDER PAGE..`. A relative link stays if it leads to
 # another of these pages, and else leads to the project's address.

@@ -3,6 +3,7 @@ import os
 import pathlib
 import re
 import shutil
+import stat
 import subprocess
 import tempfile
 
@@ -91,11 +92,17 @@ def test_the_loader_is_told_of_usr_local(folder):
 
 
 @pytest.mark.parametrize("mask", ["000", "022", "077"])
-def test_what_is_installed_has_the_modes_of_the_list_under_each_umask(folder, mask):
+def test_what_is_installed_has_its_modes_under_each_umask(folder, mask):
     """Of a careful root, of one who is not, and in the folders of a group."""
     prefix = folder / f"mask/{mask}"
     run("sh", "-c", 'umask "$0" && exec ./install "$1"', mask, prefix)
-    run("bindings/packages/modes.py", "installed", prefix)
+    for path in [prefix, *prefix.rglob("*")]:
+        is_program = path.parent.name == "bin" or path.name in ("argon2_tool", "uninstall")
+        expected = 0o777 if path.is_symlink() else 0o755 if path.is_dir() or is_program else 0o644
+        status = path.lstat()
+        assert stat.S_IMODE(status.st_mode) == expected, path
+        assert (status.st_uid, status.st_gid) == (os.geteuid(), os.getegid()), path
+    assert (prefix / "bin/proved-argon2").exists()
     run("./install", "--remove", prefix)
     assert not (folder / "mask").exists()
 

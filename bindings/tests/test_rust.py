@@ -164,7 +164,7 @@ def test_the_page_has_the_arguments_of_the_calls():
 def test_the_manifest_says_what_the_page_does_and_has_the_address_of_debian_s_packages():
     lines = (CRATE / "Cargo.toml").read_text().splitlines()
     (oldest,) = re.findall(r"is for Rust ([\d.]*) and later", PAGE)
-    address = re.search(r"^ -- (.*@.*>)  ", (TOP / "bindings/packages/changelog").read_text(), re.M)[1]
+    address = re.search(r"^ -- (.*@.*>)  ", (TOP / "debian/changelog").read_text(), re.M)[1]
     assert {f'rust-version = "{oldest}"', f'authors = ["{address}"]', "crossbeam-utils = []",
             'license = "(MIT OR Apache-2.0) AND LicenseRef-none-named"'} <= {*lines}
 

@@ -1,0 +1,276 @@
+"""Makes the packages, here and elsewhere as somebody else, and looks into each. Goes from each alone through the first
+lines of the pages (debian/tests), where neither the kit nor this repository can be seen, removes it, and looks for what
+is left."""
+
+import fnmatch
+import os
+import re
+import shutil
+from pathlib import Path
+
+import pytest
+
+from alone import copy_tree, in_namespace, needs_root, read, refuses, succeeds
+from shared import TOP, run
+from machines import machines
+
+VERSION = (TOP / 'VERSION').read_text(encoding='utf-8').strip()
+PROJECT = dict(re.findall(r'^(\w+): (.+)$', (TOP / 'PROJECT').read_text(encoding='utf-8'), re.M))
+DEBS = {  # what each asks for, and the page that it has beside those of all
+    'libproved-argon2-1': ('libc6 (>= 2.34)', ''), 'proved-argon2': ('libc6 (>= 2.34)', 'docs/SHELL.md'),
+    'libproved-argon2-dev': (f'libproved-argon2-1 (= {VERSION}-1)', 'docs/C.md'),
+    'proved-libargon2-1': ('libc6 (>= 2.34)', 'docs/LIBARGON2.md'),
+    'proved-libargon2-dev': (f'proved-libargon2-1 (= {VERSION}-1), libc6-dev', 'docs/LIBARGON2.md'),
+}
+ASKS = {f'{name}_{VERSION}-1_{of}.deb': what for name, what in DEBS.items() for of in ('amd64', 'arm64')}
+ASKS[f'python3-proved-argon2_{VERSION}-1_all.deb'] = (
+    f'python3:any, libproved-argon2-1 (= {VERSION}-1)', 'docs/PYTHON.md')
+WHEELS = [f'proved_argon2-{VERSION}-py3-none-manylinux_2_34_{of}.whl'
+          for of in ('x86_64.musllinux_1_2_x86_64', 'aarch64')]
+TARBALLS = [f'proved-argon2-{VERSION}-{machine}.tar.gz' for machine in machines()]
+CRATE, NPM = f'proved-argon2-{VERSION}.crate', f'proved-argon2-{VERSION}.tgz'
+NAMES = [*ASKS, *WHEELS, *TARBALLS, CRATE, NPM]
+PAPERS = {CRATE: f'proved-argon2-{VERSION}', NPM: 'package', **dict.fromkeys(WHEELS, '*.dist-info/licenses'),
+          **dict.fromkeys(TARBALLS, 'usr/local/share/doc/proved-argon2')}
+LISTS = {'.deb': ['dpkg-deb', '-c'], '.whl': ['zipinfo']}
+UNPACKS = {'.deb': 'dpkg-deb -x {} {}', '.whl': 'unzip -q {} -d {}'}
+ENTRY = re.compile(r'^([-dl])([-rwxst]{9}) +(\S+) .*? (?:\./)?([^ ]+?)(?: -> .*)?$', re.M)
+PROGRAMS = re.compile(r'(^|/)(bin/(proved-)?argon2|argon2_tool|share/proved-argon2/uninstall)$')
+OF_ALL = ['README.md', 'SECURITY.md', 'docs/CLAIMS.md', 'docs/USE.md']
+pytestmark = [needs_root, pytest.mark.timeout(2400)]
+
+
+@pytest.fixture(scope='session')
+def packages(tmp_path_factory):
+    folder = tmp_path_factory.mktemp('packages')
+    succeeds('bash', '-c', f'umask 0 && ./package {folder} && cd {folder} && sha256sum --quiet -c SHA256SUMS')
+    assert {file.name for file in folder.iterdir()} == {*NAMES, 'SHA256SUMS'} and len(NAMES) == 17
+    return folder
+
+
+@pytest.fixture(scope='session')
+def unpacked(packages, tmp_path_factory):
+    """A folder for each package, by its name, with what it has."""
+    folder = tmp_path_factory.mktemp('unpacked')
+    for name in NAMES:
+        (folder / name).mkdir()
+        succeeds(*UNPACKS.get(Path(name).suffix, 'tar -xf {} -C {}').format(packages / name, folder / name).split())
+    return folder
+
+
+# ---- what is made
+
+def test_elsewhere_by_somebody_else_they_are_the_same_bytes(packages, tmp_path_factory):
+    """In another folder, by another user with another umask, clock, zone and language, and one processor."""
+    there = tmp_path_factory.mktemp('elsewhere')
+    tree, home = copy_tree(there / 'tree'), there / 'home'
+    succeeds('bash', '-c', f'install -d -m 777 {home} && chmod -R a+rX {tree} && chmod a+x {there} {there.parent}')
+    late = ['faketime', '-f', '+40d'] if shutil.which('faketime') else []
+    succeeds('bash', '-c', 'umask 077 && cd / && "$@"', 'bash', 'taskset', '-c', '0', 'setpriv', '--reuid=65534',
+             '--regid=65534', '--clear-groups', 'env', f'HOME={home}', f'TMPDIR={home}', 'TZ=Asia/Tokyo',
+             'LC_ALL=C.UTF-8', *late, tree / 'package', home / 'made')
+    assert read(home / 'made/SHA256SUMS') == read(packages / 'SHA256SUMS')
+
+
+def test_lintian_finds_nothing(packages, needs):
+    needs('lintian')
+    succeeds('lintian', '--allow-root', '--fail-on', 'error,warning', *(packages / name for name in ASKS))
+
+
+def test_what_is_lacking_is_named_at_once(tmp_path):
+    for name in ('bash', 'env', 'sed', 'date', 'dirname', 'readlink', 'realpath'):
+        (tmp_path / name).symlink_to(shutil.which(name))
+    (tmp_path / 'python3').symlink_to('/usr/bin/python3')
+    refuses(1, 'package: it needs what is in the packages binutils '
+            'binutils-aarch64-linux-gnu debhelper dpkg-dev cargo npm\n',
+            'bash', './package', tmp_path / 'none', env={'PATH': str(tmp_path)})
+
+
+def test_who_publishes_is_written_to_its_places_alone(tmp_path):
+    tree, old, new = copy_tree(tmp_path / 'tree'), PROJECT['Address'], f'https://new.example/{os.getpid()}'
+    succeeds('sed', '-i', f's|^Address: .*|Address: {new}|', tree / 'PROJECT')
+    succeeds('.ci/pages/places', '--write', cwd=tree)
+    succeeds('bash', '-c', f'grep -rlF {new} {tree} | xargs sed -i "s|{new}|{old}|g"')
+    succeeds('diff', '-r', *(f'--exclude={name}' for name in ('out', 'target', '.git', '__pycache__')), TOP, tree)
+
+
+# ---- what is in them
+
+@pytest.mark.parametrize('name', NAMES)
+def test_all_is_of_root_and_has_its_mode(packages, name):
+    """No archive has an entry for a folder that is not ours, which would change that of the system."""
+    found = ENTRY.findall(succeeds(*LISTS.get(Path(name).suffix, ['tar', '-tvf']), packages / name))
+    wrong = [(mode, owner, path) for kind, mode, owner, path in found if owner not in ('root/root', '0/0', '2.0')
+             or mode != ('rwxrwxrwx' if kind == 'l' else
+                         'rwxr-xr-x' if kind == 'd' or PROGRAMS.search(path) else 'rw-r--r--')
+             or name[-4:] != '.deb' and (path.startswith(('/', '..')) or kind == 'd' and 'proved-argon2' not in path)]
+    assert len(found) > 10 and not wrong
+
+
+@pytest.mark.parametrize('is_link', [True, False])
+def test_the_tarball_keeps_what_is_the_systems(packages, tmp_path, is_link):
+    """Where /usr/local is a link, or its folders are a group's, it changes neither."""
+    local = tmp_path / ('opt/local' if is_link else 'usr/local')
+    lists = ['find', tmp_path, '-printf', '%y %m %u:%g %p %l\n']
+    succeeds('bash', '-c', f'mkdir -p {tmp_path}/usr {local}/{{bin,include,lib/pkgconfig,share/man/man1}} && '
+             f'chown -R root:staff {local} && find {local} -type d -exec chmod 2775 {{}} +')
+    if is_link:
+        (tmp_path / 'usr/local').symlink_to('../opt/local')
+    before = {*succeeds(*lists).splitlines()}
+    succeeds('bash', '-c', f'umask 077 && tar -C {tmp_path} -xzf {packages / TARBALLS[0]}')
+    assert before <= {*succeeds(*lists).splitlines()}
+    assert f'URL: {PROJECT["Address"]}\n' in read(local / 'lib/pkgconfig/proved_argon2.pc')
+    assert (local / 'bin/proved-argon2').exists() and (local / 'lib/libproved_argon2.so.1').exists()
+
+
+def words(text):
+    """The words of both licences, without how they are set: what stands behind the titles."""
+    return [word for line in re.split(r'(?m)^(?:=== MIT|License: MIT$)', text, 1)[1].splitlines()[1:]
+            if not re.match('===|License:', line) for word in re.split('[ .]+', line) if word]
+
+
+@pytest.mark.parametrize('name', NAMES)
+def test_each_has_both_licences_and_the_pages_of_its_users(unpacked, name):
+    papers, = (unpacked / name).glob(PAPERS.get(name, 'usr/share/doc/*'))
+    if name in ASKS:
+        assert words(read(papers / 'copyright')) == words(read(TOP / 'LICENSE'))
+    else:
+        assert read(papers / 'LICENSE') == read(TOP / 'LICENSE')
+    assert read(papers / 'NOTICE') == read(TOP / 'NOTICE')
+    own = ASKS[name][1].split() if name in ASKS else ['docs/C.md', 'docs/LIBARGON2.md', 'docs/SHELL.md']
+    for page in [] if name in (CRATE, NPM, *WHEELS) else [*OF_ALL, *own]:
+        kept, ours = (re.sub(r'\]\([^)]*\)', ']', read(at / page)) for at in (papers, TOP))
+        assert kept == ours, page
+    pages = [page for form in ('*.md', 'METADATA') for page in (unpacked / name).rglob(form)]
+    assert pages and not [f'{page}: {link}' for page in pages for link in re.findall(
+        r'\]\(([^]):# ]+)[)#]', read(page)) if not (page.parent / link).exists()]
+
+
+def names_in(text):
+    return {*re.findall('Martijn Rijkeboer|Ulrik Sverdrup|Alice Maz, Marshall|(?:Rust Project|rust-hex) Dev', text)}
+
+
+@pytest.mark.parametrize('name', ASKS)
+def test_the_copyright_tells_of_what_is_built(unpacked, name):
+    """It says of each file of machine code that a part has no licence, and names whoever NOTICE does: the toolchain
+    links programs for x86-64 alone."""
+    parts = re.findall(r'^Files: ((?:.+\n)+)', read(next((unpacked / name).glob('usr/share/doc/*/copyright'))), re.M)
+    every = names_in(read(TOP / 'NOTICE'))
+    for file in succeeds('find', 'usr', '-type', 'f', cwd=unpacked / name).split():
+        *_, part = (part for part in parts if any(fnmatch.fnmatch(file, form) for form in part.split('\n')[0].split()))
+        is_code = not run('readelf', '-h', unpacked / name / file).returncode
+        of_programs = set() if '/x86-64-v' in file else {'Ulrik Sverdrup', 'Rust Project Dev', 'rust-hex Dev'}
+        assert names_in(part) == (every - of_programs if is_code else {'Martijn Rijkeboer'}), file
+        assert ('License: MIT or Apache-2.0, and none-named' in part) == is_code, file
+
+
+@pytest.mark.parametrize('name', ASKS)
+def test_a_package_for_debian_asks_for_what_it_needs_alone(packages, unpacked, name):
+    fields = succeeds('dpkg-deb', '-f', packages / name, 'Maintainer', 'Homepage', 'Depends', 'Recommends', 'Suggests')
+    assert sorted(fields.splitlines()) == [
+        f'Depends: {ASKS[name][0]}', f'Homepage: {PROJECT["Address"]}',
+        f'Maintainer: {PROJECT["Publisher"]} <{PROJECT["Contact"]}>']
+    said = run('find', unpacked / name / 'usr', '-type', 'f', '-exec', 'readelf', '-VW', '{}', '+').stdout
+    newest = max(([int(part) for part in found.split('.')] for found in re.findall(r'GLIBC_([\d.]+)', said)), default=0)
+    assert newest == ([2, 34] if 'libc6 (' in ASKS[name][0] else 0)
+
+
+# ---- where neither the kit nor the repository can be seen
+
+# Over a copy of this system that is gone afterwards. /new has what was written since, and /former all that was there
+# before: nothing may be there now that was not, and nothing be gone, but for what the system notes for itself.
+ALONE = '''
+mount -t tmpfs none "$1" && mkdir "$1"/{new,work,all,hidden} && all=$1/all
+mount -t overlay overlay -o "lowerdir=/,upperdir=$1/new,workdir=$1/work" "$all"
+mkdir -p "$all"/{packages,new,former} && cp -r "$2/." "$all/packages"
+mount --bind "$1/new" "$all/new" && mount --bind / "$all/former"
+for hidden in /opt/rattle "$3"; do [[ ! -d $hidden ]] || mount --bind "$1/hidden" "$all$hidden"; done
+mount --rbind /dev "$all/dev" && mount -t proc proc "$all/proc"
+exec chroot "$all" env -i HOME=/root PATH=/usr/local/bin:/usr/sbin:/usr/bin:/sbin:/bin bash -Eeuo pipefail -c "$4"'''
+BEFORE = '''
+trap 'echo "status $?: $BASH_COMMAND" >&2' ERR
+cd /packages; scratch=$(mktemp -d)
+[[ ! -e /opt/rattle/bin && ! $(command -v rt) && $(ldconfig -p) != *proved_argon2* ]]
+installed_of() { dpkg-query -W -f '${Package}\\n' "$@" 2>/dev/null || true; }
+leaves_nothing() {
+    local kind path changes=
+    while read -r kind path; do
+        if [[ $kind == c && -e /former/$path ]]; then changes+="gone: $path "; fi
+        if [[ $kind != c && ! -e /former/$path && ! -L /former/$path ]]; then changes+="left: $path "; fi
+    done < <(find /new -mindepth 1 -printf '%y %P\\n' \\
+        | grep -vE '^. (packages|new|former|tmp|root/\\.c|var/log/|var/cache/|var/lib/dpkg/.*-old)')
+    printf %s "$changes"; [[ -z $changes ]]
+}
+'''
+NEEDS = {'tarball': [], 'debian': [], 'wheel': [], 'crate': ['cargo'], 'javascript': ['npm', 'node'],
+         'libargon2': ['php', '/usr/sbin/cryptsetup']}
+FROM = {
+    'tarball': '''tar -C / -xzf *-x86_64.tar.gz; ldconfig
+        debian/tests/command; debian/tests/library; /usr/local/share/proved-argon2/uninstall; leaves_nothing''',
+    'debian': '''dpkg -i lib*_amd64.deb proved-argon2_*_amd64.deb *_all.deb
+        dpkg --verify libproved-argon2-1 libproved-argon2-dev proved-argon2 python3-proved-argon2
+        debian/tests/command; debian/tests/library; debian/tests/python
+        dpkg -i --force-confnew lib*_amd64.deb proved-argon2_*_amd64.deb *_all.deb; debian/tests/command
+        installed_of '*proved-argon2*' | xargs dpkg --purge; [[ -z $(installed_of '*proved-argon2*') ]]
+        leaves_nothing''',
+    'wheel': '''/usr/bin/python3 -m venv "$scratch/venv"; in=$scratch/venv/bin
+        find "$scratch/venv" | sort >"$scratch/before"
+        "$in/pip" install --no-index --no-compile --disable-pip-version-check *_x86_64.whl
+        export PYTHON=$in/python PYTHONDONTWRITEBYTECODE=1
+        debian/tests/python; PROVED_ARGON2_CPU=x86-64-v2 debian/tests/python; "$in/pip" uninstall -y proved-argon2
+        diff "$scratch/before" <(find "$scratch/venv" | sort)''',
+    'crate': '''tar -xzf *.crate; cd rust; cargo run --offline --quiet
+        cargo run --offline --quiet --features optional
+        PROVED_ARGON2_CPU=x86-64-v2 cargo run --offline --quiet
+        rm ../proved-argon2-*/lib/x86_64/libproved_argon2.a; cargo clean -q
+        if cargo run --offline --quiet 2>said; then exit 1; fi; grep 'the crate is not whole' said''',
+    'javascript': '''cd "$scratch"; npm=(--offline --no-audit --no-fund --cache "$scratch/cache")
+        npm install "${npm[@]}" /packages/*.tgz; [[ $(ls node_modules) == proved-argon2 ]]
+        awk '/^```/ { fences++; next } fences == 1' /packages/docs/JAVASCRIPT.md >first.mjs
+        [[ $(node first.mjs) == $'true\\nfalse' ]]
+        node --input-type=module --eval "await (await import('proved-argon2')).hash('password', { native: true });"
+        npm uninstall "${npm[@]}" proved-argon2; [[ ! -e node_modules/proved-argon2 ]]''',
+    'libargon2': '''debian/tests/libargon2 libargon2-1; dpkg -i proved-libargon2-*_amd64.deb
+        dpkg --verify proved-libargon2-1 proved-libargon2-dev; [[ -z $(dpkg --audit) ]]; apt-get check -qq
+        if dpkg-query -W -f '${Status}\\n' libargon2-1 libargon2-dev 2>/dev/null | grep ' installed'; then exit 1; fi
+        debian/tests/libargon2 proved-libargon2-1
+        apt-get install -qq -y -o APT::Sandbox::User=root ./theirs/*.deb; [[ -z $(installed_of '*proved-libargon2*') ]]
+        debian/tests/libargon2 libargon2-1; leaves_nothing''',
+}
+CARGO = f'''[package]
+name = "first"
+version = "0.0.0"
+edition = "2021"
+[workspace]
+[dependencies]
+argon2 = {{ package = "proved-argon2", path = "../proved-argon2-{VERSION}" }}
+[features]
+optional = ["argon2/serde", "argon2/password-hash"]
+'''
+DEBIANS = '[source.crates-io]\nreplace-with = "debian"\n[source.debian]\ndirectory = "/usr/share/cargo/registry"\n'
+
+
+@pytest.fixture(scope='session')
+def with_pages(packages, tmp_path_factory):
+    """The packages, with what their tests read and, for the way back, Debian's own libargon2."""
+    folder = shutil.copytree(packages, tmp_path_factory.mktemp('pages') / 'packages')
+    for name in ('docs', 'debian', 'crates/argon2_c/c'):
+        shutil.copytree(TOP / name, folder / name)
+    for file in ('rust/src/main.rs', 'rust/.cargo/config.toml', 'rust/Cargo.toml', 'theirs/partial'):
+        (folder / file).parent.mkdir(parents=True, exist_ok=True)
+    lines = re.search('^```rust\n(.*?)^```', read(TOP / 'docs/RUST.md'), re.M | re.S)[1]
+    (folder / 'rust/src/main.rs').write_text(
+        f'fn main() -> Result<(), Box<dyn std::error::Error>> {{\n{lines}\nOk(()) }}\n')
+    (folder / 'rust/.cargo/config.toml').write_text(DEBIANS)
+    (folder / 'rust/Cargo.toml').write_text(CARGO)
+    run('apt-get', '-qq', '-o', 'APT::Sandbox::User=root', 'download', 'libargon2-1', 'libargon2-dev',
+        cwd=folder / 'theirs')
+    return folder
+
+
+@pytest.mark.parametrize('name', FROM)
+def test_from_the_package_alone(with_pages, tmp_path, needs, name):
+    needs(*NEEDS[name])
+    if name == 'libargon2' and not any((with_pages / 'theirs').iterdir()):
+        pytest.skip('there is no package of Debian for the way back')
+    succeeds(*in_namespace(ALONE, tmp_path, with_pages, TOP, BEFORE + FROM[name]))
