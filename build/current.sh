@@ -27,8 +27,10 @@ END
 }
 
 # The hash of files, and of those in folders, by their names and what is in them: `sum_files PATH..` leaves it in `sum`.
+# (CMake's files there link and test what is built, and change no byte of it.)
 sum_files() {
-    sum=$(cd "$root" && find "$@" ! -type d -exec sha256sum -- {} + | LC_ALL=C sort -k 2 | sha256sum) && sum=${sum%% *}
+    sum=$(cd "$root" && find "$@" ! -type d ! -name CMakeLists.txt ! -name '*.cmake' -exec sha256sum -- {} + \
+        | LC_ALL=C sort -k 2 | sha256sum) && sum=${sum%% *}
 }
 
 # crates.txt and the sources (src, specs, proofs) of crates and of those below them: `find_sources NAME..` leaves them

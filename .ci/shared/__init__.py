@@ -11,5 +11,13 @@ sys.path += [str(TOP / 'build'), str(TOP / 'docs')]  # `machines`, `toolchain` a
 def run(*words, **how):
     """Runs a command from the top, and gives its status and all that it says."""
     return subprocess.run([str(word) for word in words],
-                          **{'cwd': TOP, 'stdin': subprocess.DEVNULL, 'stdout': subprocess.PIPE,
-                             'stderr': subprocess.STDOUT, 'text': True, 'check': False, **how})
+                          **{'cwd': TOP, 'stdin': None if 'input' in how else subprocess.DEVNULL,
+                             'stdout': subprocess.PIPE, 'stderr': subprocess.STDOUT, 'text': True, 'check': False,
+                             **how})
+
+
+def said(*words, **how):
+    """What a command says that has to succeed."""
+    done = run(*words, **how)
+    assert done.returncode == 0, (words, done.stdout[-4000:])
+    return done.stdout

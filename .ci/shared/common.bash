@@ -33,15 +33,3 @@ exports() {
 has_dynamic() {
     diff <(printf '%s\n' "${@:3}") <(readelf -dW "$1" | sed -n "s/.*($2).*\[\(.*\)\]/\1/p")
 }
-
-# Runs tests of crates/argon2_c/c/run, each with the number of its checks and the flags that it is linked with, by
-# their names there: `check_tests_in_c NAME..`, by a function `passes_test NAME CHECKS FLAG..` of the script.
-check_tests_in_c() {
-    local run=crates/argon2_c/c/run name count flags
-    eval "$(grep -E '^readonly (of_system|named|wrapped)=' "$run")"
-    while read -r name count flags; do
-        [[ " $* " == *" $name "* ]] || continue
-        eval "flags=($flags)"
-        check "$name.c" passes_test "$name" "$count" "${flags[@]}"
-    done < <(sed -nE 's/^hold_program ([a-z0-9_]+ [0-9]+) ?(.*)/\1 \2/p' "$run")
-}

@@ -73,7 +73,7 @@ def test_pkg_config_knows_the_version(installed):
 
 
 def configure(installed, folder, version):
-    return start("cmake", "-S", "bindings/tests/cmake", "-B", folder, f"-DCMAKE_PREFIX_PATH={installed}",
+    return start("cmake", "-S", "bindings/c/example", "-B", folder, f"-DCMAKE_PREFIX_PATH={installed}",
                  f"-DREQUESTED={version}", f"-DCMAKE_C_COMPILER={CC}")
 
 

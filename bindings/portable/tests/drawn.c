@@ -39,5 +39,5 @@ int main(int count, char **words)
         }
         print_call(&call, tag);
     }
-    return 0;
+    return finish(0);
 }

@@ -1,6 +1,6 @@
-/* The library's answers to the calls of a file, a line each (bindings/vectors/README.md): `lines raw FILE` hashes and
- * verifies by one thread and by two, and `lines texts FILE` verifies strings. Says how many lines are as they
- * should. */
+/* The library's answers to the calls of a file, a line each (bindings/vectors/README.md): `lines raw FILE COUNT`
+ * hashes and verifies by one thread and by two, and `lines texts FILE COUNT` verifies strings. So many lines have to be
+ * as they should. */
 #include "proved_argon2.h"
 
 #include <stdio.h>
@@ -95,7 +95,7 @@ int main(int count, char **words)
 {
     static char line[LINE];
     unsigned right = 0, wrong = 0;
-    FILE *const file = count == 3 ? fopen(words[2], "r") : NULL;
+    FILE *const file = count == 4 ? fopen(words[2], "r") : NULL;
     if (file == NULL) {
         return 2;
     }
@@ -109,5 +109,5 @@ int main(int count, char **words)
         }
     }
     printf("%u right, %u wrong\n", right, wrong);
-    return wrong != 0 || right == 0;
+    return wrong != 0 || right == 0 || right != strtoul(words[3], NULL, 10);
 }

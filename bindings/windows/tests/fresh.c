@@ -1,13 +1,9 @@
 /* A program for Windows: the calls of the driver in new threads, whose stacks have PROVED_ARGON2_STACK_SIZE bytes, of
  * which a page is there at first; how much of it they take; and salts, which no other test can foresee. */
 #define WIN32_LEAN_AND_MEAN
-#include "proved_argon2.h"
+#include "checks.h"
 
 #include <windows.h>
-
-#include <stdbool.h>
-#include <stdio.h>
-#include <string.h>
 
 enum { PAGE = 4096, MARGIN = 1024, PAINT = 0xa5, TAG = 32, TEXT = 128 };
 
@@ -98,14 +94,6 @@ static bool is_well(uint32_t (*some)(void), LPTHREAD_START_ROUTINE how)
     return code == PROVED_ARGON2_OK;
 }
 
-static unsigned failed;
-
-static void check(bool is_so, const char *name)
-{
-    printf("%s: %s\n", is_so ? "passed" : "FAILED", name);
-    failed += !is_so;
-}
-
 static void check_call(uint32_t (*some)(void), const char *name)
 {
     check(is_well(some, run), name);
@@ -135,5 +123,5 @@ int main(void)
     check_call(hash_encoded, "hash_encoded");
     check_call(verify_encoded, "verify_encoded");
     check_salts();
-    return failed != 0;
+    return finish(13);
 }

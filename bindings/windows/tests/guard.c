@@ -1,14 +1,10 @@
 /* Whether the proved calls come down a stack page by page, as Windows wants it, where one page below those that were
  * touched is a guard and the next ones are not there. It is run on Linux, with such a stack: the machine code is the
  * same. A program of GNU C. */
-#define _GNU_SOURCE
-#include "proved_argon2.h"
+#include "checks.h"
 
 #include <pthread.h>
 #include <signal.h>
-#include <stdbool.h>
-#include <stdio.h>
-#include <string.h>
 #include <sys/mman.h>
 
 enum { PAGE = 4096, STACK = 256 * 1024, PASSES = 2, LANES = 2, BLOCKS = 8 * LANES, TAG = 64, TEXT = 256 };
@@ -128,14 +124,6 @@ static void jump(void)
     *(volatile char *)far = 1;
 }
 
-static unsigned failed;
-
-static void check(bool is_well, const char *name)
-{
-    printf("%s: %s\n", is_well ? "passed" : "FAILED", name);
-    failed += !is_well;
-}
-
 #define CHECK_CALL(some) \
     code = PROVED_ARGON2_UNKNOWN_NUMBER; \
     check(comes_down(some) && code == PROVED_ARGON2_OK, #some " comes down page by page")
@@ -156,5 +144,5 @@ int main(void)
     CHECK_CALL(read_job);
     CHECK_CALL(ask_for_rehash);
     check(!comes_down(jump), "what does not is found");
-    return failed != 0;
+    return finish(10);
 }

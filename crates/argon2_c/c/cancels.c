@@ -88,5 +88,5 @@ int main(void)
     check_cancelling(PTHREAD_CANCEL_DEFERRED, "a call goes on where its thread is cancelled");
     check_cancelling(PTHREAD_CANCEL_ASYNCHRONOUS, "a call goes on where its thread is cancelled at once");
     check_state();
-    return checks_failed != 0;
+    return finish(4);
 }

@@ -1,4 +1,5 @@
-/* What the checks in C share: each says its name and whether it passed, and c/run counts them. */
+/* What the checks in C share: each says its name and whether it passed, and a program says at its end how many there
+ * have to be. */
 #ifndef CHECKS_H
 #define CHECKS_H
 
@@ -6,15 +7,36 @@
 
 #include <stdbool.h>
 #include <stdio.h>
+#include <stdlib.h>
 #include <string.h>
 
-static int checks_failed;
+static int checks_made, checks_failed;
+static bool is_finished;
 
 static inline void check(bool holds, const char *name)
 {
     printf("%s: %s\n", holds ? "passed" : "FAILED", name);
     fflush(stdout); /* (the last line tells where a program ended that was stopped) */
+    checks_made++;
     checks_failed += !holds;
+}
+
+/* A program's status at its end: 0 where it has made so many checks, and all of them passed. */
+static inline int finish(int count)
+{
+    is_finished = true;
+    if (checks_made != count) {
+        printf("FAILED: %d checks were made, of %d\n", checks_made, count);
+    }
+    return checks_made != count || checks_failed != 0;
+}
+
+/* No program ends well that does not say so. */
+__attribute__((destructor)) static void end_unfinished(void)
+{
+    if (!is_finished) {
+        _Exit(3);
+    }
 }
 
 /* Whether an answer is the given number, which is said where it is another one. */

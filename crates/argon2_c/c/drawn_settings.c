@@ -204,5 +204,5 @@ int main(int argc, char **argv)
     for (uint32_t draw = 0; draw < DRAWS; draw++) {
         check_draw(draw);
     }
-    return checks_failed != 0;
+    return finish(DRAWS);
 }

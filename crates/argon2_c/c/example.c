@@ -1,7 +1,7 @@
 /*
  * Hashes a password, encodes and verifies its hash, meets a wrong password and an error. It exits with 1 if a
  * result differs from that of another implementation: the tag is what libargon2 returns (Debian's libargon2-dev
- * 0~20171227-0.3+deb12u1). c/run builds and runs it.
+ * 0~20171227-0.3+deb12u1). CTest builds and runs it.
  */
 #include "proved_argon2.h"
 
@@ -69,7 +69,7 @@ static void show_tag(void)
 
 static void show_text(void)
 {
-    uint64_t len = proved_argon2_encoded_len(&settings, sizeof salt);
+    const size_t len = (size_t)proved_argon2_encoded_len(&settings, sizeof salt);
     char *text = malloc(len + 1);
     expect(text != NULL, "memory for the encoded hash");
     uint32_t code = proved_argon2_hash_encoded(

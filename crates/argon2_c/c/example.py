@@ -1,7 +1,7 @@
-"""Hashes and verifies passwords by the shared object that c/run makes: example.py FILE.
+"""Hashes and verifies passwords by the shared object: example.py FILE.
 
 It exits with 1 if a result differs from that of another implementation: the tags are what libargon2 returns
-(Debian's libargon2-dev 0~20171227-0.3+deb12u1). c/run runs it.
+(Debian's libargon2-dev 0~20171227-0.3+deb12u1). CTest runs it.
 """
 import ctypes
 import sys

@@ -258,5 +258,5 @@ int main(int argc, char **argv)
     check_over();
     check_jobs();
     check_addresses();
-    return checks_failed != 0;
+    return finish(45);
 }

@@ -175,5 +175,5 @@ int main(void)
 {
     check_tags();
     check_text();
-    return checks_failed != 0;
+    return finish(99);
 }

@@ -325,5 +325,5 @@ int main(void)
     check_peer();
     check_texts();
     check_calls();
-    return checks_failed != 0;
+    return finish(54);
 }

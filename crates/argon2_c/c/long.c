@@ -80,11 +80,11 @@ int main(int argc, char **argv)
 {
     if (argc > 1 && strcmp(argv[1], "whole") == 0) {
         check_longest();
-        return checks_failed != 0;
+        return finish(4);
     }
     uint8_t *const far = mmap(NULL, ABOVE, PROT_NONE, MAP_PRIVATE | MAP_ANONYMOUS | MAP_NORESERVE, -1, 0);
     check(far != MAP_FAILED, "addresses that nobody can read");
     check_inputs(far);
     check_tags(far);
-    return checks_failed != 0;
+    return finish(12);
 }

@@ -295,11 +295,12 @@ int main(int argc, char **argv)
     check_calls(SMALL);
     check_calls(LARGE);
     check_populatings();
-    if (argc < 2 || strcmp(argv[1], "few") != 0) {
+    const bool is_few = argc > 1 && strcmp(argv[1], "few") == 0;
+    if (!is_few) {
         check_resident();
     }
     check_memory_new(SMALL);
     check_memory_new(LARGE);
     check_without_memory();
-    return checks_failed != 0;
+    return finish(is_few ? 59 : 61);
 }

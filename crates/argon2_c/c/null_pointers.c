@@ -1,7 +1,7 @@
 /*
  * Null pointers, call by call: each pointer of the header and of the calls with options is null in turn. It is refused
- * by name, before what else is wrong with the call, and nothing is written; with the length 0 it passes nothing. c/run
- * compares the names of these checks with the pointers that the headers declare. Then, where the library has no build
+ * by name, before what else is wrong with the call, and nothing is written; with the length 0 it passes nothing.
+ * test_library.py compares these names with the pointers that the headers declare. Then, where the library has no build
  * for the processor, each call is refused by that name, and writes nothing. It is linked with --wrap=getrandom, so that
  * a salt is the same each time.
  */
@@ -206,6 +206,8 @@ int main(void)
     }
 #ifdef __x86_64__
     check_without_a_build();
+    return finish(222);
+#else
+    return finish(184);
 #endif
-    return checks_failed != 0;
 }

@@ -187,5 +187,5 @@ int main(void)
     check_password();
     check_lengths();
     check_rehash();
-    return checks_failed != 0;
+    return finish(25);
 }

@@ -2,7 +2,7 @@
 """Plants a leak into functions of an object that a library is made of, so that a check can be seen to refuse it. A
 function goes on to give what it gives.
 
-    plant_leak.py OBJECT LEAK TO
+    plant_leak.py OBJECT LEAK TO        or of an archive: in each of its objects that is proved
 
 A leak is machine code that is run before or behind the function's own. It is put behind that code, in the function's
 section, and the function's first instructions become a jump to it.
@@ -16,6 +16,8 @@ import tempfile
 from pathlib import Path
 
 TOP = Path(__file__).resolve().parents[3]
+sys.path.append(str(TOP / 'build'))
+from machines import machines  # noqa: E402
 FACE, DRIVER = TOP / 'crates/argon2_c', TOP / 'bindings/c'
 FLAGS = [*'-std=gnu11 -D_GNU_SOURCE= -O2 -Wall -Wextra -Werror -pthread -I'.split(), FACE / 'include', '-I', DRIVER]
 COMPRESSION = 'argon2_blocks::block::kernel::fill_words'
@@ -131,7 +133,19 @@ def plant(path, function, code, to):
     Path(to).write_bytes(elf + longer)
 
 
+def plant_in_all(archive, leak, to):
+    with tempfile.TemporaryDirectory() as folder:
+        found = objects(archive, Path(folder, 'objects'))
+        for name in {f'proved_argon2_{build}.o' for of in machines().values() for build in of.builds} & {*found}:
+            main(found[name], leak, found[name])
+        Path(to).unlink(missing_ok=True)
+        run('ar', 'rcs', to, *found.values())
+
+
 def main(path, leak, to):
+    if Path(path).suffix == '.a':
+        plant_in_all(Path(path), leak, to)
+        return
     for function, code in LEAKS[leak].items():
         plant(path, function, code, to)
         path = to

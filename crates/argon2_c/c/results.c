@@ -252,5 +252,5 @@ int main(void)
     check_checking();
     check_rehash();
     check(proved_argon2_library_version() == 1000000, "the version of the library");
-    return checks_failed != 0;
+    return finish(76);
 }

@@ -131,5 +131,5 @@ int main(void)
     proved_argon2_memory_free(NULL, with.memory_len);
     check(held == 0, "nothing is given back where there is none");
     check_settings();
-    return checks_failed != 0;
+    return finish(25);
 }

@@ -107,5 +107,5 @@ int main(void)
     check_errors();
     check_small();
     check_many();
-    return checks_failed != 0;
+    return finish(3);
 }

@@ -149,7 +149,7 @@ static inline bool is_refused(void)
 
 static inline void hold(size_t more)
 {
-    const size_t now = held += more;
+    const size_t now = atomic_fetch_add(&held, more) + more;
     most_held = now > most_held ? now : most_held;
 }
 

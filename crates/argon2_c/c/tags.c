@@ -125,5 +125,5 @@ int main(void)
     for (size_t i = 0; i < sizeof known_texts / sizeof *known_texts; i++) {
         check_text(&known_texts[i]);
     }
-    return checks_failed != 0;
+    return finish(16);
 }

@@ -286,5 +286,5 @@ int main(void)
     check_null_inputs();
     check_null_buffers();
     check_buffers();
-    return checks_failed != 0;
+    return finish(71);
 }

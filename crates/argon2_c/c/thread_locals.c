@@ -16,5 +16,5 @@ int main(void)
     const bool is_right = peer(&call, expected) && hash_raw(&with, &call, tag) == PROVED_ARGON2_OK
         && memcmp(tag, expected, 32) == 0;
     check(is_right && granted == 3 && variables[0] == 0, "threads of a program that has many variables of a thread");
-    return checks_failed != 0;
+    return finish(1);
 }

@@ -261,12 +261,12 @@ int main(int argc, char **argv)
     if (argc > 1 && strcmp(argv[1], "few") == 0) {
         check_tags(5, 4);
         check_at_once_over_pools();
-        return checks_failed != 0;
+        return finish(2);
     }
     check_tags(1000, 100);
     check_at_once();
     check_at_once_over_pools();
     check_options();
     check_limits();
-    return checks_failed != 0;
+    return finish(27);
 }

@@ -49,5 +49,5 @@ _Static_assert(sizeof(proved_argon2_job) == 88, "proved_argon2_job");
 
 int main(void)
 {
-    return checks_failed;
+    return finish(0);
 }

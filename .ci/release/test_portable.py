@@ -1,0 +1,79 @@
+"""What the tests in C of the library as C (bindings/c, with MACHINE=portable) leave out: the table of docs/PORTABLE.md,
+systems of which only a compiler is here, what ./install compiles of it, and that another constant is found.
+"""
+import os
+import re
+
+import pytest
+from shared import TOP, run, said
+
+MADE, TARGETS = TOP / 'bindings/out/portable', TOP / 'bindings/c/targets'
+WARNINGS = '-O2', '-Wall', '-Wextra', '-Werror'
+# The machines, by their files of bindings/c/targets: how wide addresses are, and which byte of a word is first.
+MACHINES = {'i386': ('i686', 32, 'little'), 'ARM64': ('aarch64', 64, 'little'), 'ARMv7': ('armhf', 32, 'little'),
+            'POWER': ('ppc64el', 64, 'little'), 'RISC-V': ('riscv64', 64, 'little'), 's390x': ('s390x', 64, 'big'),
+            'Windows': ('windows', 64, 'little')}
+# The declarations of a C library, where there is none for a system.
+DECLARED = {
+    'errno.h': 'extern int *__error(void);\n#define errno (*__error())',
+    'stdlib.h': 'void *malloc(size_t), *calloc(size_t, size_t), *aligned_alloc(size_t, size_t);\n'
+                'void free(void *), abort(void);',
+    'string.h': 'void *memcpy(void *, const void *, size_t), *memmove(void *, const void *, size_t);\n'
+                'void *memset(void *, int, size_t);\nsize_t strlen(const char *);',
+    'sys/random.h': 'int getentropy(void *, size_t);'}
+HASH = 'new argon2id 19 1 64 2 16 par'.split()
+
+
+@pytest.fixture(scope='module', autouse=True)
+def translated():
+    said('build/all', 'portable')
+
+
+def row(name, target, bits, order):
+    text = (TARGETS / f'{target}.cmake').read_text(encoding='utf-8')
+    compiler = re.search(r'C_COMPILER (\S+)\)', text)[1]
+    runner = re.search(r'EMULATOR (?:\$\{wine\} )?([^ )]+)', text)[1]
+    return f'| {name} | {bits} bits, {order}-endian | `{compiler}` | {runner} |'
+
+
+def test_table_is_of_the_targets():
+    page = (TOP / 'docs/PORTABLE.md').read_text(encoding='utf-8')
+    here = [f'| x86-64 | 64 bits, little-endian | `{compiler}` | itself |' for compiler in ('gcc', 'clang')]
+    rows = '\n'.join([*here, *(row(name, *of) for name, of in MACHINES.items())])
+    assert f'|---|---|---|---|\n{rows}\n<!-- end -->' in page
+
+
+@pytest.mark.parametrize('target', ['x86_64-apple-macos11', 'arm64-apple-macos11'])
+def test_compiles_for(target, tmp_path):
+    for name, text in DECLARED.items():
+        (tmp_path / name).parent.mkdir(exist_ok=True)
+        (tmp_path / name).write_text(f'#include <stddef.h>\n{text}\n', encoding='utf-8')
+    files = sorted(MADE.glob('*.c'))
+    assert len(files) == 8
+    for file in files:
+        said('clang', f'--target={target}', '-nostdlibinc', '-isystem', tmp_path, *WARNINGS, '-c', file, '-o',
+             '/dev/null')
+
+
+def test_installs(tmp_path):
+    said('./install', '/usr', env={**os.environ, 'MACHINE': 'portable', 'DESTDIR': str(tmp_path)})
+    command = tmp_path / 'usr/bin/proved-argon2'
+    text = said(command, *HASH, input='password').rstrip('\n')
+    for word, verdict in (('password', 'true\n'), ('passwort', 'false\n')):
+        assert run(command, 'check', text, input=word).stdout == verdict
+
+
+def test_finds_another_constant(tmp_path):
+    """The vectors, over the library and over one with another constant of its machine code."""
+    code = (MADE / 'module_code.h').read_text(encoding='utf-8')
+    changed = code.replace('= 2270897969802886507ull;', '= 2270897969802886506ull;')
+    assert changed != code
+    for name, text, fails in (('same', code, False), ('other', changed, True)):
+        folder = tmp_path / name
+        folder.mkdir()
+        for file in MADE.glob('*.[ch]'):
+            (folder / file.name).write_bytes(file.read_bytes())
+        (folder / 'module_code.h').write_text(text, encoding='utf-8')
+        said('gcc', *WARNINGS, '-I', folder, *folder.glob('*.c'), TOP / 'bindings/portable/tests/lines.c', '-pthread',
+             '-o', folder / 'lines')
+        assert (run(folder / 'lines', 'raw', TOP / 'bindings/vectors/raw.txt', 240).returncode != 0) == fails

@@ -1,0 +1,141 @@
+"""The archive, the shared object of the wheel and Node's addon in programs with musl in place of the GNU C library, and
+programs of Rust, statically. The tests in C are bindings/c's, for the target musl.
+"""
+import re
+import shutil
+
+from running import TOP, built, needs, project, refuses, run, start
+
+BINDINGS, TESTS, MADE = TOP / 'bindings', TOP / 'bindings/tests', built() / 'x86_64'
+ARCHIVE, SHARED = MADE / 'libproved_argon2.a', MADE / 'libproved_argon2.so.1'
+CC = *'musl-gcc -std=c11 -D_GNU_SOURCE -O2 -Wall -Wextra -Werror -I'.split(), TOP / 'crates/argon2_c/include'
+ENCODED = '$argon2id$v=19$m=256,t=2,p=2$c29tZXNhbHQ$bQk8UB/VmZZF4Oo79iDXuL5/0ttZwg2f/5U52iv1cDc'
+TAG = '6d093c501fd5999645e0ea3bf620d7b8be7fd2db59c20d9fff9539da2bf57037'
+# A program of Rust's own core over the calls, of which nothing is another C library's.
+OF_CORE = """
+#![no_std]
+#![no_main]
+extern "C" {
+    fn proved_argon2_verify_encoded(
+        text: *const u8, text_len: usize, pwd: *const u8, pwd_len: usize,
+        secret: *const u8, secret_len: usize, ad: *const u8, ad_len: usize,
+    ) -> u32;
+    fn abort() -> !;
+}
+#[panic_handler]
+fn panic(_: &core::panic::PanicInfo) -> ! {
+    unsafe { abort() }
+}
+#[no_mangle]
+extern "C" fn main() -> i32 {
+    let text = b"$argon2id$v=19$m=256,t=2,p=1$c29tZXNhbHQ$nf65EOgLrQMR/uIPnA4rEsF5h7TKyQwu9U1bMCHGi/4";
+    let none = text.as_ptr();
+    let verify = |pwd: &[u8]| unsafe {
+        proved_argon2_verify_encoded(text.as_ptr(), text.len(), pwd.as_ptr(), pwd.len(), none, 0, none, 0)
+    };
+    (verify(b"password") != 0 || verify(b"Password") != 64) as i32
+}
+"""
+# Rust's std for the GNU C library calls these two of it, which musl does not have.
+OF_GLIBC = """
+#include <link.h>
+struct found { unsigned long long flags; void *begin, *end, *map, *eh_frame; unsigned long long more[7]; };
+static int look(struct dl_phdr_info *object, size_t size, void *found)
+{
+    for (int index = 0; size && index < object->dlpi_phnum; index++) {
+        if (object->dlpi_phdr[index].p_type == PT_GNU_EH_FRAME) {
+            ((struct found *)found)->eh_frame = (void *)(object->dlpi_addr + object->dlpi_phdr[index].p_vaddr);
+        }
+    }
+    return 1;
+}
+int _dl_find_object(void *pc, struct found *found);
+int _dl_find_object(void *pc, struct found *found)
+{
+    found->eh_frame = 0;
+    dl_iterate_phdr(look, found);
+    return pc && found->eh_frame ? 0 : -1;
+}
+const char *gnu_get_libc_version(void);
+const char *gnu_get_libc_version(void) { return "2.34"; }
+"""
+
+pytestmark = needs('musl-gcc')
+
+
+# ---- in C
+
+def loaded_by_musl(program, *words):
+    run(*CC, *words, '-o', program)
+    assert 'ld-musl-x86_64.so.1' in run('readelf', '-lW', program)
+    return program
+
+
+def test_loads_the_shared_object_of_the_wheel(tmp_path):
+    program = loaded_by_musl(tmp_path / 'loads', TESTS / 'loads.c')
+    assert run(program, SHARED).startswith(f'0 {ENCODED}')
+
+
+def test_loads_the_addon(tmp_path):
+    """With as much of Node as a hash takes."""
+    program = loaded_by_musl(tmp_path / 'addon', '-I', BINDINGS / 'javascript/addon', '-rdynamic', TESTS / 'addon.c')
+    assert run(program, MADE / 'proved_argon2.node').startswith(f'0 0 8 {TAG}')
+
+
+# ---- in Rust
+
+@needs('cargo')
+def test_static_program_of_core(tmp_path):
+    source, program = tmp_path / 'program.rs', tmp_path / 'program'
+    source.write_text(OF_CORE, encoding='utf-8')
+    run('rustc', '--edition', '2021', '-O', '-C', 'panic=abort', '--crate-type', 'lib', source, '--emit',
+        f'obj={program}.o')
+    run('musl-gcc', '-static', f'{program}.o', ARCHIVE, '-o', program)
+    for build, status in (('', 0), ('x86-64-v2', 0), ('none', 1)):
+        assert start(program, env={'PROVED_ARGON2_CPU': build}).returncode == status
+
+
+def with_std(cargo, folder, work, flags, *words):
+    """Runs cargo with musl in the place of the C library of Rust's std, since a target that has musl's own cannot be
+    had from Debian."""
+    (work / 'of_std.c').write_text(OF_GLIBC, encoding='utf-8')
+    run(*CC, '-c', work / 'of_std.c', '-o', work / 'of_std.o')
+    static = ('linker=musl-gcc', 'target-feature=+crt-static', 'relocation-model=static',
+              f'link-arg={work}/of_std.o', 'link-arg=-Wl,-u,pthread_once', *flags)
+    how = dict(PROVED_ARGON2_LIB_DIR=MADE, CARGO_BUILD_TARGET='x86_64-unknown-linux-gnu',
+               CARGO_TARGET_DIR=work / 'target', RUSTFLAGS=' '.join(f'-C {flag}' for flag in static))
+    done = start('cargo', *words, '--offline', cwd=folder, env={**cargo, **how})
+    assert done.returncode == 0, done.stderr
+    return done.stdout + done.stderr
+
+
+@needs('cargo')
+def test_crate_passes_its_tests(cargo, tmp_path):
+    """Among them are the outside vectors by threads."""
+    shown = with_std(cargo, BINDINGS / 'rust', tmp_path, [], 'test', '--tests', '--no-fail-fast')
+    assert len(re.findall(r'^test .* \.\.\. ok$', shown, re.M)) == 41
+    program = re.search(r'Running tests.vectors\.rs \((.*)\)$', shown, re.M)[1]
+    assert 'INTERP' not in run('readelf', '-lW', program) and ' __libc_malloc_impl' in run('nm', program)
+
+
+@needs('cargo')
+def test_crate_clears_what_it_keeps(cargo, tmp_path):
+    """(from call to call, by one thread and by several)"""
+    folder = project(tmp_path / 'keeping', (TESTS / 'memory.rs').read_text(encoding='utf-8'))
+    wrapped = 'link-arg=-Wl,--wrap=proved_argon2_memory_new,--wrap=proved_argon2_memory_free'
+    shown = with_std(cargo, folder, tmp_path, [wrapped], 'run', '--quiet')
+    assert len(re.findall('^passed: ', shown, re.M)) == 9 and 'FAILED' not in shown
+
+
+@needs('cargo')
+def test_crate_finds_its_archive(tmp_path):
+    """(as ./package puts it there, and for a target with musl)"""
+    folder, build = tmp_path / 'lib/x86_64', tmp_path / 'build'
+    folder.mkdir(parents=True)
+    shutil.copy(ARCHIVE, folder)
+    of = dict(CARGO_MANIFEST_DIR=str(tmp_path), CARGO_CFG_TARGET_OS='linux', CARGO_CFG_TARGET_ENV='musl',
+              CARGO_CFG_TARGET_POINTER_WIDTH='64', CARGO_CFG_TARGET_ENDIAN='little')
+    run('rustc', '--edition', '2021', BINDINGS / 'rust/build.rs', '-o', build, env=of)
+    assert f'link-search=native={folder}\n' in run(build, env={**of, 'CARGO_CFG_TARGET_ARCH': 'x86_64'})
+    refuses(1, 'the crate has no archive for riscv64gc-unknown-linux-musl', build,
+            env={**of, 'CARGO_CFG_TARGET_ARCH': 'riscv64', 'TARGET': 'riscv64gc-unknown-linux-musl'})
