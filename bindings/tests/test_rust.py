@@ -99,11 +99,12 @@ def test_its_own_tests_pass(cargo, drawn):
 
 
 def test_each_number_that_the_library_answers(cargo, tmp_path):
-    run(CC, "-Wall", "-Wextra", "-Werror", "-O1", "-I", TOP / "crates/argon2_c/include", "-c", HERE / "answers.c",
-        "-o", tmp_path / "answers.o")
-    run("ar", "rcs", tmp_path / "libproved_argon2.a", tmp_path / "answers.o")
-    folder = project(tmp_path / "answers", (HERE / "answers.rs").read_text())
-    run(*RUN, cwd=folder, env={**cargo, "PROVED_ARGON2_LIB_DIR": tmp_path})
+    run(CC, "-Wall", "-Wextra", "-Werror", "-O1", "-I", TOP / "crates/argon2_c/include", "-c", HERE / "codes.c",
+        "-o", tmp_path / "codes.o")
+    run("ar", "rcs", tmp_path / "libproved_argon2.a", tmp_path / "codes.o")
+    folder = project(tmp_path / "answers", (HERE / "codes.rs").read_text())
+    run(*RUN, cwd=folder, env={**cargo, "PROVED_ARGON2_LIB_DIR": tmp_path, "TABLE": HERE / "codes.txt",
+                               "HEADER": TOP / "crates/argon2_c/include/proved_argon2.h"})
 
 
 @pytest.mark.parametrize("name, flags, more", [

@@ -299,12 +299,13 @@ class KeepMemory(unittest.TestCase):
         self.assertNotIsInstance(raised.exception, VerifyMismatchError)
         self.assertEqual(memories.asked, 0)
 
-    def test_a_hasher_that_keeps_memory_works_in_many_threads(self):
-        hasher = PasswordHasher(**self.settings, keep_memory=True)
-        with ThreadPoolExecutor(8) as pool:
-            texts = list(pool.map(hasher.hash, map(str, range(64))))
-            self.assertTrue(all(pool.map(hasher.verify, texts, map(str, range(64)))))
-        self.assertEqual(len(set(texts)), 64)
+    def test_a_hasher_works_in_many_threads(self):
+        for keep_memory in (False, True):
+            hasher = PasswordHasher(**self.settings, keep_memory=keep_memory)
+            with ThreadPoolExecutor(8) as pool:
+                texts = list(pool.map(hasher.hash, map(str, range(64))))
+                self.assertTrue(all(pool.map(hasher.verify, texts, map(str, range(64)))))
+            self.assertEqual(len(set(texts)), 64)
 
 
 def resident():

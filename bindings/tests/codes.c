@@ -18,32 +18,6 @@
     (settings)->variant, (settings)->version, (settings)->mem_cost, (settings)->time_cost, (settings)->lanes, \
         (settings)->hash_length
 
-/* The numbers that the header gives to names. */
-/* clang-format off */
-#define NUMBER(name) {#name, PROVED_ARGON2_##name}
-/* clang-format on */
-static const struct {
-    const char *name;
-    uint32_t number;
-} numbers[] = {NUMBER(OK), NUMBER(OUTPUT_TOO_SHORT), NUMBER(OUTPUT_TOO_LONG), NUMBER(PWD_TOO_SHORT),
-    NUMBER(PWD_TOO_LONG), NUMBER(SALT_TOO_SHORT), NUMBER(SALT_TOO_LONG), NUMBER(AD_TOO_SHORT), NUMBER(AD_TOO_LONG),
-    NUMBER(SECRET_TOO_SHORT), NUMBER(SECRET_TOO_LONG), NUMBER(TIME_TOO_SMALL), NUMBER(TIME_TOO_LARGE),
-    NUMBER(MEMORY_TOO_LITTLE), NUMBER(MEMORY_TOO_MUCH), NUMBER(LANES_TOO_FEW), NUMBER(LANES_TOO_MANY),
-    NUMBER(INCORRECT_TYPE), NUMBER(INCORRECT_VERSION), NUMBER(DECODING_FAIL), NUMBER(OUT_OF_MEMORY),
-    NUMBER(WORKER_REFUSED), NUMBER(MISMATCH), NUMBER(WRONG_LENGTH), NUMBER(NOT_UTF8), NUMBER(NEEDS_REHASH),
-    NUMBER(TOO_COSTLY), NUMBER(STOPPED), NUMBER(OLD_PROCESSOR), NUMBER(D), NUMBER(I), NUMBER(ID), NUMBER(VERSION_10),
-    NUMBER(VERSION_13)};
-
-uint32_t number_of(const char *name)
-{
-    for (size_t i = 0; i < sizeof numbers / sizeof *numbers; i++) {
-        if (strcmp(numbers[i].name, name) == 0) {
-            return numbers[i].number;
-        }
-    }
-    return UINT32_MAX - 1;
-}
-
 /* What proved_argon2_check answers, any call that computes, and proved_argon2_read. */
 static uint32_t checking, answer, reading;
 
@@ -116,7 +90,7 @@ static void take(const proved_argon2_options *with)
 {
     const int has_pool = with->run != NULL || with->pool != NULL;
     progress_result = with->tell == NULL ? -1 : with->tell(with->arg, 1, 12);
-    threads = with->size != sizeof *with || has_pool ? UINT32_MAX : with->threads;
+    threads = with->size != sizeof *with || has_pool ? UINT32_MAX - 1 : with->threads;
     memory_len = with->memory != NULL && (uintptr_t)with->memory % 8 == 0 ? (int64_t)with->memory_len
         : with->memory != NULL || with->memory_len != 0                   ? INT64_MIN
                                                                           : -1;

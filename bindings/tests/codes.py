@@ -1,0 +1,267 @@
+"""What each call of the package for Python gives for each number that the library may return, as codes.txt says: over
+the library of codes.c, which PROVED_ARGON2_LIBRARY names."""
+import concurrent.futures
+import contextlib
+import re
+import threading
+import time
+from pathlib import Path
+
+import pytest
+from proved_argon2 import (
+    Limits,
+    Parameters,
+    PasswordHasher,
+    Type,
+    _library,
+    extract_parameters,
+    hash_password,
+    hash_password_raw,
+    verify_password,
+)
+from proved_argon2 import exceptions as errors
+from proved_argon2.low_level import ARGON2_VERSION, Memory, error_to_str, hash_secret, hash_secret_raw, verify_secret
+
+HERE = Path(__file__).resolve().parent
+STUB = _library._library
+STUB.passed_to.restype = _library.ctypes.c_char_p
+STUB.memory_len_of_the_last.restype = STUB.progress_result_of_the_last.restype = _library.ctypes.c_int64
+COMPUTING, JUDGING, TELLING = range(3)
+HEADER = {name: int(number, 0) for name, number in re.findall(
+    r"^ *PROVED_ARGON2_(\w+) = (\w+)", (HERE.parents[1] / "crates/argon2_c/include/proved_argon2.h").read_text(), re.M)}
+# All numbers of the header, those that stand beside them, and some that no call returns.
+NUMBERS = [*range(23), 63, *range(64, 76), *range(127, 132), 255, 256, 999, 0x7FFFFFFF, 0x80000000, 0xFFFFFFFF]
+ROWS = {row[0]: row[1:] for row in ([*map(str.strip, line.split("|"))] for line in (
+    HERE / "codes.txt").read_text().splitlines() if line[0] != "#")}
+TEXT, SETTINGS = "$argon2id$x", (3, 64, 4, 5, Type.ID)
+HASH, VERIFY = (b"word", b"somesalt", *SETTINGS), (TEXT.encode(), b"word", Type.ID)
+NAMED = {"key": b"key", "associated_data": b"data"}
+LIMITS = Limits(memory_cost=10, time_cost=11, parallelism=12, work=13)
+STORED = Parameters(type=Type.ID, version=19, memory_cost=64, time_cost=3, parallelism=4, hash_len=5, salt_len=6)
+# The values of the table: what is raised in place of a verdict says the number.
+VALUES = {"tag": b"x" * 5, "text": b"x" * 12, "true": True, "false": errors.VerifyMismatchError,
+          "costly": errors.TooCostlyError, "stored": STORED}
+CALLS = {
+    "hash_raw": lambda **named: hash_secret_raw(*HASH, **{**NAMED, **named}),
+    "hash_encoded": lambda **named: hash_secret(*HASH, **{**NAMED, **named}),
+    "verify_encoded": lambda **named: verify_secret(*VERIFY, **{**NAMED, **named}),
+    "verify_encoded_alone": lambda **named: verify_secret(*VERIFY, **named),
+    "verify_encoded_within": lambda **named: verify_secret(*VERIFY, **{**NAMED, "limits": LIMITS, **named}),
+}
+
+
+def warned(call):
+    """What a call gives that warns of its age."""
+    with pytest.warns(DeprecationWarning):
+        return call(b"p")
+
+
+HASHERS = [(lambda: PasswordHasher().hash("p"), "x" * 12),
+           (lambda: PasswordHasher(keep_memory=True).hash("p"), "x" * 12),
+           (lambda: warned(hash_password), b"x" * 12), (lambda: warned(hash_password_raw), b"x" * 32)]
+VERIFIERS = [lambda: PasswordHasher().verify(TEXT, "p"), lambda: PasswordHasher(limits=None).verify(TEXT, "p"),
+             lambda: PasswordHasher(keep_memory=True).verify(TEXT, "p"),
+             lambda: warned(lambda word: verify_password(TEXT.encode(), word, Type.ID))]
+
+
+def said_of(number):
+    return f"N{number % 1000:03}"
+
+
+def set_answers(check=0, then=0, read=0):
+    STUB.set_answers(*map(_library.ctypes.c_uint32, (check, then, read)))
+
+
+def passed(kind):
+    """What the last call was passed that computes, that judges, or that tells."""
+    return STUB.passed_to(kind).decode()
+
+
+@pytest.fixture(autouse=True)
+def nothing_is_wrong():
+    set_answers()
+    yield
+    STUB.set_shortage(0)
+
+
+def gives(place, call, values, other):
+    """A call has to give a value for each number that has one, or to raise what stands for it, and otherwise the other
+    error: each with the number's message."""
+    for number in NUMBERS:
+        set_answers(**{place: number})
+        expected = values.get(number, other)
+        if isinstance(expected, type):
+            with pytest.raises(Exception) as raised:
+                call()
+            assert (raised.type, str(raised.value)) == (expected, said_of(number)), number
+        else:
+            found = call()
+            assert (found, type(found)) == (expected, type(expected)), number
+
+
+@pytest.mark.parametrize("name", CALLS)
+@pytest.mark.parametrize("memory", [None, Memory])
+def test_a_call_gives_for_each_number_what_the_table_says(name, memory):
+    places, *_, values = ROWS[name]
+    values = {HEADER[code]: VALUES[value] for code, value in (pair.split("=") for pair in values.split())}
+    other = errors.HashingError if name.startswith("hash") else errors.VerificationError
+    if name.startswith("verify"):
+        values[HEADER["TOO_COSTLY"]] = errors.TooCostlyError
+    for place in places.split():
+        gives(place, lambda: CALLS[name](memory=memory and memory()), values, other)
+    if name.startswith("verify"):
+        gives("read", CALLS[name], {0: True}, other)
+
+
+def test_a_hasher_and_the_calls_before_it_give_the_same():
+    for call, value in HASHERS:
+        gives("then", call, {0: value}, errors.HashingError)
+        gives("check", call, {0: value}, errors.HashingError)
+    verdicts = {0: True, HEADER["MISMATCH"]: VALUES["false"], HEADER["TOO_COSTLY"]: VALUES["costly"]}
+    for call in VERIFIERS:
+        gives("then", call, verdicts, errors.VerificationError)
+        gives("read", call, {0: True}, errors.VerificationError)
+
+
+def test_a_string_has_settings_for_ok_alone():
+    invalid = {HEADER["DECODING_FAIL"]: errors.InvalidHashError, HEADER["NOT_UTF8"]: errors.InvalidHashError,
+               HEADER["OUT_OF_MEMORY"]: MemoryError}
+    same = PasswordHasher.from_parameters(STORED)
+    for call, value in ((lambda: extract_parameters(TEXT), STORED), (lambda: same.check_needs_rehash(TEXT), False),
+                        (lambda: PasswordHasher().check_needs_rehash(TEXT), True)):
+        gives("read", call, {**invalid, 0: value}, errors.Argon2Error)
+
+
+def test_the_numbers_are_the_header_s():
+    assert [Type.D.value, Type.I.value, Type.ID.value] == [HEADER[name] for name in ("D", "I", "ID")]
+    assert ARGON2_VERSION == HEADER["VERSION_13"]
+    for name in ("OK", "DECODING_FAIL", "OUT_OF_MEMORY", "MISMATCH", "NOT_UTF8", "TOO_COSTLY"):
+        assert getattr(_library, name) == HEADER[name], name
+    assert error_to_str(5) == said_of(5)
+
+
+@pytest.mark.parametrize("name", CALLS)
+def test_each_call_passes_what_it_is_given_in_its_place(name):
+    _, computing, telling, _ = ROWS[name]
+    for memory, length in ((None, -1), (Memory(), 0)):
+        CALLS[name](memory=memory)
+        assert (passed(COMPUTING), STUB.memory_len_of_the_last()) == (computing, length)
+        assert passed(TELLING) == telling or not telling
+        assert name[0] == "v" or passed(JUDGING) == "check 2 19 64 3 4 5 4 8 3 4"
+        assert name[0] == "h" or passed(TELLING) == ROWS["read"][2]
+
+
+@pytest.mark.parametrize("keep_memory", [False, True])
+def test_a_hasher_passes_what_it_is_given_in_its_place(keep_memory):
+    limits, length = Limits(10, 11, 12, 13), 0 if keep_memory else -1
+    hasher = PasswordHasher(3, 64, 4, 5, 8, "utf-8", Type.I, limits=limits, keep_memory=keep_memory)
+    hasher.hash("word", salt=b"somesalt")
+    assert (passed(COMPUTING), STUB.memory_len_of_the_last()) == ("encoded word somesalt   1 19 64 3 4 5", length)
+    hasher.verify(TEXT, "word")
+    assert (passed(COMPUTING), STUB.memory_len_of_the_last()) == (f"text {TEXT} word   10 11 12 13", length)
+    for settings, limits in (((1, 1, 1), "7 8 9 10"), ((9, 8, 1), "8 9 9 72"), ((8, 7, 10), "7 8 10 56")):
+        PasswordHasher(*settings).verify(TEXT, "word")
+        assert passed(COMPUTING) == f"text {TEXT} word   {limits}"
+    assert Limits() == Limits(memory_cost=7, time_cost=8, parallelism=9, work=10)
+
+
+@pytest.mark.parametrize("name", CALLS)
+def test_a_kept_memory_grows_where_the_library_says_that_it_is_too_small(name):
+    for number in NUMBERS:
+        memory = Memory()
+        set_answers(then=number)
+        with contextlib.suppress(errors.Argon2Error):
+            CALLS[name](memory=memory)
+        size = 64 << 10 if number == HEADER["OUT_OF_MEMORY"] else 0
+        assert (STUB.memory_len_of_the_last(), memory._free[0].length) == (size, size), number
+        assert STUB.memories_that_are_there() == int(size > 0)
+        if size:
+            assert passed(TELLING) == "memory 2 19 64 3 4 5"
+            before = STUB.memories_that_were_asked_for()
+            with pytest.raises(errors.Argon2Error):
+                CALLS[name](memory=memory)
+            assert STUB.memories_that_were_asked_for() == before
+        del memory
+        assert STUB.memories_that_are_there() == 0
+
+
+@pytest.mark.parametrize("number", NUMBERS[1:])
+def test_a_kept_memory_has_nothing_where_the_library_refuses_one(number):
+    STUB.set_shortage(_library.ctypes.c_uint32(number))
+    memory, denied = Memory(), HEADER["OUT_OF_MEMORY"]
+    set_answers(then=denied)
+    with pytest.raises(errors.HashingError, match=said_of(denied)):
+        hash_secret(*HASH, memory=memory)
+    assert (STUB.memory_len_of_the_last(), memory._free[0].length) == (0, 0)
+
+
+def computing(**named):
+    """The calls that can be told how far they are."""
+    for memory in (None, Memory()):
+        hasher = PasswordHasher(keep_memory=memory is not None)
+        yield from (lambda call=call: call(memory=memory, **named) for call in CALLS.values())
+        yield lambda: hasher.hash("p", **named)
+        yield lambda: hasher.verify(TEXT, "p", **named)
+
+
+def in_a_thread(call):
+    with concurrent.futures.ThreadPoolExecutor(1) as pool:
+        pool.submit(call).result()
+    return STUB.progress_result_of_the_last()
+
+
+def test_a_call_tells_how_far_it_is_where_handlers_of_signals_run_or_where_it_is_asked():
+    for call in computing():
+        call()
+        assert (STUB.progress_result_of_the_last(), in_a_thread(call)) == (0, -1)
+    seen = []
+    for call in computing(progress=lambda *progress: seen.append(progress)):
+        call()
+        assert (STUB.progress_result_of_the_last(), in_a_thread(call), seen) == (0, 0, [(1, 12)] * 2)
+        seen.clear()
+
+
+@pytest.mark.parametrize("error", [ValueError("enough"), KeyboardInterrupt(), SystemExit(3)])
+def test_what_progress_raises_stops_a_call_whatever_that_answers(error):
+    def progress(*_):
+        raise error
+
+    for number in (HEADER["STOPPED"], 0, HEADER["MISMATCH"]):
+        set_answers(then=number)
+        for call in computing(progress=progress):
+            with pytest.raises(type(error)) as raised:
+                call()
+            assert raised.value is error and STUB.progress_result_of_the_last() != 0
+
+
+def test_there_are_as_many_threads_as_lanes():
+    for call, expected in (
+        (lambda: hash_secret(b"p", b"somesalt", 3, 640, 40, 5, Type.ID), 40), (CALLS["hash_raw"], 4),
+        (lambda: PasswordHasher(parallelism=3).hash("p"), 3), (lambda: PasswordHasher(parallelism=1).hash("p"), 1),
+        (lambda: PasswordHasher(parallelism=3, keep_memory=True).hash("p"), 3),
+        *((call, 4) for call in [CALLS["verify_encoded"], *VERIFIERS]),
+    ):
+        call()
+        assert STUB.threads_of_the_last() == expected
+
+
+@pytest.mark.parametrize("variant", [Type.D, Type.I])
+def test_a_string_of_another_variant_does_not_verify(variant):
+    with pytest.raises(errors.VerificationError) as raised:
+        verify_secret(TEXT.encode(), b"p", variant)
+    assert raised.type is errors.VerificationError
+
+
+@pytest.mark.parametrize("name", ["hash_raw", "verify_encoded"])
+@pytest.mark.parametrize("memory", [None, Memory()])
+def test_other_threads_run_while_a_hash_is_computed(name, memory):
+    """Holds a call in the library until this thread lets it go, which it cannot if the call keeps it from running."""
+    STUB.hold()
+    thread = threading.Thread(target=lambda: CALLS[name](memory=memory))
+    thread.start()
+    while thread.is_alive() and not STUB.waits():
+        time.sleep(0.01)
+    waited = STUB.waits()
+    STUB.let_go()
+    thread.join()
+    assert waited and not STUB.was_left_alone()

@@ -1,0 +1,220 @@
+"""The package for Python, installed by pip: its own tests, those of argon2-cffi, and where it finds the library."""
+import re
+import resource
+import shutil
+import sys
+import tarfile
+import zipfile
+
+import pytest
+from running import CC, TOP, VERSION, built as built_part, needs, refuses, run, start
+
+PACKAGE, HERE, SONAME = TOP / "bindings/python", TOP / "bindings/tests", f"libproved_argon2.so.{VERSION.split('.')[0]}"
+PYTHON = sys.executable
+PIP = "-m", "pip", "install", "--no-build-isolation", "--no-index", "--no-deps"
+PYTEST = PYTHON, "-B", "-m", "pytest", "-q"
+HASHES = """from proved_argon2 import PasswordHasher
+hasher = PasswordHasher(time_cost=1, memory_cost=64, parallelism=1)
+assert hasher.verify(hasher.hash("password"), "password") is True"""
+# With 2 GB of memory, a hash of 4 GiB.
+REFUSES = """from proved_argon2.exceptions import HashingError
+from proved_argon2.low_level import Type, hash_secret, hash_secret_raw
+def refusal(salt, memory_cost, hash_len, call):
+    try:
+        call(b"password", salt, 1, memory_cost, 1, hash_len, Type.ID)
+    except HashingError as error:
+        return str(error)
+for call in (hash_secret, hash_secret_raw):
+    assert refusal(b"salt", 8, 0xffffffff, call) == "Salt is too short"
+    assert refusal(b"somesalt", 8, 0xffffffff, call) == "Out of memory"
+    assert refusal(b"somesalt", 0xffffffff, 32, call) == "Out of memory\""""
+# Each call of the page has the arguments of the package, in their order and with their defaults.
+ARGUMENTS = """import inspect, pathlib, re
+import proved_argon2
+from proved_argon2 import PasswordHasher, extract_parameters
+page = " ".join(pathlib.Path("docs/PYTHON.md").read_text().split())
+def arguments(call):
+    parameters = inspect.signature(call).parameters.values()
+    return [(parameter.name.replace("hash", "text"), parameter.kind, parameter.default)
+            for parameter in parameters if parameter.name != "self"]
+calls = {"PasswordHasher": PasswordHasher, "extract_parameters": extract_parameters}
+for name in ("hash", "verify", "check_needs_rehash"):
+    calls[f"hasher.{name}"] = getattr(PasswordHasher, name)
+for name, call in calls.items():
+    names = dict(vars(proved_argon2))
+    exec("def documented({}): pass".format(re.search(rf"`{re.escape(name)}\\((.*?)\\)`", page).group(1)), names)
+    assert arguments(names["documented"]) == arguments(call), (name, arguments(names["documented"]))"""
+
+
+def has(*modules):
+    return not start(PYTHON, "-c", f"import {', '.join(modules)}").returncode
+
+
+by_pip = pytest.mark.skipif(not has("pip", "venv", "ensurepip", "hatchling"), reason="no pip, venv or hatchling")
+
+
+def fetch(call, *words):
+    """Whether a call of fetching.bash has what it looks for."""
+    script = 'source bindings/tests/fetching.bash && "$@"'
+    return start("bash", "-c", script, "bash", call, "sid", *words).returncode == 0
+
+
+@pytest.fixture(scope="module")
+def package(tmp_path_factory):
+    """The folder, with the licence."""
+    folder = tmp_path_factory.mktemp("package") / "package"
+    shutil.copytree(PACKAGE, folder, ignore=shutil.ignore_patterns("__pycache__"))
+    for name in ("LICENSE", "NOTICE"):
+        shutil.copy(TOP / name, folder)
+    return folder
+
+
+@pytest.fixture(scope="module")
+def site(package, tmp_path_factory):
+    """Where pip installs the folder without a network, or its modules where there is no pip."""
+    folder = tmp_path_factory.mktemp("site")
+    if by_pip.args[0]:
+        shutil.copytree(PACKAGE / "src", folder, dirs_exist_ok=True)
+    else:
+        run(PYTHON, *PIP, "--target", folder, package)
+    assert (folder / "proved_argon2/py.typed").is_file()
+    return folder
+
+
+@pytest.fixture(scope="module")
+def with_library(installed, site):
+    """The variables for a program that uses the package."""
+    return {"PYTHONPATH": site, "PROVED_ARGON2_LIBRARY": installed / "lib" / SONAME, "PYTHONDONTWRITEBYTECODE": 1}
+
+
+@pytest.mark.timeout(2400)
+def test_its_own_tests_pass(with_library, drawn, tmp_path):
+    """Those of pwdlib are skipped where it cannot be had."""
+    fetch("fetch_package", "python3-pwdlib", tmp_path)
+    path = f"{with_library['PYTHONPATH']}:{tmp_path}/usr/lib/python3/dist-packages"
+    print(run(*PYTEST, "-W", "error", PACKAGE / "tests", env={**with_library, **drawn, "PYTHONPATH": path}))
+
+
+def compile_shared(source, made, *words):
+    flags = "-Wall", "-Wextra", "-Werror", "-O1", "-D_GNU_SOURCE", "-fPIC", "-shared"
+    run(CC, *flags, *words, HERE / source, "-o", made)
+    return made
+
+
+def test_each_number_that_the_library_answers(with_library, tmp_path):
+    library = compile_shared("codes.c", tmp_path / "codes.so", "-I", "crates/argon2_c/include")
+    run(*PYTEST, "-W", "error", HERE / "codes.py", env={**with_library, "PROVED_ARGON2_LIBRARY": library})
+
+
+def test_a_call_leaves_no_tag_in_the_vector_registers(with_library, tmp_path):
+    """It says which registers the processor has."""
+    looker = compile_shared("registers.c", tmp_path / "registers.so")
+    print(run(PYTHON, HERE / "registers.py", looker, env=with_library))
+
+
+@pytest.mark.skipif(not has("hypothesis"), reason="there is no hypothesis")
+def test_the_tests_of_argon2_cffi_pass_but_for_those_that_are_named(with_library, tmp_path):
+    """Unchanged, of the newest source that Debian has. Each that fails is named with what it differs by."""
+    if not fetch("fetch_source", "python-argon2", tmp_path):
+        pytest.skip("their source cannot be had")
+    path = f"{HERE}:{with_library['PYTHONPATH']}"
+    words = "-p", "argon2_cffi", "-p", "no:cacheprovider", "-rf", "tests"
+    said = start(*PYTEST, *words, cwd=tmp_path, env={**with_library, "PYTHONPATH": path}).stdout
+    named = re.findall(r"^(\S+) #", (HERE / "argon2_cffi.txt").read_text(), re.M)
+    assert sorted(re.findall(r"^FAILED tests.(\S*)", said, re.M)) == sorted(named)
+    assert re.search(r"^\d+ failed, 62 passed in ", said, re.M), said[-2000:]
+
+
+@by_pip
+@pytest.mark.parametrize("found", ['"glibc 2.31"', "None"])
+def test_pip_names_the_c_library_that_is_needed_and_installs_nothing(tmp_path, found):
+    """With an older one than ./install takes, or with musl."""
+    oldest = re.search(r"^oldest_libc=(.*)", (TOP / "install").read_text(), re.M)[1]
+    (tmp_path / "sitecustomize.py").write_text(f"import os\nos.confstr = lambda _: {found}\n")
+    done = start(PYTHON, *PIP, "--target", tmp_path / "site", PACKAGE, env={"PYTHONPATH": tmp_path})
+    why = f"the library needs the GNU C library {oldest} or newer, and here is"
+    assert done.returncode == 1 and why in done.stdout + done.stderr and not (tmp_path / "site").exists(), done
+
+
+@by_pip
+def test_the_folder_can_be_edited_and_the_library_beside_this_python_is_taken(installed, package, tmp_path):
+    """In an environment of its own: a change of the folder is seen. ./install "$VIRTUAL_ENV" puts the library there,
+    which is taken unless the loader finds one elsewhere."""
+    edited, python = tmp_path / "edited", tmp_path / "environment/bin/python"
+    shutil.copytree(package, edited)
+    run(PYTHON, "-m", "venv", "--system-site-packages", tmp_path / "environment")
+    run(python, *PIP, "-e", edited)
+    with open(edited / "src/proved_argon2/profiles.py", "a") as opened:
+        opened.write("mark = 1\n")
+    beside = tmp_path / "environment/lib" / SONAME
+    shutil.copy(installed / "lib" / SONAME, beside)
+    said = run(python, "-c", """from proved_argon2 import _library, profiles
+print(profiles.mark, _library._library._name)""")
+    assert said in (f"1 {SONAME}\n", f"1 {beside}\n")
+
+
+def pack(folder, kind, to, **variables):
+    """Packs a folder by hatchling."""
+    run(PYTHON, "-B", "-m", "hatchling", "build", "-t", kind, "-d", to, cwd=folder, env=variables)
+    (made,) = to.glob("*.whl" if kind == "wheel" else "*.tar.gz")
+    return made
+
+
+@by_pip
+def test_a_wheel_and_an_archive_tell_of_the_package(package, tmp_path):
+    """With the licence of the repository, and the address that Debian's packages have."""
+    wheel = zipfile.ZipFile(pack(package, "wheel", tmp_path))
+    archive = tarfile.open(pack(package, "sdist", tmp_path)).getnames()
+    (metadata,) = [wheel.read(name).decode() for name in wheel.namelist() if name.endswith("METADATA")]
+    address = re.search(r"^ -- (.*@.*>)  ", (TOP / "debian/changelog").read_text(), re.M)[1]
+    assert {
+        "Name: proved-argon2", f"Author-email: {address}", "License: (MIT OR Apache-2.0) AND LicenseRef-none-named",
+        "License-File: LICENSE", "Requires-Python: >=3.8",
+    } <= {*metadata.split("\n\n")[0].splitlines()}
+    assert metadata.endswith((PACKAGE / "README.md").read_text())
+    for name in ("LICENSE", "NOTICE"):
+        (kept,) = [wheel.read(file) for file in wheel.namelist() if file.endswith(f"dist-info/licenses/{name}")]
+        assert kept == (TOP / name).read_bytes() and [file for file in archive if file.endswith(f"/{name}")]
+
+
+@by_pip
+def test_the_library_is_compiled_as_c_on_a_machine_that_there_is_none_for(package, tmp_path):
+    """Of the library as C, which is in an archive of the sources."""
+    folder = tmp_path / "package"
+    shutil.copytree(package, folder)
+    shutil.copytree(built_part("portable") / "portable", folder / "c")
+    (tmp_path / "sitecustomize.py").write_text('import platform\nplatform.machine = lambda: "riscv64"\n')
+    names = tarfile.open(pack(folder, "sdist", tmp_path)).getnames()
+    assert [name for name in names if name.endswith("/c/module_code.h")]
+    zipfile.ZipFile(pack(folder, "wheel", tmp_path, PYTHONPATH=tmp_path)).extractall(tmp_path / "site")
+    run(PYTHON, "-B", "-c", HASHES, env={"PYTHONPATH": tmp_path / "site"})
+
+
+def test_the_page_has_the_arguments_of_the_calls(with_library):
+    run(PYTHON, "-c", ARGUMENTS, env=with_library)
+
+
+@needs("mypy")
+def test_the_types_hold(tmp_path):
+    """Those of the package's own, and a program's that uses them wrongly do not."""
+    (tmp_path / "wrong.py").write_text('from proved_argon2 import PasswordHasher\nPasswordHasher().verify(1, "x")\n')
+    words = "mypy", "--strict", "--cache-dir", tmp_path / "types"
+    run(*words, PACKAGE / "src")
+    assert start(*words, tmp_path / "wrong.py", env={"MYPYPATH": PACKAGE / "src"}).returncode == 1
+
+
+def test_the_library_is_found_where_the_loader_looks(installed, site):
+    run(PYTHON, "-c", HASHES, env={"PYTHONPATH": site, "LD_LIBRARY_PATH": installed / "lib"})
+
+
+def test_settings_are_refused_first_and_then_memory_is(with_library):
+    limit = resource.RLIMIT_AS, (2000000 << 10, 2000000 << 10)
+    run(PYTHON, "-c", REFUSES, env=with_library, preexec_fn=lambda: resource.setrlimit(*limit))
+
+
+@pytest.mark.parametrize("name", ["/nowhere/library.so", "empty.so", "libc.so.6"])
+def test_it_says_where_there_is_no_library_or_another_one(site, tmp_path, name):
+    (tmp_path / "empty.so").touch()
+    file = tmp_path / name if name == "empty.so" else name
+    refuses(1, f"ImportError: {SONAME} cannot be loaded: run ./install", PYTHON, "-c", HASHES,
+            env={"PYTHONPATH": site, "PROVED_ARGON2_LIBRARY": file})
