@@ -1,19 +1,31 @@
-"""What the scripts of this folder share: reading, and the parts of files that they compare or write."""
+"""What the generators of this folder share: where they write, and how they read and write it."""
 
-import difflib
 import os
 import re
-import subprocess
 import sys
-import tempfile
 from pathlib import Path
 
 sys.path.insert(0, str(Path(__file__).resolve().parents[1]))
-from shared import TOP  # noqa: E402
+from shared import TOP, run  # noqa: E402
 from parts import filled, marked  # noqa: E402
-from shared.checks import Checks  # noqa: E402
 
 os.environ['PATH'] += ':/opt/rattle/bin'
+
+# The pages with parts that are written, or whose code is compared: a page is renamed here, and in presets.txt.
+FIRST, SECURITY, HOW_TO_CHANGE = 'README.md', 'SECURITY.md', 'CONTRIBUTING.md'
+DEFINITIONS, PROMISES, THEOREM, TRUSTED = (f'docs/{name}.md' for name in (
+    'DEFINITIONS', 'PROMISES', 'THEOREM', 'TRUSTED'))
+CLAIMS, DIFFERENCES, INSTALL, PYTHON, RATTLE, USE = (f'docs/{name}.md' for name in (
+    'CLAIMS', 'DIFFERENCES', 'INSTALL', 'PYTHON', 'RATTLE', 'USE'))
+
+
+class Fault(Exception):
+    """Something that cannot be written as it is."""
+
+
+def need(is_well, fault):
+    if not is_well:
+        raise Fault(fault)
 
 
 def read(file):
@@ -24,22 +36,31 @@ def write(file, text):
     (TOP / file).write_text(text, encoding='utf-8')
 
 
+def fill(file, name, lines, by):
+    """Writes the part of a file that stands between the marks `NAME, by .ci/pages/BY` and `end`."""
+    text, script = read(file), f'.ci/pages/{by}'
+    need(marked(text, name, script), f'{file} has no part {name}, by {script}')
+    write(file, filled(text, name, script, '\n'.join(lines)))
+
+
 def rows(file, fields=0):
     """The lines of a table, as what stands between ` | `: so many fields, or all."""
     return [line.split(' | ', fields - 1) for line in read(file).splitlines() if line and line[0] != '#']
 
 
-def run(*command, **how):
-    return subprocess.run(command, cwd=TOP, capture_output=True, text=True, check=False, **how)
+def files(*patterns):
+    """The files of the repository that fit one of these globs, or all, without what is built."""
+    listed = run('git', 'ls-files', '-co', '--exclude-standard', '--', *(f':(glob){one}' for one in patterns)).stdout
+    return sorted(name for name in {*listed.splitlines()} if (TOP / name).is_file())
 
 
 def quoted(names):
     return ', '.join(f'`{name}`' for name in names)
 
 
-def link(name, path, line):
-    """A name in a page of docs/, as a link to its file and line."""
-    return f'[`{name}`](../{Path(path).relative_to(TOP)}#L{line})'
+def link(name, path):
+    """A name in a page of docs/, as a link to its file."""
+    return f'[`{name}`](../{Path(path).relative_to(TOP)})'
 
 
 def row(*cells):
@@ -50,35 +71,3 @@ def row(*cells):
 def put_in(values, form):
     """A form of a table with values in the place of its marks, as `<name>`."""
     return re.sub(r'<(\w+)>', lambda mark: values.get(mark[1], mark[0]), form.replace('\\n', '\n'))
-
-
-class Script(Checks):
-    """What a script was told, beside `--write` one of these patterns, and what it finds."""
-
-    def __init__(self, *options):
-        super().__init__()
-        self.name, self.words = f'.ci/pages/{Path(sys.argv[0]).name}', sys.argv[1:]
-        self.writes = self.words == ['--write']
-        if not re.fullmatch('|'.join(['', '--write', *options]), ' '.join(self.words)):
-            sys.exit(sys.modules['__main__'].__doc__)
-
-    def close(self):
-        sys.exit(super().close())
-
-    def keep_picture(self, name, draw):
-        """Compares a picture of docs/ with what a function draws, or has it drawn."""
-        with tempfile.TemporaryDirectory() as folder:
-            drawn = TOP / 'docs' / name if self.writes else Path(folder, name)
-            draw(drawn)
-            is_same = (TOP / 'docs' / name).read_bytes() == drawn.read_bytes()
-            self.hold(f'{name} is of its list', is_same, f'{self.name} --write')
-
-    def keep(self, file, name, part):
-        """Compares the part of a file that stands between the marks of a name, or writes it."""
-        text = read(file)
-        new = filled(text, name, self.name, part)
-        if self.writes:
-            write(file, new)
-        differing = difflib.unified_diff(text.split('\n'), new.split('\n'), n=0, lineterm='')
-        self.hold(f'{file}: a part {name}', marked(text, name, self.name))
-        self.need(f'{file}: {name}', self.writes or text == new, '\n'.join(['it is stale: --write', *differing]))

@@ -8,12 +8,13 @@ from collections import defaultdict
 from dataclasses import dataclass
 from pathlib import Path
 
+from common import Fault
 from shared.sources import TOP, crates
 
 KIT = Path('/opt/rattle/rattle')
 CODE = {crate: [path.read_text(encoding='utf-8') for path in sorted((TOP / 'crates' / crate / 'src').rglob('*.rt'))]
         for crate in crates()}
-# The logic's own words, which are listed and not counted: lists, numbers, truth values, equality, functions.
+# The logic's own words, which are not followed: lists, numbers, truth values, equality, functions.
 LOGIC = ('Prim.', 'mathlib.', 'denote.', 'mir.')
 HEAD = re.compile(r'(?:(?:abbrev|unfoldable|opaque|pub|inline|partial)\s+)*(record\s+|data\s+)?(\S+?)\s*(?=[:({<]|\s:)')
 IMPORT = re.compile(r'(?:(?:ghost|pub|unfoldable|abbrev) )*use ((?:\w+\.)+(\w+))(?:\.\{(.*)\}| as (\w+))? ?;?')
@@ -26,10 +27,6 @@ PIECE = re.compile(r'((?:^--.*\n+)*)(^(?!--)\S.*(?:\n+[^\S\n]+\S.*)*)', re.M)
 # A line that begins a part of a file, and one behind what a script writes.
 NO_COMMENT = re.compile(r'^-- (?:----.*|end$)', re.M)
 KEYWORDS = ('pub mod', 'mod ', 'unfolding', 'ruleset', 'infix', 'mutual', 'syntax', 'prefix', 'pub syntax')
-
-
-class Fault(Exception):
-    """What a file brings in cannot be followed."""
 
 
 @dataclass(eq=False)
@@ -130,18 +127,16 @@ def file_of(module):
 
 
 class Meanings:
-    """Where names lead, and which types, constants of code and words of the logic they have led to."""
+    """Where names lead, and which types they have led to."""
 
     def __init__(self):
-        self.types, self.constants, self.logic = set(), set(), set()
+        self.types = set()
 
     def find(self, module, name):
         """The definition that a name of a module means; None for a word of the logic, a type or a constant of code."""
-        if module.startswith(LOGIC):
-            return self.logic.add(name)
         crate, place = module.split('.')[1], module.removesuffix('.TheVariants').split('.')
-        if 'TheConstants' in place:
-            return self.constants.add((crate, name))
+        if module.startswith(LOGIC) or 'TheConstants' in place:
+            return None
         if 'declared' in place:  # a type or its cases
             return self.types.add((crate, place[-1]))
         file = file_of(module)

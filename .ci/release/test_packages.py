@@ -3,7 +3,6 @@ lines of the pages (debian/tests), where neither the kit nor this repository can
 is left."""
 
 import fnmatch
-import os
 import re
 import shutil
 from pathlib import Path
@@ -84,14 +83,6 @@ def test_what_is_lacking_is_named_at_once(tmp_path):
     refuses(1, 'package: it needs what is in the packages binutils '
             'binutils-aarch64-linux-gnu debhelper dpkg-dev cargo npm\n',
             'bash', './package', tmp_path / 'none', env={'PATH': str(tmp_path)})
-
-
-def test_who_publishes_is_written_to_its_places_alone(tmp_path):
-    tree, old, new = copy_tree(tmp_path / 'tree'), PROJECT['Address'], f'https://new.example/{os.getpid()}'
-    succeeds('sed', '-i', f's|^Address: .*|Address: {new}|', tree / 'PROJECT')
-    succeeds('.ci/pages/places', '--write', cwd=tree)
-    succeeds('bash', '-c', f'grep -rlF {new} {tree} | xargs sed -i "s|{new}|{old}|g"')
-    succeeds('diff', '-r', *(f'--exclude={name}' for name in ('out', 'target', '.git', '__pycache__')), TOP, tree)
 
 
 # ---- what is in them

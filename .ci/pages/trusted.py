@@ -1,13 +1,8 @@
-#!/usr/bin/env -S python3 -B
 """docs/TRUSTED.md's lists of what the prover takes without proof, made from the toolchain and the prover's report.
 
-    .ci/pages/trusted            compares them; without what build/all leaves, only those of the toolchain
-    .ci/pages/trusted --write    writes them anew
-
-The toolchain is asked for its name, its logic's files, the axioms that these declare or accept, and the crates below
-ours. `build/proved` keeps what the prover says of the archives for C and for WebAssembly,
-and of the program for x86-64-v3: the functions of C whose contracts the proof takes as they are, of which those of the
-archives have none: one is refused, with `--write` too. `nm` says which functions they call once they are built.
+`build/proved` keeps what the prover says of the archives for C and for WebAssembly, and of the program for x86-64-v3:
+the functions of C whose contracts the proof takes as they are, of which those of the archives have none. `nm` says
+which functions they call once they are built. Of what is not built here the lists stay as they are.
 """
 
 import functools
@@ -19,52 +14,26 @@ import textwrap
 from collections import defaultdict
 from pathlib import Path
 
-from common import TOP, Script, quoted, read, run
+from common import TOP, TRUSTED, fill, need, quoted, read, run
 from toolchain import is_current
 
-PAGE = 'docs/TRUSTED.md'
 # Our crates, each with those below it that crates.txt names.
 OURS = {line.split()[0].rstrip(':'): line.partition(':')[2].split() for line in read('crates.txt').splitlines()}
 TOOLCHAIN = Path(shutil.which('rt')).resolve().parent.parent
 RATTLE = TOOLCHAIN / 'rattle'
-# The parts of the logic, in the order in which each rests on those before it.
-PARTS = {
-    'antt/lib': 'first definitions of the type theory',
-    'antt/port/mathlib': "a port of lemmas of Lean's mathlib",
-    'antt/port/seplogic': 'a port of a separation logic',
-    'logic': 'the machine, what a contract means, and how code meets it',
-}
+# The parts of the logic, whose axioms are named.
+PARTS = 'antt/lib', 'antt/port/mathlib', 'antt/port/seplogic', 'logic'
 # What makes machine code of what is proved: the first checks the proofs too.
-COMPILERS = {
-    'bin/rattle': 'the prover, with its back ends',
-    'toolchain/bin/clang': "LLVM's clang, which one of them uses",
-}
+COMPILERS = {'bin/rattle': 'the prover, with its back ends',
+             'toolchain/bin/clang': "LLVM's clang, which one of them uses"}
 # The doors, with the crate whose proof each rests on, and what is built of it, beside which stands what was said of it.
 ARCHIVE, MODULES, PROGRAM, TOOL = 'the archive for C', 'the WebAssembly modules', 'the program', "the shell's tool"
 DOORS = {ARCHIVE: ('argon2_c', 'bindings/out/x86-64-v3/libargon2_c.a'),
          MODULES: ('argon2_c', 'bindings/out/wasm64-unknown-unknown/libargon2_c.a'),
          PROGRAM: ('argon2_program', 'bindings/out/x86-64-v3/argon2_program'),
          TOOL: ('argon2_tool', 'bindings/out/x86-64-v3/argon2_tool')}
-AS_THE_PROGRAM = ['- its report and calls: as for the program']
-AS_THE_ARCHIVE = ['- crates and functions of C: as for the library for C']
 # The crate that rests on no function of C, and calls no others than the compiler puts in for copies and zeros.
 WITHOUT_AXIOMS, OF_THE_COMPILER = 'argon2_c', {'memcpy', 'memmove', 'memset'}
-
-
-def texts_of(folder, ending):
-    return [path.read_text(encoding='utf-8') for path in sorted((RATTLE / folder).rglob(f'*{ending}'))]
-
-
-def lines_in(texts):
-    return f'{sum(text.count(chr(10)) for text in texts):,}'
-
-
-def size_of(file):
-    return round((TOOLCHAIN / file).stat().st_size / 1e6)
-
-
-def sum_of(file):
-    return hashlib.sha256((TOOLCHAIN / file).read_bytes()).hexdigest()
 
 
 @functools.cache
@@ -79,52 +48,43 @@ def crates_below(crate):
 
 
 def lines_of_crates():
-    """The toolchain's crates below the doors, and how long they are."""
-    below, doors_above = {door: crates_below(crate) for door, (crate, _) in DOORS.items()}, defaultdict(list)
-    every = sorted(set().union(*below.values()))
-    for crate in every:
-        doors_above[' and '.join(door for door in DOORS if crate in below[door])].append(crate)
-    of_all = doors_above.pop(' and '.join(DOORS))
-    code = [text for crate in every for part in ('src', 'uses') for text in texts_of(f'{crate}/{part}', '.rt')]
-    proofs = [text for crate in every for text in texts_of(crate, '.antt')]
-    return [*(f"- the toolchain's crates that {doors} alone load: {quoted(some)}"
-              for doors, some in doors_above.items()),
-            f"- the toolchain's crates that all parts below load: {quoted(of_all)}",
-            f'- lines of these crates: {lines_in(code)} of code, {lines_in(proofs)} of statements and proofs']
+    """The toolchain's crates below the doors."""
+    below = {door: crates_below(crate) for door, (crate, _) in DOORS.items()}
+    above = defaultdict(list)
+    for crate in sorted(set().union(*below.values())):
+        above[tuple(door for door in DOORS if crate in below[door])].append(crate)
+    return [f"- the toolchain's crates that {'all parts below' if doors == (*DOORS,) else ' and '.join(doors)} load: "
+            f'{quoted(some)}' for doors, some in sorted(above.items(), key=lambda pair: len(pair[0]))]
 
 
 def lines_of_the_toolchain():
-    """Its name, the prover, the parts of the logic, the axioms that they declare and accept, and its crates."""
+    """Its name, the prover, the axioms that the logic's files declare and accept, and its crates."""
     name = (TOOLCHAIN / 'KIT-ID').read_text(encoding='utf-8').strip()
     named = run('build/kits').stdout.splitlines()
     names = quoted(named if name in named else [name]).replace(', ', ' or ')
-    texts, users = {part: texts_of(part, '.antt') for part in PARTS}, defaultdict(list)
-    axioms = [axiom for some in texts.values() for text in some
-              for axiom in re.findall(r'^ *axiom +(?:pub +)?([^\s:{]+)', text, re.M)]
-    projects = {path.parent.relative_to(RATTLE).as_posix(): json.loads(path.read_text(encoding='utf-8'))
-                for path in sorted(RATTLE.rglob('antt-project.json'))}
+    axioms = [axiom for part in PARTS for path in sorted((RATTLE / part).rglob('*.antt'))
+              for axiom in re.findall(r'^ *axiom +(?:pub +)?([^\s:{]+)', path.read_text(encoding='utf-8'), re.M)]
+    users, projects = defaultdict(list), {path.parent.relative_to(RATTLE).as_posix(): json.loads(path.read_bytes())
+                                          for path in sorted(RATTLE.rglob('antt-project.json'))}
     for folder, project in projects.items():
         users[quoted(project.get('axioms', ()))].append(folder)
+    sums = {file: hashlib.sha256((TOOLCHAIN / file).read_bytes()).hexdigest() for file in COMPILERS}
     return [f'- the toolchain, and the hash of its logic: {names}',
-            *(f'- {what}: `{file}`, {size_of(file)} MB, SHA-256 `{sum_of(file)}`'
-              for file, what in COMPILERS.items()),
+            *(f'- {what}: `{file}`, SHA-256 `{sums[file]}`' for file, what in COMPILERS.items()),
             f'- extensions outside the type theory: {quoted(projects["logic"]["native-extensions"])}',
-            *(f'- {PARTS[part]}: `{part}`, {len(some):,} files, {lines_in(some)} lines'
-              for part, some in texts.items()),
-            f'- axioms that these files declare: {quoted(axioms) or "none"}',
+            f'- axioms that the files of {quoted(PARTS)} declare: {quoted(axioms) or "none"}',
             *(f'- axioms of the theory that {quoted(who)} may use: {names}' for names, who in users.items() if names),
             *lines_of_crates()]
 
 
-def lines_of_door(script, door, crate, built):
-    """What the proof of a door says, loads and takes as it is, by the prover's last report: those of the libraries
-    below may stand above it; and what is called once it is built. None where it is not. What a WebAssembly module calls
-    is seen by what it imports (bindings/wasm/tests)."""
+def lines_of_door(door, crate, built):
+    """What the proof of a door says, loads and takes as it is, by the prover's last report, and what is called once it
+    is built. What a WebAssembly module calls is seen by what it imports (bindings/wasm/tests)."""
     said = built.with_name(f'{built.name}.said')
     reports = re.findall(r'(?:^(?:logic|crate|axioms|statements|  \S+::) *\S.*\n)+logic=proved .*\n',
                          said.read_text(encoding='utf-8') if said.exists() else '', re.M)
     if not reports or not is_current(crate, built):
-        return None
+        return print(f'{door}: it is not built here')
     verdict, below = reports[-1].splitlines()[-1].split(), crates_below(crate)
     called = set() if door == MODULES else {*re.findall(r'^\w+$', run('nm', '-u', '-j', built).stdout, re.M)}
     reached = re.findall(r'^axioms (\w+): (.*)', reports[-1], re.M)
@@ -133,7 +93,7 @@ def lines_of_door(script, door, crate, built):
     axioms = re.findall(r'^ +(\S+) +reached$', reports[-1], re.M)
     if crate == WITHOUT_AXIOMS:
         taken = [*(word for word in verdict if re.match('axioms=[^0]', word)), *some, *sorted(called - OF_THE_COMPILER)]
-        script.hold(f'{door}: no function of C is taken as it is', not taken, taken)
+        need(not taken, f'{door} takes functions of C as they are: {taken}')
     loaded = {*re.findall(r'^statements (\w+):', reports[-1], re.M)} - OURS.keys()
     ends = ' '.join(word for word in verdict if not word.startswith('functions='))
     return [f'- its proof ends with: `{ends}`',
@@ -151,20 +111,12 @@ def declared(path):
     return textwrap.dedent(re.search(rf'^ *(?:pub )?(?:(?:un)?safe )?fn {name}\b.*?;$', text, re.M | re.S)[0])
 
 
-def main():
-    script = Script()
-    parts = {'the toolchain': lines_of_the_toolchain(),
-             **{door: lines_of_door(script, door, crate, TOP / built) for door, (crate, built) in DOORS.items()}}
+def write_all():
+    parts = {door: lines_of_door(door, crate, TOP / built) for door, (crate, built) in DOORS.items()}
     if parts[TOOL] and parts[PROGRAM] and parts[TOOL] == parts[PROGRAM][:len(parts[TOOL])]:
-        parts[TOOL] = AS_THE_PROGRAM
+        parts[TOOL] = ['- its report and calls: as for the program']
     if parts[MODULES] and parts[ARCHIVE] and parts[MODULES][1:] == parts[ARCHIVE][1:len(parts[MODULES])]:
-        parts[MODULES][1:] = AS_THE_ARCHIVE
-    for name, lines in parts.items() if not script.failed else ():
-        if lines is None:
-            script.skip(name, 'it is not built here')
-        else:
-            script.keep(PAGE, name, '\n'.join(lines))
-    script.close()
-
-
-main()
+        parts[MODULES][1:] = ['- crates and functions of C: as for the library for C']
+    for name, lines in {'the toolchain': lines_of_the_toolchain(), **parts}.items():
+        if lines:
+            fill(TRUSTED, name, lines, 'trusted')

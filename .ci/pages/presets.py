@@ -1,20 +1,19 @@
-#!/usr/bin/env -S python3 -B
-"""The facts that two languages share, in each place of presets.txt: the presets (crates/argon2_standard/src/config.rt),
-the default limits (crates/argon2/src/limits.rt), the most threads of a stored string (stored.rt beside it), the errors
-with their numbers and words (errors.txt), the fields of settings and limits, and those of the options (the header).
-
-    .ci/pages/presets            compares
-    .ci/pages/presets --write    writes the parts that are written: what stands between marks of the place's name, and
-                                 values of the default limits wherever a place names them
-"""
+"""The facts that several files have, in each place of presets.txt: presets (crates/argon2_standard/src/config.rt),
+default limits (crates/argon2/src/limits.rt), the most threads of a stored string (stored.rt beside it), errors
+(errors.txt), the fields of settings, limits and options (the header), the version (VERSION) and who publishes this
+(PROJECT)."""
 
 import re
 import textwrap
+from datetime import datetime, timezone
 
-from common import Script, put_in, read, rows, write
+from common import fill, need, put_in, read, rows, write
 
+TABLE = '.ci/pages/presets.txt'
 PRESET = re.compile(r"[{}] ([^{}]*?): Argon2\w+, [^{}]*? pub fn (\w+)\(\) -> Config<'a> "
                     r'ensures \{ IsPreset (\w+) (\d+) (\d+) result \}')
+# The preset whose promise the calls for C of the other ones share.
+WITH_PROMISE = 'owasp1'
 OPTION = re.compile(r'^    /\* ([^/]*) \*/\n    ((.*?)(\w+));', re.M)
 # A type of an option: its bytes, its type and a zero of it in Rust, and its type in Python.
 TYPES = {
@@ -28,8 +27,20 @@ TYPES = {
     'proved_argon2_tell *': (8, 'Option<extern "C" fn(*mut c_void, u64, u64) -> c_int>', 'None', '_Tell'),
 }
 WIDTH, INDENT = 100, '    '  # of a list that is wrapped
-# What may stand for the value of a mark, and between two words of a text.
+VERSION = r'(?:0|[1-9]\d*)' + r'\.(?:0|[1-9]\d{0,2})' * 2
+# What may stand for the value of a mark: of a limit, or of the project; and between two words.
 VALUE, BLANK = r'\d(?:[\d_,]*\d)?(?: [KMG]iB)?', r'\s+(?:(?:///|//|#|\*|--) )?'
+OF_PROJECT = {'v': VERSION, **dict.fromkeys('ngh', r'[\d_]+'),
+              **dict.fromkeys(('Name', 'Publisher', 'Contact', 'Address'), '[^\n"`>]*?')}
+# What a new version begins, before the old ones: its part of CHANGELOG.md, and of the list for Debian.
+CHANGES = '\n## {v}\n\nUnreleased.\n\n- What changed.\n\n## '
+DEBIAN, ENTRY = 'debian/changelog', '''proved-argon2 ({v}-1) unstable; urgency=medium
+
+  * CHANGELOG.md says what changed.
+
+ -- {Publisher} <{Contact}>  {now:%a, %d %b %Y %H:%M:%S +0000}
+
+'''
 
 
 def one_line(text):
@@ -45,7 +56,7 @@ def presets():
     """What each mark stands for, by a preset."""
     text = one_line(read('crates/argon2_standard/src/config.rt'))
     found = PRESET.findall(text)
-    assert len(found) == text.count('pub fn') - text.count('&self)'), 'a preset has another form'
+    need(len(found) == text.count('pub fn') - text.count('&self)'), 'a preset of config.rt has another form')
     for what, name, variant, kib, passes in found:
         yield {'what': what, 'name': name, 'Name': camel(name), 'variant': variant, 'm': kib, 't': passes,
                'mib': str(int(kib) // 1024), 'memory': memory_of(kib),
@@ -61,15 +72,25 @@ def memory_of(kib):
 def default_limits():
     """The same by the default limits."""
     text = read('crates/argon2/src/limits.rt').partition('fn default() -> Limits')[2]
-    memory, passes, lanes, work = re.findall(r': (\d[\d_]*),', text)[:4]
-    plain = {'m': memory, 't': passes, 'p': lanes, 'w': work}
-    return {'name': 'default', 'memory': memory_of(memory.replace('_', '')), 'work': memory_of(work.replace('_', '')),
-            **{f'{mark}_': value for mark, value in plain.items()},
-            **{mark: value.replace('_', '') for mark, value in plain.items()}}
+    grouped = dict(zip('mtpw', re.findall(r': (\d[\d_]*),', text)))
+    plain = {mark: value.replace('_', '') for mark, value in grouped.items()}
+    return {**plain, **{f'{mark}_': value for mark, value in grouped.items()}, 'name': 'default',
+            'memory': memory_of(plain['m']), 'work': memory_of(plain['w'])}
+
+
+def project():
+    """The same by the version and who publishes this."""
+    found, version = dict(re.findall(r'^(\w+): (.+)$', read('PROJECT'), re.M)), read('VERSION').strip()
+    major, minor, patch = map(int, version.split('.'))
+    number = major * 1_000_000 + minor * 1000 + patch
+    found |= {'v': version, 'n': f'{number}', 'g': f'{number:_}', 'h': f'{number + 1:_}'}
+    need(found.keys() == OF_PROJECT.keys(), f'PROJECT lacks a line, or has another: {found.keys() ^ OF_PROJECT.keys()}')
+    return {'name': 'project', **found}
 
 
 def most_threads():
-    return re.search(r'MAX_WORKERS: u32 = (\d+);', read('crates/argon2/src/stored.rt'))[1]
+    """The most threads of a stored string."""
+    return {'name': 'most', 'n': re.search(r'MAX_WORKERS: u32 = (\d+);', read('crates/argon2/src/stored.rt'))[1]}
 
 
 def options():
@@ -82,8 +103,7 @@ def options():
         place = -(-end // size) * size
         words, end = re.sub(r'\s+\*\s', ' ', words), place + size
         found.append({'name': name, 'declared': declared, 'place': str(place), 'bytes': str(size),
-                      'man': textwrap.fill(words, 120),
-                      **dict(zip(('rust', 'zero', 'python'), types))})
+                      'man': textwrap.fill(words, 120), **dict(zip(('rust', 'zero', 'python'), types))})
     return found, [{'name': 'options', 'bytes': str(-(-end // 8) * 8)}]
 
 
@@ -107,17 +127,16 @@ def snake(name):
 def fields(name):
     """The same by a field."""
     inside = re.search(rf'pub struct {name} \{{\n(.*?)\n\}}', read(f'crates/argon2_c/src/{name.lower()}.rt'), re.S)[1]
-    return [{'name': field, 'Name': camel(field), 'type': kind}
-            for field, kind in re.findall(r'pub (\w+): (\w+),', inside)]
+    return [{'name': field, 'type': kind} for field, kind in re.findall(r'pub (\w+): (\w+),', inside)]
 
 
 def lists():
     """Each list by the name that places call it."""
-    (original, first, *others), every, (fields_of_options, size) = presets(), [*errors()], options()
+    (original, *recommended), every, (fields_of_options, size) = presets(), [*errors()], options()
     return {
-        'presets': [original, first, *others],
-        'recommended': [first, *others],
-        'others': others,
+        'presets': [original, *recommended],
+        'recommended': recommended,
+        'others': [preset for preset in recommended if preset['name'] != WITH_PROMISE],
         'errors': [error for error in every if int(error['n']) < 64],
         'errors of C': [error for error in every if 64 <= int(error['n']) < 128],  # of the proved calls for C alone
         'errors of the driver': [error for error in every if is_of_driver(error['n'])],
@@ -127,9 +146,10 @@ def lists():
         'settings': fields('Settings'),
         'limits': fields('Limits'),
         'default limits': [default_limits()],
-        'most threads of a string': [{'name': 'most threads', 'n': most_threads()}],
+        'most threads of a string': [most_threads()],
         'options': fields_of_options,
         'size of options': size,
+        'project': [project()],
     }
 
 
@@ -145,11 +165,11 @@ def part_of(form, items):
 
 
 def with_values(text, form, values):
-    """A text in which each place of a form, of whatever values, has these; blanks and ends of lines are as they
-    were."""
-    parts = re.split(r'<(\w+)>', form)
-    pattern = ''.join(f'({VALUE})' if index % 2 else re.sub(r'(?:\\ )+', lambda _: BLANK, re.escape(part))
-                      for index, part in enumerate(parts))
+    """A text in which each place of a form, of whatever values, has these, or of the project the first; blanks and ends
+    of lines are as they were."""
+    parts = re.split(r'<(\w+)>', form.replace('\\n', '\n'))
+    pattern = ''.join(f'({OF_PROJECT.get(part, VALUE)})' if at % 2 else
+                      re.sub(r'(?:\\ )+', lambda _: BLANK, re.escape(part)) for at, part in enumerate(parts))
 
     def put(found):
         new, last = '', found.start()
@@ -158,45 +178,38 @@ def with_values(text, form, values):
             last = found.end(index)
         return new + found.string[last:found.end()]
 
-    return re.sub(pattern, put, text)
+    return re.sub(pattern, put, text, count='v' in values)
 
 
-def follow(script, file, form, values):
-    """Writes the values where a file has a form; other ones have to be followed there too."""
-    text, others = read(file), {name: re.sub(r'\d', '7', value) for name, value in values.items()}
-    if script.writes:
-        write(file, with_values(text, form, values))
-    changed = one_line(with_values(text, form, others))
-    is_followed = one_line(put_in(others, form)) in changed
-    script.need(f'{file}, limits', is_followed, f'a changed limit is not followed: {form}')
-
-
-def added(script, file, form, items):
-    """The form of the line in <has>. Adds the text of each item of which a file lacks that line, below an empty one."""
-    line, text = re.search('<has>(.*)</has>', form)[1], re.sub('</?has>', '', form) + '\n'
-    if script.writes:
+def write_place(file, what, items, mark, form):
+    """Writes the items of a list to a place, or sees that it has them."""
+    need(items and len({put_in(item, form) for item in items}) == len(items), f'{file}, {what}: two have one text')
+    if mark == '=':
+        write(file, with_values(read(file), form, items[0]))
+    elif mark == '+':
+        line, new = re.search('<has>(.*)</has>', form)[1], re.sub('</?has>', '', form) + '\n'
         lost = [item for item in items if put_in(item, line) not in read(file)]
-        write(file, '\n'.join([read(file), *(put_in(item, text) for item in lost)]))
-    return line
+        write(file, '\n'.join([read(file), *(put_in(item, new) for item in lost)]))
+    elif mark != '-':
+        return fill(file, mark, [part_of(form, items)], 'presets')
+    line, text = re.sub('.*<has>|</has>.*', '', form), one_line(read(file))
+    lost = [item['name'] for item in items if one_line(put_in(item, line)).strip() not in text]
+    return need(not lost, f'{file}, {what}: it lacks {lost}, each as {line}')
 
 
-def main():
-    script, known = Script(), lists()
-    for file, what, mark, form in rows('.ci/pages/presets.txt', 4):
-        items = known[what]
-        if mark in '-+':
-            if what == 'default limits':
-                follow(script, file, form, items[0])
-            if mark == '+':
-                form = added(script, file, form, items)
-            text = one_line(read(file))
-            lost = [item['name'] for item in items if one_line(put_in(item, form)).strip() not in text]
-            script.hold(f'{file}, {what}', items and not lost, f'it lacks {lost}, each as {form}')
-        else:
-            script.keep(file, mark, part_of(form, items))
-        script.need(f'{file}, {what}', len({put_in(item, form) for item in items}) == len(items),
-                    'two have the same text')
-    script.close()
+def begin(version=None):
+    """Begins a new version, or with none goes on with the old one."""
+    if version:
+        is_same = version.split('.')[0] == read('VERSION').split('.')[0]
+        need(is_same, 'a new first number is a new name of the shared object too, and of its symbols')
+        write('VERSION', f'{version}\n')
+        values = project()
+        write('CHANGELOG.md', read('CHANGELOG.md').replace('\n## ', CHANGES.format(**values), 1))
+        write(DEBIAN, ENTRY.format(now=datetime.now(timezone.utc), **values) + read(DEBIAN))
 
 
-main()
+def write_all():
+    known = lists()
+    for places, what, mark, form in rows(TABLE, 4):
+        for file in places.split():
+            write_place(file, what, known[what], mark, form)

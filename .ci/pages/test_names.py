@@ -1,0 +1,178 @@
+"""Whether what pages name is there, by the letters:
+
+- a path is what has a `/` or the ending of a file of this repository, between backquotes, in a link or as a command;
+- a command is a line of four blanks or of a fence for sh, or words between backquotes that begin with a command;
+- a name of the code is a word with `_` or `::` between backquotes. Each part has to stand somewhere in the sources, and
+  in the file to which it is a link.
+
+A page that is named is a link, but in code and in what is packed without the other pages. No page and no comment of
+specs/ has a word in the place of which CONTRIBUTING.md says another. All pages have at most WORDS words.
+"""
+
+import os
+import re
+import shutil
+from functools import cache
+from pathlib import Path
+
+import pytest
+from common import DEFINITIONS, HOW_TO_CHANGE, TOP, TRUSTED, files, read, run
+
+WORDS = 34_000
+ENDINGS = {'.rt', '.antt', '.md', '.txt', '.py', '.rs', '.c', '.h', '.sh', '.edit', '.svg', '.toml', '.in'}
+FILES = files()
+PAGES = [file for file in FILES if file.endswith('.md')]
+# Lists whose words are those of pages, by hand.
+LISTS = ['docs/promises.txt', 'docs/promises-open.txt']
+PATHS = {f'/{path}' for file in FILES for path in (file, *map(str, Path(file).parents))}
+# What is named and lies elsewhere: in upstream's source, in rust-argon2, in the toolchain, or where it is installed.
+ELSEWHERE = re.compile(r'[/~$]|.*(?:/out/|NAME|CRATE)|(?:rattle/logic|Denote/|Prog/|antt/)|(?:opt\.c|ref\.c|'
+                       r'index_alpha|Block::as_u8_mut|blake2b_simd|constant_time_eq|lib/libproved_argon2\.so)$')
+# The toolchain's names in these pages are made from it.
+OF_THE_KIT = DEFINITIONS, TRUSTED
+# Code, in a fence or set apart by four blanks, and paragraphs.
+BLOCK = re.compile(r'^```(\w*)\n(.*?)^```$|((?:^ {4}[^\n]*(?:\n|\Z))+)|(?:^(?!```| {4})[^\n]+(?:\n|\Z))+', re.M | re.S)
+NAMED_PATH = re.compile(r'(?<![\w`/.])((?:docs/)?[A-Z]+\.md|\.ci/[a-z_/]+(?:\.[a-z]+)?)')
+COMMAND = re.compile(r'(rt|(proved-)?argon2)( |$)|\.ci|\./|bench/|bindings/|crates/')
+# How a word of a command stands where it is told: after `rt`, as a label of a shell's `case`, between quotes.
+WORD_IN_HELP = r'(?:\brt |\||\b\d:|#     \./argon2 |"){}(?![\w-])'
+# A link with its words, its path and its heading; a page's name; and the pages that are packed without the others.
+LINK = re.compile(r'\[([^\]]*)\]\((?!\w+:)([^)\s#]*)#?([^)\s]*)\)')
+PAGE, PACKED = re.compile(r'(?<![\w/.])(?:docs/)?[A-Z][A-Z0-9]*\.md'), re.compile(r'bindings/\w+/README\.md')
+# Names, links, paths and code, which have public words; and the words on the right of the table of CONTRIBUTING.md.
+NAMED = re.compile(r'`[^`]*`|\]\([^)]*\)|\S*(?:[_/]|::|\.\w)\S*')
+SAID_OTHERWISE = re.compile(r'^\| [^|]* \| [^|]* \| (?!Not)(\w[^|]*) \|$', re.M)
+
+
+@cache
+def everything():
+    return '\n'.join((TOP / file).read_bytes().decode('utf-8', 'replace') for file in FILES
+                     if not file.endswith('.md') and not file.startswith('docs/') and file != '.ci/pages/test_names.py')
+
+
+@cache
+def words():
+    return {*re.findall(r'\w+', '\n'.join([everything(), *PATHS]))}
+
+
+@cache
+def help_of(command):
+    """What tells of the words of a command; None for `rt` where it is not there."""
+    if command == 'rt':
+        return run('rt', 'help').stdout if shutil.which('rt') else None
+    program = read('bindings/shell/commands.sh') + read('crates/argon2_commands/src/command.rt')
+    return program + read('argon2') if command == './argon2' else program
+
+
+@cache
+def avoided():
+    table = read(HOW_TO_CHANGE).partition('\n## Words\n')[2].partition('\n## ')[0]
+    forms = [r'\s+'.join(word.split()) for cell in SAID_OTHERWISE.findall(table) for word in cell.split(', ')]
+    assert len(forms) > 10
+    return re.compile(rf'\b(?:{"|".join(forms)})s?\b', re.I)
+
+
+@cache
+def headings_of(page):
+    """The headings of a page, or the lines of another file, as links have them."""
+    if not page.endswith('.md'):
+        return {f'L{number}' for number, _ in enumerate(read(page).splitlines(), 1)}
+    return {re.sub(r'[^\w -]', '', heading.lower()).replace(' ', '-')
+            for heading in re.findall(r'^#+ (.*)$', read(page), re.M)}
+
+
+def beside(page, path):
+    return os.path.normpath(Path(page).parent / path) if path else page
+
+
+def is_path(word):
+    return re.fullmatch(r'(?!\.\.)[\w./~$-]+', word) and ('/' in word or Path(word).suffix in ENDINGS)
+
+
+def has_path(name, page):
+    plain = name.rstrip('/').removeprefix('./')
+    first = f'/{plain.split("/")[0]}'
+    places = tuple(f'/{path}{end}' for path in (plain, beside(page, plain)) for end in ('', '.rt', '.antt', '.py'))
+    is_below = first in PATHS or f'/crates{first}' in PATHS
+    return (ELSEWHERE.match(name) or any(path.endswith(places) for path in PATHS)
+            or not is_below and plain in everything())
+
+
+def has_name(word):
+    """Whether each part of a name is a word of the sources, or stands in one where it begins or ends with `_`."""
+    is_piece = word.startswith('_') or word.endswith('_')
+    return ELSEWHERE.match(word) or is_piece and word in everything() or words().issuperset(word.split('::'))
+
+
+def lost_of(first, *others):
+    """What of a command is not there: its file, its first word or an option; or nothing."""
+    if first in ('rt', './argon2', 'argon2', 'proved-argon2'):
+        is_known = not others or not help_of(first) or not re.fullmatch('-*[a-z][a-z-]*', others[0])
+        return '' if is_known or re.search(WORD_IN_HELP.format(others[0]), help_of(first)) else f'{first} {others[0]}'
+    text = (TOP / first).read_bytes().decode('utf-8', 'replace') if (TOP / first).is_file() else ''
+    lost = [word for word in others if re.fullmatch('--[a-z-]+', word) and word not in text]
+    return ' '.join([first, *lost]) if lost or not text else ''
+
+
+def faults_of_links(page, text):
+    """The headings that are not there, the names that are not in the files to which they are links, and the pages that
+    are named without a link."""
+    for name, path, heading in LINK.findall(text):
+        to = beside(page, path)
+        if heading and (TOP / to).is_file() and heading not in headings_of(to):
+            yield f'{to}#{heading}'
+        if re.fullmatch(r'`\w+`', name) and to.endswith(('.rt', '.antt')) and not re.search(
+                rf'\b{name.strip("`")}\b', read(to) if (TOP / to).is_file() else ''):
+            yield f'{name} in {to}'
+    yield from (f'link to {name}' for name in PAGE.findall(re.sub(r'\[[^\]]*\]\([^)]*\)|`[^`]*`', '', text)))
+
+
+def faults(page, text, is_code):
+    """What a paragraph or a line of code names that is not there, and its words that are avoided."""
+    quoted = [' '.join(quote.split()) for quote in re.findall(r'`([^`]+)`', text)]
+    paths = {*NAMED_PATH.findall(text), *(path for _, path, _ in LINK.findall(text) if path), *filter(is_path, quoted)}
+    lost = [path for path in paths if not has_path(path, page)]
+    parts = (part.strip() for one in ([text] if is_code else quoted) for part in re.split(r'&&|[|;()]|sudo ', one))
+    lost += [lost_of(*part.split()) for part in parts if COMMAND.match(part) and (is_code or ' ' in part)]
+    lost += [word for word in quoted if page not in OF_THE_KIT and re.fullmatch(r'\w+(::\w+)*', word)
+             and re.search(r'[a-z]_|::', word) and not has_name(word)]
+    if not is_code and not PACKED.fullmatch(page):
+        lost += faults_of_links(page, text)
+    if not is_code and page != HOW_TO_CHANGE:
+        lost += [f'other word for {word}' for word in avoided().findall(NAMED.sub('', text))]
+    return [f'there is no {name}' for name in lost if name]
+
+
+def faults_of(page, text):
+    """Those of the paragraphs of a page, and of the lines of its code for a shell. Other code is left out."""
+    for block in BLOCK.finditer(text):
+        code = block[3] or (block[2] if block[1] == 'sh' else None)
+        for part in code.splitlines() if code else [block[0]] * (block[2] is None):
+            yield from ((part, fault) for fault in faults(page, part, code is not None))
+
+
+@pytest.mark.parametrize('page', [*PAGES, *LISTS])
+def test_what_a_page_names_is_there(page):
+    assert not [*faults_of(page, read(page))]
+
+
+@pytest.mark.parametrize('text', [
+    'in [a page](NOTHING.md)', '[it](docs/USE.md#nothing)', '[it](VERSION#L2)', 'see docs/C.md',
+    '`it`, of LIBARGON2.md', '[it](USE.md), and\n(USE.md)', 'run `.ci/pages/nothing`', 'a row of `nothing.txt`',
+    'it is `crates/argon2/src/nothing.rt`', 'the folder `argon2_text/specs/Nothing`', '    .ci/pages/write --nothing',
+    '    ./argon2 nothing', 'a `hash_of_nothing`', 'a `Config::nothing_of`',
+    '[`blake2b`](crates/argon2/src/hashing.rt)', 'the Refusals of a call', 'it spells\na value',
+    *['    rt nothing NAME'] * bool(shutil.which('rt'))])
+def test_a_wrong_text_is_found(text):
+    assert [*faults_of('README.md', text)]
+
+
+def test_definitions_have_the_words_of_the_pages():
+    comments = {file: '\n'.join(re.findall(r'^ *-- (.*)$', read(file), re.M)) for file in files('crates/*/specs/**')}
+    assert comments and not [(file, avoided().findall(NAMED.sub('', text))) for file, text in comments.items()
+                             if avoided().search(NAMED.sub('', text))]
+
+
+def test_all_pages_can_be_read():
+    pages = files('*.md', 'docs/*.md', 'bindings/*/*.md', 'crates/*/*.md')
+    assert pages and sum(len(read(page).split()) for page in pages) <= WORDS

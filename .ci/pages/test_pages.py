@@ -1,0 +1,74 @@
+"""Whether what scripts write is current, the code of pages is built, and lists by hand are of the sources."""
+
+import re
+import shutil
+from pathlib import Path
+
+import pytest
+from common import FIRST, CLAIMS, INSTALL, PYTHON, RATTLE, THEOREM, TOP, USE, files, read, rows, run
+from shared.sources import Sources, edits
+
+# A phone's pixels, and those of the smallest letter there.
+PHONE, LEAST = 400, 10.8
+BLOCK = re.compile(r'^```(rust|antt)\n(.*?)^```$', re.M | re.S)
+
+
+def test_what_is_written_is_current(copy):
+    copy.run('.ci/pages/write')
+    copy.run('git', '--no-pager', 'diff', '--exit-code')
+
+
+@pytest.mark.parametrize('page', [RATTLE, USE])
+def test_pieces_of_rattle_are_in_the_examples(page):
+    examples = ''.join(map(read, files('crates/argon2_examples/src/*.rt', 'crates/argon2_examples/specs/*.antt')))
+    pieces = [piece for _, piece in BLOCK.findall(read(page))]
+    assert pieces and not [piece for piece in pieces if piece not in examples]
+
+
+def test_first_calls_are_those_of_each_languages_page():
+    calls = re.findall(r'^\| \[[^\]]*\]\((docs[^)]*)\) \| .* \| `(.*)` \|$', read(FIRST), re.M)
+    assert len(calls) >= 6 and not [call for page, call in calls if call not in read(page)]
+
+
+def test_what_is_quoted_of_the_logic_stands_there(needs):
+    needs('rt')
+    logic = Path(shutil.which('rt')).resolve().parents[1] / 'rattle/logic'
+    quoted = re.findall(r'^-- (\S+\.antt)\n((?:(?!--|```).*\n)+)', read(THEOREM), re.M)
+    assert len(quoted) == 2
+    for file, text in quoted:
+        assert ''.join(text.split()) in ''.join((logic / file).read_text(encoding='utf-8').split())
+
+
+@pytest.mark.parametrize('page', [FIRST, INSTALL, PYTHON])
+def test_the_oldest_c_library_is_the_newest_that_release_asks_for(page):
+    asked = {int(version) for file in TOP.glob('release/*/*')
+             for version in re.findall(rb'\0GLIBC_2\.(\d+)\0', file.read_bytes())}
+    named = re.findall(r'(?:GNU C\s+library|glibc)(?:\W|older|than|version|needs?)*2\.(\d+)', read(page))
+    assert {*map(int, named)} == {max(asked)}
+
+
+def test_pages_name_the_same_versions_of_the_toolchain():
+    assert run('build/kits').stdout and run('build/kits').stdout == run('build/kits', CLAIMS).stdout
+
+
+def test_no_tag_while_there_are_placeholders():
+    said = run('.ci/release/tag').stdout if re.search(r'\.example(/|$)', read('PROJECT'), re.M) else None
+    assert said is None or 'PROJECT has placeholders' in said
+
+
+@pytest.mark.parametrize('picture', files('docs/*.svg'))
+def test_the_letters_of_a_picture_can_be_read_on_a_phone(picture):
+    width = int(re.search(r'viewBox="0 0 (\d+) ', read(picture))[1])
+    assert min(map(int, re.findall(r'(?:font|font-size): (\d+)px', read(picture)))) * min(1, PHONE / width) >= LEAST
+
+
+def test_each_mutant_fits_and_names_what_it_breaks():
+    every = edits(Sources())
+    wrong = {(edit.crate, edit.name) for edit in every if not edit.is_equal}
+    assert wrong and not [(edit.crate, edit.name, edit.fault) for edit in every
+                          if edit.fault or edit.is_equal == bool(edit.goals) or (edit.crate, edit.name) not in wrong]
+
+
+def test_each_open_promise_has_its_tests():
+    opened = rows('docs/promises-open.txt')
+    assert len(opened) > 40 and not [row for row in opened if len(row) != 2 or not all(row)]

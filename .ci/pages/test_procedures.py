@@ -1,0 +1,85 @@
+"""Whether the procedures of CONTRIBUTING.md end well: in a copy of the repository the edits by hand of one after the
+other are made, each before `.ci/pages/write`, and then all checks of pages and sources are run, without exception."""
+
+import pytest
+from common import FIRST, HOW_TO_CHANGE, run
+
+PRESET = '''    /// libsodium's {0} settings: Argon2id, {2} MiB, {3} passes.
+    pub fn {0}() -> Config<'a>
+        ensures {{ IsPreset Argon2id {1} {3} result }}
+    {{
+        preset(Variant::Argon2id, {1}, {3})
+    }}
+
+'''
+ROW = 'Config::{0}\tConfig {{ ad: [], hash_length: 32, lanes: 1, mem_cost: {1}, secret: [], thread_mode: Sequential, ' \
+      'time_cost: {3}, variant: Argon2id, version: Version13 }} true\n'
+FIRST_PRESET, MIDDLE_PRESET = ('interactive', 65536, 64, 2), ('moderate', 262144, 256, 3)
+CONFIG, ROWS = 'crates/argon2_standard/src/config.rt', 'crates/argon2_vectors/rows.txt'
+HEADER, ERRORS = 'crates/argon2_c/include/proved_argon2', '.ci/pages/errors.txt'
+CHANGED = ('CHANGELOG.md', '\nUnreleased', '\nWhat is new.\n\nUnreleased')
+# The edits of each procedure: a file, a text of it, and what stands in its place; of a new file no text.
+PROCEDURES = {
+    'a preset, before the others': [
+        (CONFIG, "    /// OWASP's first", PRESET.format(*FIRST_PRESET) + "    /// OWASP's first"),
+        (ROWS, '\nConfig::owasp1\t', f'\n{ROW.format(*FIRST_PRESET)}Config::owasp1\t'), CHANGED],
+    'a preset, between two others': [
+        (CONFIG, "    /// OWASP's third", PRESET.format(*MIDDLE_PRESET) + "    /// OWASP's third"),
+        (ROWS, '\nConfig::owasp3\t', f'\n{ROW.format(*MIDDLE_PRESET)}Config::owasp3\t'), CHANGED],
+    'an error of the calls for C': [
+        (ERRORS, '\n128 |', '\n73 | NoReason | There is no reason | no call has a reason\n128 |'),
+        ('crates/argon2_c/src/errors.rt', '    WrongBlocks,\n', '    WrongBlocks,\n\n    /// There is no reason.\n'
+         '    NoReason,\n'), CHANGED],
+    'an option of the calls for C': [
+        (f'{HEADER}_threads.h', '    void *arg;\n', '    void *arg;\n    /* the flags */\n    uint32_t flags;\n'),
+        (f'{HEADER}_threads.h', 'NULL, NULL}', 'NULL, NULL, 0}')],
+    'a default limit': [('crates/argon2/src/limits.rt', 'mem_cost: 2_097_152', 'mem_cost: 1_048_576'),
+                        ('crates/argon2/src/limits.rt', 'lanes: 16', 'lanes: 32')],
+    'a border of the settings': [
+        ('crates/argon2_standard/specs/Standard/SettingsTable.antt', 'min_salt_length = 8', 'min_salt_length = 9'),
+        ('crates/argon2_blocks/src/common.rt', 'MIN_SALT_LENGTH: u32 = 8', 'MIN_SALT_LENGTH: u32 = 9'),
+        (f'{HEADER}.h', 'MIN_SALT_LENGTH UINT32_C(8)', 'MIN_SALT_LENGTH UINT32_C(9)'),
+        (ERRORS, 'the salt is shorter than 8 bytes', 'the salt is shorter than 9 bytes')],
+    'a test in Rattle': [
+        ('crates/argon2_tests/src/tests/encoding.rt', '#[test]\nfn encode_string',
+         '#[test]\nfn one_is_one() {\n    assert!(1 == 1);\n}\n\n#[test]\nfn encode_string')],
+    'a test in Python': [
+        ('.ci/pages/test_example.py', None, '"""Whether one is one."""\n\n\ndef test_one():\n    assert True\n'),
+        ('.ci/CMakeLists.txt', 'judge_file(.ci/gate/test_build.py QUICK)',
+         'judge_file(.ci/gate/test_build.py QUICK)\njudge_file(.ci/pages/test_example.py QUICK)')],
+    'a page': [('docs/EXAMPLE.md', None, '# An example\n\n[Using it](USE.md) has more.\n'),
+               (FIRST, '- How do I change it? ', '- What is an example? [An example](docs/EXAMPLE.md)\n'
+                '- How do I change it? ')],
+    'a build for a processor': [('build/machines.txt', 'x86-64: x86-64-v2 ', 'x86-64: x86-64-v1 x86-64-v2 ')],
+}
+CHECKS = ('gcc -std=c99 -I crates/argon2_c/include -fsyntax-only crates/argon2_c/c/types.c', 'cmake -S .ci -B out/ci',
+          'ctest --test-dir out/ci --label-regex quick --tests-regex .ci/pages --no-tests=error --output-on-failure '
+          '--parallel 3')
+
+
+@pytest.mark.timeout(3600)
+def test_the_procedures_end_well(copy):
+    for procedure in PROCEDURES.values():
+        for file, old, new in procedure:
+            copy.change(file, old, new)
+            assert file.rpartition('/')[2] in (copy.top / HOW_TO_CHANGE).read_text() or old is None
+        copy.run('.ci/pages/write')
+    for check in CHECKS:
+        copy.run(*check.split())
+
+
+def test_who_publishes_is_written_everywhere(copy):
+    copy.change('PROJECT', 'Address: https://vemkuorl.example/', 'Address: https://new.example/')
+    copy.run('.ci/pages/write')
+    assert run('git', 'grep', '-l', 'https://vemkuorl.example/', '--', ':!.ci', cwd=copy.top).stdout == ''
+
+
+@pytest.mark.parametrize('change, place', [
+    ((CONFIG, '46 MiB, 1 pass.', '46 MiB, 3 passes.'), CONFIG),
+    ((ROWS, '\nConfig::owasp1\t', '\nConfig::owasp\t'), ROWS),
+    ((ERRORS, '| NoPlace |', '| NoSuchPlace |'), 'errors.rt'),
+    ((ERRORS, '| LanesTooFew |', '| FewLanes |'), 'error.rt')])
+def test_what_a_place_by_hand_lacks_is_named(copy, change, place):
+    copy.change(*change)
+    with pytest.raises(AssertionError, match=place):
+        copy.run('.ci/pages/write')
