@@ -5,7 +5,6 @@ the functions of C whose contracts the proof takes as they are, of which those o
 which functions they call once they are built. Of what is not built here the lists stay as they are.
 """
 
-import functools
 import hashlib
 import json
 import re
@@ -14,11 +13,10 @@ import textwrap
 from collections import defaultdict
 from pathlib import Path
 
-from common import TOP, TRUSTED, fill, need, quoted, read, run
+from common import TOP, TRUSTED, fill, need, quoted, run
+from shared.sources import crates
 from toolchain import is_current
 
-# Our crates, each with those below it that crates.txt names.
-OURS = {line.split()[0].rstrip(':'): line.partition(':')[2].split() for line in read('crates.txt').splitlines()}
 TOOLCHAIN = Path(shutil.which('rt')).resolve().parent.parent
 RATTLE = TOOLCHAIN / 'rattle'
 # The parts of the logic, whose axioms are named.
@@ -36,29 +34,8 @@ DOORS = {ARCHIVE: ('argon2_c', 'bindings/out/x86-64-v3/libargon2_c.a'),
 WITHOUT_AXIOMS, OF_THE_COMPILER = 'argon2_c', {'memcpy', 'memmove', 'memset'}
 
 
-@functools.cache
-def crates_below(crate):
-    """The crates of the toolchain on which a crate rests."""
-    if crate in OURS:
-        named = {*OURS[crate], 'std'}
-    else:
-        form = (TOOLCHAIN / f'rlibs/{crate}.rlib/format').read_text(encoding='utf-8')
-        named = {*re.findall(r'^dep (\w+)$', form, re.M)}
-    return named.union(*map(crates_below, named)) - OURS.keys()
-
-
-def lines_of_crates():
-    """The toolchain's crates below the doors."""
-    below = {door: crates_below(crate) for door, (crate, _) in DOORS.items()}
-    above = defaultdict(list)
-    for crate in sorted(set().union(*below.values())):
-        above[tuple(door for door in DOORS if crate in below[door])].append(crate)
-    return [f"- the toolchain's crates that {'all parts below' if doors == (*DOORS,) else ' and '.join(doors)} load: "
-            f'{quoted(some)}' for doors, some in sorted(above.items(), key=lambda pair: len(pair[0]))]
-
-
 def lines_of_the_toolchain():
-    """Its name, the prover, the axioms that the logic's files declare and accept, and its crates."""
+    """Its name, the prover, and the axioms that the logic's files declare and accept."""
     name = (TOOLCHAIN / 'KIT-ID').read_text(encoding='utf-8').strip()
     named = run('build/kits').stdout.splitlines()
     names = quoted(named if name in named else [name]).replace(', ', ' or ')
@@ -73,8 +50,7 @@ def lines_of_the_toolchain():
             *(f'- {what}: `{file}`, SHA-256 `{sums[file]}`' for file, what in COMPILERS.items()),
             f'- extensions outside the type theory: {quoted(projects["logic"]["native-extensions"])}',
             f'- axioms that the files of {quoted(PARTS)} declare: {quoted(axioms) or "none"}',
-            *(f'- axioms of the theory that {quoted(who)} may use: {names}' for names, who in users.items() if names),
-            *lines_of_crates()]
+            *(f'- axioms of the theory that {quoted(who)} may use: {names}' for names, who in users.items() if names)]
 
 
 def lines_of_door(door, crate, built):
@@ -85,7 +61,7 @@ def lines_of_door(door, crate, built):
                          said.read_text(encoding='utf-8') if said.exists() else '', re.M)
     if not reports or not is_current(crate, built):
         return print(f'{door}: it is not built here')
-    verdict, below = reports[-1].splitlines()[-1].split(), crates_below(crate)
+    verdict = reports[-1].splitlines()[-1].split()
     called = set() if door == MODULES else {*re.findall(r'^\w+$', run('nm', '-u', '-j', built).stdout, re.M)}
     reached = re.findall(r'^axioms (\w+): (.*)', reports[-1], re.M)
     some = [f'of `{name}` {which}' for name, which in reached if not which.startswith('none')]
@@ -94,11 +70,10 @@ def lines_of_door(door, crate, built):
     if crate == WITHOUT_AXIOMS:
         taken = [*(word for word in verdict if re.match('axioms=[^0]', word)), *some, *sorted(called - OF_THE_COMPILER)]
         need(not taken, f'{door} takes functions of C as they are: {taken}')
-    loaded = {*re.findall(r'^statements (\w+):', reports[-1], re.M)} - OURS.keys()
+    loaded = {*re.findall(r'^statements (\w+):', reports[-1], re.M)} - {*crates()}
     ends = ' '.join(word for word in verdict if not word.startswith('functions='))
     return [f'- its proof ends with: `{ends}`',
-            "- the toolchain's crates loaded: "
-            f"{f'the {len(below)} above' if loaded == below else quoted(sorted(loaded))}",
+            f"- the toolchain's crates loaded: {quoted(sorted(loaded))}",
             f"- functions of C taken as they are: {'; '.join(some + [f'of {quoted(none)} none'] * bool(none))}",
             *[f'- once built, it calls: {quoted(sorted(called))}'] * bool(called),
             *(['', 'Their contracts:', '', '```rust', *map(declared, axioms), '```'] if door == PROGRAM else ())]
