@@ -21,7 +21,7 @@ NO_USE = re.compile(r'//.*|^ *(?:pub|ghost) use [^;]*;|^ *(?:pub(?:\([a-z]+\))? 
 HEAD = r'(?:\b(crate|super|self)(?=::)|^ *use (?!crate|super|self)(\w+))'
 PATH = re.compile(HEAD + r'((?:::\w+)*)(?:::\{([^}]*)\})?', re.M)
 # Crates whose code nobody gets who uses the library.
-OF_TESTS = {'argon2_tests', 'argon2_vectors', 'argon2_examples'}
+OF_TESTS = {'argon2_tests', 'argon2_layer_tests', 'argon2_vectors', 'argon2_examples'}
 # An item of the types for JavaScript, and the end of a comment above it.
 ITEM_OF_TYPES = re.compile(r'(\*/\n)?^((?:export (?!default)|declare | {4}(?:readonly )?\w+\??: (?!typeof)).*)', re.M)
 OF_CI = re.compile(r'\.ci\b(?!/pages/\w+(?: (?:\*/|-->))?$)')

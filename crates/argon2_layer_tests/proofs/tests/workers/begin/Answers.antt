@@ -1,6 +1,6 @@
 use Rattle.argon2_memory.specs.Views.Jobs.{setting_of_context, IsSetting}
 use Rattle.argon2_fill.proofs.Filling.First.{filled_begun}
-use Rattle.argon2_tests.proofs.tests.layers.workers.begin.Goals as goal
+use Rattle.argon2_layer_tests.proofs.tests.workers.begin.Goals as goal
 
 pub fill_slice_in_turn-requires-clause-ready : goal.fill_slice_in_turn-requires-clause-ready
 fill_slice_in_turn-requires-clause-ready c =
