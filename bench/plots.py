@@ -11,18 +11,11 @@ from pathlib import Path
 WIDTH, MARGIN, LINE, HEIGHT = 480, 16, 18, 260
 # How many letters a line has at most: of a caption, and in bold.
 LETTERS, BOLD_LETTERS = 62, 52
-# The colour and the dashes of a series, in the order in which they are drawn.
-STYLES = {
-    'v4': ('#0072b2', ''),
-    'v3': ('#56b4e9', ''),
-    'v2': ('#56b4e9', '7 4'),
-    'libsodium': ('#d55e00', ''),
-    'reference-native': ('#009e73', ''),
-    'libargon2': ('#cc79a7', ''),
-}
 TABLE = [[cell.strip() for cell in line.split('|')]
          for line in Path(__file__).with_name('peers.txt').read_text(encoding='utf-8').splitlines() if line[0] != '#']
 LABELS = {name: label for name, label, *_ in TABLE}
+# The colour and the dashes of a series, in the order in which they are drawn.
+STYLES = {name: style.partition(' ')[::2] for name, _, style, *_ in TABLE if style}
 SHEET = '''text { font: 14px system-ui, sans-serif; fill: #6e7781 }
 .title { font-size: 16px; font-weight: 600 }
 .own { font-weight: 600 }

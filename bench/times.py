@@ -138,7 +138,7 @@ def time_round(hashes, spent):
 
 
 def measure(folder, seconds, run, only=''):
-    loaded = {name: (library, MAKERS[make]) for name, _, file, make, *_ in TABLE
+    loaded = {name: (library, MAKERS[make]) for name, _, _, file, make, *_ in TABLE
               if make and (name == only or make == 'ours' or not only and make != 'openssl')
               and (library := load(folder / file))}
     for cost in RUNS[run]:
@@ -171,7 +171,7 @@ def version(asked, newer):
 
 def describe(folder):
     """A line for each that is there. (OpenSSL's Argon2 has no names in its library)"""
-    for name, _, file, _, functions, what in TABLE:
+    for name, _, _, file, _, functions, what in TABLE:
         path = folder / ('newer/usr/lib/x86_64-linux-gnu' if name == 'openssl' else '') / file
         if what and (path.exists() or load(path)):
             maps = Path('/proc/self/maps').read_text(encoding='utf-8')
