@@ -45,12 +45,6 @@ find_sources() {
     done
 }
 
-# The hash of these: `sum_crates NAME..`
-sum_crates() {
-    # shellcheck disable=SC2086 # they are words
-    find_sources "$@" && sum_files $sources
-}
-
 # Whether a command that judges files succeeds. It is not run again where they are as they were when it has, by their
 # inodes, sizes and times of change, of which a note in out/ tells: `holds NOTE PATHS COMMAND..`, where PATHS are words.
 holds() {
@@ -105,7 +99,8 @@ find_kit() {
 # What a build of crates is made from, in a line: `line_of NAME..` leaves it in `line`, with the kit, as `rt version`
 # says it.
 line_of() {
-    sum_crates "$@" || return
+    # shellcheck disable=SC2086 # they are words
+    find_sources "$@" && sum_files $sources || return
     find_kit
     line=$sum${kit_file:+ $(paste -s -d " " -- "$kit_file")}
 }
