@@ -134,7 +134,8 @@ uint32_t proved_argon2_verify_encoded_with(const options *with, STORED)
         goto end;
     }
     code = proved_driver_compute(&call, call.bytes, call.bytes + call.job.hash_length);
-    if (code == PROVED_ARGON2_OK && call.is_rehash_due) {
+    /* (in this order, so that no branch depends on a verdict where no rehash is asked about) */
+    if (call.is_rehash_due && code == PROVED_ARGON2_OK) {
         code = PROVED_ARGON2_NEEDS_REHASH;
     }
 end:
