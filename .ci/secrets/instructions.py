@@ -55,14 +55,6 @@ def unsteady(found, steady):
     return Counter({of: count for of, count in found.items() if not steady.fullmatch(of[1])})
 
 
-def hold_list(checks, label, steady):
-    checks.hold(f'{label}: no division is on the list', not [*filter(steady.fullmatch, NEVER_STEADY)])
-
-
-def hold_instructions(checks, label, found, steady, division):
-    """Whether what is proved divides where it is named alone."""
-    others = unsteady(found, steady)
-    expected = Counter({(function, division): count for function, count in DIVIDING.items()})
-    if checks.hold(f'{label}: instructions', others == expected, f'not on the list: {dict(others)}'):
-        kinds = len({kind for _, kind in found})
-        print(f'{label}: {sum(found.values())} instructions of {kinds} kinds, {sum(others.values())} of them divisions')
+def divisions_of(division):
+    """What a machine's build has of instructions that are not on its list."""
+    return Counter({(function, division): count for function, count in DIVIDING.items()})

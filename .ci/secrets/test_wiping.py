@@ -1,20 +1,16 @@
-#!/usr/bin/env -S python3 -B
 """Leaves each wipe out of machine code alone, where nothing behind it clears the stack, and has its absence seen.
-
-    wiping [PROGRAM..]    of the programs of .ci/secrets/wipes.txt, or else of all
 
 A wipe is a call of `wipe` in a program: in calls.c over each build of the library for C, and in programs in Rattle
 that make the library's calls. With search.c preloaded a program stops at each return of its functions. Below the stack
 pointer, in the callers' frames, in what is freed or at the end more of what is sought has to be found than with all
 wipes, or the wipe is not missed. Calls of `wipe_stack` are left out meanwhile, and then judged likewise, and so are the
 driver's calls that clear, by c/clearing.c. How many calls a function has, and which are not missed, is in wipes.txt.
-The last line is 'N passed, M failed'.
 """
+
 import os
 import re
 import struct
 import subprocess
-import sys
 import tempfile
 from collections import Counter, defaultdict, namedtuple
 from concurrent.futures import ThreadPoolExecutor
@@ -24,17 +20,15 @@ from itertools import product
 from pathlib import Path
 from typing import NamedTuple
 
-ROOT = Path(__file__).resolve().parents[2]
-sys.path[:0] = [str(ROOT / folder) for folder in ('.ci', 'crates/argon2_c/c', 'crates/argon2_vectors')]
-import cases as of  # noqa: E402
-import rfc9106  # noqa: E402
-from cases import CALLS, HERE  # noqa: E402
-from plant_leak import FACE, compiled, library, run  # noqa: E402
-from shared import TOP  # noqa: E402
-from shared.checks import Checks  # noqa: E402
-from shared.tables import rows as rows_of  # noqa: E402
-from shared.toolchain import build_preloaded  # noqa: E402
-from toolchain import is_current  # noqa: E402
+import cases as of
+import pytest
+import rfc9106
+from cases import CALLS, HERE
+from plant_leak import FACE, compiled, library, run
+from shared import TOP
+from shared.tables import rows as rows_of
+from shared.toolchain import build_preloaded
+from toolchain import is_current
 
 BUILDS = ('x86-64-v2', 'x86-64-v3')
 # How long a run may take, and the numbers of search.c: bytes of a piece, and places.
@@ -59,11 +53,10 @@ MAY_BE_LEFT = ('H0', *OF_CALLER)
 # How often a program that starts threads is run: a worker that takes no lane leaves nothing, and hides what others
 # left. How often all are looked at where any differs: what chance put into memory is not there each time.
 TRIES, LOOKS = 9, 6
-# What c/clearing.c is linked with. Where names are bound late, the loader leaves registers on
-# the stack, which the driver alone clears there.
-WRAPPED = re.findall(r'__wrap_(\w+)\(.*;$', (FACE / 'c/system.h').read_text(), re.MULTILINE)
-LINKED = (FACE / 'c/clearing.c', *(f'-Wl,--wrap={name}' for name in WRAPPED), '-Wl,--wrap=getrandom', '-Wl,-z,lazy',
-          '-largon2')
+# What c/clearing.c is linked with. Where names are bound late, the loader leaves registers on the stack, which the
+# driver alone clears there.
+WRAPPED = 'malloc calloc aligned_alloc free mmap munmap madvise pthread_create pthread_join explicit_bzero getrandom'
+LINKED = (FACE / 'c/clearing.c', *(f'-Wl,--wrap={name}' for name in WRAPPED.split()), '-Wl,-z,lazy', '-largon2')
 # What is hashed: a password that fills the last block of what H0 is the hash of, with a salt of nine bytes.
 OURS = of.Vector(rfc9106.ID, 19, 2, 64, 4, 32, (b'the-password-that-is-sought,-' * 8)[:207], b'some-salt')
 OF_RFC = of.Vector(rfc9106.ID, 19, 3, 32, 4, 32, b'\1' * 32, b'\2' * 16, b'\3' * 8, b'\4' * 12)
@@ -79,8 +72,12 @@ STRING = IN_ONE_LANE._replace(tag=bytes(32)).text().decode()
 TESTS, COUNT_OF_TESTS = re.compile(
     r'^(\S*\b(?:(?:hash_raw|hash_encoded|verify_raw)_(?:by(?:_two)?_workers|in_one_thread|sequential)(?:_argon2id)?'
     r'|verify_encoded(?:_ext|_within)?(?:_sequential)?|\w+_in(?:_sequential)?_twice)_refused_in_turn): test$', re.M), 25
-
-checks = Checks()
+# Of each program, and of each function with what it calls: how many calls are missed, and how many are not.
+EXPECTED = defaultdict(dict)
+for programs, callee, place, missed, others, *why in rows_of(HERE / 'wipes.txt'):
+    assert len(why) == (others != '0'), f'{place} has no reason, or needs none'
+    for name in programs.split(' '):
+        EXPECTED[name][callee, place] = int(missed), int(others)
 pool = ThreadPoolExecutor(os.cpu_count())
 
 
@@ -169,14 +166,14 @@ class Program:
             yield [*AT_ONE_PLACE, f'LD_PRELOAD={self.preloaded}', f'PLAN={plan.name}', self.path]
 
     def found_in(self, one_run, dropped, stops):
-        """How often each is found in a run: at the end, in what is freed, above stops, and at these, by their function;
-        nothing where it ends badly."""
+        """How often each is found in a run: at the end, in what is freed, above stops, and at these, by their
+        function."""
         sought, where = one_run.steady(), ['left', 'freed', 'above', *(function for function, _ in stops)]
         with self.planned(dropped, stops, sought) as command:
             done = subprocess.run([*command, *one_run.words], input=one_run.input, capture_output=True, timeout=SECONDS)
         said, found = done.stderr.decode(errors='replace'), Counter()
-        if done.returncode != one_run.status or f'sought {len(sought)}' not in said.splitlines():
-            return None
+        is_well = done.returncode == one_run.status and f'sought {len(sought)}' in said.splitlines()
+        assert is_well, f'{self.name} does not end well: {one_run.words}, {dropped}'
         for row, piece, count in re.findall(r'^(\d+) (\d+) (\d+)$', said, re.MULTILINE):
             found[where[int(row)], sought[int(piece)][0]] += int(count)
         return found
@@ -184,15 +181,13 @@ class Program:
     def found(self, runs, dropped=(), stops=()):
         """What runs find where calls are left out, run by run."""
         for number, one_run in enumerate(runs):
-            found = self.found_in(one_run, dropped, stops)
-            checks.need(f'{self.name}: run {number}', found is not None, 'it does not end well')
-            yield from (((number, *place), count) for place, count in (found or {}).items())
+            yield from (((number, *place), count) for place, count in self.found_in(one_run, dropped, stops).items())
 
     def missed(self, sites, runs, others, stops):
         """Calls, and which of them are missed, each left out alone beside the others."""
         before = dict(self.found(runs, others, stops))
         left = {place: count for place, count in before.items() if place[1] == CLEAN}
-        checks.need(f'{self.name}: where {CLEAN} returns', not left, str(left))
+        assert not left, f'where {CLEAN} returns'
         tries = TRIES if any(one_run.has_threads for one_run in runs) else 1
 
         def is_missed(site):  # (by one run, behind which no other is needed)
@@ -214,8 +209,8 @@ class Program:
         return failure
 
 
-def judge(name, expected, look):
-    """Compares how many calls of each function are missed, and are not, with what is expected."""
+def looks_at(expected, look):
+    """How many calls of each function are missed, and are not, in some looks, where those differ from the list."""
     looks = []
 
     def is_seen(place):
@@ -223,13 +218,11 @@ def judge(name, expected, look):
 
     while len(looks) < LOOKS and not (looks and all(map(is_seen, {*looks[0], *expected}))):
         sites = look()
-        every, missed = (Counter(site[:2] for site, is_missed in sites if is_missed or is_any)
-                         for is_any in (True, False))
-        print(f'{name}: {every.total()} calls were left out, and {missed.total()} were missed', flush=True)
-        looks.append({place: (missed[place], count - missed[place]) for place, count in every.items()})
-    for place in sorted({*looks[0], *expected}):
-        checks.hold(f'{name}: {place[0]} in {place[1]}', is_seen(place),
-                    f'(missed, not missed): {[found.get(place) for found in looks]} in place of {expected.get(place)}')
+        every, lacking = (Counter(site[:2] for site, is_missed in sites if is_missed or is_any)
+                          for is_any in (True, False))
+        looks.append({place: (lacking[place], count - lacking[place]) for place, count in every.items()})
+    return {place: ([found.get(place) for found in looks], expected.get(place))
+            for place in {*looks[0], *expected} if not is_seen(place)}
 
 
 # ---- the library for C: each proved call of a build
@@ -249,12 +242,12 @@ def judge_library(program, runs):
     """Behind each call that computes its stack has nothing, and where that is not cleared no more than it may have."""
     stacks = program.calls('wipe_stack')
     computing = {site.function for site in stacks}
-    checks.hold(f'{program.name}: calls', len(computing) > 9, str(computing))
+    assert len(computing) > 9
     for dropped, may_be_left in (((), ()), (stacks, MAY_BE_LEFT)):
         found = program.found(runs, dropped, [stop for stop in program.returns if stop[0] in computing])
         left = {place: count for place, count in found
                 if place[1] in (*computing, 'freed') and place[2] not in may_be_left}
-        checks.hold(f'{program.name}: what is left, {"un" * bool(dropped)}wiped', not left, str(left))
+        assert not left, f'{len(dropped)} calls are left out'
 
 
 # ---- Rattle's calls
@@ -280,10 +273,10 @@ def rows():
     yield Run([], f'fill_sequential {words}\n'.encode(), blocks_of(DROPPED))
 
 
-def tests():
+def runs_of_tests():
     """The tests of calls in one thread free the blocks as they are, since to overwrite them takes time."""
     names = TESTS.findall(run(program_of('argon2_tests'), '--list'))
-    checks.hold('argon2_tests: tests', len(names) == COUNT_OF_TESTS, str(names))
+    assert len(names) == COUNT_OF_TESTS
     for name in names:
         vector = OF_16_LANES if name.endswith(':verify_encoded_refused_in_turn') else OF_RFC
         keeps_memory, has_threads = '_twice_' in name, not re.search('sequential|one_thread', name)
@@ -302,7 +295,7 @@ def commands(hashing, salt, verifying):
 
 
 # Of each program in Rattle, what it is run for.
-RATTLE = {'argon2_vectors': rows, 'argon2_tests': tests,
+RATTLE = {'argon2_vectors': rows, 'argon2_tests': runs_of_tests,
           'argon2_program': lambda: commands('hash', OURS.salt.decode(), 'verify'),
           'argon2_tool': lambda: commands('new', OURS.salt.hex(), 'check')}
 
@@ -318,53 +311,45 @@ def judge_program(program, runs):
     unreleased, over_one = (+program.unreleased).total(), OVER_CALLERS.get(program.name, 0)
     twice = sum('_twice_' in word for one_run in runs for word in one_run.words)
     # (one more test has a memory, of another shape)
-    checks.need(f'{program.name}: calls over a memory', twice + (twice > 0) <= over_one <= 2 * twice + (twice > 0))
-    checks.hold(f'{program.name}: calls without `release`', unreleased == over_one, f'{unreleased}, and not {over_one}')
+    assert twice + (twice > 0) <= over_one <= 2 * twice + (twice > 0)
+    assert unreleased == over_one, 'calls without `release`'
     found = Counter(dict(program.found(runs)))
     left = {(at, where, what): count for (at, where, what), count in found.items()
             if what not in runs[at].may_be_left and (where == 'left' or what == 'the tag')}
-    checks.hold(f'{program.name}: what is left', not left, str(left))
-    checks.hold(f'{program.name}: what is sought', sum(found.values()) > 0)
+    assert not left and sum(found.values()) > 0
     for at, one_run in enumerate(runs):
         freed = [found[at, 'freed', what] for what in one_run.may_be_left if what not in OF_CALLER]
-        checks.need(f'{program.name}: {one_run.words} frees its blocks as they are', any(freed) or not freed)
+        assert any(freed) or not freed, f'{one_run.words} does not free its blocks as they are'
 
 
 # ---- all of them
 
-def judge_one(name, folder, preloaded, expected):
-    if name == 'driver':
-        program = Program(name, compiled(folder / name, *LINKED, *library(folder / 'objects').values()), preloaded)
-        failure = program.failure()
-        checks.hold('the driver: what is left', failure is None, failure)
-        sites = [site for site in program.sites if not site.callee.startswith('wipe')]
-        judge(name, expected, lambda: [*zip(sites, pool.map(program.failure, sites))])
-        return
-    if name in BUILDS:
-        objects = library(folder / f'{name}.objects', name)
-        path, judged, runs = compiled(folder / name, CALLS, *objects.values()), judge_library, [*runs_of_library()]
+@pytest.fixture(scope='module', name='made', params=EXPECTED)
+def fixture_made(request, tmp_path_factory):
+    """A program, and what it is run for."""
+    name, folder = request.param, tmp_path_factory.mktemp('made')
+    preloaded = Path(build_preloaded('secrets/search', folder))
+    if name in RATTLE:
+        assert is_current(name, program_of(name), says_why=True), f'{name} is of other sources'
+        return Program(name, program_of(name), preloaded), [*RATTLE[name]()]
+    objects, words = library(folder / 'objects', name if name in BUILDS else ''), [CALLS] if name in BUILDS else LINKED
+    program = Program(name, compiled(folder / name, *words, *objects.values()), preloaded)
+    return program, [*runs_of_library()] if name in BUILDS else None
+
+
+def test_what_is_left(made):
+    program, runs = made
+    if runs is None:
+        assert program.failure() is None
     else:
-        path, judged = program_of(name), judge_program
-        if not checks.hold(f'{name} is current', is_current(name, path, says_why=True)):
-            return
-        runs = [*RATTLE[name]()]
-    program = Program(name, path, preloaded)
-    judged(program, runs)
-    judge(name, expected, lambda: program.misses(runs))
+        (judge_program if program.name in RATTLE else judge_library)(program, runs)
 
 
-def main():
-    expected = defaultdict(dict)  # of each program and function, how many calls are missed and how many are not
-    for programs, callee, function, missed, others, *why in rows_of(HERE / 'wipes.txt'):
-        checks.need(f'{programs}: the reason for {function}', len(why) == (others != '0'))
-        for program in programs.split(' '):
-            expected[program][callee, function] = int(missed), int(others)
-    with tempfile.TemporaryDirectory() as folder:
-        preloaded = Path(build_preloaded('secrets/search', folder))
-        for name in sys.argv[1:] or expected:
-            judge_one(name, Path(folder), preloaded, expected[name])
-    return checks.close()
-
-
-if __name__ == '__main__':
-    sys.exit(main())
+@pytest.mark.timeout(3600)
+def test_each_wipe_alone(made):
+    """The driver's are judged by what fails."""
+    program, runs = made
+    sites = [site for site in program.sites if not site.callee.startswith('wipe')]
+    wrong = looks_at(EXPECTED[program.name], lambda: program.misses(runs) if runs is not None else
+                     [*zip(sites, pool.map(program.failure, sites))])
+    assert not wrong, '(missed, not missed) as found, and as in wipes.txt'

@@ -1,14 +1,16 @@
 """How many instructions Rattle's calls take in the caller's thread, as callgrind counts them: as many for each password
 and secret of a length, and for each hash of a length, right or not. A branch on what is drawn from a block takes others
 for some, and so does a comparison that stops at the first difference. Nothing is said of addresses."""
+
 import re
 import subprocess
 
+import pytest
 from shared import TOP
+from shared.ahead import ahead
 from toolchain import is_current
 
-CRATE, SECONDS = 'argon2_vectors', 600
-PROGRAM = TOP / 'crates' / CRATE / 'out' / CRATE
+PROGRAM, SECONDS = TOP / 'crates/argon2_vectors/out/argon2_vectors', 600
 # Of a hash in one piece, and of a chain whose bytes fill no vector.
 CASES = [(variant, length) for variant in ('argon2d', 'argon2i', 'argon2id') for length in (32, 103)]
 # Some passwords and secrets, each as long as the others, and a longer one.
@@ -26,9 +28,10 @@ def taken_by(function, line):
     return int(found[1]) if found and ran.returncode == 0 else 0, ran.stdout.rstrip('\n')
 
 
-def counts(variant, length):
+def counts(case):
     """What hashing takes for each password and secret, and verifying one of these for its tag and for hashes that
     differ from it in the first byte, in the last one, and in all; and what hashing a longer one takes."""
+    variant, length = case
     words = [f'{variant} 19 2 64 2 {length} seq {password.hex()} {b"some-salt".hex()} {secret.hex()} -'
              for password, secret in (*SECRETS, LONGER)]
     *hashing, longer = [taken_by(HASHES, f'hash_raw {line}') for line in words]
@@ -37,13 +40,17 @@ def counts(variant, length):
     return hashing, verifying, longer[0]
 
 
-def hold_calls_of_rattle(checks, pool):
-    if not checks.need(CRATE, is_current(CRATE, PROGRAM, says_why=True), 'it is of other sources'):
-        return
-    for (variant, length), (hashing, verifying, longer) in zip(CASES, pool.map(counts, *zip(*CASES))):
-        name, (numbers, tags), (others, verdicts) = f'{variant}, {length} bytes', zip(*hashing), zip(*verifying)
-        is_well = len({*numbers}) == 1 and len({*tags}) == len(SECRETS)
-        checks.hold(f'{name}: as many instructions to hash', is_well, str(hashing))
-        is_well = len({*others}) == 1 and verdicts == ('true', 'false', 'false', 'false')
-        checks.hold(f'{name}: as many instructions to verify', is_well, str(verifying))
-        checks.hold(f'{name}: more for a longer password', longer > numbers[0] > 0)
+@pytest.fixture(scope='module')
+def came(request):
+    assert is_current('argon2_vectors', PROGRAM, says_why=True), 'it is of other sources'
+    yield from ahead(request, 'case', counts)
+
+
+@pytest.mark.timeout(3600)
+@pytest.mark.parametrize('case', CASES, ids=str)
+def test_as_many_instructions(came, case):
+    hashing, verifying, longer = came(case)
+    (numbers, tags), (others, verdicts) = zip(*hashing), zip(*verifying)
+    assert len({*numbers}) == 1 and len({*tags}) == len(SECRETS)
+    assert len({*others}) == 1 and verdicts == ('true', 'false', 'false', 'false')
+    assert longer > numbers[0] > 0
