@@ -1,6 +1,7 @@
 """What a `.ci/gate/proofs` that runs beside this has proved so far, and what its `rt ci` keeps of a crate meanwhile. It
 fills a folder: `said` is what `rt ci` says, and `run` has the number of the process and the folder of its temporary
-files."""
+files. Without it mutants would wait for all proofs, or prove each crate from nothing once more, which takes most of an
+hour of a processor: the gate would take a quarter of an hour longer."""
 
 import glob
 import os
