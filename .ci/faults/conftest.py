@@ -2,15 +2,12 @@
 
 import os
 import shutil
-import sys
 import tempfile
 from pathlib import Path
 
 import pytest
+from runs import SEED, left
 from shared.toolchain import build_preloaded
-
-sys.path.insert(0, str(Path(__file__).parent))
-from runs import SEED, left  # noqa: E402
 
 
 @pytest.fixture(autouse=True)

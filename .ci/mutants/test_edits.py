@@ -3,20 +3,17 @@
 import re
 import shutil
 import subprocess
-import sys
 import tempfile
 import time
 from concurrent.futures import ThreadPoolExecutor
 from pathlib import Path
 
+import judging
 import pytest
+from running_proofs import PAUSE, wait_for
 from shared import TOP
 from shared.sources import MUTANTS, TRIED_ALONE, Sources, edits
 from shared.tables import rows
-
-sys.path.insert(0, str(Path(__file__).parent))
-import judging  # noqa: E402
-from running_proofs import PAUSE, wait_for  # noqa: E402
 
 TESTS = Path(__file__).with_name('tests')
 EDITS = [(*re.split('[/ ]', what), *fields) for what, *fields in rows(TESTS / 'edits.txt')]

@@ -5,7 +5,8 @@ import sys
 from pathlib import Path
 
 TOP = Path(__file__).resolve().parents[2]
-sys.path += [str(TOP / 'build'), str(TOP / 'docs')]  # `machines`, `toolchain` and `parts`
+# Where `machines` and `toolchain`, `parts`, the definitions, and what plants leaks are.
+sys.path += [str(TOP / folder) for folder in ('build', 'docs', 'crates/argon2_vectors', 'crates/argon2_c/c')]
 
 
 def run(*words, **how):
