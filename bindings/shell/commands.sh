@@ -18,8 +18,12 @@ newline='
 # OWASP's settings for passwords: 2 passes over 19 MiB in one lane, and a tag of 32 bytes.
 owasp_settings='argon2id 19 2 19456 1 32 seq'
 
-# The memory that `tune` measures if none is named, in KiB: RFC 9106's second recommendation.
+# The memory that `tune` measures first if none is named, in KiB: RFC 9106's second recommendation.
 tuned_memory=65536
+
+# Of OWASP's choices the least memory in KiB, and the least work: of less a hash protects no password.
+least_memory=7168
+least_work=35840
 
 # The most passes that `check` takes, and the salt that is measured with, in hexadecimal.
 most_passes=10
@@ -257,21 +261,6 @@ check_described() {
 
 # ---- tuning
 
-# The least passes over this much memory that OWASP advises, or nothing below 7 MiB.
-least_passes() {
-    if [ "$1" -ge 47104 ]; then
-        echo 1
-    elif [ "$1" -ge 19456 ]; then
-        echo 2
-    elif [ "$1" -ge 12288 ]; then
-        echo 3
-    elif [ "$1" -ge 9216 ]; then
-        echo 4
-    elif [ "$1" -ge 7168 ]; then
-        echo 5
-    fi
-}
-
 # Whether an argument is a positive number of at most nine digits, without a zero in front.
 is_number() {
     case $1 in
@@ -325,8 +314,8 @@ tell_of_load() {
 programs a hash takes less time than was measured"
 }
 
-# Prints settings whose hash took no longer than this, with as many passes as were found to fit:
-# `tune MILLISECONDS [KIB]`.
+# Prints the strongest settings whose hash took no longer than this: as much memory as that leaves time for, and then as
+# many passes, as the other languages find them: `tune MILLISECONDS [KIB]`.
 tune() {
     [ $# != 1 ] || set -- "$1" "$tuned_memory"
     { [ $# = 2 ] && is_number "$1" && is_number "$2"; } || {
@@ -334,40 +323,41 @@ tune() {
         exit 3
     }
     [ "$1" -le 60000 ] || fail 2 'tune: at most 60000 milliseconds'
-    passes=$(least_passes "$2")
-    [ -n "$passes" ] || fail 2 'tune: less than 7168 KiB are too little for passwords'
+    [ "$2" -ge "$least_memory" ] || fail 2 "tune: less than $least_memory KiB are too little for passwords"
     make_ready
-    measure "$passes" "$2" || { progress '' && fail 5 "tune: check takes no hash of $2 KiB"; }
-    if [ "$took" -gt "$1" ]; then
-        progress ''
-        tell_of_load
-        fail 1 "tune: $(count_passes "$passes") over $2 KiB, the least for passwords: $took milliseconds"
-    fi
-    add_passes "$1" "$2"
+    find_memory "$1" "$2"
+    add_passes "$1"
     progress ''
     tell_of_load
     [ ! -t 2 ] || printf '%s milliseconds:\n' "$took" >&2
-    printf 'argon2id 19 %s %s 1 32 seq\n' "$passes" "$2" || exit 4
+    printf 'argon2id 19 %s %s 1 32 seq\n' "$passes" "$memory" || exit 4
+}
+
+# Sets `memory`, `passes` and `took` to the most memory whose hash takes no longer, with the fewest passes:
+# `find_memory MILLISECONDS KIB`.
+find_memory() {
+    memory=$2 took=$(($1 + 1))
+    while [ "$took" -gt "$1" ] && [ "$memory" -ge "$least_memory" ]; do
+        passes=$(((least_work - 1) / memory + 1))
+        measure "$passes" "$memory" || { progress '' && fail 5 "tune: check takes no hash of $memory KiB"; }
+        [ "$took" -le "$1" ] || memory=$((memory / 2))
+    done
+    [ "$took" -gt "$1" ] || return 0
+    progress ''
+    tell_of_load
+    fail 1 "tune: no settings for passwords within $2 KiB take $1 milliseconds here"
 }
 
 # Raises `passes`, which were measured as `took`, as far as the hash takes no longer and `check` takes it:
-# `add_passes MILLISECONDS KIB`.
+# `add_passes MILLISECONDS`.
 add_passes() {
     fitting=$passes
     fitting_took=$took
-    guess=$((passes * $1 / took))
-    [ "$guess" -le "$most_passes" ] || guess=$most_passes
-    while [ "$guess" -gt "$fitting" ]; do
-        closer=$((guess - 1))
-        if measure "$guess" "$2"; then
-            if [ "$took" -le "$1" ]; then
-                fitting=$guess
-                fitting_took=$took
-                break
-            fi
-            [ $((guess * $1 / took)) -ge "$guess" ] || closer=$((guess * $1 / took))
-        fi
-        guess=$closer
+    passes=$((passes * $1 / took))
+    [ "$passes" -le "$most_passes" ] || passes=$most_passes
+    while [ "$passes" -gt "$fitting" ]; do
+        ! measure "$passes" "$memory" || [ "$took" -gt "$1" ] || return 0
+        passes=$((passes - 1))
     done
     passes=$fitting
     took=$fitting_took

@@ -389,17 +389,19 @@ exit 1
 
 
 def test_the_least_passes_are_those_that_owasp_advises():
+    """Of each of its choices, as the library has them, whose least memory and least work are the bounds."""
     library = ctypes.CDLL(str(LIBRARY))
-    advised = {}
+    works = []
     for number in range(1, 6):
         preset = getattr(library, f"proved_argon2_owasp{number}")
         preset.restype = Settings
-        advised[preset().memory] = preset().passes
-    assert len(advised) == 5, advised
-    for memory in sorted({at + step for at in advised for step in (-1, 0, 1)} | {65536, 4194304}):
-        sufficient = [passes for least, passes in advised.items() if least <= memory]
-        status, output, errors = run_script("", "least_passes", str(memory))
-        assert output.decode().split() == ([str(min(sufficient))] if sufficient else []), (memory, output, errors)
+        memory, passes = preset().memory, preset().passes
+        done = run_script("cat >/dev/null", "main", "tune", "1", str(memory), date="echo 1700000000000000000")
+        assert done == (0, b"argon2id 19 %d %d 1 32 seq\n" % (passes, memory), b""), (memory, passes, done)
+        works.append((memory, memory * passes))
+    text = (ROOT / "bindings/shell/commands.sh").read_text()
+    bounds = [int(re.search(rf"^least_{name}=(\d+)$", text, re.M)[1]) for name in ("memory", "work")]
+    assert len(works) == 5 and bounds == [min(memory for memory, _ in works), min(work for _, work in works)], works
 
 
 def test_tune_prints_the_most_passes_that_fit():
@@ -423,23 +425,27 @@ echo $((now + $4 * $5 / 1024 * 3000000)) >"$FOLDER/clock"
     assert (status, output, errors) == (0, b"argon2id 19 8 7168 1 32 seq\n", b""), (status, output, errors)
     status, output, errors = run_script("exit 5", "main", "tune", "10000", "7168", date=clock)
     assert (status, output) == (5, b"") and b"check" in errors, (status, output, errors)
-    for memory, least, limit in ((7168, 5, 104), (19456, 2, 113), (47104, 1, 137)):
+    # half of the memory, and half of that, takes as long as the passes do that it wants
+    for memory, limit in ((7168, 104), (19456, 113), (47104, 137)):
         status, output, errors = run_script(program, "main", "tune", str(limit), str(memory), date=clock)
-        counted = "1 pass over" if least == 1 else f"{least} passes over"
-        assert (status, output) == (1, b"") and counted.encode() in errors, (memory, status, output, errors)
+        said = f"no settings for passwords within {memory} KiB take {limit} milliseconds here"
+        assert (status, output) == (1, b"") and said.encode() in errors, (memory, status, output, errors)
+    for limit, passes, memory in ((150, 3, 16384), (125, 5, 8192)):
+        status, output, errors = run_script(program, "main", "tune", str(limit), date=clock)
+        assert (status, output) == (0, b"argon2id 19 %d %d 1 32 seq\n" % (passes, memory)), (limit, output, errors)
 
 
 # ---- tune
 
 
 def test_tune_prints_settings_that_new_takes():
-    # The least of three is 31 milliseconds for 5 passes, 71 for the 9 that then seem to fit, and 56 for 7.
+    # The least of three is 31 milliseconds for 5 passes, 71 for the 9 that then seem to fit, and 56 for 8.
     with clock(45, 30, 35, 70, 90, 80, 58, 55, 57) as environment:
         status, output, errors = piped(["tune", "60", "7168"], env=environment)
     is_load_alone = re.fullmatch(rb"(.*: tune: the load is [\d.]+ on \d+ processors: .*\n)?", errors)
-    assert (status, output) == (0, b"argon2id 19 7 7168 1 32 seq\n") and is_load_alone, (status, output, errors)
+    assert (status, output) == (0, b"argon2id 19 8 7168 1 32 seq\n") and is_load_alone, (status, output, errors)
     status, text, _ = piped(["new", *output.decode().split()], b"password")
-    assert status == 0 and b"$m=7168,t=7,p=1$" in text, (status, text)
+    assert status == 0 and b"$m=7168,t=8,p=1$" in text, (status, text)
 
 
 def test_tune_gives_no_settings_that_are_too_weak_or_too_slow():
@@ -447,7 +453,7 @@ def test_tune_gives_no_settings_that_are_too_weak_or_too_slow():
         with clock(6, 4, 5) as environment:
             status, output, errors = piped(["tune", most, "7168"], env=environment)
         assert (status, output) == expected, (status, output, errors)
-        assert status == 0 or b"5 passes over 7168 KiB, the least for passwords: 5 milliseconds" in errors, errors
+        assert status == 0 or b"no settings for passwords within 7168 KiB take 4 milliseconds here" in errors, errors
     status, output, errors = piped(["tune", "100", "7167"])
     assert (status, output) == (2, b"") and b"7168" in errors, (status, output, errors)
     status, output, errors = piped(["tune", "60001"])

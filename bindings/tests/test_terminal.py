@@ -178,5 +178,5 @@ def test_hash_and_verify_ask_once_without_echo():
 def test_tune_shows_its_progress_on_a_terminal():
     with clock(45, 30, 35, 70, 90, 80, 58, 55, 57) as environment:
         run = Terminal(["tune", "60", "7168"], env=environment)
-    assert run.status == 0 and run.output == b"argon2id 19 7 7168 1 32 seq\n", (run.status, run.output)
+    assert run.status == 0 and run.output == b"argon2id 19 8 7168 1 32 seq\n", (run.status, run.output)
     assert b"\r" in run.shown and b"measurement 1 of 3" in run.shown and b"56 milliseconds" in run.shown, run.shown
