@@ -41,7 +41,9 @@ export function addonFor(native) {
     loaded ??= load();
     const { addon, cause } = loaded;
     if (native && addon === undefined) {
-        throw new Unsupported(`There is no addon: ${cause.message}`, { cause });
+        const { platform, arch } = globalThis.process ?? { platform: 'pages', arch: 'any' };
+        const words = `There is no addon for ${platform} on ${arch}, where WebAssembly computes without 'native'`;
+        throw new Unsupported(`${words}: ${cause.message}`, { cause });
     }
     return addon;
 }

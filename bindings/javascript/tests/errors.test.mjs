@@ -239,7 +239,9 @@ test('.. and so is a Node that gives no module without an import', async () => {
 test('.. and so is an engine without the addon that a call asks for', async () => {
     const program = "console.log(await hash('password', { native: true }).catch((error) => String(error)));";
     const said = await saidWith([], program, { PROVED_ARGON2_NATIVE: '0' });
-    assert.equal(said, 'Unsupported: There is no addon: PROVED_ARGON2_NATIVE is 0');
+    const { platform, arch } = process;
+    assert.equal(said, `Unsupported: There is no addon for ${platform} on ${arch}, where WebAssembly computes without`
+        + " 'native': PROVED_ARGON2_NATIVE is 0");
 });
 
 test('where Node denies workers, the caller computes', async () => {

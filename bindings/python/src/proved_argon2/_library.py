@@ -141,10 +141,14 @@ def _load() -> ctypes.CDLL:
         if library.proved_argon2_library_version() == 0:
             raise ImportError(f"{file} has no build for a processor as old as this one")
         return library
-    raise ImportError(
-        f"{SONAME} cannot be loaded: run ./install in the repository of proved-argon2, which needs the GNU C library "
-        f"2.34 or newer, or name the file in {VARIABLE} ({'; '.join(reasons)})"
-    )
+    raise ImportError(f"{SONAME} cannot be loaded: {_advice()}, or name the file in {VARIABLE} ({'; '.join(reasons)})")
+
+
+def _advice() -> str:
+    """What makes a shared object for this system."""
+    if sys.platform == "linux":
+        return "run ./install in the repository of proved-argon2, which needs the GNU C library 2.34 or newer"
+    return f"it is built for Linux, and not for {sys.platform}; compile the library as C (docs/PORTABLE.md)"
 
 
 _library = _load()
