@@ -1,63 +1,63 @@
-#!/usr/bin/env -S python3 -B
 """Compares release/ with what is built here from these sources (build/release), plants forgeries, and verifies the
 vectors by the programs for each processor: the libraries, which have the same bytes as those that are built, are tested
-as these by other steps. The last line is 'N passed, M failed, K skipped'.
-"""
+as these by other tests."""
 
 import base64
 import hashlib
 import re
 import shutil
 import subprocess
-import sys
-import tempfile
-from pathlib import Path
 
-sys.path.insert(0, str(Path(__file__).resolve().parents[1]))
-from shared import TOP  # noqa: E402
-from shared.checks import Checks  # noqa: E402
-from shared.toolchain import has_processor  # noqa: E402
-from machines import machines  # noqa: E402
+import pytest
 
+from shared import TOP, run
+from shared.toolchain import has_processor
+from machines import machines
+
+pytestmark = pytest.mark.timeout(5400)
 RELEASE, VECTORS = TOP / 'release', TOP / 'bindings/vectors'
-PROCESSORS = machines()['x86_64'].proved
-checks = Checks()
-
-
-def run(*command, **how):
-    """A command that has ended, with all that it said."""
-    return subprocess.run(command, stdout=subprocess.PIPE, stderr=subprocess.STDOUT, text=True, check=False,
-                          **{'stdin': subprocess.DEVNULL, 'cwd': TOP, **how})
+FILES = re.findall(r'(?m)^[0-9a-f]{64}  (.+)$', (RELEASE / 'MANIFEST').read_text(encoding='utf-8'))
 
 
 # ---- what is compared
 
-def compare():
+def test_release_has_a_folder_for_each_machine_and_build():
+    builds = [build for machine in machines().values() for build in machine.builds]
+    assert {name.partition('/')[0] for name in FILES} == {'windows-x86_64', 'wasm32', 'portable', *machines(), *builds}
+
+
+@pytest.fixture(scope='session')
+def compared():
+    """What is forged, and what is run, is what was built here."""
     ran = run('build/release')
-    print(ran.stdout, end='', flush=True)
-    return checks.hold('release/ is what is built here', ran.returncode == 0)
+    assert ran.returncode == 0, ran.stdout
 
 
-def copied(folder):
+def test_release_is_what_is_built_here(compared):
+    """The comparison is that of the fixture."""
+
+
+@pytest.fixture
+def tree(compared, tmp_path):
     """A copy of the repository, as git has it, with all that is built; marks are content, so it is current."""
-    known = ['git', 'ls-files', '-z', '--cached', '--others', '--exclude-standard']
-    listed = subprocess.run(known, cwd=TOP, check=True,
-                            stdout=subprocess.PIPE).stdout.decode().split('\0')
+    listed = run('git', 'ls-files', '-z', '--cached', '--others', '--exclude-standard').stdout.split('\0')
     for name in (name for name in listed if name and (TOP / name).exists()):
-        (folder / name).parent.mkdir(parents=True, exist_ok=True)
-        shutil.copy2(TOP / name, folder / name, follow_symlinks=False)
-    shutil.copytree(TOP / 'bindings/out', folder / 'bindings/out', symlinks=True, dirs_exist_ok=True)
+        (tmp_path / name).parent.mkdir(parents=True, exist_ok=True)
+        shutil.copy2(TOP / name, tmp_path / name, follow_symlinks=False)
+    shutil.copytree(TOP / 'bindings/out', tmp_path / 'bindings/out', symlinks=True, dirs_exist_ok=True)
+    yield tmp_path
+    shutil.rmtree(tmp_path)
 
 
 def forge_each_file(tree):
     """Another last byte in each file, whose sum the list has."""
-    path = tree / 'release/MANIFEST'
-    text = path.read_text(encoding='utf-8')
-    for line in (line for line in text.splitlines() if line[0] != '#'):
-        file = tree / 'release' / line.split()[1]
-        file.write_bytes(file.read_bytes()[:-1] + bytes([file.read_bytes()[-1] ^ 1]))
-        text = text.replace(line.split()[0], hashlib.sha256(file.read_bytes()).hexdigest())
-    path.write_text(text, encoding='utf-8')
+    text = (tree / 'release/MANIFEST').read_text(encoding='utf-8')
+    for name in FILES:
+        content = (tree / 'release' / name).read_bytes()
+        forged = content[:-1] + bytes([content[-1] ^ 1])
+        (tree / 'release' / name).write_bytes(forged)
+        text = text.replace(*(hashlib.sha256(of).hexdigest() for of in (content, forged)))
+    (tree / 'release/MANIFEST').write_text(text, encoding='utf-8')
 
 
 def edit_list(pattern, other):
@@ -84,7 +84,6 @@ def track_unseen(tree):
 
 
 # What is planted into a copy; the command that has to find it; and how each line of it begins, or one line.
-FILES = [line.split()[1] for line in (RELEASE / 'MANIFEST').read_text(encoding='utf-8').splitlines() if line[0] != '#']
 FORGERIES = {
     'another byte in each file': (forge_each_file, 'build/release', [f'FAILED: release/{name} is' for name in FILES]),
     'another list': (edit_list('^# version .*', '# version 9.9.9'), 'build/release',
@@ -94,21 +93,20 @@ FORGERIES = {
         ['FAILED: x86_64 is linked by the tools']),
     'another toolchain': (edit_list('^# kit .*', '# kit another'), 'build/release', ['FAILED: its toolchain is']),
     'a file that the list does not name': (add_a_file, 'build/release', ['FAILED: release/ has what it names']),
-    'and before anything is built': (add_a_file, 'build/clean', ['build/clean: release/MANIFEST does not name']),
+    'the same before anything is built': (add_a_file, 'build/clean', ['build/clean: release/MANIFEST does not name']),
     'what git may not track': (track_unseen, 'build/clean', [
         'a link: docs/link', 'invisible characters: docs/page.md', 'no source: build/.gitattributes',
         'binary: build/current.sh', 'no source: build/__pycache__/machines.pyc', 'no source: bindings/out/x86_64']),
 }
 
 
-def plant_forgeries(tree):
-    for name, (plant, command, expected) in FORGERIES.items():
-        shutil.rmtree(tree, ignore_errors=True)
-        copied(tree)
-        plant(tree)
-        ran = run(tree / command, cwd=tree)
-        lost = [line for line in expected if not re.search(f'^{re.escape(line)}', ran.stdout, re.M)]
-        checks.hold(f'it is found: {name}', ran.returncode and expected and not lost, f'{lost}\n{ran.stdout}')
+@pytest.mark.parametrize('name', FORGERIES)
+def test_a_forgery_is_found(tree, name):
+    plant, command, expected = FORGERIES[name]
+    plant(tree)
+    ran = run(tree / command, cwd=tree)
+    lost = [line for line in expected if not re.search(f'^{re.escape(line)}', ran.stdout, re.M)]
+    assert ran.returncode and expected and not lost, ran.stdout
 
 
 # ---- what is run
@@ -130,30 +128,14 @@ def answers():
         yield b'password', *line.split('\t')
 
 
-def check_program(file):
+@pytest.mark.parametrize('cpu', machines()['x86_64'].proved)
+def test_the_program_verifies_the_vectors(compared, cpu):
+    if not has_processor(cpu):
+        pytest.skip('the processor is older')
     expected, wrong = [*answers()], []
     for pwd, text, answer in expected:
-        ran = subprocess.run([RELEASE / file, 'verify', text], input=pwd, capture_output=True, check=False)
+        ran = subprocess.run([RELEASE / cpu / 'argon2_program', 'verify', text], input=pwd, capture_output=True,
+                             check=False)
         said = ran.stdout.decode().strip() or f'ERR {ran.stderr.decode().strip()}'
         wrong += [f'{text}: {said} in place of {answer}'] * (said != answer)
-    checks.hold(f'the vectors over {file}', expected and not wrong, '\n'.join(wrong[:9]))
-
-
-def main():
-    folders = {'windows-x86_64', 'wasm32', 'portable', *machines(),
-               *(build for machine in machines().values() for build in machine.builds)}
-    found = {name.partition('/')[0] for name in FILES}
-    checks.hold('release/ has a folder for each machine and build', found == folders, found ^ folders)
-    with tempfile.TemporaryDirectory() as work:
-        if compare():
-            plant_forgeries(Path(work) / 'forged')
-            for cpu in PROCESSORS:
-                if has_processor(cpu):
-                    check_program(f'{cpu}/argon2_program')
-                else:
-                    checks.skip(f'what is kept for {cpu}, run', 'the processor is older')
-    return checks.close()
-
-
-if __name__ == '__main__':
-    sys.exit(main())
+    assert len(expected) > 400 and not wrong, '\n'.join(wrong[:9])
