@@ -114,6 +114,16 @@ def test_the_tarball_keeps_what_is_the_systems(packages, tmp_path, is_link):
     assert (local / 'bin/proved-argon2').exists() and (local / 'lib/libproved_argon2.so.1').exists()
 
 
+@pytest.mark.parametrize('machine', machines())
+@pytest.mark.parametrize('file, count', [
+    ('libproved_argon2.a', 3), (f'libproved_argon2.so.{VERSION}', 3), ('libargon2.a', 2), ('libargon2.so.1', 2),
+    ('argon2', 1), ('proved_argon2.node', 1)])
+def test_what_is_released_is_packed_to_the_byte(unpacked, machine, file, count):
+    content = (TOP / 'release' / machine / file).read_bytes()
+    assert count == sum(path.read_bytes() == content for path in unpacked.rglob('*')
+                        if path.is_file() and not path.is_symlink() and path.stat().st_size == len(content))
+
+
 def words(text):
     """The words of both licences, without how they are set: what stands behind the titles."""
     return [word for line in re.split(r'(?m)^(?:=== MIT|License: MIT$)', text, 1)[1].splitlines()[1:]
