@@ -1,4 +1,4 @@
-# What the tests in bash share: a line for each check, as bindings/run counts them.
+# What the tests in bash share: a line for each check.
 
 # `check NAME COMMAND..`: whether a command succeeds. What it says is shown where it does not.
 check() {
@@ -26,23 +26,12 @@ refuses() {
     [[ $status == "$expected" && $said == *"$text"* ]]
 }
 
-# 2,000 hashes of libargon2, drawn anew each time, for the tests of a language.
-draws_hashes() {
-    export RANDOM_HASHES=${work:?}/random.txt
-    python3 vectors/drawn.py "$SRANDOM" 2000 >"$RANDOM_HASHES"
-}
-
 # Has cargo take Debian's crates in place of a registry, since it looks for what is optional too: `take_crates_of_debian
 # FOLDER`, of its configuration.
 take_crates_of_debian() {
     mkdir -p "$1"
     printf '[source.crates-io]\nreplace-with = "debian"\n[source.debian]\ndirectory = "/usr/share/cargo/registry"\n' \
         >"$1/config.toml"
-}
-
-# Whether a service's log tells of the login that a user's name forges, and has no line of it: `forges_no_line LOG`.
-forges_no_line() {
-    grep -q 'logged in: root' "$1" && ! grep -E '^(INFO:root:)?logged in: root' "$1"
 }
 
 # `check_with COMMAND NAME COMMAND..`: a check, where the first command is there.

@@ -1,5 +1,6 @@
-"""What is built, where it is installed, and cargo without a registry."""
+"""What is built, where it is installed, and what cargo and Node take."""
 import random
+import shutil
 
 import pytest
 import running
@@ -33,3 +34,22 @@ def drawn(tmp_path_factory):
     file = tmp_path_factory.mktemp("drawn") / "random.txt"
     file.write_text(running.run("python3", "bindings/vectors/drawn.py", random.SystemRandom().getrandbits(32), 2000))
     return {"RANDOM_HASHES": file}
+
+
+@pytest.fixture(scope="session")
+def site(tmp_path_factory):
+    """The package for npm, installed beside its tests by npm without a network, or put where npm would put it."""
+    folder = tmp_path_factory.mktemp("site")
+    packed, modules = folder / "package.tgz", folder / "node_modules"
+    running.run("bindings/javascript/pack", packed, running.built("wasm32") / "wasm32",
+                running.built() / running.MACHINE, env={"SOURCE_DATE_EPOCH": 0})
+    for file in (running.TOP / "bindings/javascript/tests").iterdir():
+        shutil.copy(file, folder)
+    modules.mkdir()
+    if shutil.which("npm"):
+        words = "--offline", "--no-audit", "--no-fund", "--cache", folder / "cache"
+        running.run("npm", "install", *words, packed, cwd=folder)
+    else:
+        running.run("tar", "-C", modules, "-xzf", packed)
+        (modules / "package").rename(modules / "proved-argon2")
+    return folder

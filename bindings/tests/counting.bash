@@ -1,5 +1,5 @@
 # shellcheck shell=bash
-# What scripts that count checks share: each is shown where it fails, and functions run side by side.
+# What scripts that count checks share: each is shown where it fails.
 # shellcheck source=bindings/tests/common.bash
 source bindings/tests/common.bash
 
@@ -33,13 +33,4 @@ check() {
 close() {
     echo "$passed passed, $failed failed, $skipped skipped"
     exit $((failed || !passed))
-}
-
-# Runs a function in the background, once fewer than there are processors run: each run has a limit of time, which it
-# should not spend waiting for the others.
-launch() {
-    while (($(jobs -rp | wc -l) >= $(nproc))); do
-        wait -n || true
-    done
-    "$@" &
 }

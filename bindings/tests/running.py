@@ -87,5 +87,12 @@ def project(folder, main, dependencies=f'argon2 = {{ package = "proved-argon2", 
     return folder
 
 
+def has_node():
+    """Skips a test where there is no Node of 20.19 or later."""
+    words = ["node", "-e", "process.getBuiltinModule('fs')"]
+    is_there = shutil.which("node") and subprocess.run(words, capture_output=True).returncode == 0
+    return pytest.mark.skipif(not is_there, reason="there is no Node of 20.19 or later")
+
+
 def with_feature(name):
     return f'argon2 = {{ package = "proved-argon2", path = "{TOP}/bindings/rust", features = ["{name}"] }}\n'

@@ -1,9 +1,12 @@
 // What the two modules import and export, that they compute the outside vectors, and that no number, place in memory or
-// text makes them trap: checks.mjs FOLDER VECTORS NAME.. A line for each check, as bindings/run counts them.
+// text makes them trap. MODULES and VECTORS name folders, CALLS has the names of the calls.
+import assert from 'node:assert/strict';
 import { readFileSync } from 'node:fs';
+import { test } from 'node:test';
 import { Instance, load } from './module.mjs';
 
-const [folder, vectors, ...calls] = process.argv.slice(2);
+const { MODULES: folder, VECTORS: vectors, CALLS } = process.env;
+const calls = CALLS.split(' ');
 const OWN = load(`${folder}/proved_argon2.wasm`), SHARED = load(`${folder}/proved_argon2_shared.wasm`);
 const MODULES = { 'the module': OWN, 'the shared module': SHARED };
 const VARIANTS = ['argon2d', 'argon2i', 'argon2id'];
@@ -16,16 +19,7 @@ const bytesOf = (hex) => Uint8Array.from(hex === '-' ? [] : hex.match(/../g), (p
 const hexOf = (bytes) => [...bytes].map((byte) => byte.toString(16).padStart(2, '0')).join('');
 const same = (found, expected) => JSON.stringify(found) === JSON.stringify(expected);
 
-function check(name, test) {
-    let why = '';
-    try {
-        if (test()) return console.log(`passed: ${name}`);
-    } catch (error) {
-        why = `: ${error}`;
-    }
-    console.log(`FAILED: ${name}${why}`);
-    process.exitCode = 1;
-}
+const check = (name, call) => test(name, () => assert.ok(call()));
 
 // ---- what goes in and out
 
@@ -187,9 +181,6 @@ check('the shared module imports a memory alone', () => importsAMemory(SHARED));
 check('the module exports its calls, its memory and the end of its tables', () => exportsItsCalls(OWN));
 check('the shared module exports its calls, its stack and the end of its tables',
     () => exportsItsCallsAndStack(SHARED));
-check('a module that imports is found', () => !importsNothing(SHARED) && !importsAMemory(OWN));
-check('a module that exports more, or less, is found',
-    () => !exportsItsCalls(SHARED) && !exportsItsCallsAndStack(OWN));
 const all = vectorsOf(`${vectors}/raw.txt`);
 const texts = readFileSync(`${vectors}/texts.txt`, 'utf8').trim().split('\n').map((line) => line.split('\t')[0]);
 for (const [name, module] of Object.entries(MODULES)) {

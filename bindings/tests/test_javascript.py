@@ -1,0 +1,141 @@
+"""The package for npm: its own tests in Node, also in that of another release of Debian, and beside other
+implementations."""
+import json
+import re
+import sys
+import tarfile
+from pathlib import Path
+
+import pytest
+from running import CC, MACHINE, TOP, block_of, first_lines, has_node, needs, run, start
+
+HEADERS, SOURCES = TOP / "crates/argon2_c/include", TOP / "bindings/javascript"
+NODE_API = Path("/usr/include/node/node_api.h")
+pytestmark = [has_node(), pytest.mark.timeout(2400)]
+# Those of what both engines do, and those of the package alone.
+BOTH = "vectors", "errors", "inputs", "updating", "services", "property", "secrets"
+OWN = *BOTH, "native", "constants", "running", "flat"
+WEBASSEMBLY = {"PROVED_ARGON2_NATIVE": 0}
+DEBIAN = "sid"
+# Node of the system in a folder, which sees the tests and these sources: SYSTEM SITE SOURCES WORD..
+OTHER_NODE = """for folder in "$2" "$3"; do mkdir -p "$1$folder" && mount --bind "$folder" "$1$folder"; done
+mount --rbind /dev "$1/dev" && mount -t proc proc "$1/proc"
+exec chroot "$1" env -C "$2" node "${@:4}"
+"""
+ASKS_FOR_NOTHING = """const manifest = require(process.argv[1]);
+for (const name of ["dependencies", "optionalDependencies", "peerDependencies", "scripts", "bin"]) {
+    if (name in manifest) throw new Error(name);
+}"""
+
+
+@pytest.fixture(scope="module")
+def named(drawn):
+    """What the tests are told."""
+    data = run(sys.executable, "bindings/vectors/drawn.py", "data").strip()
+    return {"VECTORS": TOP / "bindings/vectors", "HEADER": HEADERS / "proved_argon2.h", "WITH_DATA": data,
+            "PAGE": TOP / "docs/demo", **drawn}
+
+
+def judge(site, named, names):
+    run("node", "--test", "--test-reporter=spec", *(f"{name}.test.mjs" for name in names), cwd=site, env=named)
+
+
+@pytest.fixture(scope="module")
+def others(built, installed, tmp_path_factory):
+    """What verifies our strings and makes strings for us: programs, as JSON."""
+    made, script = tmp_path_factory.mktemp("others") / "others", SOURCES / "tests/others.py"
+    run(CC, "-O1", "-Wall", "-Wextra", "-Werror", "-I", HEADERS, SOURCES / "tests/others.c",
+        built / MACHINE / "libproved_argon2.a", "-o", made, "-pthread")
+    library = f"PROVED_ARGON2_LIBRARY={installed}/lib/libproved_argon2.so.1"
+    ours = "env", f"PYTHONPATH={TOP}/bindings/python/src", library, sys.executable, str(script), "proved_argon2"
+    programs = {"C": [str(made)], "Python": ours}
+    if not start(sys.executable, "-c", "import argon2").returncode:
+        programs["argon2-cffi"] = [sys.executable, str(script), "argon2"]
+    return {"OTHERS": json.dumps(programs)}
+
+
+@pytest.mark.parametrize("engine, names", [({}, OWN), (WEBASSEMBLY, BOTH)], ids=["the addon", "WebAssembly"])
+def test_its_own_tests_pass(site, named, engine, names):
+    judge(site, {**named, **engine}, names)
+
+
+def test_strings_of_other_implementations_bundlers_and_policies(site, named, others):
+    judge(site, {**named, **others}, ["others", "bundlers"])
+
+
+@pytest.fixture(scope="module")
+def system(tmp_path_factory):
+    folder = tmp_path_factory.mktemp(DEBIAN)
+    if start("debootstrap", "--print-debs", "--variant=minbase", DEBIAN, folder / "tried").returncode:
+        pytest.skip("no mirror is reached, or there is no right to make a system")
+    run("debootstrap", "--variant=minbase", "--include=nodejs", DEBIAN, folder / "root", timeout=2400)
+    return folder / "root"
+
+
+@needs("debootstrap")
+@pytest.mark.parametrize("engine, names", [({}, OWN), (WEBASSEMBLY, BOTH)], ids=["the addon", "WebAssembly"])
+def test_its_own_tests_pass_in_the_node_of_debian_s_sid(site, named, system, tmp_path_factory, engine, names):
+    # (the hashes that were drawn are beside the site)
+    folder = site.parent
+    words = "unshare", "--mount", "--propagation", "private", "bash", "-euc", OTHER_NODE, "bash", system, folder, TOP
+    files = [f"{site.name}/{name}.test.mjs" for name in names]
+    run(*words, "--test", *files, cwd=site, env={**named, **engine})
+
+
+@needs("npm")
+def test_it_has_the_files_that_npm_would_pack(site, tmp_path):
+    names = []
+    for number in range(2):
+        packed = [site / "package.tgz", *tmp_path.glob("*.tgz")][-1]
+        archive = tarfile.open(packed)
+        names.append(sorted(archive.getnames()))
+        archive.extractall(tmp_path)
+        words = "--offline", "--silent", "--cache", tmp_path / "cache", "--pack-destination", tmp_path
+        run("npm", "pack", *words, cwd=tmp_path / "package")
+    assert names[0] == names[1]
+
+
+def test_it_asks_for_nothing_and_has_the_licence(site):
+    """It depends on nothing, and runs nothing when it is installed."""
+    folder = site / "node_modules/proved-argon2"
+    for name in ("LICENSE", "NOTICE"):
+        assert (folder / name).read_bytes() == (TOP / name).read_bytes()
+    run("node", "-e", ASKS_FOR_NOTHING, folder / "package.json")
+
+
+@pytest.mark.skipif(not NODE_API.exists(), reason="there is no header of Node's")
+def test_the_addon_declares_what_node_does():
+    run(CC, "-std=c11", "-D_GNU_SOURCE=", "-Wall", "-Werror", "-fsyntax-only", "-I", HEADERS, "-include", NODE_API,
+        SOURCES / "addon/addon.c")
+
+
+@needs("tsc")
+@pytest.mark.parametrize("words", ["--module nodenext --moduleResolution nodenext types.mts",
+                                   "--module es2022 --moduleResolution node types.mts",
+                                   "--lib es2022 --module nodenext --moduleResolution nodenext bare.cts",
+                                   "--lib es2022 --module es2022 --moduleResolution node single.ts"])
+def test_the_types_hold(site, words):
+    """By both rules by which compilers look for the types of a package, also of CommonJS, and without a page's types or
+    Node's."""
+    run("tsc", "--noEmit", "--strict", "--target", "es2022", *words.split(), cwd=site)
+
+
+@needs("eslint")
+def test_eslint_finds_nothing():
+    """In what runs in engines, and in its tests."""
+    words = "--no-eslintrc", "--config", "bindings/javascript/eslint.json", "--format", "unix", "--ext", ".js,.mjs"
+    run("eslint", *words, "bindings/javascript", "bindings/wasm", "bench", "docs/demo", env={
+        "NODE_PATH": "/usr/share/nodejs", "NODE_OPTIONS": f"--require={SOURCES}/tests/debian.cjs"})
+
+
+def test_the_first_lines_of_the_page_run(site):
+    (site / "first.mjs").write_text(first_lines("JAVASCRIPT.md", 4))
+    assert run("node", "first.mjs", cwd=site) == "true\nfalse\n"
+
+
+def test_the_service_of_the_page(site):
+    """Under more logins at once than it has places for."""
+    (site / "log_in.mjs").write_text(block_of("SERVICE.md", "JavaScript"))
+    done = start("node", "service.mjs", cwd=site)
+    assert done.returncode == 0, done.stderr[-9000:]
+    assert "logged in: root" in done.stderr and not re.search("^logged in: root", done.stderr, re.M)
