@@ -242,7 +242,8 @@ class PasswordHasher:
     def _settings_of(text: bytes) -> Settings:
         """The settings of an encoded hash. A string that begins as a hash and decodes to none cannot be verified."""
         try:
-            return read(text).settings
+            settings: Settings = read(text).settings
+            return settings
         except Refused as refused:
             error = reading_error(refused)
         if isinstance(error, InvalidHashError) and not text.startswith(_BEGINNINGS):
