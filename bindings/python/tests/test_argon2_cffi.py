@@ -161,7 +161,3 @@ class Argon2Cffi(unittest.TestCase):
         theirs = argon2.PasswordHasher()
         for name in ("time_cost", "memory_cost", "parallelism", "hash_len", "salt_len"):
             self.assertEqual(getattr(proved_argon2.profiles.PRE_21_2, name), getattr(theirs, name), name)
-
-
-if __name__ == "__main__":
-    unittest.main()

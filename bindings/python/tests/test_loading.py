@@ -78,7 +78,3 @@ except HashingError as error:
     print(error, ctypes.get_errno())
 """)
         self.assertEqual(said, "Out of memory 7\n")
-
-
-if __name__ == "__main__":
-    unittest.main()

@@ -1,5 +1,4 @@
 """The memory that is kept from call to call: what it is asked for, holds, and leaves."""
-import base64
 import copy
 import ctypes
 import os
@@ -14,9 +13,7 @@ from proved_argon2 import Limits, PasswordHasher, Type, _library
 from proved_argon2.exceptions import HashingError, TooCostlyError, VerificationError, VerifyMismatchError
 from proved_argon2.low_level import Memory, hash_secret, hash_secret_raw, verify_secret
 
-VECTORS = Path(__file__).resolve().parents[2] / "vectors"
 NEW, FREE = _library._library.proved_argon2_memory_new, _library._library.proved_argon2_memory_free
-TYPES = {"argon2d": Type.D, "argon2i": Type.I, "argon2id": Type.ID}
 LARGE = "$argon2id$v=19$m=1048576,t=1,p=1$c29tZXNhbHQ$AAAAAAAAAAAAAAAAAAAAAA"
 
 
@@ -113,26 +110,6 @@ class KeptMemory(unittest.TestCase):
             for call, expected in calls(memory_cost, lanes, 2, list(Type)[place % 3]):
                 self.assertEqual(call(memory), expected, (memory_cost, lanes))
                 fill(memory)
-
-    def test_the_vectors_over_one_kept_memory(self):
-        memory = Memory()
-        for line in (VECTORS / "raw.txt").read_text().splitlines():
-            variant, *numbers, pwd, salt, secret, ad, answer = line.split(" ", 10)
-            pwd, salt, secret, ad = (b"" if word == "-" else bytes.fromhex(word) for word in (pwd, salt, secret, ad))
-            version, time_cost, memory_cost, lanes, length = map(int, numbers)
-            arguments = (pwd, salt, time_cost, memory_cost, lanes, length, TYPES[variant], version)
-            named = {"key": secret, "associated_data": ad, "memory": memory}
-            if answer.startswith("ERR "):
-                with self.assertRaisesRegex(HashingError, answer[4:]):
-                    hash_secret_raw(*arguments, **named)
-                continue
-            self.assertEqual(hash_secret_raw(*arguments, **named).hex(), answer, line)
-            text = hash_secret(*arguments, **named)
-            tag = text.decode().split("$")[-1]
-            self.assertEqual(base64.b64decode(tag + "=" * (-len(tag) % 4)).hex(), answer, line)
-            self.assertIs(verify_secret(text, pwd, TYPES[variant], **named), True, line)
-            with self.assertRaises(VerifyMismatchError):
-                verify_secret(text, pwd + b"x", TYPES[variant], **named)
 
     def test_a_kept_memory_is_asked_for_once(self):
         memories, memory = Memories(), Memory()
@@ -332,7 +309,3 @@ class WhatAHashTakes(unittest.TestCase):
                     taken = max(seen[-4:]) - before
                     self.assertGreaterEqual(taken, memory_cost << 10)
                     self.assertLess(taken, (memory_cost << 10) + self.beside)
-
-
-if __name__ == "__main__":
-    unittest.main()

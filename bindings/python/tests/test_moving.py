@@ -117,7 +117,3 @@ assert renewed == ["password"] and not check_password("Password", stored)
 assert sys.modules["proved_argon2"] and "argon2" not in sys.modules
 """
         subprocess.run([sys.executable, "-W", "ignore", "-c", program], check=True, timeout=600)
-
-
-if __name__ == "__main__":
-    unittest.main()

@@ -248,7 +248,3 @@ class Lengths(unittest.TestCase):
                 encoded = hash_secret(*pieces, *SETTINGS.values(), Type.ID)
                 self.assertIs(verify_secret(Lying(encoded), Lying(b"password"), Type.ID), True)
                 self.assertIs(self.hasher.verify(Lying(text.encode()), Lying(b"password")), True)
-
-
-if __name__ == "__main__":
-    unittest.main()

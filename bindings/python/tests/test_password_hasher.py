@@ -398,7 +398,3 @@ class Version(unittest.TestCase):
                 self.assertIn(f'\nversion = "{version}"\n', (folder / "bindings/python/pyproject.toml").read_text())
                 return
         self.fail("there is no file VERSION")
-
-
-if __name__ == "__main__":
-    unittest.main()

@@ -167,7 +167,3 @@ class Signals(unittest.TestCase):
             found = pool.submit(call)
             self.stops(found.result, TimeoutError, 0.02)
             self.assertEqual(found.result(), answer)
-
-
-if __name__ == "__main__":
-    unittest.main()

@@ -159,7 +159,3 @@ class Tune(unittest.TestCase):
                 parameters = tune(milliseconds).parameters
                 self.assertEqual((parameters.memory_cost, parameters.time_cost), expected, milliseconds)
             self.assertRaisesRegex(ValueError, "10 milliseconds", tune, 10)
-
-
-if __name__ == "__main__":
-    unittest.main()

@@ -124,7 +124,3 @@ assert result.wasSuccessful()
             for place in (IN_PLACE, ""):
                 done = run(place, f"from passlib.hash import argon2; print(argon2.verify('password', {ours!r}))")
                 self.assertEqual(done.stdout, "True\n", done.stderr)
-
-
-if __name__ == "__main__":
-    unittest.main()
