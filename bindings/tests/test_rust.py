@@ -1,5 +1,6 @@
 """The crate for Rust: its own tests, those of the crates that it replaces, and where it finds the library."""
 import os
+import pathlib
 import re
 import resource
 import shutil
@@ -131,6 +132,15 @@ def test_the_tests_of_rust_argon2_pass(cargo, tmp_path):
     words = "--offline", "--release", "--test", "integration_test", "--", "--test-threads", "2"
     said = run("cargo", "test", *words, cwd=folder, env=cargo)
     assert "test result: ok. 65 passed; 0 failed; 0 ignored" in said
+
+
+def test_a_line_bounds_calls_in_tokio(cargo, tmp_path):
+    """With Debian's tokio."""
+    if not [*pathlib.Path("/usr/share/cargo/registry").glob("tokio-1.*")]:
+        pytest.skip("there is no librust-tokio-dev")
+    crates = (f'argon2 = {{ package = "proved-argon2", path = "{CRATE}" }}\n'
+              'tokio = { version = "1", features = ["rt-multi-thread", "macros", "time"] }\n')
+    run(*RUN, cwd=project(tmp_path / "tokio_line", (HERE / "tokio.rs").read_text(), crates), env=cargo)
 
 
 def test_errors_are_written_and_read_by_serde(cargo, tmp_path):

@@ -90,7 +90,7 @@ test('as much memory as there is time for, and then passes', async () => {
         assert.deepEqual([found.memory, found.passes], [memory, passes]);
     }
     assert.deepEqual((await fittingCosts(1e6, 2 ** 21, measure)).passes, 2);
-    // (of two passes fewer than are measured first, and of less memory than any hash for passwords has)
+    // (of two passes more are measured first, and no less memory than any hash for passwords has)
     const slower = async (memory, passes) => measure(memory, passes ** 2);
     assert.deepEqual((await fittingCosts(350, 65536, slower)).passes, 2);
     await assert.rejects(fittingCosts(5000, 65536, async (memory) => memory), RangeError);

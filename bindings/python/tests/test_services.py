@@ -159,3 +159,8 @@ class Tune(unittest.TestCase):
                 parameters = tune(milliseconds).parameters
                 self.assertEqual((parameters.memory_cost, parameters.time_cost), expected, milliseconds)
             self.assertRaisesRegex(ValueError, "10 milliseconds", tune, 10)
+        # of two passes more are measured first, and no less memory than any hash for passwords has
+        with mock.patch("proved_argon2._tuning._measure", lambda memory, passes, lanes: memory * passes ** 2 / 1000):
+            self.assertEqual(tune(350).parameters.time_cost, 2)
+        with mock.patch("proved_argon2._tuning._measure", lambda memory, passes, lanes: memory):
+            self.assertRaises(ValueError, tune, 5000)
