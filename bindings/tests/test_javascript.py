@@ -20,7 +20,7 @@ DEBIAN = "sid"
 # Node of the system in a folder, which sees the tests and these sources: SYSTEM SITE SOURCES WORD..
 OTHER_NODE = """for folder in "$2" "$3"; do mkdir -p "$1$folder" && mount --bind "$folder" "$1$folder"; done
 mount --rbind /dev "$1/dev" && mount -t proc proc "$1/proc"
-exec chroot "$1" env -C "$2" node "${@:4}"
+exec chroot "$1" env -C "$PWD" node "${@:4}"
 """
 ASKS_FOR_NOTHING = """const manifest = require(process.argv[1]);
 for (const name of ["dependencies", "optionalDependencies", "peerDependencies", "scripts", "bin"]) {
@@ -36,8 +36,9 @@ def named(drawn):
             "PAGE": TOP / "docs/demo", **drawn}
 
 
-def judge(site, named, names):
-    run("node", "--test", "--test-reporter=spec", *(f"{name}.test.mjs" for name in names), cwd=site, env=named)
+def judge(site, named, names, *node):
+    words = *(node or ["node"]), "--test", "--test-reporter=spec"
+    run(*words, *(f"{name}.test.mjs" for name in names), cwd=site, env=named)
 
 
 @pytest.fixture(scope="module")
@@ -74,12 +75,10 @@ def system(tmp_path_factory):
 
 @needs("debootstrap")
 @pytest.mark.parametrize("engine, names", [({}, OWN), (WEBASSEMBLY, BOTH)], ids=["the addon", "WebAssembly"])
-def test_its_own_tests_pass_in_the_node_of_debian_s_sid(site, named, system, tmp_path_factory, engine, names):
+def test_its_own_tests_pass_in_the_node_of_debian_s_sid(site, named, system, engine, names):
     # (the hashes that were drawn are beside the site)
-    folder = site.parent
-    words = "unshare", "--mount", "--propagation", "private", "bash", "-euc", OTHER_NODE, "bash", system, folder, TOP
-    files = [f"{site.name}/{name}.test.mjs" for name in names]
-    run(*words, "--test", *files, cwd=site, env={**named, **engine})
+    words = "unshare", "--mount", "--propagation", "private", "bash", "-euc", OTHER_NODE, "bash"
+    judge(site, {**named, **engine}, names, *words, system, site.parent, TOP)
 
 
 @needs("npm")

@@ -44,13 +44,6 @@ test('the version is that of the module', async () => {
     assert.equal(instance.exports.proved_argon2_library_version(), major * 1000000 + minor * 1000 + patch);
 });
 
-test('the module imports nothing, and the shared one a memory alone', async () => {
-    const importsOf = (file) => WebAssembly.Module.imports(new WebAssembly.Module(readFileSync(`${source}/${file}`)));
-    assert.deepEqual(importsOf('proved_argon2.wasm'), []);
-    const shared = importsOf('proved_argon2_shared.wasm').map((entry) => `${entry.module}.${entry.name} ${entry.kind}`);
-    assert.deepEqual(shared, ['env.memory memory']);
-});
-
 test('a string is verified by 16 workers at most, and a password hashed by more', async () => {
     const { availableParallelism } = os;
     os.availableParallelism = () => 20;

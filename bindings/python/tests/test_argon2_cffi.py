@@ -114,23 +114,15 @@ def outcome(call, module):
 
 @unittest.skipIf(argon2 is None, "python3-argon2 is not installed")
 class Argon2Cffi(unittest.TestCase):
-    def test_it_verifies_our_texts(self):
-        for variant in proved_argon2.Type:
-            hasher = proved_argon2.PasswordHasher(**SETTINGS, type=variant)
-            for password in PASSWORDS:
-                text = hasher.hash(password)
-                self.assertIs(argon2.PasswordHasher().verify(text, password), True)
-                with self.assertRaises(argon2.exceptions.VerifyMismatchError):
-                    argon2.PasswordHasher().verify(text, password + "x")
-
-    def test_we_verify_its_texts(self):
-        for variant in argon2.Type:
-            hasher = argon2.PasswordHasher(**SETTINGS, type=variant)
-            for password in PASSWORDS:
-                text = hasher.hash(password)
-                self.assertIs(proved_argon2.PasswordHasher().verify(text, password), True)
-                with self.assertRaises(proved_argon2.exceptions.VerifyMismatchError):
-                    proved_argon2.PasswordHasher().verify(text, password + "x")
+    def test_each_verifies_the_other_s_texts(self):
+        for writer, reader in ((proved_argon2, argon2), (argon2, proved_argon2)):
+            for variant in writer.Type:
+                hasher = writer.PasswordHasher(**SETTINGS, type=variant)
+                for password in PASSWORDS:
+                    text = hasher.hash(password)
+                    self.assertIs(reader.PasswordHasher().verify(text, password), True)
+                    with self.assertRaises(reader.exceptions.VerifyMismatchError):
+                        reader.PasswordHasher().verify(text, password + "x")
 
     def test_both_read_the_same_parameters(self):
         for variant in proved_argon2.Type:
