@@ -12,7 +12,7 @@ from parts import filled, marked  # noqa: E402
 os.environ['PATH'] += ':/opt/rattle/bin'
 
 # The pages with parts that are written, or whose code is compared: a page is renamed here, and in presets.txt.
-FIRST, SECURITY, HOW_TO_CHANGE = 'README.md', 'SECURITY.md', 'CONTRIBUTING.md'
+FIRST, HOW_TO_CHANGE = 'README.md', 'CONTRIBUTING.md'
 DEFINITIONS, PROMISES, THEOREM, TRUSTED = (f'docs/{name}.md' for name in (
     'DEFINITIONS', 'PROMISES', 'THEOREM', 'TRUSTED'))
 CLAIMS, DIFFERENCES, INSTALL, PYTHON, RATTLE, USE = (f'docs/{name}.md' for name in (

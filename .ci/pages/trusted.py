@@ -1,8 +1,8 @@
 """docs/TRUSTED.md's lists of what the prover takes without proof, made from the toolchain and the prover's report.
 
-`build/proved` keeps what the prover says of the archives for C and for WebAssembly, and of the program for x86-64-v3:
-the functions of C whose contracts the proof takes as they are, of which those of the archives have none. `nm` says
-which functions they call once they are built. Of what is not built here the lists stay as they are.
+`build/proved` keeps what the prover says of the archives for C and for WebAssembly, and of the program for the newest
+build that it makes: the functions of C whose contracts the proof takes as they are, of which those of the archives have
+none. `nm` says which functions they call once they are built. Of what is not built here the lists stay as they are.
 """
 
 import hashlib
@@ -14,6 +14,7 @@ from collections import defaultdict
 from pathlib import Path
 
 from common import TOP, TRUSTED, fill, need, quoted, run
+from machines import machines
 from shared.sources import crates
 from toolchain import is_current
 
@@ -26,10 +27,10 @@ COMPILERS = {'bin/rattle': 'the prover, with its back ends',
              'toolchain/bin/clang': "LLVM's clang, which one of them uses"}
 # The doors, with the crate whose proof each rests on, and what is built of it, beside which stands what was said of it.
 ARCHIVE, MODULES, PROGRAM, TOOL = 'the archive for C', 'the WebAssembly modules', 'the program', "the shell's tool"
-DOORS = {ARCHIVE: ('argon2_c', 'bindings/out/x86-64-v3/libargon2_c.a'),
-         MODULES: ('argon2_c', 'bindings/out/wasm64-unknown-unknown/libargon2_c.a'),
-         PROGRAM: ('argon2_program', 'bindings/out/x86-64-v3/argon2_program'),
-         TOOL: ('argon2_tool', 'bindings/out/x86-64-v3/argon2_tool')}
+NEWEST = machines()['x86_64'].proved[-1]
+DOORS = {ARCHIVE: ('argon2_c', f'{NEWEST}/libargon2_c.a'),
+         MODULES: ('argon2_c', 'wasm64-unknown-unknown/libargon2_c.a'),
+         PROGRAM: ('argon2_program', f'{NEWEST}/argon2_program'), TOOL: ('argon2_tool', f'{NEWEST}/argon2_tool')}
 # The crate that rests on no function of C, and calls no others than the compiler puts in for copies and zeros.
 WITHOUT_AXIOMS, OF_THE_COMPILER = 'argon2_c', {'memcpy', 'memmove', 'memset'}
 
@@ -87,7 +88,7 @@ def declared(path):
 
 
 def write_all():
-    parts = {door: lines_of_door(door, crate, TOP / built) for door, (crate, built) in DOORS.items()}
+    parts = {door: lines_of_door(door, crate, TOP / 'bindings/out' / built) for door, (crate, built) in DOORS.items()}
     if parts[TOOL] and parts[PROGRAM] and parts[TOOL] == parts[PROGRAM][:len(parts[TOOL])]:
         parts[TOOL] = ['- its report and calls: as for the program']
     if parts[MODULES] and parts[ARCHIVE] and parts[MODULES][1:] == parts[ARCHIVE][1:len(parts[MODULES])]:
