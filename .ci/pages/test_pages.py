@@ -26,7 +26,7 @@ def test_pieces_of_rattle_are_in_the_examples(page):
 
 
 def test_first_calls_are_those_of_each_languages_page():
-    calls = re.findall(r'^\| \[[^\]]*\]\((docs[^)]*)\) \| .* \| `(.*)` \|$', read(FIRST), re.M)
+    calls = re.findall(r'^\| \[[^\]]*\]\((docs[^)]*)\)[^|]* \| .* \| `(.*)` \|$', read(FIRST), re.M)
     assert len(calls) >= 6 and not [call for page, call in calls if call not in read(page)]
 
 

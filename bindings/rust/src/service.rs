@@ -2,8 +2,8 @@ use crate::{face, hash_password_with, needs_rehash, Config, Error, Limits, Resul
 use std::result;
 
 /// Verifies a password against an encoded hash as [`verify_encoded_within`](crate::verify_encoded_within) does, with
-/// the secret and the associated data of `config`; and hashes it anew where it matches and the hash has other settings than
-/// `config`: then the second value is the encoded hash to store in its place.
+/// the secret and the associated data of `config`; and hashes it anew where it matches and the hash has other settings
+/// than `config`: then the second value is the encoded hash to store in its place.
 ///
 /// The limits are the default ones, raised to the settings. A new hash that cannot be computed is left out, and
 /// the password matches all the same.
