@@ -188,8 +188,9 @@ def test_each_leak_is_seen(came, row):
     assert not asked.is_right and asked.has_reports_alone(), asked.shown()
 
 
-def test_the_variants_of_each_case():
-    """The calls of depends.txt are of the variants by which each of its cases is asked."""
+def test_all_is_asked():
+    """Each build is, and each case of depends.txt by the variants that its calls name."""
+    assert [*READS] == machines()['x86_64'].proved
     named = [(re.match(r'(?:Argon2(id?|d)\b)?', call)[1] or '', cases) for call, _, cases in DEPENDS]
     asked = {(case, re.sub(r'\d', '', kind)) for case, (_, where) in CASES.items() for _, kind in asked_over(where)}
     assert sorted((case, variant) for variant, cases in named for case in cases) == sorted(asked)

@@ -337,6 +337,10 @@ def fixture_made(request, tmp_path_factory):
     return program, [*runs_of_library()] if name in BUILDS else None
 
 
+def test_each_program_is_listed():
+    assert {*EXPECTED} == {*BUILDS, *RATTLE, 'driver'}
+
+
 def test_what_is_left(made):
     program, runs = made
     if runs is None:
