@@ -9,7 +9,7 @@ import secrets
 import shutil
 
 import pytest
-from shared import TOP, run, said
+from shared import TOP, exports, run, said
 
 VERSION = (TOP / 'VERSION').read_text(encoding='utf-8').strip()
 OUT, FACE, LIBARGON2 = TOP / 'bindings/out', TOP / 'crates/argon2_c', TOP / 'bindings/libargon2'
@@ -89,6 +89,7 @@ def tool(tmp_path):
     return program
 
 
+@pytest.mark.timeout(2400)
 def test_commands_over_pipes(tool):
     said(*named(OVER=tool), '/usr/bin/python3', '-B', '-m', 'pytest', '-q', '.ci/faults/test_program.py')
 
@@ -107,11 +108,6 @@ def test_launcher_takes_the_programs(tool, tmp_path):
 
 
 # ---- libargon2's place, and Node's addon
-
-def exports(file):
-    rows = [line.split() for line in said('readelf', '--dyn-syms', '-W', file).splitlines()]
-    return sorted(row[7].partition('@')[0] for row in rows if len(row) > 7 and row[4] == 'GLOBAL' and row[6].isdigit())
-
 
 def test_libargon2_has_its_names():
     assert len(exports(LIB / 'libargon2.so.1')) == 22

@@ -10,9 +10,11 @@ import sys
 import pytest
 from shared import TOP, run, said
 
-sys.path[:0] = [str(TOP / folder) for folder in ('build', '.ci/machine_code', 'crates/argon2_vectors')]
+PLACES = 'build', 'bindings/tests', '.ci/machine_code', 'crates/argon2_vectors'
+sys.path[:0] = [str(TOP / folder) for folder in PLACES]
 from linked import Code  # noqa: E402
 from machines import machines  # noqa: E402
+from running import CRATES_OF_DEBIAN  # noqa: E402
 from same_on_windows import Carried  # noqa: E402
 
 OUT, BUILDS, TOOLS, PAGE = TOP / 'bindings/out', machines()['x86_64'].builds, 'x86_64-w64-mingw32-', 4096
@@ -126,7 +128,8 @@ def test_crate_passes_its_tests(tmp_path, wine):
     """(Debian's cargo, which has the target, over Debian's crates. Where a panic is shown with what led to it, wine's
     dbghelp fails.)"""
     crate, home = TOP / 'bindings/rust', tmp_path / 'cargo'
-    said('bash', '-c', '. bindings/tests/common.bash; take_crates_of_debian "$0"', home)
+    home.mkdir()
+    (home / 'config.toml').write_text(CRATES_OF_DEBIAN, encoding='utf-8')
     how = {'PATH': f'/usr/bin:{os.environ["PATH"]}', 'RUST_BACKTRACE': '0', 'CARGO_TARGET_DIR': tmp_path / 'target',
            f'{VARIABLE}_LINKER': f'{TOOLS}gcc-posix', f'{VARIABLE}_RUNNER': 'wine', 'PROVED_ARGON2_LIB_DIR': MADE,
            'CARGO_HOME': home}

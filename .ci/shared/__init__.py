@@ -22,3 +22,9 @@ def said(*words, **how):
     done = run(*words, **how)
     assert done.returncode == 0, (words, done.stdout[-4000:])
     return done.stdout
+
+
+def exports(file):
+    """The names that a shared object has for programs."""
+    rows = [line.split() for line in said('readelf', '--dyn-syms', '-W', file).splitlines()]
+    return sorted(row[7].partition('@')[0] for row in rows if len(row) > 7 and row[4] == 'GLOBAL' and row[6].isdigit())

@@ -1,0 +1,206 @@
+"""Libargon2's place (bindings/libargon2) beside Debian's libargon2: its names, the vectors of libargon2's tests, calls
+that are drawn (SEED, or any), Debian's programs over both, processes to which threads, memory or a callback's memory
+are denied, and what calls leave in memory. Faults that are planted into it have to be found.
+"""
+import os
+import re
+import secrets
+import shutil
+
+import pytest
+from shared import TOP, exports, run, said
+
+HERE, FACE, BUILT = TOP / 'bindings/libargon2', TOP / 'crates/argon2_c', TOP / 'bindings/out/x86_64'
+TESTS, THEIRS, ARCHIVE = HERE / 'tests', '/usr/lib/x86_64-linux-gnu/libargon2.so.1', BUILT / 'libproved_argon2.a'
+SEED, CALLS, SANITIZED = int(os.environ.get('SEED', secrets.randbits(32))), 25000, 5000
+CC = *'gcc -std=gnu11 -O1 -Wall -Wextra -Werror -I'.split(), HERE, '-I', FACE / 'include', '-I', TOP / 'bindings/c'
+SANITIZE = *'-g -fsanitize=address,undefined -fno-sanitize-recover'.split(),
+HEADERS = 'gcc -std=c99 -x c', 'g++ -std=c++98 -x c++', 'clang -std=c17 -x c -Weverything'
+KINDS = 'threads', 'memory', 'callbacks'
+# A program that links the archive, and the library's own beside it; and one that says what an older processor gets,
+# which is a code that libargon2 does not have.
+BOTH = """#include <argon2.h>
+#include <proved_argon2.h>
+int main(void)
+{
+    FLAG_clear_internal_memory = 1;
+    return argon2_encodedlen(1, 8, 1, 8, 4, Argon2_id) == 0 || proved_argon2_library_version() == 0;
+}
+"""
+OLDER = """#include <argon2.h>
+#include <stdio.h>
+int main(void)
+{
+    char text[200];
+    int made = argon2id_hash_encoded(1, 64, 1, "pw", 2, "somesalt", 8, 32, text, 200);
+    int read = argon2id_verify("$argon2id$v=19$m=64,t=1,p=1$c29tZXNhbHQ$AAAAAAAA", "pw", 2);
+    return printf("%d %d %s", made, read, argon2_error_message(made)) < 0;
+}
+"""
+FAULTS = re.findall(r'^(?!#)(.*)\nold: (.*)\nnew: (.*)$', (TESTS / 'faults.txt').read_text(encoding='utf-8'), re.M)
+assert len(FAULTS) == 18
+
+
+@pytest.fixture(scope='module', autouse=True)
+def linked():
+    said('build/all')
+
+
+@pytest.fixture(scope='module')
+def work(linked, tmp_path_factory):
+    """A folder with the tests, and lib, for LD_LIBRARY_PATH."""
+    folder = tmp_path_factory.mktemp('libargon2')
+    (folder / 'lib').mkdir()
+    for name in ('libargon2.so.1', 'argon2'):
+        shutil.copy(BUILT / name, folder / 'lib')
+    (folder / 'lib/libargon2.so').symlink_to('libargon2.so.1')
+    link = '-L', folder / 'lib', '-largon2'
+    fuzz = TESTS / 'fuzz.c', TESTS / 'calls.c', '-ldl'
+    said(*CC, TESTS / 'vectors.c', *link, '-o', folder / 'vectors')
+    said(*CC, TESTS / 'starved.c', *link, '-ldl', '-o', folder / 'starved')
+    said(*CC, *fuzz, '-o', folder / 'fuzz')
+    said(*CC, *SANITIZE, *fuzz, '-o', folder / 'fuzz.sanitized')
+    said(*CC, '-I', FACE / 'c', TESTS / 'secrets.c', ARCHIVE, *link, '-pthread', '-Wl,-z,lazy', '-o',
+         folder / 'secrets')
+    return folder
+
+
+def interface(source, to, *flags):
+    """The interface, whose proved code has no sanitizers."""
+    said(*CC, '-fPIC', '-shared', '-pthread', source, ARCHIVE, f'-Wl,--version-script={HERE}/libargon2.map', '-o', to,
+         *flags)
+
+
+def over(folder, *command):
+    """A program over the library of a folder."""
+    return ['env', f'LD_LIBRARY_PATH={folder}', *command]
+
+
+# ---- the files
+
+def entries(file, kind):
+    return re.findall(rf'\({kind}\).*\[(.*)\]', said('readelf', '-dW', file))
+
+
+def test_names_are_those_of_debian():
+    assert len(exports(THEIRS)) == 22 and exports(THEIRS) == exports(BUILT / 'libargon2.so.1')
+    assert entries(BUILT / 'libargon2.so.1', 'SONAME') == ['libargon2.so.1']
+    assert entries(BUILT / 'libargon2.so.1', 'NEEDED') == ['libc.so.6']
+
+
+def test_is_short():
+    assert (HERE / 'libargon2.c').read_text(encoding='utf-8').count('\n') <= 280
+
+
+@pytest.mark.parametrize('compiler', HEADERS)
+def test_compiles_the_header(compiler):
+    """Each program that includes libargon2's may include ours, with all warnings."""
+    said(*compiler.split(), *'-Wall -Wextra -Wpedantic -Werror -fsyntax-only -I'.split(), HERE, '-',
+         input='#include "argon2.h"\n')
+
+
+def built_of(text, folder):
+    (folder / 'program.c').write_text(text, encoding='utf-8')
+    said(*CC, folder / 'program.c', BUILT / 'libargon2.a', ARCHIVE, '-o', folder / 'program')
+    return folder / 'program'
+
+
+def test_links_both_archives(tmp_path):
+    said(built_of(BOTH, tmp_path))
+
+
+def test_names_an_older_processor(tmp_path):
+    program = built_of(OLDER, tmp_path)
+    assert said(program) == '0 -35 OK'
+    assert said('env', 'PROVED_ARGON2_CPU=none', program) == '-131 -131 The processor is too old'
+
+
+# ---- what it returns
+
+def test_vectors(work):
+    said(*over(work / 'lib', work / 'vectors'))
+
+
+def fetched(kind, release, package, folder):
+    """The source of a package of Debian, or the package, where it can be had."""
+    done = run('bash', '-c', '. bindings/tests/fetching.bash; "$@"', '-', f'fetch_{kind}', release, package, folder)
+    if done.returncode != 0:
+        pytest.skip(f'{package} cannot be had: {done.stdout[-200:]}')
+    return folder
+
+
+def test_own_tests_of_libargon2(work, tmp_path):
+    source = fetched('source', 'trixie', 'argon2', tmp_path / 'source')
+    said('gcc', '-std=gnu99', '-O1', '-I', HERE, source / 'src/test.c', '-L', work / 'lib', '-largon2', '-o',
+         tmp_path / 'test')
+    said(*over(work / 'lib', tmp_path / 'test'), cwd=tmp_path)
+
+
+def test_own_tests_of_argon2_cffi(work, tmp_path):
+    """Of the newest source that Debian has, over Debian's bindings of it, which are built with the system's library.
+    (Those of its packaging look for the files of an installed one; and an older Python looks for the other name.)"""
+    pytest.importorskip('hypothesis')
+    source = fetched('source', 'sid', 'python-argon2', tmp_path / 'cffi')
+    bindings = fetched('package', 'sid', 'python3-argon2-cffi-bindings', tmp_path / 'bindings')
+    site = bindings / 'usr/lib/python3/dist-packages'
+    module, = site.glob('_argon2_cffi_bindings/_ffi.abi3-*.so')
+    module = shutil.copy(module, str(module).partition('-x86')[0] + '.so')
+    assert f'libargon2.so.1 => {work}/lib/' in said(*over(work / 'lib', 'ldd', module))
+    said(*over(work / 'lib', f'PYTHONPATH={source}/src:{site}', '/usr/bin/python3', '-B', '-m', 'pytest', '-q', '-p',
+               'no:cacheprovider', '--ignore', 'tests/test_packaging.py', 'tests'), cwd=source)
+
+
+@pytest.mark.parametrize('at', range(4))
+def test_drawn_calls(work, at):
+    said(work / 'fuzz', SEED + at, CALLS, THEIRS, work / 'lib/libargon2.so.1')
+
+
+def test_drawn_calls_with_sanitizers(work):
+    interface(HERE / 'libargon2.c', work / 'sanitized.so', *SANITIZE)
+    said(work / 'fuzz.sanitized', SEED + 4, SANITIZED, THEIRS, work / 'sanitized.so')
+
+
+@pytest.mark.parametrize('kind', KINDS)
+def test_twenty_processes_are_denied(work, kind):
+    for number in range(20):
+        said(*over(work / 'lib', work / 'starved', kind, number))
+
+
+def test_starts_at_most_16_threads_for_an_encoded_hash(work):
+    said(*over(work / 'lib', work / 'starved', 'texts', 0))
+
+
+def test_leaves_neither_h0_nor_a_tag(work):
+    said(*over(work / 'lib', work / 'secrets'))
+
+
+def test_programs_of_debian(work):
+    shown = said(TESTS / 'programs.py', work / 'lib')
+    assert 'passed: ' in shown and 'FAILED: ' not in shown, shown
+
+
+# ---- planted faults
+
+def is_right(work, folder):
+    """Whether a library answers as it has to, as some thousand calls and processes without something can tell."""
+    commands = [(work / 'fuzz', 1, 5000, THEIRS, folder / 'libargon2.so.1'),
+                *(over(folder, work / 'starved', kind, 3) for kind in KINDS), over(folder, work / 'secrets')]
+    return all(run(*command, errors='replace').returncode == 0 for command in commands) \
+        and entries(folder / 'libargon2.so.1', 'SONAME') == ['libargon2.so.1']
+
+
+def test_finds_none_where_there_is_none(work):
+    assert is_right(work, work / 'lib')
+
+
+@pytest.mark.parametrize('name,old,new', FAULTS, ids=[name for name, *_ in FAULTS])
+def test_finds(work, tmp_path, name, old, new):
+    """A text is there once, in the source or in what links it. The fault has to be built, and then to be found."""
+    texts = {path.name: path.read_text(encoding='utf-8') for path in (HERE / 'libargon2.c', TOP / 'build/link')}
+    old, new = old.replace('\\n', '\n'), new.replace('\\n', '\n')
+    found, = [file for file, text in texts.items() if text.count(old) == 1]
+    texts[found] = texts[found].replace(old, new)
+    (tmp_path / 'libargon2.c').write_text(texts['libargon2.c'], encoding='utf-8')
+    soname = re.search(r'^ *make_library libargon2\.a libargon2\.so\.1 (\S+) ', texts['link'], re.M)[1]
+    interface(tmp_path / 'libargon2.c', tmp_path / 'libargon2.so.1', f'-Wl,-soname,{soname}')
+    assert not is_right(work, tmp_path)
