@@ -7,7 +7,7 @@
 #include <stdlib.h>
 #include <string.h>
 
-enum { LINE = 8192, BYTES = 2048, INPUTS = 4 };
+enum { LINE = 16384, BYTES = 2048, INPUTS = 4 };
 
 struct inputs {
     uint8_t bytes[INPUTS][BYTES];
