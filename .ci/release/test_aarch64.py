@@ -21,12 +21,11 @@ WARNINGS = *'-D_GNU_SOURCE -O2 -Wall -Wextra -Wpedantic -Wconversion -Werror'.sp
 HEADERS = [(CC, 'c', '-std=c99'), (CC, 'c', '-std=c11'), ('aarch64-linux-gnu-g++', 'c++', '-std=c++17')]
 TAG = '6d093c501fd5999645e0ea3bf620d7b8be7fd2db59c20d9fff9539da2bf57037'
 # Each vector by one thread, since a start takes qemu longer than the blocks: the drawn calls have up to eight.
-VECTORS = """import sys, unittest
+VECTORS = """import sys, pytest
 import proved_argon2._library as library
-sys.path.append("bindings/python/tests")
 options_for = library._options
 library._options = lambda threads, *others: options_for(1, *others)
-unittest.main("test_vectors")"""
+sys.exit(pytest.main(["-q", "-c", "/dev/null", "-p", "no:cacheprovider", "bindings/python/tests/test_vectors.py"]))"""
 
 
 def refuses(text, *command, status=1):

@@ -185,12 +185,19 @@ static void check_limits_of_inputs(void)
 
 /* ---- recommended settings (OWASP, Password Storage Cheat Sheet; RFC 9106, section 4) */
 
-static void check_preset(proved_argon2_settings settings, uint32_t mib, uint32_t passes, const char *name)
+struct preset {
+    proved_argon2_settings settings;
+    uint32_t mib, passes;
+    const char *name;
+};
+
+static void check_preset(const struct preset *preset)
 {
+    const proved_argon2_settings settings = preset->settings;
     check(settings.variant == PROVED_ARGON2_ID && settings.version == PROVED_ARGON2_VERSION_13
-            && settings.mem_cost == mib * 1024 && settings.time_cost == passes && settings.lanes == 1
+            && settings.mem_cost == preset->mib * 1024 && settings.time_cost == preset->passes && settings.lanes == 1
             && settings.hash_length == 32,
-        name);
+        preset->name);
 }
 
 int main(void)
@@ -210,17 +217,23 @@ int main(void)
     check_limits_of_settings();
     check_limits_of_inputs();
     /* clang-format off */
-    /* presets, by .ci/pages/presets */
-    check_preset(proved_argon2_owasp1(), 46, 1, "OWASP's first recommendation");
-    check_preset(proved_argon2_owasp2(), 19, 2, "OWASP's second recommendation");
-    check_preset(proved_argon2_owasp3(), 12, 3, "OWASP's third recommendation");
-    check_preset(proved_argon2_owasp4(), 9, 4, "OWASP's fourth recommendation");
-    check_preset(proved_argon2_owasp5(), 7, 5, "OWASP's fifth recommendation");
-    check_preset(proved_argon2_rfc9106(), 2048, 1, "RFC 9106's first recommendation (section 4)");
-    check_preset(proved_argon2_rfc9106_low_mem(), 64, 3, "RFC 9106's recommendation for little memory (section 4)");
-    /* end */
+    const struct preset presets[] = {
+        /* presets, by .ci/pages/presets */
+        {proved_argon2_owasp1(), 46, 1, "OWASP's first recommendation"},
+        {proved_argon2_owasp2(), 19, 2, "OWASP's second recommendation"},
+        {proved_argon2_owasp3(), 12, 3, "OWASP's third recommendation"},
+        {proved_argon2_owasp4(), 9, 4, "OWASP's fourth recommendation"},
+        {proved_argon2_owasp5(), 7, 5, "OWASP's fifth recommendation"},
+        {proved_argon2_rfc9106(), 2048, 1, "RFC 9106's first recommendation (section 4)"},
+        {proved_argon2_rfc9106_low_mem(), 64, 3, "RFC 9106's recommendation for little memory (section 4)"},
+        /* end */
+    };
     /* clang-format on */
+    const int errors = sizeof known_errors / sizeof *known_errors, recommended = sizeof presets / sizeof *presets;
+    for (int i = 0; i < recommended; i++) {
+        check_preset(&presets[i]);
+    }
     check(proved_argon2_library_version() == PROVED_ARGON2_LIBRARY_VERSION_NUMBER, "the version of the library");
     printf("version %s %u\n", PROVED_ARGON2_LIBRARY_VERSION, (unsigned)PROVED_ARGON2_LIBRARY_VERSION_NUMBER);
-    return finish(69);
+    return finish(errors + recommended + 27);
 }
