@@ -11,11 +11,11 @@ ghost use Rattle.argon2_standard.specs.Standard.Text.{spelled_of, text_of};
 ghost use Rattle.argon2_text.specs.Views.Faults.{IsSomeItem, Refuses};
 ghost use Rattle.argon2_text.specs.Views.Texts.{spelled_by, spelled_with};
 
-mod items;
 mod lengths;
 mod letters;
 mod placing;
 mod reading;
+mod salt_and_hash;
 mod writing;
 
 use crate::decoded::Decoded;
@@ -23,11 +23,11 @@ use argon2_standard::config::Config;
 use argon2_standard::context::Context;
 use argon2_standard::error::Error;
 use argon2_standard::result::Result;
-pub use items::{read_hash, read_salt};
 use lengths::text_len;
 pub use lengths::{base64_len, encoded_len, num_len};
 pub use letters::item_len;
 pub use reading::{Head, spelling_of};
+pub use salt_and_hash::{read_hash, read_salt};
 use std::alloc::Global;
 pub use writing::write_encoded;
 

@@ -1,8 +1,8 @@
 -- Blocks that are made, with zeros behind them.
 use Rattle.std.proofs.Common.{◌≡◌, ℕ, ◌<◌, Bool, List, [], ◌++◌, length, set, get_or, refl, ap, sym, ◌∙◌, arith}
 use Rattle.std.proofs.lemmas.List.{get_or_append_left, set-append_left}
-use Rattle.argon2_memory.specs.declared.segment.counted.Source.{Source}
-use Rattle.argon2_memory.specs.declared.segment.counted.Source.TheVariants.{Own, Other}
+use Rattle.argon2_memory.specs.declared.segment.own_blocks.Source.{Source}
+use Rattle.argon2_memory.specs.declared.segment.own_blocks.Source.TheVariants.{Own, Other}
 use Rattle.argon2_standard.specs.Standard.Recurrence.{made_block}
 use Rattle.argon2_memory.specs.Views.Sources.{source_block, IsBefore}
 

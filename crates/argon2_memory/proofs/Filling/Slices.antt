@@ -10,7 +10,7 @@ use Rattle.std.proofs.Math.Nat.{div-lt_iff_lt-mul}
 use Rattle.std.proofs.lemmas.List.Edits.{length-remove}
 use Rattle.std.specs.List.{remove}
 use Rattle.std.proofs.lemmas.List.{map-set, set-set}
-use Rattle.argon2_memory.specs.declared.segment.counted.Segment.{Segment}
+use Rattle.argon2_memory.specs.declared.segment.own_blocks.Segment.{Segment}
 use Rattle.argon2_memory.specs.Views.Memories.{segments_of, AreSlices, slice_writes, writes_in}
 use Rattle.argon2_memory.specs.Standard.Kept.{segment_in, SegmentValue, no_segment}
 use Rattle.argon2_memory.specs.Views.Jobs.{Job, IsJob}

@@ -1,8 +1,8 @@
 -- A block written in place, behind the blocks that it may be made of.
 use Rattle.std.proofs.Common.{◌≡◌, ℕ, zero, suc, ◌<◌, Bool, List, [], ◌∷◌, ◌++◌, length, take, drop, set, get_or, refl, ap, ◌∙◌, arith}
 use Rattle.std.proofs.lemmas.List.{get_or-drop, get_or-take, get_or_default}
-use Rattle.argon2_memory.specs.declared.segment.counted.Source.{Source}
-use Rattle.argon2_memory.specs.declared.segment.counted.Source.TheVariants.{Own, Other}
+use Rattle.argon2_memory.specs.declared.segment.own_blocks.Source.{Source}
+use Rattle.argon2_memory.specs.declared.segment.own_blocks.Source.TheVariants.{Own, Other}
 use Rattle.argon2_standard.specs.Standard.Recurrence.{made_block}
 use Rattle.argon2_memory.specs.Views.Sources.{source_block, IsBefore}
 

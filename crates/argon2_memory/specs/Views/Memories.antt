@@ -3,7 +3,7 @@ use Rattle.std.specs.Prelude.{◌≡◌, ℕ, ◌*◌, ◌%◌, ◌^◌, ◌<◌
 use Rattle.std.specs.List.{sum_by}
 use Rattle.std.specs.declared.alloc.Global.{Global}
 use Rattle.argon2_standard.specs.Standard.Setting.{Setting}
-use Rattle.argon2_memory.specs.declared.segment.counted.Segment.{Segment}
+use Rattle.argon2_memory.specs.declared.segment.own_blocks.Segment.{Segment}
 use Rattle.argon2_memory.specs.Views.Segments.{wiped_segment, with_block, zero_segment}
 use Rattle.argon2_memory.specs.Standard.Kept.{SegmentValue, MemoryValue, segment_in}
 

@@ -1,7 +1,7 @@
 -- The block that a source names.
 use Rattle.std.specs.Prelude.{ℕ, ◌<◌, List, [], slice_index_or}
-use Rattle.argon2_memory.specs.declared.segment.counted.Source.{Source}
-use Rattle.argon2_memory.specs.declared.segment.counted.Source.TheVariants.{Own, Other}
+use Rattle.argon2_memory.specs.declared.segment.own_blocks.Source.{Source}
+use Rattle.argon2_memory.specs.declared.segment.own_blocks.Source.TheVariants.{Own, Other}
 
 -- one of the segment's own blocks, or the other one
 abbrev pub source_block : List (List ℕ) → Source → List ℕ

@@ -11,8 +11,8 @@ ghost use Rattle.argon2_memory.specs.Views.Sources.{IsBefore, source_block};
 ghost use Rattle.argon2_standard.specs.Standard.Recurrence.{block_at, drawn_word};
 ghost use Rattle.argon2_standard.specs.Standard.Reference.{is_data_independent};
 
-use super::beside::{Beside, OtherBlocks, beside_blocks, source_before};
-use super::counted::{CallerSegment, OwnBlocks, Segment, Source};
+use super::other_blocks::{Beside, OtherBlocks, beside_blocks, source_before};
+use super::own_blocks::{CallerSegment, OwnBlocks, Segment, Source};
 use super::positions::{pick, reference_positions};
 use super::snapshot::Snapshot;
 use crate::job::{Job, recall_job, stretch};

@@ -3,8 +3,8 @@
 ghost use Rattle.std.specs.Prelude.{◌≡◌, map};
 ghost use Rattle.argon2_memory.specs.Views.Filling.{IsSnapshot, SnapshotValue};
 
-use super::beside::{Beside, beside_segments};
-use super::counted::Segment;
+use super::other_blocks::{Beside, beside_segments};
+use super::own_blocks::Segment;
 use crate::job::Job;
 use std::marker::Model;
 

@@ -7,8 +7,8 @@ ghost use Rattle.argon2_standard.specs.Standard.Variant.{lowercase_name};
 ghost use Rattle.argon2_standard.specs.Standard.Version.{version_text};
 ghost use Rattle.argon2_text.specs.Views.Texts.{front_of};
 
-use crate::encoding::items::{put_hash, put_salt};
 use crate::encoding::placing::{put, put_number};
+use crate::encoding::salt_and_hash::{put_hash, put_salt};
 use argon2_standard::config::Config;
 use argon2_standard::version::Version;
 

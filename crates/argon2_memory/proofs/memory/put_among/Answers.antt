@@ -1,6 +1,6 @@
 use Rattle.std.proofs.Common.{◌≡◌, List, [], map, length, get_or, set, arith, ap, sym, ◌∙◌, Vec, Global}
 use Rattle.std.proofs.lemmas.List.{map-set, get_or-map, get_or_default}
-use Rattle.argon2_memory.specs.declared.segment.counted.Segment.{Segment}
+use Rattle.argon2_memory.specs.declared.segment.own_blocks.Segment.{Segment}
 use Rattle.argon2_memory.specs.Views.Segments.{with_block}
 use Rattle.argon2_memory.specs.Standard.Kept.{no_segment, SegmentValue, segment_in}
 use Rattle.argon2_memory.proofs.memory.put_among.Goals as goal
