@@ -1,8 +1,6 @@
 //! A small login service: it registers a user, verifies her password, and renews its hash.
 #![tactic(auto)]
 
-mod keys;
-mod peppers;
 mod service;
 
 use argon2::{Config, Variant};
@@ -33,16 +31,16 @@ fn main(rt: HostRuntime) -> anyhow::Result<()> {
     println!(rt; "costly: {costly:?}")?;
     let renewed = service::renew(&rt, alloc, OLD, b"password", &today)?;
     println!(rt; "renewed: {}", renewed.is_some())?;
-    let let_in = peppers::log_in_with_pepper(&rt, alloc, PEPPERED, b"password", b"secret", b"ad")?;
+    let let_in = service::log_in_with_pepper(&rt, alloc, PEPPERED, b"password", b"secret", b"ad")?;
     println!(rt; "peppered: {let_in}")?;
     let deriving = Config {
         variant: Variant::Argon2i,
         mem_cost: 256,
         ..Config::owasp2()
     };
-    let key = keys::derive(alloc, b"password", b"somesalt", &deriving)?;
+    let key = service::derive(alloc, b"password", b"somesalt", &deriving)?;
     println!(rt; "key: {}", hex::encode(alloc, key.as_slice())?)?;
-    let same = keys::is_key_of(alloc, b"password", b"somesalt", &key, &deriving)?;
+    let same = service::is_key_of(alloc, b"password", b"somesalt", &key, &deriving)?;
     println!(rt; "is_key_of: {same}")?;
     Ok(())
 }

@@ -1,19 +1,21 @@
-//! What a login service does with its users' passwords.
+//! What a login service does with passwords: it verifies them, also with a pepper, and derives keys.
 
-ghost use Rattle.std.specs.Prelude.{◌≡◌, ℕ, List, [], IfOk, MatchOption, nat_lt};
+ghost use Rattle.std.specs.Prelude.{◌≡◌, ◌↔◌, ℕ, List, [], IfOk, IsTrue, MatchOption, length, nat_lt};
 ghost use Rattle.std.specs.Borrow.{Bor};
 ghost use Rattle.std.specs.String.{string_bytes};
 ghost use Rattle.argon2_standard.specs.Standard.Grammar.{Spells, SpellsNothing};
 ghost use Rattle.argon2_standard.specs.Standard.Decoded.{Differs, decoded_config};
 ghost use Rattle.argon2_standard.specs.Standard.Text.{Spelled};
 ghost use Rattle.argon2_standard.specs.Standard.Outcome.{IsVerdict};
+ghost use Rattle.argon2_standard.specs.Standard.Tag.{tag_of};
 ghost use Rattle.argon2.specs.Standard.Limits.{AnswersWithin, is_too_costly};
 ghost use Rattle.argon2.specs.Views.Limits.{default_limits};
 ghost use Rattle.argon2.specs.declared.limits.Unverified.TheVariants.{Refused};
 ghost use Rattle.argon2_examples.specs.Service.{IsTextOf};
 
 use argon2::{
-    Config, Error, Limits, Unverified, hash_encoded, needs_rehash, verify_encoded_within,
+    Config, Error, Limits, Unverified, hash_encoded, hash_raw_sequential, needs_rehash,
+    verify_encoded_ext, verify_encoded_within, verify_raw_sequential,
 };
 use std::alloc::Global;
 use std::marker::Sync;
@@ -71,4 +73,47 @@ pub fn renew<R: RandomSource + Threads + Wait + Sync>(
         return Ok(None);
     }
     Ok(Some(register(rt, alloc, password, today)?))
+}
+
+/// Whether the password matches the encoded hash that was made with this pepper and for this user.
+pub fn log_in_with_pepper<R: Threads + Wait + Sync>(
+    rt: &R,
+    alloc: Global,
+    kept: &str,
+    password: &[u8],
+    pepper: &[u8],
+    user: &[u8],
+) -> argon2::Result<bool>
+    ensures unspelled { SpellsNothing kept.now → result ≡ Err Error.DecodingFail }
+    ensures spelled { (d : Spelled) → Spells kept.now d → IsVerdict password.now d.salt d.hash
+        (decoded_config d pepper.entry user.entry) (nat_lt 1 d.parallelism) result }
+{
+    verify_encoded_ext(rt, alloc, kept, password, pepper, user)
+}
+
+/// The key of a password: the one tag that the definitions have, or an error, and never another key.
+pub fn derive(
+    alloc: Global,
+    password: &[u8],
+    salt: &[u8],
+    config: &Config,
+) -> argon2::Result<Vec<u8>>
+    ensures { IfOk result (λ key. key.items
+        ≡ tag_of password.now salt.now config.now config.now.hash_length) }
+{
+    hash_raw_sequential(alloc, password, salt, config)
+}
+
+/// Whether a key is the password's: `Ok(true)` exactly where the key is the tag of its own length.
+pub fn is_key_of(
+    alloc: Global,
+    password: &[u8],
+    salt: &[u8],
+    key: &[u8],
+    config: &Config,
+) -> argon2::Result<bool>
+    ensures { IfOk result (λ same. IsTrue same
+        ↔ (key.now ≡ tag_of password.now salt.now config.now (length key.now))) }
+{
+    verify_raw_sequential(alloc, password, salt, key, config)
 }
