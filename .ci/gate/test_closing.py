@@ -21,10 +21,13 @@ RUNS = {
     'a module of pytest has no test': ('judge_file(test_none.py QUICK)', '0 passed, 1 failed, 0 skipped'),
     'a table of tests is empty': ('judge_file(test_empty.py QUICK)', '0 passed, 1 failed, 0 skipped'),
     'one of its tests is skipped': ('judge_file(test_lacks.py QUICK)', '1 passed, 0 failed, 0 skipped'),
+    'it lacks a program that is there': ('judge_file(test_lacks_sh.py QUICK)', '0 passed, 1 failed, 0 skipped'),
+    'it is skipped for another reason': ('judge_file(test_idle.py QUICK)', '0 passed, 1 failed, 0 skipped'),
 }
 MODULES = {
     'none': '',
-    'lacks': '@pytest.mark.skip(reason="there is no such thing")\ndef test_it(): pass\ndef test_more(): pass',
+    **{name: f'@pytest.mark.skip(reason="{why}")\ndef test_it(): pass\ndef test_more(): pass' for name, why in (
+        ('lacks', 'there is no such_program'), ('lacks_sh', 'there is no such_program, sh'), ('idle', 'it is late'))},
     'empty': '@pytest.mark.parametrize("row", [])\ndef test_it(row): pass\ndef test_more(): pass',
 }
 
@@ -51,7 +54,7 @@ def test_the_last_line_says_what_came(tree, tests, last):
     ran = run(tree / '.ci/run', cwd=tree)
     assert ran.stdout.splitlines()[-1] == last
     assert (ran.returncode == 0) == (' 0 failed,' in last)
-    assert ('there is no such thing' in ran.stdout) == ('test_lacks' in tests)
+    assert ('there is no such_program' in ran.stdout) == ('test_lacks' in tests)
 
 
 def test_what_cannot_be_taken_away_ends_it(tree):
