@@ -72,3 +72,13 @@ def test_each_mutant_fits_and_names_what_it_breaks():
 def test_each_open_promise_has_its_tests():
     opened = rows('docs/promises-open.txt')
     assert len(opened) > 40 and not [row for row in opened if len(row) != 2 or not all(row)]
+
+
+def test_callers_are_told_to_clear_what_calls_cannot():
+    """What calls take as `const`, and what the proved ones write."""
+    header, jobs = (read(f'crates/argon2_c/include/proved_argon2{part}.h') for part in ('', '_jobs'))
+    written = {*re.findall(r'(?<!const )(?:proved_argon2_\w+|uint8_t) \*(job|blocks|tag)\b', jobs)}
+    stated = dict(re.findall(r'^\| (C.*?) \|.* \| (.*) \|$', read('SECURITY.md'), re.M))
+    assert {'pwd', 'secret'} <= {*re.findall(r'const uint8_t \*(\w+)', header)} and len(written) == 3
+    assert all(word in stated['C, Rust, Python'] for word in ('the password', 'what else you pass'))
+    assert all(word in stated['C, the proved calls made directly'] for word in ('also', *written))
