@@ -6,7 +6,8 @@
   in the file to which it is a link.
 
 A page that is named is a link, but in code and in what is packed without the other pages. No page and no comment of
-specs/ has a word in the place of which CONTRIBUTING.md says another. All pages have at most WORDS words.
+specs/ has a word in the place of which CONTRIBUTING.md says another. All pages have at most WORDS words. No paragraph
+has a time, a percentage or a ratio that no script writes, but for FIGURES, so that figures are of one run.
 """
 
 import os
@@ -39,6 +40,13 @@ WORD_IN_HELP = r'(?:\brt |\||\b\d:|#     \./argon2 |"){}(?![\w-])'
 # A link with its words, its path and its heading; a page's name; and the pages that are packed without the others.
 LINK = re.compile(r'\[([^\]]*)\]\((?!\w+:)([^)\s#]*)#?([^)\s]*)\)')
 PAGE, PACKED = re.compile(r'(?<![\w/.])(?:docs/)?[A-Z][A-Z0-9]*\.md'), re.compile(r'bindings/\w+/README\.md')
+# Figures, and those by hand: what was measured once for a decision, and what is a limit, an argument or a mutant's.
+NUMBER, RATIO, AND = r'(?<![\w.,+-])\d[\d,]*(?:\.\d+)?', r'(?<![\w.])(?:0\.\d+|\d\.\d\d+)', r'\s(?:and|to|or)\s'
+UNIT = r'(?:ns|µs|us|ms|s|min|h|(?:nano|micro|milli)?seconds?|minutes?|hours?|%|percent|times|instructions)(?!\w)'
+FIGURE = re.compile(rf'{NUMBER}(?:{AND}{NUMBER})?\s?{UNIT}|{RATIO}(?:\sof\b|{AND}{RATIO}(?!\.?\d))')
+FIGURES = {'docs/DECISIONS.md': '.*', '.ci/README.md': '2,400 times', 'docs/JAVASCRIPT.md': '5 seconds',
+           'docs/USE.md': '250 ms', 'docs/promises-open.txt': '(99 or 101|100) times'}
+WRITTEN = re.compile(r'^<!-- [^\n]*, by [^\n]* -->$.*?^<!-- end -->', re.M | re.S)
 # Names, links, paths and code, which have public words; and the words on the right of the table of CONTRIBUTING.md.
 NAMED = re.compile(r'`[^`]*`|\]\([^)]*\)|\S*(?:[_/]|::|\.\w)\S*')
 SAID_OTHERWISE = re.compile(r'^\| [^|]* \| [^|]* \| (?!Not)(\w[^|]*) \|$', re.M)
@@ -143,8 +151,16 @@ def faults(page, text, is_code):
     return [f'there is no {name}' for name in lost if name]
 
 
+def figures_of(page, text):
+    """Those by hand, in paragraphs, that FIGURES does not have."""
+    by_hand = ' '.join(block[0] for block in BLOCK.finditer(WRITTEN.sub('', text)) if not (block[2] or block[3]))
+    found = {' '.join(figure[0].split()) for figure in FIGURE.finditer(by_hand)}
+    return [('', f'no script writes {figure}') for figure in found if not re.fullmatch(FIGURES.get(page, ''), figure)]
+
+
 def faults_of(page, text):
     """Those of the paragraphs of a page, and of the lines of its code for a shell. Other code is left out."""
+    yield from figures_of(page, text)
     for block in BLOCK.finditer(text):
         code = block[3] or (block[2] if block[1] == 'sh' else None)
         for part in code.splitlines() if code else [block[0]] * (block[2] is None):
@@ -162,6 +178,8 @@ def test_what_a_page_names_is_there(page):
     'it is `crates/argon2/src/nothing.rt`', 'the folder `argon2_text/specs/Nothing`', '    .ci/pages/write --nothing',
     '    ./argon2 nothing', 'a `hash_of_nothing`', 'a `Config::nothing_of`',
     '[`blake2b`](crates/argon2/src/hashing.rt)', 'the Refusals of a call', 'it spells\na value',
+    'it took 17 ms', 'it took 12 s', '0.45 of its time', '1.03 microseconds', '3 to 10 %', '4,250 instructions',
+    'in 0.88 to 0.91', '35.1 minutes', '3.3 times as long',
     *['    rt nothing NAME'] * bool(shutil.which('rt'))])
 def test_a_wrong_text_is_found(text):
     assert [*faults_of('README.md', text)]
