@@ -10,7 +10,14 @@
 
 /* ---- tags */
 
-/* One call beside libargon2, by some threads, or by a pool, over a memory of its own or of the caller's. */
+static int goes_on(void *arg, uint64_t done, uint64_t all)
+{
+    (void)arg;
+    return done > all;
+}
+
+/* One call beside libargon2, by some threads, or by a pool, over a memory of its own or of the caller's, half of the
+ * numbers of threads with a callback. */
 static bool agrees(const struct call *call, uint32_t threads, uint32_t kind)
 {
     uint8_t tag[LONGEST], expected[LONGEST];
@@ -19,6 +26,7 @@ static bool agrees(const struct call *call, uint32_t threads, uint32_t kind)
     const size_t len = call->settings.hash_length;
     uint8_t *const buffer = __real_malloc((size_t)call->settings.mem_cost * 1024);
     with.run = kind % 2 == 1 ? backwards : NULL;
+    with.tell = threads % 2 == 0 ? goes_on : NULL;
     with.memory = kind >= 2 ? buffer : NULL;
     with.memory_len = (size_t)call->settings.mem_cost * 1024;
     memset(buffer, 5, with.memory_len);
