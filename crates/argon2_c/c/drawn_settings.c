@@ -159,16 +159,38 @@ static bool is_as_counted(const struct call *call, enum way way, uint32_t thread
     return good;
 }
 
+/* The bytes that the longest tag's room still has where it is freed. */
+static size_t left;
+
+static void look_at_room(const void *block)
+{
+    const uint8_t *const bytes = block;
+    const size_t len = malloc_usable_size((void *)(uintptr_t)block) < MOST_TAG ? 0 : MOST_TAG;
+    for (size_t i = 0; i < len; i++) {
+        left += bytes[i] != 0;
+    }
+}
+
+/* Whether nothing of a tag was left, and a hash is judged to its last byte. */
+static bool is_judged_whole(const struct call *call, uint32_t threads)
+{
+    const proved_argon2_options with = by(threads);
+    expected[call->settings.hash_length - 1] ^= 1;
+    return left == 0 && verify_raw(&with, call, expected) == PROVED_ARGON2_MISMATCH && left == 0;
+}
+
 static void check_draw(uint32_t draw)
 {
     char name[128];
     const struct call call = drawn_call(draw);
     const proved_argon2_settings *const of = &call.settings;
     const uint32_t threads = draw <= 1 ? of->lanes : drawn(1, MOST_LANES);
+    look_at = draw == 2 ? look_at_room : NULL;
     bool good = peer(&call, expected) && is_as_counted(&call, ENCODED, threads)
         && is_as_counted(&call, VERIFY_ENCODED, threads);
     const enum way way = draw <= 2 ? REUSED : (enum way)below(WAYS);
     good = good && (way == ENCODED || way == VERIFY_ENCODED || is_as_counted(&call, way, threads));
+    good = good && (draw != 2 || is_judged_whole(&call, threads));
     snprintf(name, sizeof name, "variant %u, %u KiB, %u passes, %u lanes, %u threads, a tag of %u bytes",
         (unsigned)of->variant, (unsigned)of->mem_cost, (unsigned)of->time_cost, (unsigned)of->lanes, (unsigned)threads,
         (unsigned)of->hash_length);
