@@ -100,6 +100,10 @@ FORGERIES = {
 }
 
 
+def test_the_list_of_forgeries_is_whole():
+    assert len(FORGERIES) == 7
+
+
 @pytest.mark.parametrize('name', FORGERIES)
 def test_a_forgery_is_found(tree, name):
     plant, command, expected = FORGERIES[name]
