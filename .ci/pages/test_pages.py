@@ -5,7 +5,7 @@ import shutil
 from pathlib import Path
 
 import pytest
-from common import FIRST, CLAIMS, INSTALL, PYTHON, RATTLE, THEOREM, TOP, USE, files, read, rows, run
+from common import FIRST, CLAIMS, DIFFERENCES, INSTALL, PYTHON, THEOREM, TOP, USE, files, read, rows, run
 from shared.sources import Sources, edits
 
 # A phone's pixels, and those of the smallest letter there.
@@ -18,7 +18,7 @@ def test_what_is_written_is_current(copy):
     copy.run('git', '--no-pager', 'diff', '--exit-code')
 
 
-@pytest.mark.parametrize('page', [RATTLE, USE])
+@pytest.mark.parametrize('page', [DIFFERENCES, USE])
 def test_pieces_of_rattle_are_in_the_examples(page):
     examples = ''.join(map(read, files('crates/argon2_examples/src/*.rt', 'crates/argon2_examples/specs/*.antt')))
     pieces = [piece for _, piece in BLOCK.findall(read(page))]
