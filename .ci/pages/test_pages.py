@@ -82,3 +82,21 @@ def test_callers_are_told_to_clear_what_calls_cannot():
     assert {'pwd', 'secret'} <= {*re.findall(r'const uint8_t \*(\w+)', header)} and len(written) == 3
     assert all(word in stated['C, Rust, Python'] for word in ('the password', 'what else you pass'))
     assert all(word in stated['C, the proved calls made directly'] for word in ('also', *written))
+
+
+def test_the_table_for_c_has_each_call_and_the_definitions_that_its_clause_names():
+    """`none` stands where no proved call is. What several calls give together is in the clauses of one theorem."""
+    headers, code = (''.join(map(read, files(f'crates/argon2_c/{part}'))) for part in ('include/*.h', 'src/*.rt'))
+    declared = {*re.findall(r'^(?!typedef| \*).*\bproved_argon2_(\w+)\(', headers, re.M)}
+    clauses = dict(re.findall(r'^pub (?:extern "C" )?fn (?:proved_argon2_)?(\w+)(\(.*?)^\{', code, re.M | re.S))
+    table, told = re.findall(r'^\| (.*[`*\]].*?) \| .* \| (none|\[.*) \|.*\|$', read('docs/C.md'), re.M), set()
+    for calls, cited in table:
+        names, links = re.findall(r'`(\w+)`', calls), re.findall(r'\[`(\w+)`\]', cited)
+        told |= {*names}
+        proved = [clauses['any_order_of_steps']] if '/Runs.antt' in cited else [
+            f'proved_argon2_{name}{clauses[name]}' for name in names if name in clauses]
+        assert bool(links) == bool(proved), calls
+        assert all(any(link in text for text in proved) for link in links), calls
+        assert all(any(link in text for link in links) for text in proved), calls
+    assert len(table) > 20 and declared - told == {name for name in clauses if re.match('owasp|rfc', name)} - told
+    assert told <= declared and 'owasp2' in told
