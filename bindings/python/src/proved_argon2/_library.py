@@ -148,7 +148,7 @@ def _advice() -> str:
     """What makes a shared object for this system."""
     if sys.platform == "linux":
         return "run ./install in the repository of proved-argon2, which needs the GNU C library 2.34 or newer"
-    return f"it is built for Linux, and not for {sys.platform}; compile the library as C (docs/PORTABLE.md)"
+    return f"it is built for Linux, and not for {sys.platform}; compile the library as C (docs/INSTALL.md)"
 
 
 _library = _load()
