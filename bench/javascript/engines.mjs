@@ -12,19 +12,17 @@ const seconds = 2 * repeats, calls = 10000, node = `Node ${process.versions.node
 
 const row = (...cells) => `| ${cells.join(' | ')} |`;
 const head = (...cells) => [row(...cells), `|---|${'---:|'.repeat(cells.length - 1)}`];
-const ofModules = () => head('', ...cases.map((one) => `(${one.join(', ')})`));
 const parts = {
     speed: head('Engine', '19 MiB, 2 passes, 1 lane', '64 MiB, 3 passes, 4 lanes: by 1 worker', 'by 2', 'by 4',
         'time of 4 workers / 1'),
-    node: ofModules(),
-    pages: ofModules(),
+    engines: head(cases.map((one) => `(${one.join(', ')})`).join('/'), 'this library', 'C reference',
+        'C reference, vectors'),
 };
 
-function add(part, engine, { packages, modules }, ways = ['']) {
+function add(engine, { packages, modules }, ways = ['']) {
     parts.speed.push(...packages.map((times, at) =>
         row(engine + ways[at], ...times.map(Math.round), (times[3] / times[1]).toFixed(2))));
-    parts[part].push(...['this library', 'C reference', 'C reference, vectors'].map((name, at) =>
-        row(`${engine}, ${name}`, ...modules.map((times) => times[at]))));
+    parts.engines.push(row(engine, ...[0, 1, 2].map((at) => modules.map((times) => times[at]).join('/'))));
 }
 
 /** Of a process: the first call, what it has more in memory after many, and how long its loop of events waits. */
@@ -52,7 +50,7 @@ async function inPage(Browser) {
     if (!isThere(Browser.command)) throw new Error(`${Browser.name} is not there`);
     const server = await serve('.'), browser = await new Browser().open();
     await browser.visit(server.url);
-    add('pages', await browser.version(), await browser.resultOf(`
+    add(await browser.version(), await browser.resultOf(`
         const argon2 = await import('/proved-argon2/index.js'), { timeAll } = await import('/times.js');
         return timeAll(argon2, async (name) => (await fetch(name)).arrayBuffer(), ${seconds});`));
     await browser.close();
@@ -67,7 +65,7 @@ if (native) {
 await writeFile('times.js', await readFile('times.mjs'));
 await writeFile('index.html', '<!doctype html><title>The times of hashes</title>');
 const clock = () => Object.values(process.cpuUsage()).reduce((sum, time) => sum + time) / 1000;
-add('node', node, await timeAll(await import('proved-argon2'), (name) => readFile(name), seconds,
+add(node, await timeAll(await import('proved-argon2'), (name) => readFile(name), seconds,
     { natives: [true, false], clock }), [', native', ', WebAssembly']);
 for (const Browser of [Chromium, Firefox, WebKit]) await inPage(Browser);
 parts.speed.push('', sayProcesses());

@@ -1,7 +1,7 @@
 // What is timed in an engine, Node or a page: each by turns, of which the least time counts.
 
 /** KiB of memory, passes and lanes, for the modules alone. */
-export const cases = [[256, 2, 1], [19456, 2, 1], [65536, 3, 1], [65536, 3, 4]];
+export const cases = [[19456, 2, 1], [65536, 3, 4]];
 const SALT = new TextEncoder().encode('somesalt'), PASSWORD = new TextEncoder().encode('password');
 const PAGE = 65536, BLOCK = 1024, TAG_LENGTH = 32;
 
