@@ -44,8 +44,8 @@ PAGE, PACKED = re.compile(r'(?<![\w/.])(?:docs/)?[A-Z][A-Z0-9]*\.md'), re.compil
 NUMBER, RATIO, AND = r'(?<![\w.,+-])\d[\d,]*(?:\.\d+)?', r'(?<![\w.])(?:0\.\d+|\d\.\d\d+)', r'\s(?:and|to|or)\s'
 UNIT = r'(?:ns|µs|us|ms|s|min|h|(?:nano|micro|milli)?seconds?|minutes?|hours?|%|percent|times|instructions)(?!\w)'
 FIGURE = re.compile(rf'{NUMBER}(?:{AND}{NUMBER})?\s?{UNIT}|{RATIO}(?:\sof\b|{AND}{RATIO}(?!\.?\d))')
-FIGURES = {'docs/DECISIONS.md': '.*', '.ci/README.md': '2,400 times', 'docs/JAVASCRIPT.md': '5 seconds',
-           'docs/USE.md': '250 ms', 'docs/promises-open.txt': '(99 or 101|100) times'}
+FIGURES = {'docs/DECISIONS.md': '.*', 'docs/JAVASCRIPT.md': '5 seconds', 'docs/USE.md': '250 ms',
+           'docs/promises-open.txt': '(99 or 101|100) times'}
 WRITTEN = re.compile(r'^<!-- [^\n]*, by [^\n]* -->$.*?^<!-- end -->', re.M | re.S)
 # Names, links, paths and code, which have public words; and the words on the right of the table of CONTRIBUTING.md.
 NAMED = re.compile(r'`[^`]*`|\]\([^)]*\)|\S*(?:[_/]|::|\.\w)\S*')

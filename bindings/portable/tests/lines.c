@@ -1,4 +1,4 @@
-/* The library's answers to the calls of a file, a line each (bindings/vectors/README.md): `lines raw FILE COUNT`
+/* The library's answers to the calls of a file, a line each (CONTRIBUTING.md): `lines raw FILE COUNT`
  * hashes and verifies by one thread and by two, and `lines texts FILE COUNT` verifies strings. So many lines have to be
  * as they should. */
 #include "proved_argon2.h"
