@@ -61,17 +61,9 @@ def flags_of(prefix):
     return shlex.split(said)
 
 
-def block_of(page, title=None, number=0):
-    """A block of code of a page: of so many, under a title or in all."""
-    text = (TOP / "docs" / page).read_text()
-    if title is not None:
-        text = re.search(rf"^## {re.escape(title)}\n(.*?)(?=^## |\Z)", text, re.M | re.S)[1]
-    return re.findall(r"^```\w*\n(.*?)^```", text, re.M | re.S)[number]
-
-
 def first_lines(page, count=5):
     """The lines with which a page begins, which are so many."""
-    lines = block_of(page)
+    lines = re.search(r"^```\w*\n(.*?)^```", (TOP / "docs" / page).read_text(), re.M | re.S)[1]
     assert lines.count("\n") == count, lines
     return lines
 

@@ -1,13 +1,14 @@
-"""The lines of the pages do what they say: those with which they begin, of docs/MOVING.md for PHP, and of
-docs/SERVICE.md, under more logins at once than they have places for. Each place of the version has that of VERSION."""
+"""The lines of the pages do what they say: those with which they begin, of docs/USE.md for PHP, and docs/examples,
+under more logins at once than they have places for. Each place of the version has that of VERSION."""
 import os
 import re
+import shutil
 
 import pytest
-from running import CC, MACHINE, TOP, VERSION, block_of, first_lines, flags_of, needs, project, run, start
+from running import CC, MACHINE, TOP, VERSION, first_lines, flags_of, needs, project, run, start
 
 MAJOR, MINOR, PATCH = map(int, VERSION.split("."))
-SERVICE = TOP / "bindings/tests/service"
+SERVICE, EXAMPLES = TOP / "bindings/tests/service", TOP / "docs/examples"
 # A hash of bcrypt, and one of Argon2 with other settings, are renewed at a login with the right password alone.
 PHP = """<?php
 function log_in($stored, $password) {
@@ -78,7 +79,7 @@ def test_the_lines_for_the_shell_run(installed, tmp_path):
 
 @needs("php")
 def test_the_lines_for_php_move_a_hash_to_argon2():
-    (lines,) = re.findall(r"^```php\n(.*?)^```", (TOP / "docs/MOVING.md").read_text(), re.M | re.S)
+    (lines,) = re.findall(r"^```php\n(.*?)^```", (TOP / "docs/USE.md").read_text(), re.M | re.S)
     assert run("php", input=PHP % lines) == "moves\nmoves\n"
 
 
@@ -90,8 +91,7 @@ def serves(*words, **named):
 
 
 def test_the_service_in_c(built, tmp_path):
-    (tmp_path / "log_in.h").write_text(block_of("SERVICE.md", "C"))
-    run(CC, "-std=gnu11", "-Wall", "-Wextra", "-Werror", "-O1", "-I", "crates/argon2_c/include", "-I", tmp_path,
+    run(CC, "-std=gnu11", "-Wall", "-Wextra", "-Werror", "-O1", "-I", "crates/argon2_c/include", "-I", EXAMPLES,
         SERVICE / "service.c", built / MACHINE / "libproved_argon2.a", "-pthread", "-o", tmp_path / "service")
     serves(tmp_path / "service")
 
@@ -99,11 +99,12 @@ def test_the_service_in_c(built, tmp_path):
 @needs("cargo")
 def test_the_service_in_rust(built, cargo, tmp_path):
     folder = project(tmp_path / "service", (SERVICE / "service.rs").read_text())
-    (folder / "src/log_in.rs").write_text(block_of("SERVICE.md", "Rust"))
+    shutil.copy(EXAMPLES / "log_in.rs", folder / "src")
     serves("cargo", "run", "--offline", "--quiet", cwd=folder, env={
         **cargo, "PATH": f"/usr/bin:{os.environ['PATH']}", "PROVED_ARGON2_LIB_DIR": built / MACHINE})
 
 
 def test_the_service_in_python(installed):
-    serves("python3", "-B", SERVICE / "service.py", input=block_of("SERVICE.md", "Python"), env={
-        "PYTHONPATH": TOP / "bindings/python/src", "PROVED_ARGON2_LIBRARY": installed / "lib/libproved_argon2.so.1"})
+    serves("python3", "-B", SERVICE / "service.py", env={
+        "PEPPER": "pepper", "PYTHONPATH": f"{TOP}/bindings/python/src:{EXAMPLES}",
+        "PROVED_ARGON2_LIBRARY": installed / "lib/libproved_argon2.so.1"})

@@ -2,12 +2,13 @@
 implementations."""
 import json
 import re
+import shutil
 import sys
 import tarfile
 from pathlib import Path
 
 import pytest
-from running import CC, MACHINE, TOP, block_of, first_lines, has_node, needs, run, start
+from running import CC, MACHINE, TOP, first_lines, has_node, needs, run, start
 
 HEADERS, SOURCES = TOP / "crates/argon2_c/include", TOP / "bindings/javascript"
 NODE_API = Path("/usr/include/node/node_api.h")
@@ -123,7 +124,7 @@ def test_the_types_hold(site, words):
 def test_eslint_finds_nothing():
     """In what runs in engines, and in its tests."""
     words = "--no-eslintrc", "--config", "bindings/javascript/eslint.json", "--format", "unix", "--ext", ".js,.mjs"
-    run("eslint", *words, "bindings/javascript", "bindings/wasm", "bench", "docs/demo", env={
+    run("eslint", *words, "bindings/javascript", "bindings/wasm", "bench", "docs/demo", "docs/examples", env={
         "NODE_PATH": "/usr/share/nodejs", "NODE_OPTIONS": f"--require={SOURCES}/tests/debian.cjs"})
 
 
@@ -132,9 +133,9 @@ def test_the_first_lines_of_the_page_run(site):
     assert run("node", "first.mjs", cwd=site) == "true\nfalse\n"
 
 
-def test_the_service_of_the_page(site):
+def test_the_service(site):
     """Under more logins at once than it has places for."""
-    (site / "log_in.mjs").write_text(block_of("SERVICE.md", "JavaScript"))
+    shutil.copy(TOP / "docs/examples/log_in.mjs", site)
     done = start("node", "service.mjs", cwd=site)
     assert done.returncode == 0, done.stderr[-9000:]
     assert "logged in: root" in done.stderr and not re.search("^logged in: root", done.stderr, re.M)

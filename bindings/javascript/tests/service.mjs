@@ -1,5 +1,5 @@
-// Logins at once through the lines of docs/SERVICE.md, which are log_in.mjs: more of them than places. Each verdict has
-// to be right, some have to be told to try again, and no more memory be taken than the places have.
+// Logins at once through docs/examples/log_in.mjs: more of them than places. Each verdict has to be right, some have to
+// be told to try again, and no more memory be taken than the places have.
 import assert from 'node:assert/strict';
 import { hash } from 'proved-argon2';
 import { logIn } from './log_in.mjs';

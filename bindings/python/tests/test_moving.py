@@ -1,9 +1,9 @@
-"""The lines of docs/MOVING.md: a store of other hashes moves to Argon2 login by login."""
+"""The lines of docs/USE.md and docs/examples/from_scrypt.py: a store of other hashes moves to Argon2 login by login."""
 import hashlib
 import re
+import runpy
 import subprocess
 import sys
-import types
 import unittest
 from importlib.util import find_spec
 from pathlib import Path
@@ -21,7 +21,7 @@ except ImportError:
     passlib = None
 pwdlib = find_spec("pwdlib") and find_spec("bcrypt")
 
-PAGE = Path(__file__).resolve().parents[3] / "docs/MOVING.md"
+DOCS = Path(__file__).resolve().parents[3] / "docs"
 # The lines of docs/PYTHON.md that put this package in argon2-cffi's place.
 IN_ITS_PLACE = """
 import sys, proved_argon2
@@ -34,15 +34,8 @@ SMALL = {"time_cost": 1, "memory_cost": 64, "parallelism": 1}
 
 def lines(title):
     """The lines of code under a title of the page."""
-    return re.search(rf"^## {title}.*?^```python\n(.*?)^```", PAGE.read_text("utf-8"), re.M | re.S)[1]
-
-
-def run(title, **names):
-    module = types.ModuleType("lines_of_the_page")
-    sys.modules[module.__name__] = module
-    vars(module).update(names)
-    exec(lines(title), vars(module))
-    return module
+    page = (DOCS / "USE.md").read_text("utf-8")
+    return re.search(rf"^### {title}.*?^```python\n(.*?)^```", page, re.M | re.S)[1]
 
 
 class Moving(unittest.TestCase):
@@ -57,7 +50,8 @@ class Moving(unittest.TestCase):
 
     def test_a_login_of_one_s_own(self):
         tag = hashlib.scrypt(b"password", salt=b"somesalt", n=16384, r=8, p=1, dklen=32)
-        self.moves(run("In your own code").log_in, f"scrypt:{b'somesalt'.hex()}:{tag.hex()}")
+        log_in = runpy.run_path(str(DOCS / "examples/from_scrypt.py"))["log_in"]
+        self.moves(log_in, f"scrypt:{b'somesalt'.hex()}:{tag.hex()}")
 
     def test_a_hash_of_another_scheme_or_in_braces_is_an_error(self):
         stored = PasswordHasher(**SMALL).hash("password")

@@ -1,6 +1,6 @@
 /*
- * Logins at once through the lines of docs/SERVICE.md, which are log_in.h: more of them than places. Ends with status 0
- * where each verdict was right, some were told to try again, and no more memory was taken than the places have.
+ * Logins at once through docs/examples/log_in.h: more of them than places. Ends with status 0 where each verdict was
+ * right, some were told to try again, and no more memory was taken than the places have.
  */
 #include "proved_argon2_threads.h"
 

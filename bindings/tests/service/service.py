@@ -1,23 +1,18 @@
-"""Logins at once through the lines of docs/SERVICE.md: more of them than places. Prints how many were told to try
-again."""
+"""Logins at once through docs/examples/log_in.py: more of them than places."""
 import logging
+import os
 import random
 import resource
-import sys
 import threading
 import time
 
+from log_in import hasher, log_in
 from proved_argon2 import PasswordHasher
-from proved_argon2.exceptions import (  # noqa: F401 (the page's lines use them)
-    HashingError,
-    InvalidHashError,
-    VerificationError,
-)
+from proved_argon2.exceptions import HashingError
 
-PEPPER, SECONDS, THREADS, KIB = b"pepper", 3, 8, 65536
+SECONDS, THREADS, KIB = 3, 8, 65536
 before = resource.getrusage(resource.RUSAGE_SELF).ru_maxrss
-exec(sys.stdin.read())
-older = PasswordHasher(time_cost=1, memory_cost=4096, parallelism=1, secret=PEPPER).hash("password")
+older = PasswordHasher(time_cost=1, memory_cost=4096, parallelism=1, secret=os.environb[b"PEPPER"]).hash("password")
 seen, wrong = {True: 0, False: 0, None: 0}, []
 
 
@@ -34,7 +29,7 @@ def logs_in(seed, end):
     while time.monotonic() < end:
         password = draw.choice(("password", "Password"))
         stored = draw.choice((older, older.replace("argon2id", "argon3")))
-        verdict, renewed = log_in("somebody", password, stored, stays)  # noqa: F821 (it is the page's)
+        verdict, renewed = log_in("somebody", password, stored, stays)
         seen[verdict] += 1
         allowed = (None,) if stored != older else (password == "password", None)
         if verdict not in allowed or (renewed != stored) != bool(verdict) or (verdict and "t=3" not in renewed):
@@ -61,12 +56,12 @@ assert all(seen.values()), seen
 assert 0 < grown < 2 * KIB + 32768, grown
 # No password is too long or no string, no name begins a line of the log, no client that has left keeps a place.
 for password in ("\ud800", None, 5, ["password"], b"password", "a" * 1025):
-    assert log_in("somebody", password, hasher.hash("a" * 1025), stays)[0] is False, password  # noqa: F821
-assert log_in("x\nINFO:root:logged in: root", "a" * 1024, hasher.hash("a" * 1024), stays)[0]  # noqa: F821
+    assert log_in("somebody", password, hasher.hash("a" * 1025), stays)[0] is False, password
+assert log_in("x\nINFO:root:logged in: root", "a" * 1024, hasher.hash("a" * 1024), stays)[0]
 for _ in range(3):
-    assert log_in("somebody", "password", older, leaves) == (None, older)  # noqa: F821
+    assert log_in("somebody", "password", older, leaves) == (None, older)
 PasswordHasher.hash = refuse
-assert log_in("somebody", "password", older, stays) == (True, older)  # noqa: F821
-assert log_in("somebody", "Password", older, stays) == (False, older)  # noqa: F821
+assert log_in("somebody", "password", older, stays) == (True, older)
+assert log_in("somebody", "Password", older, stays) == (False, older)
 PasswordHasher.check_needs_rehash = deny
-assert log_in("somebody", "password", older, stays) == (True, older)  # noqa: F821
+assert log_in("somebody", "password", older, stays) == (True, older)

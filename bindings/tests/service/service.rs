@@ -1,5 +1,5 @@
-//! Logins at once through the lines of docs/SERVICE.md, which stand in log_in.rs: more of them than places. Each
-//! verdict has to be right, some have to be told to try again, and no more memory be taken than the places have.
+//! Logins at once through docs/examples/log_in.rs: more of them than places. Each verdict has to be right, some have to
+//! be told to try again, and no more memory be taken than the places have.
 
 use std::sync::atomic::{AtomicUsize, Ordering::SeqCst};
 use std::time::{Duration, Instant};
