@@ -1,5 +1,5 @@
-"""docs/DEFINITIONS.md's lists: every definition that the clauses of the calls rest on, for each of four doors: the
-calls for C without the steps of a hash and with them, the root calls of Rattle, and the program.
+"""docs/DEFINITIONS.md's lists: the files of every definition that the clauses of the calls rest on, for each of four
+doors: the calls for C without the steps of a hash and with them, the root calls of Rattle, and the program.
 
 It ends where a name cannot be followed, and where the definitions of the root calls are others than those in the files
 of the standard, or one has no comment. That a definition changed is seen by verdicts.txt, a contract by what is quoted
@@ -9,9 +9,9 @@ here or its hash.
 import hashlib
 import re
 import textwrap
-from itertools import groupby
+from collections import Counter
 
-from common import DEFINITIONS, TOP, fill, link, need, read, row
+from common import DEFINITIONS, TOP, fill, link, need, quoted, read, row
 from meanings import CODE, MODEL, Meanings, file_of, imports_of, views_of
 from shared.sources import CLAUSE, Sources
 
@@ -26,12 +26,11 @@ FILES_OF_C = ['Settings', 'ErrorNumbers', 'Answers', 'Buffer', 'CallerBlocks', '
 FILES_OF_STEPS, TABLES_OF_C = ['Steps', 'Runs'], ['ErrorTable']
 STEPS = ['proved_argon2_job_begin', 'proved_argon2_job_fill', 'proved_argon2_job_finish', 'proved_argon2_job_verify',
          'any_order_of_steps']
-# The calls in Rattle whose contracts the page prints, beside all of those for C; the others have places.
+# The calls whose contracts the page prints; the others have places.
 PRINTED = 'hash_raw', 'verify_encoded_within'
+PRINTED_FOR_C = 'proved_argon2_hash_over', 'proved_argon2_verify_over'
 # The standard of a section that names none.
 STANDARD = 'RFC 9106'
-# The standard's own name for what is defined, as in `q: the blocks of a lane`.
-SYMBOL = re.compile(r"([A-Za-z][\w'\[\]]*): ")
 SECTION = re.compile(r'\s*\(((?:RFC \d+, )?\d[\d.]*(?:(?:,| and| to|; RFC \d+,) [\w. ]+)*)\)')
 # An import by which a file passes on what another one defines, so that it could be cited from both.
 PASSED_ON = re.compile(r'^ *(?:\w+ )*pub (?:\w+ )*use .*', re.M)
@@ -48,8 +47,8 @@ class Door:
         types = sorted(name for crate, name in meanings.types if crate in CODE)
         self.views = views_of({word for call in calls for word in re.findall(r'\w+', contract_of(call))}.union(types))
         below = meanings.closure((view.text, view.imports) for view in self.views)
-        below = [definition for definition in below if definition.is_ours and definition not in self.own]
-        self.counts = row(name, *map(len, (calls, self.own, self.views + below, self.kit, types)))
+        self.below = [definition for definition in below if definition.is_ours and definition not in self.own]
+        self.counts = row(name, *map(len, (calls, self.own, self.views + self.below, self.kit, types)))
         need(self.own, f'no clause of {name} is found')
 
 
@@ -63,17 +62,29 @@ def clauses_of(call):
     return re.search(rf'(?:{CLAUSE.pattern}.*)?\Z', contract_of(call), re.M | re.S)[0]
 
 
-def quoted_calls(calls):
+def quoted_calls(calls, names, form):
     """The contracts of the printed calls, and the places of the others, with a hash of their text."""
-    printed, others = ([call for call in calls if (call.name in PRINTED) == is_printed] for is_printed in (True, False))
-    need(len(printed) == len(PRINTED), f'there is no call of one of these names: {PRINTED}')
-    places = ', '.join(link(call.name, call.module.file) for call in others if '_sequential' not in call.name)
-    return ['```rust', *map(contract_of, printed), '```', '',
-            wrapped(f'More contracts, in the code (hash `{hash_of(map(contract_of, others))}`): {places}.')]
+    printed, others = ([call for call in calls if (call.name in names) == is_printed] for is_printed in (True, False))
+    need(len(printed) == len(names), f'there is no call of one of these names: {names}')
+    return ['```rust', *map(form, printed), '```', '', *places_of(others, 'More contracts')]
 
 
-def contracts(calls):
-    """The names and the clauses of calls for C, whose parameters the header has."""
+def places_of(calls, what):
+    """The files of calls, each with their names but for those of the same contract, and a hash of their contracts."""
+    files = {}
+    for call in calls:
+        if '_sequential' not in call.name:
+            files.setdefault(call.module.file, []).append(call.name)
+    return [f'{what}, in the code (hash `{hash_of(map(contract_of, calls))}`):', '',
+            *(wrapped(f'- {link(path.name, path)}: {quoted(names)}', '  ') for path, names in files.items())]
+
+
+def clauses_for_c(call):
+    return f'{call.name}\n{clauses_of(call)}'
+
+
+def check_header(calls):
+    """The header has the parameters of the calls for C."""
     headers = '\n'.join(read(path) for path in sorted(TOP.glob('crates/argon2_c/include/*.h')))
     for call in calls:
         # (the message's is a buffer of the generated C, which returns the text)
@@ -81,7 +92,6 @@ def contracts(calls):
         lost = [name for name in re.findall(r'(\w+): ', contract_of(call).partition('->')[0])
                 if call.name != 'proved_argon2_message' and not (prototype and re.search(rf'\b{name}\b', prototype[1]))]
         need(not lost, f'the prototype of {call.name} lacks {lost}')
-    return ['```rust', *(f'{call.name}\n{clauses_of(call)}' for call in calls), '```']
 
 
 def hash_of(texts):
@@ -132,41 +142,55 @@ def check(root, one_call):
         need(not found, f'{fault}: {found}')
 
 
-def entry_of(file, definition):
-    """What the page says of a definition: the section of its standard, and the name with the standard's own."""
-    name, section = f'`{definition.name}`', SECTION.search(definition.comment)
-    if not section:
-        return '', name
-    symbol = SYMBOL.match(SECTION.sub('', definition.comment).strip())
-    return f' ({section[1].removeprefix(f"{file.standard or STANDARD}, ")})', f'{name} {symbol[1]}' if symbol else name
+def place_of(module):
+    _, crate, _, *parts = module.split('.')
+    place = '/'.join(parts)
+    return f'[{place}.antt](../crates/{crate}/specs/{place}.antt)'
 
 
 def line_of(file):
-    """The definitions of a file in its order, with the sections of its standard."""
-    _, crate, _, *parts = file.module.split('.')
-    place, standard = '/'.join(parts), f', {file.standard}' if file.standard not in ('', STANDARD) else ''
-    sections = groupby((entry_of(file, definition) for definition in file.definitions.values()), lambda entry: entry[0])
-    names = '; '.join(', '.join(name for _, name in of_one) + section for section, of_one in sections)
-    return wrapped(f'- [{place}.antt](../crates/{crate}/specs/{place}.antt){standard}: {names}', '  ')
+    """How many definitions a file has, from which to which section of its standard they go, and other standards."""
+    own, sections, others = file.standard or STANDARD, [], []
+    for found in filter(None, (SECTION.search(definition.comment) for definition in file.definitions.values())):
+        of_own = re.match(rf'(?:{own}, )?(\d[\d.]*)', found[1])
+        (sections if of_own else others).append(of_own[1] if of_own else found[1])
+    sections.sort(key=lambda section: [*map(int, section.split('.'))])
+    span = ' to '.join(dict.fromkeys(sections[:1] + sections[-1:]))
+    named = [span if own == STANDARD else f'{own}, {span}'] * bool(span) + [*dict.fromkeys(others)]
+    return wrapped(f'- {place_of(file.module)}: {len(file.definitions)}' + f' ({"; ".join(named)})' * bool(named), '  ')
 
 
-def lines_of_c(names):
-    return [line_of(file_of(f'Rattle.argon2_c.specs.{name}')) for name in names]
+def elsewhere(doors, listed):
+    """For each door, the files that have no line, and how many definitions of theirs its calls and views rest on, but
+    for the files of the doors before it."""
+    seen = {*listed}
+    for door in doors:
+        counts = Counter(one.module for one in door.own + door.below if one.module not in seen)
+        seen |= counts.keys()
+        if counts:
+            yield wrapped(f'- {door.name}: ' + ', '.join(f'{place_of(module)} {counts[module]}'
+                                                         for module in sorted(counts)), '  ')
+
+
+def files_of_c(names):
+    return [file_of(f'Rattle.argon2_c.specs.{name}') for name in names]
 
 
 def write_all():
     doors = [Door(*pair) for pair in calls_of(Sources().functions).items()]
     one_call, c, rattle, _ = doors
     check(rattle, one_call)
+    check_header(c.calls)
+    standard, of_c, of_steps = files_of_standard(), files_of_c(FILES_OF_C + TABLES_OF_C), files_of_c(FILES_OF_STEPS)
     heads = "| Called from | Calls | Definitions | Views, and what they rest on | The toolchain's definitions | Types |"
     for name, lines in {
             'counts': [heads, '|---' * 6 + '|', *(door.counts for door in doors)],
-            'clauses for C': contracts(one_call.calls),
-            'definitions for C': lines_of_c(FILES_OF_C),
-            'definitions of the steps': lines_of_c(FILES_OF_STEPS),
-            'tables of C': lines_of_c(TABLES_OF_C),
-            'clauses of the steps': contracts([call for call in c.calls if call not in one_call.calls]),
-            'clauses': quoted_calls(rattle.calls),
-            'definitions': map(line_of, files_of_standard()),
+            'clauses for C': quoted_calls(one_call.calls, PRINTED_FOR_C, clauses_for_c),
+            'definitions for C': map(line_of, of_c),
+            'definitions of the steps': map(line_of, of_steps),
+            'clauses of the steps': places_of([call for call in c.calls if call not in one_call.calls], 'Contracts'),
+            'clauses': quoted_calls(rattle.calls, PRINTED, contract_of),
+            'definitions': map(line_of, standard),
+            'definitions elsewhere': elsewhere(doors, [file.module for file in standard + of_c + of_steps]),
             'views': [places_of_views(doors)]}.items():
         fill(DEFINITIONS, name, lines, 'definitions')
