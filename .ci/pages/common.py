@@ -13,10 +13,9 @@ os.environ['PATH'] += ':/opt/rattle/bin'
 
 # The pages with parts that are written, or whose code is compared: a page is renamed here, and in presets.txt.
 FIRST, HOW_TO_CHANGE = 'README.md', 'CONTRIBUTING.md'
-DEFINITIONS, PROMISES, THEOREM, TRUSTED = (f'docs/{name}.md' for name in (
-    'DEFINITIONS', 'PROMISES', 'THEOREM', 'TRUSTED'))
-CLAIMS, DIFFERENCES, INSTALL, PYTHON, RATTLE, USE = (f'docs/{name}.md' for name in (
-    'CLAIMS', 'DIFFERENCES', 'INSTALL', 'PYTHON', 'RATTLE', 'USE'))
+CLAIMS, DEFINITIONS, DIFFERENCES, INSTALL, PYTHON, RATTLE, USE = (f'docs/{name}.md' for name in (
+    'CLAIMS', 'DEFINITIONS', 'DIFFERENCES', 'INSTALL', 'PYTHON', 'RATTLE', 'USE'))
+REPORTS = 'docs/reports.txt'
 
 
 class Fault(Exception):

@@ -1,11 +1,10 @@
-"""Three pictures of docs/: what is proved, checked, tested and trusted by the ways in and the layers of the code
-(layers.txt), a hash's way through the files (way.txt), and the steps from a clause to the bytes (chain.txt).
+"""The picture of what is proved, checked, tested and trusted, by the ways in and the layers of the code
+(docs/layers.txt).
 
 A row of layers.txt names, for each way for which it has `proved`, a public call of docs/promises.txt that this way
 makes, and where it has `checked` or `tested` a file of CI.
 """
 
-import re
 import sys
 
 from common import TOP, need, rows
@@ -19,13 +18,6 @@ CAPTION = ('proved: the prover accepted its contract; checked: by a second tool,
            'trusted: none of these; empty: there is no such layer')
 COLOURS = {'proved': '#009e73', 'checked': '#56b4e9', 'tested': '#e69f00', 'trusted': '#8a8d91'}
 LEFT, TOP_OF_ROWS, ROW, HEIGHT, GAP = 8, 84, 54, 26, 3
-WAY_TITLE, WAY_CAPTION = ('Through which files does a hash go?',
-                          'from top to bottom: a crate or a folder, and behind it its files')
-WAY_TOP, WAY_LEFT, WAY_LETTERS = 44, 100, 50
-CHAIN_TITLE = 'What checks each step to the bytes that run?'
-CHAIN_CAPTION = ('proved: by the prover; checked: by another tool, for all inputs; tested: trusted, but CI looks for '
-                 'faults; trusted: by nothing here')
-CHAIN_LEFT, CHAIN_LETTERS = 116, 48
 
 
 def check_layer(promised, begun, name, words, shown):
@@ -46,7 +38,7 @@ def box(x, y, width, height, word, down):
     return f'<rect x="{x:.1f}" y="{y}" width="{width:.1f}" height="{height}" rx="3" fill="{COLOURS[word]}"/>{written}'
 
 
-def draw_layers():
+def write_all():
     (_, *ways), (_, *begun), *layers = rows('docs/layers.txt')
     promised = {path for path, *_ in rows('docs/promises.txt')}
     step = (plots.WIDTH - 2 * LEFT) / len(ways)
@@ -61,43 +53,3 @@ def draw_layers():
         parts += [box(LEFT + step * at, y + 20, step - GAP, HEIGHT, word, 18)
                   for at, word in enumerate(words) if word != '-']
     plots.picture(TOP / 'docs/what-is-proved.svg', TOP_OF_ROWS + ROW * len(layers), TITLE, CAPTION, parts)
-
-
-def check_files(cell):
-    """A cell of a hash's way names files that are there."""
-    for folder, names in re.findall(r'([\w/]+): ([^;]+)', cell.replace('as above, and ', '').replace('as above', '')):
-        forms = ('{}/{}.c', '{}/proved_argon2_{}.c') if '/' in folder else ('crates/{}/src/{}.rt',)
-        lost = [name for name in names.strip().split(', ')
-                if not any((TOP / form.format(folder, name)).is_file() for form in forms)]
-        need(not lost, f'way.txt: {folder} has no {lost}')
-
-
-def draw_way():
-    parts, y = [], WAY_TOP
-    for stage, *cells in rows('docs/way.txt'):
-        parts += [f'<line class="grid" x1="16" x2="{plots.WIDTH - 16}" y1="{y}" y2="{y}"/>',
-                  plots.text(16, y + 20, stage, kind='own')]
-        y += 22
-        for words, cell in zip(('program', 'C'), cells):
-            check_files(cell)
-            below, height = plots.lines(WAY_LEFT, y + 18, cell, WAY_LETTERS)
-            parts += [plots.text(32, y + 18, words, kind='caption'), *below]
-            y += height
-        y += 10
-    plots.picture(TOP / 'docs/way-of-a-hash.svg', y, WAY_TITLE, WAY_CAPTION, parts)
-
-
-def draw_chain():
-    parts, y = [], WAY_TOP
-    for step, made, check, word in rows('docs/chain.txt'):
-        need(word in COLOURS, f'chain.txt: {step}')
-        below, height = plots.lines(CHAIN_LEFT, y + 36, f'{made}: {check}', CHAIN_LETTERS)
-        parts += [box(16, y + 4, 88, 36, word, 23), plots.text(CHAIN_LEFT, y + 18, step, kind='own'), *below]
-        y += height + 32
-    plots.picture(TOP / 'docs/from-clause-to-bytes.svg', y, CHAIN_TITLE, CHAIN_CAPTION, parts)
-
-
-def write_all():
-    draw_layers()
-    draw_way()
-    draw_chain()

@@ -1,6 +1,6 @@
-"""The lists of docs/PROMISES.md, made of docs/promises.txt and the code; how many mutants there are; what depends on
-secrets (.ci/secrets/depends.txt); and what is added: the public names of the crate `argon2` that rust-argon2 lacks
-(docs/original-names.txt).
+"""The promises in words, out/promises.md, made of docs/promises.txt and the code; how many mutants there are; what
+depends on secrets (.ci/secrets/depends.txt); and what is added: the public names of the crate `argon2` that rust-argon2
+lacks (docs/original-names.txt).
 
 Each public call of the crates below has a line in docs/promises.txt: its path, `|`, its promise and, where its name
 does not tell what shows it, `|` and the names of that: of tests, of calls that rows ask, and of programs in C. A call
@@ -13,12 +13,14 @@ import textwrap
 from collections import Counter, defaultdict
 from itertools import groupby
 
-from common import CLAIMS, DIFFERENCES, PROMISES, TOP, fill, need, quoted, read, row, rows
-from shared.sources import Sources, crates, edits
+from common import CLAIMS, DIFFERENCES, TOP, fill, need, quoted, read, row, rows, write
+from shared.sources import Sources, edits
 
 CRATES = ('argon2_blocks', 'argon2_standard', 'argon2_memory', 'argon2_fill', 'argon2_text',
           'argon2', 'argon2_commands', 'argon2_tool', 'argon2_c')
-LINES, OFF_THE_PAGE = 'docs/promises.txt', '(not on the page)'
+LINES, OFF_THE_PAGE, PAGE = 'docs/promises.txt', '(not on the page)', 'out/promises.md'
+HEAD = ['# Promises', '', 'What the contract of each public call promises, in words. In brackets: the names of the '
+        '`requires`', 'clauses, which the caller has to meet.', '']
 
 
 class Lines:
@@ -85,12 +87,8 @@ def derived_in(sources):
 
 
 def counted_mutants(every):
-    """How many mutants and equivalent mutants each crate has."""
-    counts = Counter((crate, edit.is_equal) for edit in every for crate in (edit.crate, 'all'))
-    by_crate = [f'{name} {counts[name, False]}' + f' and {counts[name, True]}' * (counts[name, True] > 0)
-                for name in crates() if counts[name, False] + counts[name, True]]
-    return wrapped(f'{counts["all", False]} mutants and {counts["all", True]} equivalent mutants: '
-                   f'{"; ".join(by_crate)}.')
+    counts = Counter(edit.is_equal for edit in every)
+    return f'{counts[False]} mutants and {counts[True]} equivalent mutants.'
 
 
 def added(promised, sources):
@@ -113,7 +111,8 @@ def write_all():
     lines = Lines(calls)
     lines.check(derived_in(sources), {*sources.tests, *asked, *programs})
     depends = [row(call, words) for _, call, words in rows('.ci/secrets/depends.txt')]
-    fill(PROMISES, 'calls', lines.lists(), 'promises')
+    (TOP / PAGE).parent.mkdir(exist_ok=True)
+    write(PAGE, '\n'.join([*HEAD, *lines.lists(), '']).replace('](', '](../docs/'))
     fill(CLAIMS, 'mutants', [counted_mutants(edits(sources))], 'promises')
     fill(CLAIMS, 'secrets', ['| Call | What depends on these |', '|---|---|', *depends], 'promises')
     fill(DIFFERENCES, 'added', [added(lines.promises, sources)], 'promises')

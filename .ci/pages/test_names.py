@@ -17,7 +17,7 @@ from functools import cache
 from pathlib import Path
 
 import pytest
-from common import DEFINITIONS, HOW_TO_CHANGE, TOP, TRUSTED, files, read, run
+from common import HOW_TO_CHANGE, TOP, files, read, run
 
 WORDS = 34_000
 ENDINGS = {'.rt', '.antt', '.md', '.txt', '.py', '.rs', '.c', '.h', '.sh', '.edit', '.svg', '.toml', '.in'}
@@ -29,8 +29,6 @@ PATHS = {f'/{path}' for file in FILES for path in (file, *map(str, Path(file).pa
 # What is named and lies elsewhere: in upstream's source, in rust-argon2, in the toolchain, or where it is installed.
 ELSEWHERE = re.compile(r'[/~$]|.*(?:/out/|NAME|CRATE)|(?:rattle/logic|Denote/|Prog/|antt/)|(?:opt\.c|ref\.c|'
                        r'index_alpha|Block::as_u8_mut|blake2b_simd|constant_time_eq|lib/libproved_argon2\.so)$')
-# The toolchain's names in these pages are made from it.
-OF_THE_KIT = DEFINITIONS, TRUSTED
 # Code, in a fence or set apart by four blanks, and paragraphs.
 BLOCK = re.compile(r'^```(\w*)\n(.*?)^```$|((?:^ {4}[^\n]*(?:\n|\Z))+)|(?:^(?!```| {4})[^\n]+(?:\n|\Z))+', re.M | re.S)
 NAMED_PATH = re.compile(r'(?<![\w`/.])((?:docs/)?[A-Z]+\.md|\.ci/[a-z_/]+(?:\.[a-z]+)?)')
@@ -122,15 +120,21 @@ def lost_of(first, *others):
     return ' '.join([first, *lost]) if lost or not text else ''
 
 
+def code_at(to, heading):
+    """A file, or the line of it that a link names."""
+    code = read(to) if (TOP / to).is_file() else ''
+    return ''.join(code.splitlines()[int(heading[1:]) - 1:int(heading[1:])]) if heading[:1] == 'L' else code
+
+
 def faults_of_links(page, text):
-    """The headings that are not there, the names that are not in the files to which they are links, and the pages that
-    are named without a link."""
+    """The headings that are not there, the names that are not in the files or lines to which they are links, and the
+    pages that are named without a link."""
     for name, path, heading in LINK.findall(text):
         to = beside(page, path)
         if heading and (TOP / to).is_file() and heading not in headings_of(to):
             yield f'{to}#{heading}'
         if re.fullmatch(r'`\w+`', name) and to.endswith(('.rt', '.antt')) and not re.search(
-                rf'\b{name.strip("`")}\b', read(to) if (TOP / to).is_file() else ''):
+                rf'\b(?:proved_argon2_)?{name.strip("`")}\b', code_at(to, heading)):
             yield f'{name} in {to}'
     yield from (f'link to {name}' for name in PAGE.findall(re.sub(r'\[[^\]]*\]\([^)]*\)|`[^`]*`', '', text)))
 
@@ -142,7 +146,7 @@ def faults(page, text, is_code):
     lost = [path for path in paths if not has_path(path, page)]
     parts = (part.strip() for one in ([text] if is_code else quoted) for part in re.split(r'&&|[|;()]|sudo ', one))
     lost += [lost_of(*part.split()) for part in parts if COMMAND.match(part) and (is_code or ' ' in part)]
-    lost += [word for word in quoted if page not in OF_THE_KIT and re.fullmatch(r'\w+(::\w+)*', word)
+    lost += [word for word in quoted if re.fullmatch(r'\w+(::\w+)*', word)
              and re.search(r'[a-z]_|::', word) and not has_name(word)]
     if not is_code and not PACKED.fullmatch(page):
         lost += faults_of_links(page, text)
@@ -177,7 +181,8 @@ def test_what_a_page_names_is_there(page):
     '`it`, of LIBARGON2.md', '[it](USE.md), and\n(USE.md)', 'run `.ci/pages/nothing`', 'a row of `nothing.txt`',
     'it is `crates/argon2/src/nothing.rt`', 'the folder `argon2_text/specs/Nothing`', '    .ci/pages/write --nothing',
     '    ./argon2 nothing', 'a `hash_of_nothing`', 'a `Config::nothing_of`',
-    '[`blake2b`](crates/argon2/src/hashing.rt)', 'the Refusals of a call', 'it spells\na value',
+    '[`blake2b`](crates/argon2/src/hashing.rt)', '[`hash_over`](crates/argon2_c/src/lib.rt#L56)',
+    'the Refusals of a call', 'it spells\na value',
     'it took 17 ms', 'it took 12 s', '0.45 of its time', '1.03 microseconds', '3 to 10 %', '4,250 instructions',
     'in 0.88 to 0.91', '35.1 minutes', '3.3 times as long',
     *['    rt nothing NAME'] * bool(shutil.which('rt'))])

@@ -5,7 +5,7 @@ import shutil
 from pathlib import Path
 
 import pytest
-from common import FIRST, CLAIMS, DIFFERENCES, INSTALL, PYTHON, THEOREM, TOP, USE, files, read, rows, run
+from common import CLAIMS, DIFFERENCES, FIRST, INSTALL, PYTHON, REPORTS, TOP, USE, files, read, rows, run
 from shared.sources import Sources, edits
 
 # A phone's pixels, and those of the smallest letter there.
@@ -33,7 +33,7 @@ def test_first_calls_are_those_of_each_languages_page():
 def test_what_is_quoted_of_the_logic_stands_there(needs):
     needs('rt')
     logic = Path(shutil.which('rt')).resolve().parents[1] / 'rattle/logic'
-    quoted = re.findall(r'^-- (\S+\.antt)\n((?:(?!--|```).*\n)+)', read(THEOREM), re.M)
+    quoted = re.findall(r'^-- (\S+\.antt)\n((?:(?!--|```).*\n)+)', read(REPORTS), re.M)
     assert len(quoted) == 2
     for file, text in quoted:
         assert ''.join(text.split()) in ''.join((logic / file).read_text(encoding='utf-8').split())
