@@ -15,7 +15,7 @@ import plots  # noqa: E402
 BELOW_ALL = 'argon2::parts::'
 TITLE = 'Which code is proved, for each way in?'
 CAPTION = ('proved: the prover accepted its contract; checked: by a second tool, for all inputs; tested: by CI; '
-           'trusted: none of these; empty: there is no such layer')
+           'trusted: none of these; empty: there is no such layer. C, direct: the proved calls, without the driver')
 COLOURS = {'proved': '#009e73', 'checked': '#56b4e9', 'tested': '#e69f00', 'trusted': '#8a8d91'}
 LEFT, TOP_OF_ROWS, ROW, HEIGHT, GAP = 8, 84, 54, 26, 3
 
