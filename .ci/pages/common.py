@@ -13,8 +13,8 @@ os.environ['PATH'] += ':/opt/rattle/bin'
 
 # The pages with parts that are written, or whose code is compared: a page is renamed here, and in presets.txt.
 FIRST, HOW_TO_CHANGE = 'README.md', 'CONTRIBUTING.md'
-CLAIMS, DEFINITIONS, DIFFERENCES, INSTALL, PYTHON, RATTLE, USE = (f'docs/{name}.md' for name in (
-    'CLAIMS', 'DEFINITIONS', 'DIFFERENCES', 'INSTALL', 'PYTHON', 'RATTLE', 'USE'))
+CLAIMS, DEFINITIONS, DIFFERENCES, INSTALL, PYTHON, USE = (f'docs/{name}.md' for name in (
+    'CLAIMS', 'DEFINITIONS', 'DIFFERENCES', 'INSTALL', 'PYTHON', 'USE'))
 REPORTS = 'docs/reports.txt'
 
 

@@ -19,7 +19,7 @@ from pathlib import Path
 import pytest
 from common import HOW_TO_CHANGE, TOP, files, read, run
 
-WORDS = 34_000
+WORDS = 22_000
 ENDINGS = {'.rt', '.antt', '.md', '.txt', '.py', '.rs', '.c', '.h', '.sh', '.edit', '.svg', '.toml', '.in'}
 FILES = files()
 PAGES = [file for file in FILES if file.endswith('.md')]
@@ -197,5 +197,5 @@ def test_definitions_have_the_words_of_the_pages():
 
 
 def test_all_pages_can_be_read():
-    pages = files('*.md', 'docs/*.md', 'bindings/*/*.md', 'crates/*/*.md')
+    pages = [page for page in files('*.md', 'docs/*.md') if page != 'CHANGELOG.md']
     assert pages and sum(len(read(page).split()) for page in pages) <= WORDS

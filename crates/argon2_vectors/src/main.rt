@@ -1,5 +1,5 @@
 //! Answers questions on public calls, one a line of standard input, so that rows of tests are data. A
-//! line is the name of a call and its words, with single blanks between them; docs/SOURCES.md says
+//! line is the name of a call and its words, with single blanks between them; docs/CLAIMS.md says
 //! where the answers come from that this crate's `stdout` has.
 //!
 //! | Line | Answer |
