@@ -98,5 +98,5 @@ def test_the_table_for_c_has_each_call_and_the_definitions_that_its_clause_names
         assert bool(links) == bool(proved), calls
         assert all(any(link in text for text in proved) for link in links), calls
         assert all(any(link in text for link in links) for text in proved), calls
-    assert len(table) > 20 and declared - told == {name for name in clauses if re.match('owasp|rfc', name)} - told
+    assert len(table) > 20 and declared - told == {name for name in clauses if 'recommended' in clauses[name]} - told
     assert told <= declared and 'owasp2' in told

@@ -43,23 +43,20 @@
 /* The builds, the newest last. */
 enum build { NOT_CHOSEN, NO_BUILD, X86_64_V2, X86_64_V3, X86_64_V4 };
 
-/* (their names in an archive, beside a program's own) */
-#define build_in_use proved_driver_build
-#define choose_build proved_driver_choose_build
 #pragma GCC visibility push(hidden)
 
 /* The build that all calls take. Each thread that chooses one comes to the same. */
-extern _Atomic int build_in_use;
+extern _Atomic int proved_driver_build;
 
 /* Chooses the build, stores and returns it. */
-int choose_build(void);
+int proved_driver_choose_build(void);
 
 #pragma GCC visibility pop
 
 static inline int build_here(void)
 {
-    const int build = atomic_load_explicit(&build_in_use, memory_order_relaxed);
-    return build != NOT_CHOSEN ? build : choose_build();
+    const int build = atomic_load_explicit(&proved_driver_build, memory_order_relaxed);
+    return build != NOT_CHOSEN ? build : proved_driver_choose_build();
 }
 
 #endif

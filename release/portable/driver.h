@@ -38,6 +38,7 @@ struct call {
     proved_argon2_job job;
     uint8_t *bytes; /* malloc's, for a hash, a tag and a salt */
     size_t len;
+    bool is_rehash_due; /* the encoded hash has other settings than the options' */
     caller saved;
     block *blocks;
     size_t slice; /* how many blocks one of their four slices has */
@@ -55,28 +56,22 @@ static inline uint64_t bytes_of(const proved_argon2_job *job)
     return (uint64_t)4 * sizeof(block) * job->lanes * job->segment_length;
 }
 
-/* (their names in an archive, beside a program's own) */
-#define begin_call proved_driver_begin_call
-#define take_bytes proved_driver_take_bytes
-#define compute proved_driver_compute
-#define end_call proved_driver_end_call
-#define take_blocks proved_driver_take_blocks
 #pragma GCC visibility push(hidden)
 
 /* Begins a call with options, whose later fields are none. That a pointer is missing comes before all else. */
-uint32_t begin_call(struct call *call, const options *with, int is_missing);
+uint32_t proved_driver_begin_call(struct call *call, const options *with, int is_missing);
 
 /* Memory of malloc for so many bytes, which the end of the call clears and frees. */
-uint32_t take_bytes(struct call *call, uint64_t len);
+uint32_t proved_driver_take_bytes(struct call *call, uint64_t len);
 
 /* Writes the tag of a job that the library has checked, or returns whether a hash is it; the tag is then there. */
-uint32_t compute(struct call *call, const uint8_t *hash, uint8_t *tag);
+uint32_t proved_driver_compute(struct call *call, const uint8_t *hash, uint8_t *tag);
 
 /* Ends a call with its result: clears its bytes, its job, the stack and the registers. */
-CLEARS_REGISTERS uint32_t end_call(struct call *call, uint32_t code);
+CLEARS_REGISTERS uint32_t proved_driver_end_call(struct call *call, uint32_t code);
 
 /* Memory for blocks, or null: malloc's, or a mapping, in huge pages where the system has them and in no core dump. */
-void *take_blocks(uint64_t bytes);
+void *proved_driver_take_blocks(uint64_t bytes);
 
 #pragma GCC visibility pop
 

@@ -128,7 +128,7 @@ static void w2c_argon2_text__encoding__reading__number(Z_proved_instance_t*, u64
 static u32 w2c_argon2_text__encoding__letters__is_item(Z_proved_instance_t*, u64, u64);
 static void w2c_argon2_c__jobs__make_stored(Z_proved_instance_t*, u64, u64, u64, u64, u64, u64, u64, u64, u64, u64, u64, u64, u64, u64);
 static void w2c_argon2_c__reading__read_items(Z_proved_instance_t*, u64, u64, u64, u64, u64, u64);
-static void w2c_argon2_text__encoding__items__read_hash(Z_proved_instance_t*, u64, u64, u64);
+static void w2c_argon2_text__encoding__salt_and_hash__read_hash(Z_proved_instance_t*, u64, u64, u64);
 static void w2c_argon2_c__steps__verify(Z_proved_instance_t*, u64, u64, u64, u64, u64, u64, u64, u64);
 static void w2c_argon2_c__caller_blocks__verify(Z_proved_instance_t*, u64, u64, u64, u64, u64, u64, u64, u64, u64, u64, u64, u64, u64, u64, u64, u64);
 static void w2c_argon2_c__caller_blocks__verify_job(Z_proved_instance_t*, u64, u64, u64, u64, u64, u64, u64, u64);
@@ -28697,7 +28697,7 @@ static void w2c_argon2_c__reading__read_items(Z_proved_instance_t* instance, u64
   w2c_j2 = 0ull;
   w2c_j1 = (*Z_memoryZ_i64_load)(instance->Z_memory_instance, w2c_j1, w2c_j2);
   w2c_j2 = w2c_p4;
-  w2c_argon2_text__encoding__items__read_hash(instance, w2c_j0, w2c_j1, w2c_j2);
+  w2c_argon2_text__encoding__salt_and_hash__read_hash(instance, w2c_j0, w2c_j1, w2c_j2);
   w2c_j0 = w2c_p0;
   w2c_j1 = 2ull;
   w2c_j0 += w2c_j1;
@@ -28719,7 +28719,7 @@ static void w2c_argon2_c__reading__read_items(Z_proved_instance_t* instance, u64
   FUNC_EPILOGUE;
 }
 
-static void w2c_argon2_text__encoding__items__read_hash(Z_proved_instance_t* instance, u64 w2c_p0, u64 w2c_p1, u64 w2c_p2) {
+static void w2c_argon2_text__encoding__salt_and_hash__read_hash(Z_proved_instance_t* instance, u64 w2c_p0, u64 w2c_p1, u64 w2c_p2) {
   u32 w2c_l4 = 0, w2c_l5 = 0, w2c_l7 = 0, w2c_l8 = 0;
   u64 w2c_l3 = 0, w2c_l6 = 0;
   FUNC_PROLOGUE;

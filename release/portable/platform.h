@@ -22,61 +22,47 @@ typedef struct caller {
 /* Threads, and the one that started them, whose number is 0. Where there is none, a null pointer stands for them. */
 typedef struct team team;
 
-/* (their names in an archive, beside a program's own) */
-#define keep_caller proved_driver_keep_caller
-#define restore_caller proved_driver_restore_caller
-#define take_lines proved_driver_take_lines
-#define free_lines proved_driver_free_lines
-#define map_pages proved_driver_map_pages
-#define unmap_pages proved_driver_unmap_pages
-#define populate_pages proved_driver_populate_pages
-#define take_random proved_driver_take_random
-#define overwrite proved_driver_overwrite
-#define start_team proved_driver_start_team
-#define members proved_driver_members
-#define wake proved_driver_wake
-#define await proved_driver_await
-#define end_team proved_driver_end_team
+/* (they have long names, which in an archive are beside a program's own) */
 #pragma GCC visibility push(hidden)
 
 /* Keeps what a call changes, and has the thread not be cancelled from here on. */
-caller keep_caller(void);
-void restore_caller(caller saved);
+caller proved_driver_keep_caller(void);
+void proved_driver_restore_caller(caller saved);
 
 /* Memory at a multiple of 64, a line of the cache, or null; and its end. */
-void *take_lines(size_t bytes);
-void free_lines(void *lines);
+void *proved_driver_take_lines(size_t bytes);
+void proved_driver_free_lines(void *lines);
 
 /* Memory of 2 MiB or more, at a multiple of that, or null: in huge pages where the system has them but for what is left
  * behind the last whole one, and in no core dump. */
-void *map_pages(size_t bytes);
+void *proved_driver_map_pages(size_t bytes);
 
 /* Gives pages back to the system, which clears them. */
-void unmap_pages(void *pages, size_t bytes);
+void proved_driver_unmap_pages(void *pages, size_t bytes);
 
 /* Has some of these pages be there at once, where the system can do so. Returns whether it has them. */
-bool populate_pages(void *pages, size_t bytes);
+bool proved_driver_populate_pages(void *pages, size_t bytes);
 
 /* Random bytes of the system. Returns whether it had them. */
-bool take_random(uint8_t *bytes, size_t len);
+bool proved_driver_take_random(uint8_t *bytes, size_t len);
 
 /* Writes zeros that no compiler leaves out. */
-void overwrite(void *bytes, size_t len);
+void proved_driver_overwrite(void *bytes, size_t len);
 
 /* Starts as many threads as it is granted of some, each of which calls run(arg, own, i) once, for i from 1 on. */
-team *start_team(uint32_t threads, void (*run)(void *arg, team *own, uint32_t number), void *arg);
+team *proved_driver_start_team(uint32_t threads, void (*run)(void *arg, team *own, uint32_t number), void *arg);
 
 /* How many threads there are: none in a child that was forked meanwhile. */
-uint32_t members(const team *own);
+uint32_t proved_driver_members(const team *own);
 
 /* Wakes a thread of a team: ends one wait of it, or one that is yet to come. */
-void wake(team *own, uint32_t number);
+void proved_driver_wake(team *own, uint32_t number);
 
 /* Waits until this thread, which has this number, is woken. */
-void await(team *own, uint32_t number);
+void proved_driver_await(team *own, uint32_t number);
 
 /* Waits until all threads have returned, and frees the team. */
-void end_team(team *own);
+void proved_driver_end_team(team *own);
 
 #pragma GCC visibility pop
 

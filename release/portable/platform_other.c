@@ -13,45 +13,45 @@
 /* Writes zeros that no compiler leaves out: it cannot know that this is memset. */
 static void *(*const volatile fill)(void *, int, size_t) = memset;
 
-caller keep_caller(void)
+caller proved_driver_keep_caller(void)
 {
     return (caller){.error = errno};
 }
 
-void restore_caller(caller saved)
+void proved_driver_restore_caller(caller saved)
 {
     errno = saved.error;
 }
 
-void *take_lines(size_t bytes)
+void *proved_driver_take_lines(size_t bytes)
 {
     return aligned_alloc(LINE, (bytes + LINE - 1) / LINE * LINE);
 }
 
-void free_lines(void *lines)
+void proved_driver_free_lines(void *lines)
 {
     free(lines);
 }
 
-void *map_pages(size_t bytes)
+void *proved_driver_map_pages(size_t bytes)
 {
-    return take_lines(bytes);
+    return proved_driver_take_lines(bytes);
 }
 
-void unmap_pages(void *pages, size_t bytes)
+void proved_driver_unmap_pages(void *pages, size_t bytes)
 {
-    overwrite(pages, bytes);
-    free_lines(pages);
+    proved_driver_overwrite(pages, bytes);
+    proved_driver_free_lines(pages);
 }
 
-bool populate_pages(void *pages, size_t bytes)
+bool proved_driver_populate_pages(void *pages, size_t bytes)
 {
     (void)pages;
     (void)bytes;
     return true;
 }
 
-bool take_random(uint8_t *bytes, size_t len)
+bool proved_driver_take_random(uint8_t *bytes, size_t len)
 {
 #ifdef __APPLE__
     return getentropy(bytes, len) == 0;
@@ -60,12 +60,12 @@ bool take_random(uint8_t *bytes, size_t len)
 #endif
 }
 
-void overwrite(void *bytes, size_t len)
+void proved_driver_overwrite(void *bytes, size_t len)
 {
     fill(bytes, 0, len);
 }
 
-team *start_team(uint32_t threads, void (*run)(void *arg, team *own, uint32_t number), void *arg)
+team *proved_driver_start_team(uint32_t threads, void (*run)(void *arg, team *own, uint32_t number), void *arg)
 {
     (void)threads;
     (void)run;
@@ -73,25 +73,25 @@ team *start_team(uint32_t threads, void (*run)(void *arg, team *own, uint32_t nu
     return NULL;
 }
 
-uint32_t members(const team *own)
+uint32_t proved_driver_members(const team *own)
 {
     (void)own;
     return 0;
 }
 
-void wake(team *own, uint32_t number)
+void proved_driver_wake(team *own, uint32_t number)
 {
     (void)own;
     (void)number;
 }
 
-void await(team *own, uint32_t number)
+void proved_driver_await(team *own, uint32_t number)
 {
     (void)own;
     (void)number;
 }
 
-void end_team(team *own)
+void proved_driver_end_team(team *own)
 {
     (void)own;
 }

@@ -20,25 +20,25 @@
 #define MOST_VARIABLES ((size_t)1 << 30)
 #define NO_MEMORY (SIZE_MAX / 16 * 15) /* bytes: more than there are */
 
-caller keep_caller(void)
+caller proved_driver_keep_caller(void)
 {
     caller saved = {.error = errno};
     pthread_setcancelstate(PTHREAD_CANCEL_DISABLE, &saved.cancel);
     return saved;
 }
 
-void restore_caller(caller saved)
+void proved_driver_restore_caller(caller saved)
 {
     errno = saved.error;
     pthread_setcancelstate(saved.cancel, NULL);
 }
 
-void *take_lines(size_t bytes)
+void *proved_driver_take_lines(size_t bytes)
 {
     return aligned_alloc(LINE, bytes);
 }
 
-void free_lines(void *lines)
+void proved_driver_free_lines(void *lines)
 {
     free(lines);
 }
@@ -49,7 +49,7 @@ static void *take_pages(size_t bytes)
     return pages == MAP_FAILED ? NULL : pages;
 }
 
-void *map_pages(size_t bytes)
+void *proved_driver_map_pages(size_t bytes)
 {
     if (bytes > SIZE_MAX - 2 * HUGE_PAGE) {
         return NULL;
@@ -67,17 +67,17 @@ void *map_pages(size_t bytes)
     return all + before;
 }
 
-void unmap_pages(void *pages, size_t bytes)
+void proved_driver_unmap_pages(void *pages, size_t bytes)
 {
     munmap(pages, bytes);
 }
 
-bool populate_pages(void *pages, size_t bytes)
+bool proved_driver_populate_pages(void *pages, size_t bytes)
 {
     return madvise(pages, bytes, POPULATE) == 0 || (errno != ENOMEM && errno != EFAULT);
 }
 
-bool take_random(uint8_t *bytes, size_t len)
+bool proved_driver_take_random(uint8_t *bytes, size_t len)
 {
     ssize_t received;
     do {
@@ -86,7 +86,7 @@ bool take_random(uint8_t *bytes, size_t len)
     return received == (ssize_t)len;
 }
 
-void overwrite(void *bytes, size_t len)
+void proved_driver_overwrite(void *bytes, size_t len)
 {
     explicit_bzero(bytes, len);
 }
@@ -169,7 +169,7 @@ static pid_t *mark_process(void)
     return mark;
 }
 
-team *start_team(uint32_t threads, void (*run)(void *arg, team *own, uint32_t number), void *arg)
+team *proved_driver_start_team(uint32_t threads, void (*run)(void *arg, team *own, uint32_t number), void *arg)
 {
     team *const own = calloc(1, sizeof *own + (threads + 1) * sizeof *own->members);
     pid_t *const process = own == NULL ? NULL : mark_process();
@@ -191,26 +191,26 @@ static bool is_here(const team *own)
     return own != NULL && *own->process == getpid();
 }
 
-uint32_t members(const team *own)
+uint32_t proved_driver_members(const team *own)
 {
     return is_here(own) ? own->threads : 0;
 }
 
-void wake(team *own, uint32_t number)
+void proved_driver_wake(team *own, uint32_t number)
 {
     sem_post(&own->members[number].woken);
 }
 
-void await(team *own, uint32_t number)
+void proved_driver_await(team *own, uint32_t number)
 {
     while (is_here(own) && sem_wait(&own->members[number].woken) != 0) {
         /* (a signal's handler ran) */
     }
 }
 
-void end_team(team *own)
+void proved_driver_end_team(team *own)
 {
-    const uint32_t threads = members(own);
+    const uint32_t threads = proved_driver_members(own);
     for (uint32_t i = 1; i <= threads; i++) {
         pthread_join(own->members[i].thread, NULL);
         sem_destroy(&own->members[i].woken);

@@ -16,51 +16,51 @@
 #define LINE 64
 #define STACK (256 * 1024) /* bytes of a thread */
 
-caller keep_caller(void)
+caller proved_driver_keep_caller(void)
 {
     return (caller){.error = errno};
 }
 
-void restore_caller(caller saved)
+void proved_driver_restore_caller(caller saved)
 {
     errno = saved.error;
 }
 
-void *take_lines(size_t bytes)
+void *proved_driver_take_lines(size_t bytes)
 {
     return _aligned_malloc(bytes, LINE);
 }
 
-void free_lines(void *lines)
+void proved_driver_free_lines(void *lines)
 {
     _aligned_free(lines);
 }
 
 /* (large pages need a right that few have) */
-void *map_pages(size_t bytes)
+void *proved_driver_map_pages(size_t bytes)
 {
     return VirtualAlloc(NULL, bytes, MEM_RESERVE | MEM_COMMIT, PAGE_READWRITE);
 }
 
-void unmap_pages(void *pages, size_t bytes)
+void proved_driver_unmap_pages(void *pages, size_t bytes)
 {
     (void)bytes;
     VirtualFree(pages, 0, MEM_RELEASE);
 }
 
-bool populate_pages(void *pages, size_t bytes)
+bool proved_driver_populate_pages(void *pages, size_t bytes)
 {
     (void)pages;
     (void)bytes;
     return true;
 }
 
-bool take_random(uint8_t *bytes, size_t len)
+bool proved_driver_take_random(uint8_t *bytes, size_t len)
 {
     return len <= ULONG_MAX && RtlGenRandom(bytes, (ULONG)len);
 }
 
-void overwrite(void *bytes, size_t len)
+void proved_driver_overwrite(void *bytes, size_t len)
 {
     SecureZeroMemory(bytes, len);
 }
@@ -101,7 +101,7 @@ static void start_members(team *own, uint32_t threads)
     }
 }
 
-team *start_team(uint32_t threads, void (*run)(void *arg, team *own, uint32_t number), void *arg)
+team *proved_driver_start_team(uint32_t threads, void (*run)(void *arg, team *own, uint32_t number), void *arg)
 {
     team *const own = calloc(1, sizeof *own + (threads + 1) * sizeof *own->members);
     if (own == NULL) {
@@ -115,12 +115,12 @@ team *start_team(uint32_t threads, void (*run)(void *arg, team *own, uint32_t nu
     return own;
 }
 
-uint32_t members(const team *own)
+uint32_t proved_driver_members(const team *own)
 {
     return own == NULL ? 0 : own->threads;
 }
 
-void wake(team *own, uint32_t number)
+void proved_driver_wake(team *own, uint32_t number)
 {
     AcquireSRWLockExclusive(&own->lock);
     own->members[number].wakes++;
@@ -128,7 +128,7 @@ void wake(team *own, uint32_t number)
     WakeConditionVariable(&own->members[number].is_woken);
 }
 
-void await(team *own, uint32_t number)
+void proved_driver_await(team *own, uint32_t number)
 {
     member *const self = &own->members[number];
     AcquireSRWLockExclusive(&own->lock);
@@ -139,9 +139,9 @@ void await(team *own, uint32_t number)
     ReleaseSRWLockExclusive(&own->lock);
 }
 
-void end_team(team *own)
+void proved_driver_end_team(team *own)
 {
-    const uint32_t threads = members(own);
+    const uint32_t threads = proved_driver_members(own);
     for (uint32_t i = 1; i <= threads; i++) {
         WaitForSingleObject(own->members[i].thread, INFINITE);
         CloseHandle(own->members[i].thread);

@@ -15,7 +15,7 @@ static uint32_t make_job(struct call *call, INPUTS, int is_length_right)
 uint32_t proved_argon2_hash_raw_with(const options *with, INPUTS, uint8_t *out, size_t out_len)
 {
     struct call call;
-    uint32_t code = begin_call(&call, with, ARE_INPUTS_MISSING || IS_MISSING(out));
+    uint32_t code = proved_driver_begin_call(&call, with, ARE_INPUTS_MISSING || IS_MISSING(out));
     if (code != PROVED_ARGON2_OK) {
         goto end;
     }
@@ -23,9 +23,9 @@ uint32_t proved_argon2_hash_raw_with(const options *with, INPUTS, uint8_t *out, 
     if (code != PROVED_ARGON2_OK) {
         goto end;
     }
-    code = compute(&call, NULL, out);
+    code = proved_driver_compute(&call, NULL, out);
 end:
-    return end_call(&call, code);
+    return proved_driver_end_call(&call, code);
 }
 
 uint32_t proved_argon2_hash_raw(INPUTS, uint8_t *out, size_t out_len)
@@ -36,7 +36,7 @@ uint32_t proved_argon2_hash_raw(INPUTS, uint8_t *out, size_t out_len)
 uint32_t proved_argon2_hash_encoded_with(const options *with, INPUTS, char *text, size_t text_len)
 {
     struct call call;
-    uint32_t code = begin_call(&call, with, ARE_INPUTS_MISSING || IS_MISSING(text));
+    uint32_t code = proved_driver_begin_call(&call, with, ARE_INPUTS_MISSING || IS_MISSING(text));
     if (code != PROVED_ARGON2_OK) {
         goto end;
     }
@@ -44,17 +44,17 @@ uint32_t proved_argon2_hash_encoded_with(const options *with, INPUTS, char *text
     if (code != PROVED_ARGON2_OK) {
         goto end;
     }
-    code = take_bytes(&call, call.job.hash_length);
+    code = proved_driver_take_bytes(&call, call.job.hash_length);
     if (code != PROVED_ARGON2_OK) {
         goto end;
     }
-    code = compute(&call, NULL, call.bytes);
+    code = proved_driver_compute(&call, NULL, call.bytes);
     if (code != PROVED_ARGON2_OK) {
         goto end;
     }
     code = proved_argon2_encode(salt, salt_len, settings, call.bytes, call.len, text, text_len);
 end:
-    return end_call(&call, code);
+    return proved_driver_end_call(&call, code);
 }
 
 uint32_t proved_argon2_hash_encoded(INPUTS, char *text, size_t text_len)
@@ -65,7 +65,7 @@ uint32_t proved_argon2_hash_encoded(INPUTS, char *text, size_t text_len)
 uint32_t proved_argon2_verify_raw_with(const options *with, INPUTS, const uint8_t *hash, size_t hash_len)
 {
     struct call call;
-    uint32_t code = begin_call(&call, with, ARE_INPUTS_MISSING || IS_MISSING(hash));
+    uint32_t code = proved_driver_begin_call(&call, with, ARE_INPUTS_MISSING || IS_MISSING(hash));
     if (code != PROVED_ARGON2_OK) {
         goto end;
     }
@@ -78,18 +78,24 @@ uint32_t proved_argon2_verify_raw_with(const options *with, INPUTS, const uint8_
     if (code != PROVED_ARGON2_OK) {
         goto end;
     }
-    code = take_bytes(&call, hash_len);
+    code = proved_driver_take_bytes(&call, hash_len);
     if (code != PROVED_ARGON2_OK) {
         goto end;
     }
-    code = compute(&call, hash, call.bytes);
+    code = proved_driver_compute(&call, hash, call.bytes);
 end:
-    return end_call(&call, code);
+    return proved_driver_end_call(&call, code);
 }
 
 uint32_t proved_argon2_verify_raw(INPUTS, const uint8_t *hash, size_t hash_len)
 {
     return proved_argon2_verify_raw_with(&plain, OF_INPUTS, hash, hash_len);
+}
+
+static bool are_same(const proved_argon2_settings *one, const proved_argon2_settings *other)
+{
+    return one->variant == other->variant && one->version == other->version && one->mem_cost == other->mem_cost
+        && one->time_cost == other->time_cost && one->lanes == other->lanes && one->hash_length == other->hash_length;
 }
 
 /* Reads the job of an encoded hash, its tag with as much room behind it for the computed one, and its salt. A rejected
@@ -103,8 +109,9 @@ static uint32_t read_text(struct call *call, STORED)
     if (code != PROVED_ARGON2_OK) {
         return code;
     }
+    call->is_rehash_due = call->with.today != NULL && !are_same(&stored.settings, call->with.today);
     const size_t len = stored.settings.hash_length, salt_len = stored.salt_length;
-    code = take_bytes(call, 2 * (uint64_t)len + salt_len);
+    code = proved_driver_take_bytes(call, 2 * (uint64_t)len + salt_len);
     if (code != PROVED_ARGON2_OK) {
         return code;
     }
@@ -114,19 +121,25 @@ static uint32_t read_text(struct call *call, STORED)
 uint32_t proved_argon2_verify_encoded_with(const options *with, STORED)
 {
     struct call call;
-    uint32_t code = begin_call(
+    uint32_t code = proved_driver_begin_call(
         &call, with, IS_MISSING(text) || IS_MISSING(pwd) || IS_MISSING(secret) || IS_MISSING(ad));
     if (code != PROVED_ARGON2_OK) {
         goto end;
     }
-    call.with.threads = call.with.threads < 16 ? call.with.threads : 16; /* as Rattle's library for an encoded hash */
+    if (call.with.threads > PROVED_ARGON2_MAX_VERIFYING_THREADS) {
+        call.with.threads = PROVED_ARGON2_MAX_VERIFYING_THREADS;
+    }
     code = read_text(&call, OF_STORED);
     if (code != PROVED_ARGON2_OK) {
         goto end;
     }
-    code = compute(&call, call.bytes, call.bytes + call.job.hash_length);
+    code = proved_driver_compute(&call, call.bytes, call.bytes + call.job.hash_length);
+    /* (in this order, so that no branch depends on a verdict where no rehash is asked about) */
+    if (call.is_rehash_due && code == PROVED_ARGON2_OK) {
+        code = PROVED_ARGON2_NEEDS_REHASH;
+    }
 end:
-    return end_call(&call, code);
+    return proved_driver_end_call(&call, code);
 }
 
 uint32_t proved_argon2_verify_encoded(STORED)
@@ -144,7 +157,7 @@ uint32_t proved_argon2_verify_encoded_within(STORED, const proved_argon2_limits 
 static uint32_t run(const options *with, const proved_argon2_job *job, const uint8_t *hash, uint8_t *tag, size_t len)
 {
     struct call call;
-    uint32_t code = begin_call(&call, with, job == NULL || (hash == NULL && tag == NULL && len != 0));
+    uint32_t code = proved_driver_begin_call(&call, with, job == NULL || (hash == NULL && tag == NULL && len != 0));
     if (code != PROVED_ARGON2_OK) {
         goto end;
     }
@@ -154,14 +167,14 @@ static uint32_t run(const options *with, const proved_argon2_job *job, const uin
         code = PROVED_ARGON2_WRONG_LENGTH;
     }
     if (code == PROVED_ARGON2_OK && hash != NULL) {
-        code = take_bytes(&call, len);
+        code = proved_driver_take_bytes(&call, len);
     }
     if (code != PROVED_ARGON2_OK) {
         goto end;
     }
-    code = compute(&call, hash, hash == NULL ? tag : call.bytes);
+    code = proved_driver_compute(&call, hash, hash == NULL ? tag : call.bytes);
 end:
-    return end_call(&call, code);
+    return proved_driver_end_call(&call, code);
 }
 
 uint32_t proved_argon2_job_run(const options *with, const proved_argon2_job *job, uint8_t *tag, size_t tag_len)
@@ -184,10 +197,10 @@ uint32_t proved_argon2_memory_new(const proved_argon2_settings *settings, void *
     if (code != PROVED_ARGON2_OK) {
         return code;
     }
-    const caller saved = keep_caller();
+    const caller saved = proved_driver_keep_caller();
     const uint64_t len = proved_argon2_memory_len(settings);
-    void *const blocks = take_blocks(len);
-    restore_caller(saved);
+    void *const blocks = proved_driver_take_blocks(len);
+    proved_driver_restore_caller(saved);
     if (blocks == NULL) {
         return PROVED_ARGON2_OUT_OF_MEMORY;
     }
@@ -203,9 +216,9 @@ uint32_t proved_argon2_password_hash_with(const options *with, const proved_argo
     if (with == NULL || settings == NULL || text == NULL || (password == NULL && length != 0) || IS_MISSING(pepper)) {
         return PROVED_ARGON2_NULL_POINTER;
     }
-    const caller saved = keep_caller();
-    const bool has_salt = take_random(salt, sizeof salt);
-    restore_caller(saved);
+    const caller saved = proved_driver_keep_caller();
+    const bool has_salt = proved_driver_take_random(salt, sizeof salt);
+    proved_driver_restore_caller(saved);
     if (!has_salt) {
         return PROVED_ARGON2_NO_RANDOM_BYTES;
     }

@@ -16,22 +16,22 @@ static bool is_mapped(uint64_t bytes)
     return bytes >= HUGE_PAGE;
 }
 
-void *take_blocks(uint64_t bytes)
+void *proved_driver_take_blocks(uint64_t bytes)
 {
     const size_t len = (size_t)bytes;
-    return len != bytes ? NULL : is_mapped(len) ? map_pages(len) : take_lines(len);
+    return len != bytes ? NULL : is_mapped(len) ? proved_driver_map_pages(len) : proved_driver_take_lines(len);
 }
 
 void proved_argon2_memory_free(void *memory, size_t memory_len)
 {
-    const caller saved = keep_caller();
+    const caller saved = proved_driver_keep_caller();
     if (memory != NULL && is_mapped(memory_len)) {
-        unmap_pages(memory, memory_len);
+        proved_driver_unmap_pages(memory, memory_len);
     } else if (memory != NULL) {
-        overwrite(memory, memory_len);
-        free_lines(memory);
+        proved_driver_overwrite(memory, memory_len);
+        proved_driver_free_lines(memory);
     }
-    restore_caller(saved);
+    proved_driver_restore_caller(saved);
 }
 
 /* Whether options are known, or longer ones of a later version with nothing in what they have more. */
@@ -49,10 +49,11 @@ static bool are_known(const options *with)
     return true;
 }
 
-uint32_t begin_call(struct call *call, const options *with, int is_missing)
+uint32_t proved_driver_begin_call(struct call *call, const options *with, int is_missing)
 {
-    *call = (struct call){.saved = keep_caller()};
-    overwrite(&call->job, sizeof call->job); /* (bound here, where no register holds a secret that this could spill) */
+    *call = (struct call){.saved = proved_driver_keep_caller()};
+    /* (bound here, where no register holds a secret that this could spill) */
+    proved_driver_overwrite(&call->job, sizeof call->job);
     if (with == NULL || is_missing) {
         return PROVED_ARGON2_NULL_POINTER;
     }
@@ -60,7 +61,7 @@ uint32_t begin_call(struct call *call, const options *with, int is_missing)
     return are_known(with) ? PROVED_ARGON2_OK : PROVED_ARGON2_WRONG_LENGTH;
 }
 
-uint32_t take_bytes(struct call *call, uint64_t len)
+uint32_t proved_driver_take_bytes(struct call *call, uint64_t len)
 {
     call->len = (size_t)len;
     call->bytes = call->len == len ? malloc(call->len) : NULL;
@@ -72,19 +73,19 @@ uint32_t take_bytes(struct call *call, uint64_t len)
 static __attribute__((noinline)) void clear_stack(void)
 {
     unsigned char below[STACK_BELOW];
-    overwrite(below, sizeof below);
+    proved_driver_overwrite(below, sizeof below);
 }
 
-uint32_t end_call(struct call *call, uint32_t code)
+uint32_t proved_driver_end_call(struct call *call, uint32_t code)
 {
     const caller saved = call->saved;
     if (call->bytes != NULL) {
-        overwrite(call->bytes, call->len);
+        proved_driver_overwrite(call->bytes, call->len);
         free(call->bytes);
     }
-    overwrite(call, sizeof *call);
+    proved_driver_overwrite(call, sizeof *call);
     clear_stack();
-    restore_caller(saved);
+    proved_driver_restore_caller(saved);
     return code;
 }
 
@@ -94,7 +95,7 @@ static uint32_t populate(const struct call *call, uint32_t number)
     const size_t all = (size_t)bytes_of(&call->job), bytes = call->with.memory == NULL && is_mapped(all) ? all : 0;
     const size_t part = (bytes / call->tasks / HUGE_PAGE + 1) * HUGE_PAGE, from = part * number;
     const size_t left = from >= bytes ? 0 : bytes - from;
-    return left == 0 || populate_pages((char *)call->blocks + from, left < part ? left : part)
+    return left == 0 || proved_driver_populate_pages((char *)call->blocks + from, left < part ? left : part)
         ? PROVED_ARGON2_OK
         : PROVED_ARGON2_OUT_OF_MEMORY;
 }
@@ -154,20 +155,20 @@ static uint32_t take_parts(struct call *call, uint64_t step, uint32_t number, ui
 static void follow(void *arg, team *own, uint32_t number)
 {
     struct call *const call = arg;
-    await(own, number);
+    proved_driver_await(own, number);
     for (uint64_t step = 0; !call->is_over; step++) {
         for (uint32_t taken = take_parts(call, step, number, 1); taken > 0; taken--) {
-            wake(own, 0);
+            proved_driver_wake(own, 0);
         }
-        await(own, number);
+        proved_driver_await(own, number);
     }
 }
 
 static void wake_team(struct call *call)
 {
-    const uint32_t threads = members(call->team);
+    const uint32_t threads = proved_driver_members(call->team);
     for (uint32_t i = 1; i <= threads; i++) {
-        wake(call->team, i);
+        proved_driver_wake(call->team, i);
     }
 }
 
@@ -176,9 +177,9 @@ static void wake_team(struct call *call)
 static void run_team(struct call *call)
 {
     wake_team(call);
-    for (uint32_t done = take_parts(call, call->step, 0, call->tasks - members(call->team)); done < call->tasks;
-         done++) {
-        await(call->team, 0);
+    for (uint32_t done = take_parts(call, call->step, 0, call->tasks - proved_driver_members(call->team));
+         done < call->tasks; done++) {
+        proved_driver_await(call->team, 0);
     }
 }
 
@@ -208,13 +209,14 @@ static uint32_t fill(struct call *call)
     if (call->workers == NULL) {
         return PROVED_ARGON2_OUT_OF_MEMORY;
     }
-    call->team = call->tasks > 1 && call->with.run == NULL ? start_team(call->tasks - 1, follow, call) : NULL;
+    call->team = call->tasks > 1 && call->with.run == NULL ? proved_driver_start_team(call->tasks - 1, follow, call)
+                                                           : NULL;
     for (; call->step <= slices && code == PROVED_ARGON2_OK; call->step++) {
         code = run_step(call, slices);
     }
     call->is_over = true;
     wake_team(call);
-    end_team(call->team);
+    proved_driver_end_team(call->team);
     free(call->workers);
     return code;
 }
@@ -257,17 +259,17 @@ static uint32_t memory_error(const struct call *call, uint64_t bytes)
 }
 
 /* Over blocks of the call's own, or of the caller's; neither has any left afterwards. */
-uint32_t compute(struct call *call, const uint8_t *hash, uint8_t *tag)
+uint32_t proved_driver_compute(struct call *call, const uint8_t *hash, uint8_t *tag)
 {
     const uint64_t bytes = bytes_of(&call->job);
-    void *const own = call->with.memory == NULL ? take_blocks(bytes) : NULL;
+    void *const own = call->with.memory == NULL ? proved_driver_take_blocks(bytes) : NULL;
     call->blocks = own == NULL ? call->with.memory : own;
     call->tasks = tasks_of(call, bytes);
     call->slice = (size_t)(bytes / sizeof(block) / 4);
     uint32_t code = memory_error(call, bytes);
     if (code == PROVED_ARGON2_OK) {
         code = compute_over(call, hash, tag);
-        overwrite(call->blocks, own == NULL ? (size_t)bytes : 0);
+        proved_driver_overwrite(call->blocks, own == NULL ? (size_t)bytes : 0);
     }
     proved_argon2_memory_free(own, (size_t)bytes);
     return code;

@@ -1,10 +1,8 @@
 /* Made by bindings/c/table.py --write: the proved calls behind the tests of their pointers, and messages. */
 #define ONLY_BUILD portable
 #include "builds.h"
-#include "platform.h"
-#include "proved_argon2.h"
+#include "driver.h"
 
-#define IS_MISSING(name) (name == NULL && name##_len != 0)
 #define IS_MISALIGNED(name) (name##_len != 0 && (uintptr_t)name % _Alignof(proved_argon2_block) != 0)
 #define SOME(name) some(name, name##_len), name##_len
 

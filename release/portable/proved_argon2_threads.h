@@ -34,13 +34,19 @@ typedef int proved_argon2_run(void *pool, uint32_t tasks, void (*task)(void *arg
  */
 typedef int proved_argon2_tell(void *arg, uint64_t done, uint64_t all);
 
+/* The most threads that verify an encoded hash, however many lanes it names, since a stranger's could name millions. */
+/* most threads of a string, by .ci/pages/presets */
+#define PROVED_ARGON2_MAX_VERIFYING_THREADS 16
+/* end */
+
 /* How a call computes. A field that is left out of an initializer is 0, and then the call chooses. */
 typedef struct proved_argon2_options {
     /* sizeof(proved_argon2_options), set by PROVED_ARGON2_OPTIONS. Longer options, of a later version, are taken if
      * what they have more is zero. Otherwise, and for a size of 0, the call returns PROVED_ARGON2_WRONG_LENGTH. */
     size_t size;
-    /* the maximum number of threads, or of tasks of run, capped at the number of lanes, and at 16 when verifying an
-     * encoded hash. 0 is 1. Without run, one is the calling thread, and a small hash has that only. */
+    /* the maximum number of threads, or of tasks of run, capped at the number of lanes, and at
+     * PROVED_ARGON2_MAX_VERIFYING_THREADS when verifying an encoded hash. 0 is 1. Without run, one is the calling
+     * thread, and a small hash has that only. */
     uint32_t threads;
     /* a buffer for the blocks, or null. It starts at a multiple of 8 (else PROVED_ARGON2_MISALIGNED), best of 64. The
      * call clears it before it returns. */
@@ -59,10 +65,14 @@ typedef struct proved_argon2_options {
     proved_argon2_tell *tell;
     /* what tell is passed */
     void *arg;
+    /* the settings of new hashes, or null: a call that verifies an encoded hash returns PROVED_ARGON2_NEEDS_REHASH in
+     * place of PROVED_ARGON2_OK if the password matches and the hash was made with other settings than these. Then the
+     * user is let in as well. */
+    const proved_argon2_settings *today;
 } proved_argon2_options;
 
 /* clang-format off */
-#define PROVED_ARGON2_OPTIONS {sizeof(proved_argon2_options), 0, NULL, 0, NULL, NULL, NULL, NULL, NULL}
+#define PROVED_ARGON2_OPTIONS {sizeof(proved_argon2_options), 0, NULL, 0, NULL, NULL, NULL, NULL, NULL, NULL}
 
 /* proved_argon2_hash_raw with options. */
 PROVED_ARGON2_CHECKED
@@ -97,7 +107,7 @@ uint32_t proved_argon2_verify_raw_with(
     const proved_argon2_settings *settings,
     const uint8_t *hash, size_t hash_len);
 
-/* proved_argon2_verify_encoded with options, limits among them. */
+/* proved_argon2_verify_encoded with options, limits and the settings of new hashes among them. */
 PROVED_ARGON2_CHECKED
 uint32_t proved_argon2_verify_encoded_with(
     const proved_argon2_options *options,
