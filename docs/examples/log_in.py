@@ -4,7 +4,6 @@ import os
 import threading
 
 from proved_argon2 import PasswordHasher
-from proved_argon2.exceptions import InvalidHashError, VerificationError
 
 LONGEST = 1024  # characters of a password
 slots = threading.BoundedSemaphore(2)
@@ -36,7 +35,7 @@ def log_in(user, password, stored, has_left):
         is_match, update = hasher.verify_and_update(stored, password, progress=stop_if_left)
         logging.info("logged in: %r" if is_match else "wrong password: %r", user)
         return is_match, update or stored
-    except (VerificationError, InvalidHashError, ClientLeft) as error:
+    except Exception as error:
         logging.error("error: %r: %r", user, error)
         return None, stored
     finally:

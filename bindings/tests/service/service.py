@@ -59,6 +59,7 @@ for password in ("\ud800", None, 5, ["password"], b"password", "a" * 1025):
     assert log_in("somebody", password, hasher.hash("a" * 1025), stays)[0] is False, password
 assert log_in("x\nINFO:root:logged in: root", "a" * 1024, hasher.hash("a" * 1024), stays)[0]
 for _ in range(3):
+    assert log_in("somebody", "password", None, stays) == (None, None)
     assert log_in("somebody", "password", older, leaves) == (None, older)
 PasswordHasher.hash = refuse
 assert log_in("somebody", "password", older, stays) == (True, older)
