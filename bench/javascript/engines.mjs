@@ -25,7 +25,7 @@ function add(engine, { packages, modules }, ways = ['']) {
     parts.engines.push(row(engine, ...[0, 1, 2].map((at) => modules.map((times) => times[at]).join('/'))));
 }
 
-/** Of a process: the first call, what it has more in memory after many, and how long its loop of events waits. */
+/** Of a process: the first call, what it has more in memory after many, and how long its event loop is delayed. */
 async function timeProcess() {
     const began = performance.now(), delay = monitorEventLoopDelay({ resolution: 1 });
     const { hash } = await import('proved-argon2');
@@ -42,8 +42,8 @@ function sayProcesses() {
     const both = ['true', 'false'].map((choice) => JSON.parse(execFileSync(
         process.execPath, [...process.argv.slice(1, 4), choice])));
     const pair = (at) => both.map((times) => times[at].toFixed(times[at] < 10 ? 1 : 0)).join(' and ');
-    return `In Node by the addon and by WebAssembly, the first call takes ${pair(0)} ms, ${calls} calls of 1 MiB leave `
-        + `${pair(1)} MiB, and in 99 of 100 cases the loop of events waits less than ${pair(2)} ms more meanwhile.`;
+    return `In Node by the addon and by WebAssembly, the first call takes ${pair(0)} ms; ${calls} calls of 1 MiB leave `
+        + `the process ${pair(1)} MiB larger, and delay the event loop by less than ${pair(2)} ms in 99 of 100 cases.`;
 }
 
 async function inPage(Browser) {
