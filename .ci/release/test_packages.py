@@ -5,6 +5,7 @@ is left."""
 import fnmatch
 import re
 import shutil
+import tempfile
 from pathlib import Path
 
 import pytest
@@ -59,11 +60,17 @@ def unpacked(packages, tmp_path_factory):
 
 # ---- what is made
 
-def test_elsewhere_by_somebody_else_they_are_the_same_bytes(packages, tmp_path_factory):
+@pytest.fixture
+def there():
+    """A folder that others reach, as they do not those of pytest."""
+    with tempfile.TemporaryDirectory() as folder:
+        yield Path(folder)
+
+
+def test_elsewhere_by_somebody_else_they_are_the_same_bytes(packages, there):
     """In another folder, by another user with another umask, clock, zone and language, and one processor."""
-    there = tmp_path_factory.mktemp('elsewhere')
     tree, home = copy_tree(there / 'tree'), there / 'home'
-    succeeds('bash', '-c', f'install -d -m 777 {home} && chmod -R a+rX {tree} && chmod a+x {there} {there.parent}')
+    succeeds('bash', '-c', f'install -d -m 777 {home} && chmod -R a+rX {there}')
     late = ['faketime', '-f', '+40d'] if shutil.which('faketime') else []
     succeeds('bash', '-c', 'umask 077 && cd / && "$@"', 'bash', 'taskset', '-c', '0', 'setpriv', '--reuid=65534',
              '--regid=65534', '--clear-groups', 'env', f'HOME={home}', f'TMPDIR={home}', 'TZ=Asia/Tokyo',
