@@ -1,2 +1,3 @@
-pub mod Verification
-pub mod TextTheorems
+pub mod Texts
+pub mod StoredHashes
+pub mod Verdicts

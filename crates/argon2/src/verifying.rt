@@ -7,7 +7,7 @@ ghost use Rattle.argon2_memory.specs.Views.Jobs.{setting_of_context};
 ghost use Rattle.argon2_memory.specs.Standard.Kept.{HoldsFill, IsLeft};
 ghost use Rattle.argon2.specs.Standard.Leaves.{LeavesMemory};
 ghost use Rattle.argon2_standard.specs.Standard.Outcome.{IsVerdict};
-ghost use Rattle.argon2.specs.Views.Comparison.{difference_of};
+ghost use Rattle.argon2.specs.Views.StoredHashes.{difference_of};
 
 mod texts;
 

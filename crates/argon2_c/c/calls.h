@@ -5,9 +5,10 @@
 #include "checks.h"
 
 #include <argon2.h>
+#include <stdarg.h>
 #include <stdlib.h>
 
-enum { LONGEST = 1002, INPUTS = LONGEST, SHORT = 40 };
+enum { LONGEST = 5002, INPUTS = LONGEST, SHORT = 40 };
 
 struct call {
     proved_argon2_settings settings;
@@ -28,7 +29,7 @@ static inline uint32_t below(uint32_t end)
 /* A length of at least so many bytes: half of them short, and half around those at which code may change its way. */
 static inline uint32_t length(uint32_t least)
 {
-    static const uint32_t lengths[] = {8, 32, 64, 72, 128, 200, 300, 1000};
+    static const uint32_t lengths[] = {8, 32, 64, 72, 128, 200, 300, 1000, 5000};
     const uint32_t near = lengths[below(sizeof lengths / sizeof *lengths)] + below(5) - 2;
     return below(2) ? least + below(SHORT - least) : near < least ? least : near;
 }
@@ -77,6 +78,18 @@ static inline uint32_t verify_encoded(const proved_argon2_options *with, const s
     return proved_argon2_verify_encoded_with(
         with, text, strlen(text), call->pwd, call->pwd_len, call->secret, call->secret_len, call->ad, call->ad_len);
 }
+
+#if defined(__linux__) && !defined(__GLIBC__)
+/* What Debian's static libargon2 calls of the GNU C library, for programs with musl. */
+int __sprintf_chk(char *text, int flag, size_t len, const char *format, ...)
+{
+    va_list all;
+    va_start(all, format);
+    const int written = vsnprintf(text, flag ? len : len, format, all);
+    va_end(all);
+    return written;
+}
+#endif
 
 /* The tag of libargon2. */
 static inline bool peer(const struct call *call, uint8_t *out)

@@ -1,12 +1,14 @@
 /*
- * Every number of the header, asked of the library: each error's with its text, the variants and the
- * versions, the limits and the recommended settings.
+ * Every number of the header, asked of the library: each error's with its text, the variants and the versions, the
+ * limits, lengths of 2^32 bytes and more, and the recommended settings.
  *
  * The tags are those of RFC 9106, section 5, and of the tests of the C reference implementation.
  */
 #include "checks.h"
 
 #include <sys/mman.h>
+
+#define ABOVE (((size_t)1 << 32) + 32) /* whose low 32 bits are a length that fits */
 
 static const proved_argon2_settings small = {PROVED_ARGON2_ID, PROVED_ARGON2_VERSION_13, 8, 1, 1, 32};
 
@@ -61,7 +63,9 @@ static const known_error known_errors[] = {
 enum { OF_C = 5 }; /* the last ones, which nothing proved returns */
 
 /* What is proved of messages: in one of the builds, whose calls have names of their own. */
-#ifdef __x86_64__
+#if defined(IS_PORTABLE)
+#define proved_message proved_portable_message
+#elif defined(__x86_64__)
 #define proved_message proved_x86_64_v2_message
 #else
 #define proved_message proved_armv8_a_message
@@ -116,19 +120,19 @@ static void check_version(uint32_t version, const char *expected, const char *na
 
 /* ---- limits */
 
-/* What the first error of settings and lengths is; no byte of the inputs is read. */
+/* What the first error of settings and lengths is; few of the inputs can be read. */
 struct request {
     proved_argon2_settings settings;
     size_t pwd, salt, secret, ad;
 };
 
-static const uint8_t *readable;
+static uint8_t *far;
 
 static uint32_t error_of(struct request request)
 {
     uint8_t out[4];
-    return proved_argon2_hash_raw(readable, request.pwd, readable, request.salt, readable, request.secret, readable,
-        request.ad, &request.settings, out, sizeof out);
+    return proved_argon2_hash_raw(
+        far, request.pwd, far, request.salt, far, request.secret, far, request.ad, &request.settings, out, sizeof out);
 }
 
 static void check_limits_of_settings(void)
@@ -179,8 +183,52 @@ static void check_limits_of_inputs(void)
     request = (struct request){small, 0, PROVED_ARGON2_MIN_SALT_LENGTH, 0, 0};
     check_code(error_of(request), PROVED_ARGON2_WRONG_LENGTH, "the shortest inputs");
     uint32_t code = proved_argon2_verify_raw(
-        NULL, 0, readable, 8, NULL, 0, NULL, 0, &small, readable, (size_t)PROVED_ARGON2_MAX_HASH_LENGTH + 1);
+        NULL, 0, far, 8, NULL, 0, NULL, 0, &small, far, (size_t)PROVED_ARGON2_MAX_HASH_LENGTH + 1);
     check_code(code, PROVED_ARGON2_OUTPUT_TOO_LONG, "a hash one byte too long");
+}
+
+/* ---- lengths that no 32 bits hold */
+
+static const proved_argon2_options one = PROVED_ARGON2_OPTIONS;
+static const uint8_t pwd[32] = "password", salt[32] = "somesalt";
+static uint8_t out[512];
+static proved_argon2_job job;
+
+static void check_long_inputs(void)
+{
+    static const uint32_t errors[] = {PROVED_ARGON2_PWD_TOO_LONG, PROVED_ARGON2_SALT_TOO_LONG,
+        PROVED_ARGON2_SECRET_TOO_LONG, PROVED_ARGON2_AD_TOO_LONG};
+    static const char *const names[] = {"a password", "a salt", "a secret", "data"};
+    for (size_t i = 0; i < 4; i++) {
+        const uint8_t *of[] = {pwd, salt, pwd, pwd};
+        size_t len[] = {8, 8, 8, 8};
+        char name[64];
+        of[i] = far;
+        len[i] = ABOVE;
+#define INPUTS_OF_I of[0], len[0], of[1], len[1], of[2], len[2], of[3], len[3], &small
+        const bool is_rejected = proved_argon2_hash_raw(INPUTS_OF_I, out, 32) == errors[i]
+            && proved_argon2_hash_encoded(INPUTS_OF_I, (char *)out, sizeof out) == errors[i]
+            && proved_argon2_verify_raw(INPUTS_OF_I, pwd, 32) == errors[i]
+            && proved_argon2_job_make(INPUTS_OF_I, &job) == errors[i];
+        snprintf(name, sizeof name, "%s of more than 2^32 bytes", names[i]);
+        check(is_rejected, name);
+    }
+}
+
+#define PWD_AND_SALT pwd, 8, salt, 8, NULL, 0, NULL, 0
+
+static void check_long_tags(void)
+{
+    check_code(proved_argon2_hash_raw(PWD_AND_SALT, &small, far, ABOVE), PROVED_ARGON2_WRONG_LENGTH, "a tag to write");
+    check_code(proved_argon2_hash_raw_with(&one, PWD_AND_SALT, &small, far, ABOVE), PROVED_ARGON2_WRONG_LENGTH,
+        "a tag to write, by threads");
+    check_code(
+        proved_argon2_verify_raw(PWD_AND_SALT, &small, far, ABOVE), PROVED_ARGON2_OUTPUT_TOO_LONG, "a tag to read");
+    check_code(proved_argon2_verify_raw_with(&one, PWD_AND_SALT, &small, far, ABOVE), PROVED_ARGON2_OUTPUT_TOO_LONG,
+        "a tag to read, by threads");
+    check_code(proved_argon2_job_make(PWD_AND_SALT, &small, &job), PROVED_ARGON2_OK, "a job");
+    check_code(proved_argon2_job_run(&one, &job, far, ABOVE), PROVED_ARGON2_WRONG_LENGTH, "a job's tag to write");
+    check_code(proved_argon2_job_run_verify(&one, &job, far, ABOVE), PROVED_ARGON2_WRONG_LENGTH, "a job's tag to read");
 }
 
 /* ---- recommended settings (OWASP, Password Storage Cheat Sheet; RFC 9106, section 4) */
@@ -202,10 +250,8 @@ static void check_preset(const struct preset *preset)
 
 int main(void)
 {
-    const size_t longest = (size_t)UINT32_MAX + 1;
-    void *mapped = mmap(NULL, longest, PROT_READ, MAP_PRIVATE | MAP_ANONYMOUS | MAP_NORESERVE, -1, 0);
-    check(mapped != MAP_FAILED, "4 GiB of addresses");
-    readable = (const uint8_t *)mapped;
+    far = mmap(NULL, ABOVE, PROT_NONE, MAP_PRIVATE | MAP_ANONYMOUS | MAP_NORESERVE, -1, 0);
+    check(far != MAP_FAILED && mprotect(far, 4096, PROT_READ) == 0, "addresses of which few can be read");
     check_errors();
     check_variant(PROVED_ARGON2_D, "512b391b6f1162975371d30919734294f868e3be3984f3c1a13a4db9fabe4acb", "Argon2d");
     check_variant(PROVED_ARGON2_I, "c814d9d1dc7f37aa13f0d77f2494bda1c8de6b016dd388d29952a4c4672b6ce8", "Argon2i");
@@ -216,6 +262,8 @@ int main(void)
         PROVED_ARGON2_VERSION_13, "89e9029f4637b295beb027056a7336c414fadd43f6b208645281cb214a56452f", "version 0x13");
     check_limits_of_settings();
     check_limits_of_inputs();
+    check_long_inputs();
+    check_long_tags();
     /* clang-format off */
     const struct preset presets[] = {
         /* presets, by .ci/pages/presets */
@@ -235,5 +283,5 @@ int main(void)
     }
     check(proved_argon2_library_version() == PROVED_ARGON2_LIBRARY_VERSION_NUMBER, "the version of the library");
     printf("version %s %u\n", PROVED_ARGON2_LIBRARY_VERSION, (unsigned)PROVED_ARGON2_LIBRARY_VERSION_NUMBER);
-    return finish(errors + recommended + 27);
+    return finish(errors + recommended + 38);
 }

@@ -1,8 +1,56 @@
 /*
- * What the calls return for the inputs of RFC 9106, section 5, and for encoded hashes of rust-argon2's tests; each
- * error by its number, with the outputs unchanged.
+ * What the calls return for the inputs of RFC 9106, section 5, and for encoded hashes of rust-argon2's tests; errors by
+ * their numbers, with the outputs unchanged; what is read of texts; and null pointers with the length 0.
  */
 #include "checks.h"
+
+/* ---- the size of each structure of the header, and the place of each field, where addresses have 64 bits */
+
+#if SIZE_MAX > UINT32_MAX
+#define AT(type, field, place, bytes) \
+    _Static_assert(offsetof(type, field) == (place) && sizeof(((type *)0)->field) == (bytes), #type "." #field)
+
+AT(proved_argon2_settings, variant, 0, 4);
+AT(proved_argon2_settings, version, 4, 4);
+AT(proved_argon2_settings, mem_cost, 8, 4);
+AT(proved_argon2_settings, time_cost, 12, 4);
+AT(proved_argon2_settings, lanes, 16, 4);
+AT(proved_argon2_settings, hash_length, 20, 4);
+AT(proved_argon2_stored, settings, 0, 24);
+AT(proved_argon2_stored, salt_length, 24, 4);
+AT(proved_argon2_limits, mem_cost, 0, 4);
+AT(proved_argon2_limits, time_cost, 4, 4);
+AT(proved_argon2_limits, lanes, 8, 4);
+AT(proved_argon2_limits, work, 16, 8);
+AT(proved_argon2_block, words, 0, 1024);
+AT(proved_argon2_job, prehash, 0, 64);
+AT(proved_argon2_job, variant, 64, 4);
+AT(proved_argon2_job, version, 68, 4);
+AT(proved_argon2_job, lanes, 72, 4);
+AT(proved_argon2_job, segment_length, 76, 4);
+AT(proved_argon2_job, passes, 80, 4);
+AT(proved_argon2_job, hash_length, 84, 4);
+/* options, by .ci/pages/presets */
+AT(proved_argon2_options, size, 0, 8);
+AT(proved_argon2_options, threads, 8, 4);
+AT(proved_argon2_options, memory, 16, 8);
+AT(proved_argon2_options, memory_len, 24, 8);
+AT(proved_argon2_options, run, 32, 8);
+AT(proved_argon2_options, pool, 40, 8);
+AT(proved_argon2_options, limits, 48, 8);
+AT(proved_argon2_options, tell, 56, 8);
+AT(proved_argon2_options, arg, 64, 8);
+AT(proved_argon2_options, today, 72, 8);
+/* end */
+/* size of options, by .ci/pages/presets */
+_Static_assert(sizeof(proved_argon2_options) == 80, "proved_argon2_options");
+/* end */
+_Static_assert(sizeof(proved_argon2_settings) == 24, "proved_argon2_settings");
+_Static_assert(sizeof(proved_argon2_stored) == 28, "proved_argon2_stored");
+_Static_assert(sizeof(proved_argon2_limits) == 24, "proved_argon2_limits");
+_Static_assert(sizeof(proved_argon2_block) == 1024, "proved_argon2_block");
+_Static_assert(sizeof(proved_argon2_job) == 88, "proved_argon2_job");
+#endif
 
 enum { SEVENS = 100 };
 
@@ -97,23 +145,20 @@ static void check_refused(proved_argon2_settings settings, uint32_t number, cons
 
 static void check_errors(void)
 {
-    proved_argon2_settings bad = settings_of_rfc(3);
-    check_refused(bad, 17, "no such variant");
-    check(proved_argon2_encoded_len(&bad, 16) == 0, "no text of it");
-    bad = settings_of_rfc(2), bad.version = 0x11;
-    check_refused(bad, 18, "no such version");
-    bad.version = 0;
-    check(proved_argon2_encoded_len(&bad, 16) == 0, "no text of a version 0");
-    bad = settings_of_rfc(2), bad.lanes = 0;
-    check_refused(bad, 15, "no lanes");
-    bad.lanes = 0x1000000;
-    check_refused(bad, 16, "too many lanes");
-    bad = settings_of_rfc(2), bad.mem_cost = 31;
-    check_refused(bad, 13, "too little memory");
-    bad = settings_of_rfc(2), bad.time_cost = 0;
-    check_refused(bad, 11, "no passes");
-    bad = settings_of_rfc(2), bad.hash_length = 3;
-    check_refused(bad, 1, "too short a hash");
+    static const struct {
+        proved_argon2_settings settings;
+        uint32_t number;
+        const char *name;
+    } refused[] = {{{3, 0x13, 32, 3, 4, 32}, 17, "no such variant"}, {{2, 0x11, 32, 3, 4, 32}, 18, "no such version"},
+        {{2, 0x13, 32, 3, 0, 32}, 15, "no lanes"}, {{2, 0x13, 32, 3, 0x1000000, 32}, 16, "too many lanes"},
+        {{2, 0x13, 31, 3, 4, 32}, 13, "too little memory"}, {{2, 0x13, 32, 0, 4, 32}, 11, "no passes"},
+        {{2, 0x13, 32, 3, 4, 3}, 1, "too short a hash"}};
+    const proved_argon2_settings of_version_0 = {2, 0, 32, 3, 4, 32};
+    for (size_t i = 0; i < sizeof refused / sizeof *refused; i++) {
+        check_refused(refused[i].settings, refused[i].number, refused[i].name);
+    }
+    check(proved_argon2_encoded_len(&refused[0].settings, 16) == 0 && proved_argon2_encoded_len(&of_version_0, 16) == 0,
+        "no text of an unknown variant, or of a version 0");
 }
 
 /* The least and the greatest length of each input (RFC 9106, 3.1, and 8 bytes of salt), and one beyond. */
@@ -128,51 +173,6 @@ static void check_lengths(void)
     check_code(proved_argon2_check(&settings, 0, most + 1, most + 1, most + 1), 6, "too long a salt");
     check_code(proved_argon2_check(&settings, 0, 8, most + 1, most + 1), 10, "too long a secret");
     check_code(proved_argon2_check(&settings, 0, 8, 0, most + 1), 8, "too much associated data");
-}
-
-static void check_buffers(void)
-{
-    uint8_t out[SEVENS];
-    const proved_argon2_settings settings = settings_of_rfc(2);
-    memset(out, 7, sizeof out);
-    for (size_t len = 31; len <= 33; len += 2) {
-        uint32_t code = proved_argon2_hash_raw(
-            bytes_of("password"), 8, bytes_of("somesalt"), 8, NULL, 0, NULL, 0, &settings, out, len);
-        check(code == 65 && is_untouched(out, sizeof out), "a buffer of another length than the tag");
-    }
-    char text[SEVENS];
-    memset(text, 7, sizeof text);
-    uint32_t code = proved_argon2_hash_encoded(pwd, 32, salt, 16, secret, 8, ad, 12, &settings, text, 94);
-    check(code == 65 && is_untouched(text, sizeof text), "a buffer without room for a zero");
-}
-
-static void check_no_texts(void)
-{
-    check_code(verify("\xff", "password"), 66, "what is not UTF-8");
-    check_code(verify("", "password"), 19, "an empty text");
-    check_code(verify("$argon2id$", "password"), 19, "the beginning of a text");
-    check_code(verify("$argon2id$v=19$m=8,t=0,p=1$c29tZXNhbHQ$AAAAAA", "password"), 11, "a text of no passes");
-}
-
-/* ---- texts that are looked at */
-
-static void check_reading(void)
-{
-    static const char text[] = "$argon2i$v=19$m=4294967295,t=0,p=6$c29tZXNhbHQ$AAAAAAAAAAAAAAAA";
-    static const char loose[] = "$argon2d$m=256,t=+02,p=1$$";
-    const proved_argon2_settings of_text = {1, 0x13, 4294967295, 0, 6, 12}, of_loose = {0, 0x10, 256, 2, 1, 0};
-    proved_argon2_stored stored;
-    memset(&stored, 7, sizeof stored);
-    check_code(proved_argon2_read("\xff", 1, &stored), 66, "what is not UTF-8 is not read");
-    check_code(proved_argon2_read("", 0, &stored), 19, "an empty text is not read");
-    check_code(proved_argon2_read("$argon2id$", 10, &stored), 19, "the beginning of a text is not read");
-    check(is_untouched(&stored, sizeof stored), "nothing is written");
-    uint32_t code = proved_argon2_read(text, strlen(text), &stored);
-    check(code == 0 && memcmp(&stored.settings, &of_text, sizeof of_text) == 0 && stored.salt_length == 8,
-        "what a text spells");
-    code = proved_argon2_read(loose, strlen(loose), &stored);
-    check(code == 0 && memcmp(&stored.settings, &of_loose, sizeof of_loose) == 0 && stored.salt_length == 0,
-        "what a text without a version, a salt and a hash spells");
 }
 
 static uint32_t check_encoded(const char *text, uint64_t pwd_len, uint32_t passes, proved_argon2_stored *stored)
@@ -203,32 +203,264 @@ static void check_checking(void)
         "a text that can be verified");
 }
 
-static uint32_t needs_rehash(const char *text, proved_argon2_settings settings)
+static const proved_argon2_settings small = {PROVED_ARGON2_ID, PROVED_ARGON2_VERSION_13, 8, 1, 1, 32};
+
+/* A text of seven different numbers, of which no hash is made. */
+static const char text[] = "$argon2i$v=19$m=4294967295,t=0,p=6$c29tZXNhbHQ$AAAAAAAAAAAAAAAA";
+static const proved_argon2_settings settings_of_text = {
+    PROVED_ARGON2_I,
+    PROVED_ARGON2_VERSION_13,
+    4294967295,
+    0,
+    6,
+    12,
+};
+
+static uint32_t needs_rehash(const proved_argon2_settings *settings)
 {
-    return proved_argon2_needs_rehash(text, strlen(text), &settings);
+    return proved_argon2_needs_rehash(text, strlen(text), settings);
+}
+
+/* ---- texts that are looked at */
+
+static void check_reading(void)
+{
+    proved_argon2_stored stored;
+    memset(&stored, 7, sizeof stored);
+    uint32_t code = proved_argon2_read(text, strlen(text), &stored);
+    check_code(code, PROVED_ARGON2_OK, "a text of settings that no hash is made with is read");
+    check(memcmp(&stored.settings, &settings_of_text, sizeof settings_of_text) == 0, "its settings");
+    check(stored.salt_length == 8, "the length of its salt");
+    const char *older = "$Argon2d$m=+064,t=2,p=1$$";
+    const proved_argon2_settings settings_of_older = {PROVED_ARGON2_D, PROVED_ARGON2_VERSION_10, 64, 2, 1, 0};
+    code = proved_argon2_read(older, strlen(older), &stored);
+    check(code == PROVED_ARGON2_OK && memcmp(&stored.settings, &settings_of_older, sizeof settings_of_older) == 0
+            && stored.salt_length == 0,
+        "a text without a version, a salt and a hash");
+}
+
+/* What is no text is refused by a number, and what would have been written is as it was. */
+static void check_unread(const char *text, uint32_t error, const char *name)
+{
+    const proved_argon2_limits none = {0, 0, 0, 0};
+    proved_argon2_stored stored, before;
+    memset(&stored, 7, sizeof stored);
+    memset(&before, 7, sizeof before);
+    uint32_t code = proved_argon2_read(text, strlen(text), &stored);
+    check(code == error && memcmp(&stored, &before, sizeof stored) == 0
+            && proved_argon2_needs_rehash(text, strlen(text), &small) == error
+            && proved_argon2_verify_encoded(text, strlen(text), NULL, 0, NULL, 0, NULL, 0) == error
+            && proved_argon2_verify_encoded_within(text, strlen(text), NULL, 0, NULL, 0, NULL, 0, &none) == error,
+        name);
 }
 
 static void check_rehash(void)
 {
-    static const char text[] = "$argon2i$v=19$m=4294967295,t=0,p=6$c29tZXNhbHQ$AAAAAAAAAAAAAAAA";
-    const uint32_t same[6] = {1, 0x13, 4294967295, 0, 6, 12}, others[6] = {2, 0x10, 4294967294, 1, 5, 8};
-    proved_argon2_settings settings;
-    memcpy(&settings, same, sizeof settings);
-    check_code(needs_rehash(text, settings), 0, "the settings of the text");
+    check_code(needs_rehash(&settings_of_text), PROVED_ARGON2_OK, "the settings of the text");
     for (size_t i = 0; i < 6; i++) {
-        uint32_t numbers[6];
+        static const char *const names[6] = {"another variant", "another version", "another memory",
+            "another number of passes", "another number of lanes", "another length of the hash"};
+        uint32_t numbers[6] = {PROVED_ARGON2_I, PROVED_ARGON2_VERSION_13, 4294967295, 0, 6, 12};
         proved_argon2_settings other;
-        memcpy(numbers, same, sizeof numbers);
+        const uint32_t others[6] = {PROVED_ARGON2_D, PROVED_ARGON2_VERSION_10, 8, 1, 12, 6};
         numbers[i] = others[i];
         memcpy(&other, numbers, sizeof other);
-        check_code(needs_rehash(text, other), 68, "another setting");
+        check_code(needs_rehash(&other), PROVED_ARGON2_NEEDS_REHASH, names[i]);
     }
-    check_code(needs_rehash("\xff", settings), 66, "what is not UTF-8 is not compared");
-    check_code(needs_rehash("$argon2i$", settings), 19, "the beginning of a text is not compared");
-    settings.version = 0x12;
-    check_code(needs_rehash("\xff", settings), 18, "the version before the text");
-    settings.version = 0x13, settings.variant = 3;
-    check_code(needs_rehash("\xff", settings), 17, "the variant before the text");
+    proved_argon2_settings unknown = settings_of_text;
+    unknown.version = 0x11;
+    check_code(proved_argon2_needs_rehash("\xff", 1, &unknown), 18, "an unknown version comes before the text");
+    unknown.variant = 3;
+    check_code(proved_argon2_needs_rehash("\xff", 1, &unknown), 17, "an unknown variant before that");
+}
+
+/* ---- the bytes of a text, and its numbers within limits */
+
+static void check_bytes(void)
+{
+    static const char loose[] = "$argon2d$m=64,t=2,p=1$$AAAA";
+    uint8_t salt[17], hash[33];
+    memset(salt, 7, sizeof salt);
+    memset(hash, 7, sizeof hash);
+    for (size_t len = 15; len <= 17; len += 2) {
+        check_code(proved_argon2_read_bytes(text_of_rfc, strlen(text_of_rfc), salt, len, hash, 32),
+            PROVED_ARGON2_WRONG_LENGTH, "a salt of another length");
+        check_code(proved_argon2_read_bytes(text_of_rfc, strlen(text_of_rfc), salt, 16, hash, len + 16),
+            PROVED_ARGON2_WRONG_LENGTH, "a hash of another length");
+    }
+    check_code(proved_argon2_read_bytes(text_of_rfc, strlen(text_of_rfc) - 1, salt, 16, hash, 32),
+        PROVED_ARGON2_DECODING_FAIL, "a part of a text");
+    check_code(proved_argon2_read_bytes("\xff", 1, salt, 16, hash, 32), PROVED_ARGON2_NOT_UTF8, "no UTF-8");
+    check(
+        is_hex(salt, 17, "0707070707070707070707070707070707") && hash[0] == 7 && hash[32] == 7, "nothing is written");
+    uint32_t code = proved_argon2_read_bytes(text_of_rfc, strlen(text_of_rfc), salt, 16, hash, 32);
+    check(code == PROVED_ARGON2_OK && is_hex(salt, 16, "02020202020202020202020202020202") && salt[16] == 7,
+        "the salt of a text");
+    check(is_hex(hash, 32, "0d640df58d78766c08c037a34a8b53c9d01ef0452d75b65eb52520e96b01e659") && hash[32] == 7,
+        "the hash of a text");
+    code = proved_argon2_read_bytes(loose, strlen(loose), NULL, 0, hash, 3);
+    check(code == PROVED_ARGON2_OK && is_hex(hash, 4, "000000f5"), "no salt, and a hash of which none is made");
+}
+
+static uint32_t read_within(uint32_t mem_cost, uint32_t time_cost, uint32_t lanes, proved_argon2_stored *stored)
+{
+    const proved_argon2_limits limits = {mem_cost, time_cost, lanes, 0};
+    return proved_argon2_read_within(text, strlen(text), &limits, stored);
+}
+
+static void check_reading_within(void)
+{
+    static const char passes[] = "$argon2i$v=19$m=0,t=7,p=0$$";
+    static const char work[] = "$argon2i$v=19$m=4294967295,t=4294967295,p=0$$";
+    const proved_argon2_limits six = {0, 6, 0, 0}, seven = {0, 7, 0, 0};
+    const uint64_t product = UINT64_C(4294967295) * 4294967295;
+    const proved_argon2_limits below = {UINT32_MAX, UINT32_MAX, 0, product - 1},
+                               at = {UINT32_MAX, UINT32_MAX, 0, product};
+    proved_argon2_stored stored, before;
+    memset(&stored, 7, sizeof stored);
+    memset(&before, 7, sizeof before);
+    check_code(read_within(4294967294, 0, 6, &stored), PROVED_ARGON2_TOO_COSTLY, "memory above its limit is not read");
+    check_code(
+        read_within(4294967295, 0, 5, &stored), PROVED_ARGON2_TOO_COSTLY, "lanes above their limit are not read");
+    check_code(proved_argon2_read_within(passes, strlen(passes), &six, &stored), PROVED_ARGON2_TOO_COSTLY,
+        "passes above their limit are not read");
+    check_code(proved_argon2_read_within(work, strlen(work), &below, &stored), PROVED_ARGON2_TOO_COSTLY,
+        "the greatest work, above its limit, is not read");
+    check_code(proved_argon2_read_within("$", 1, &six, &stored), PROVED_ARGON2_DECODING_FAIL, "nor is no text");
+    check(memcmp(&stored, &before, sizeof stored) == 0, "nothing is written for them");
+    check_code(proved_argon2_read_within(passes, strlen(passes), &seven, &stored), PROVED_ARGON2_OK,
+        "passes at their limit are read");
+    check(stored.settings.time_cost == 7, "they are written");
+    check_code(proved_argon2_read_within(work, strlen(work), &at, &stored), PROVED_ARGON2_OK,
+        "the greatest work, at its limit, is read");
+    check_code(read_within(4294967295, 0, 6, &stored), PROVED_ARGON2_OK, "numbers at their limits are read");
+    check(memcmp(&stored.settings, &settings_of_text, sizeof settings_of_text) == 0 && stored.salt_length == 8,
+        "they are written too");
+}
+
+/* ---- limits */
+
+/* Verifies that text within limits: its salt has 8 bytes, its passes are 0. */
+static uint32_t within(uint32_t mem_cost, uint32_t time_cost, uint32_t lanes)
+{
+    const proved_argon2_limits limits = {mem_cost, time_cost, lanes, 0};
+    return proved_argon2_verify_encoded_within(text, strlen(text), NULL, 0, NULL, 0, NULL, 0, &limits);
+}
+
+static void check_limits(void)
+{
+    const char *const passes = "$argon2i$v=19$m=0,t=1,p=0$$";
+    const proved_argon2_limits none = {0, 0, 0, 0}, one_pass = {0, 1, 0, 0}, limits = proved_argon2_default_limits();
+    const size_t len = strlen(text_of_rfc);
+    uint32_t code = proved_argon2_verify_encoded_within(text_of_rfc, len, pwd, 32, secret, 8, ad, 12, &limits);
+    check_code(code, PROVED_ARGON2_OK, "a text within limits matches");
+    code = proved_argon2_verify_encoded_within(text_of_rfc, len, pwd, 31, secret, 8, ad, 12, &limits);
+    check_code(code, PROVED_ARGON2_MISMATCH, "another password does not");
+    check(limits.mem_cost == 2097152 && limits.time_cost == 10 && limits.lanes == 16 && limits.work == 4194304,
+        "the default limits");
+    check_code(within(4294967295, 0, 6), PROVED_ARGON2_TIME_TOO_SMALL, "numbers at their limits");
+    check_code(within(4294967294, 4294967295, 4294967295), PROVED_ARGON2_TOO_COSTLY, "memory above its limit");
+    check_code(within(4294967295, 4294967295, 5), PROVED_ARGON2_TOO_COSTLY, "lanes above their limit");
+    code = proved_argon2_verify_encoded_within(passes, strlen(passes), NULL, 0, NULL, 0, NULL, 0, &none);
+    check_code(code, PROVED_ARGON2_TOO_COSTLY, "passes above their limit");
+    code = proved_argon2_verify_encoded_within(passes, strlen(passes), NULL, 0, NULL, 0, NULL, 0, &one_pass);
+    check_code(code, PROVED_ARGON2_LANES_TOO_FEW, "passes at their limit");
+}
+
+/* A text of so many characters, whose salt of zeros fills it. */
+static const char *text_of_length(size_t length)
+{
+    static const char beginning[] = "$argon2id$v=19$m=8,t=11,p=1$", end[] = "$AAAAAAA";
+    static char made[100001];
+    memset(made, 'A', length);
+    memcpy(made, beginning, strlen(beginning));
+    memcpy(made + length - strlen(end), end, sizeof end);
+    return made;
+}
+
+/* What each call with limits answers to a text, where that is one number, or else 0. */
+static uint32_t answer_within(const char *text, const proved_argon2_limits *limits)
+{
+    proved_argon2_options with = PROVED_ARGON2_OPTIONS;
+    proved_argon2_stored stored;
+    with.limits = limits;
+    const uint32_t code = proved_argon2_verify_encoded_with(&with, text, strlen(text), NULL, 0, NULL, 0, NULL, 0);
+    const uint32_t within = proved_argon2_verify_encoded_within(text, strlen(text), NULL, 0, NULL, 0, NULL, 0, limits);
+    const uint32_t read = proved_argon2_read_within(text, strlen(text), limits, &stored);
+    return code == within && (code == PROVED_ARGON2_MISMATCH ? read == PROVED_ARGON2_OK : read == code) ? code : 0;
+}
+
+/* Limits hold for a text of any length. Its 11 passes are one above the default limit. */
+static void check_limits_of_long_texts(void)
+{
+    static const size_t lengths[] = {200, 1000, 100000};
+    static const proved_argon2_limits at = {8, 11, 1, 88}, below = {8, 10, 1, 88};
+    char name[64];
+    for (size_t i = 0; i < sizeof lengths / sizeof *lengths; i++) {
+        const char *const text = text_of_length(lengths[i]);
+        snprintf(name, sizeof name, "a text of %zu characters at its limits", lengths[i]);
+        check_code(answer_within(text, &at), PROVED_ARGON2_MISMATCH, name);
+        snprintf(name, sizeof name, "a text of %zu characters above a limit", lengths[i]);
+        check_code(answer_within(text, &below), PROVED_ARGON2_TOO_COSTLY, name);
+        snprintf(name, sizeof name, "a text of %zu characters above the default limits", lengths[i]);
+        check_code(proved_argon2_password_verify(text, "", 0), PROVED_ARGON2_TOO_COSTLY, name);
+    }
+}
+
+/* ---- null pointers with the length 0 */
+
+static void check_null_inputs(void)
+{
+    uint8_t tag[32], other[32];
+    const uint8_t none = 0;
+    char encoded[128];
+    proved_argon2_stored stored;
+    uint32_t code = proved_argon2_hash_raw(NULL, 0, bytes_of("somesalt"), 8, NULL, 0, NULL, 0, &small, tag, 32);
+    check_code(code, PROVED_ARGON2_OK, "no password, secret or associated data");
+    code = proved_argon2_hash_raw(&none, 0, bytes_of("somesalt"), 8, &none, 0, &none, 0, &small, other, 32);
+    check(code == PROVED_ARGON2_OK && memcmp(tag, other, sizeof tag) == 0, "it is as with an address");
+    code = proved_argon2_verify_raw(NULL, 0, bytes_of("somesalt"), 8, NULL, 0, NULL, 0, &small, tag, 32);
+    check_code(code, PROVED_ARGON2_OK, "its tag verifies");
+    code = proved_argon2_hash_encoded(
+        NULL, 0, bytes_of("somesalt"), 8, NULL, 0, NULL, 0, &small, encoded, sizeof encoded);
+    check_code(code, PROVED_ARGON2_OK, "its text");
+    code = proved_argon2_verify_encoded(encoded, strlen(encoded), NULL, 0, NULL, 0, NULL, 0);
+    check_code(code, PROVED_ARGON2_OK, "its text verifies");
+    code = proved_argon2_hash_raw(NULL, 0, NULL, 0, NULL, 0, NULL, 0, &small, tag, 32);
+    check_code(code, PROVED_ARGON2_SALT_TOO_SHORT, "no salt");
+    code = proved_argon2_verify_raw(NULL, 0, bytes_of("somesalt"), 8, NULL, 0, NULL, 0, &small, NULL, 0);
+    check_code(code, PROVED_ARGON2_OUTPUT_TOO_SHORT, "no hash");
+    code = proved_argon2_verify_encoded(NULL, 0, NULL, 0, NULL, 0, NULL, 0);
+    check_code(code, PROVED_ARGON2_DECODING_FAIL, "no text to verify");
+    check_code(proved_argon2_read(NULL, 0, &stored), PROVED_ARGON2_DECODING_FAIL, "no text to read");
+    check_code(proved_argon2_needs_rehash(NULL, 0, &small), PROVED_ARGON2_DECODING_FAIL, "no text to compare");
+}
+
+static void check_null_buffers(void)
+{
+    uint32_t code = proved_argon2_hash_raw(NULL, 0, bytes_of("somesalt"), 8, NULL, 0, NULL, 0, &small, NULL, 0);
+    check_code(code, PROVED_ARGON2_WRONG_LENGTH, "no buffer for a tag");
+    code = proved_argon2_hash_encoded(NULL, 0, bytes_of("somesalt"), 8, NULL, 0, NULL, 0, &small, NULL, 0);
+    check_code(code, PROVED_ARGON2_WRONG_LENGTH, "no buffer for a text");
+}
+
+/* A buffer of another length is refused, and so is a shorter one for a text; it is as it was. */
+static void check_buffers(void)
+{
+    uint8_t buffer[128], before[128];
+    char text[128];
+    memset(buffer, 7, sizeof buffer);
+    memset(text, 7, sizeof text);
+    memset(before, 7, sizeof before);
+    const size_t len = (size_t)proved_argon2_encoded_len(&small, 8);
+    uint32_t shorter = proved_argon2_hash_raw(NULL, 0, bytes_of("somesalt"), 8, NULL, 0, NULL, 0, &small, buffer, 31);
+    uint32_t longer = proved_argon2_hash_raw(NULL, 0, bytes_of("somesalt"), 8, NULL, 0, NULL, 0, &small, buffer, 33);
+    uint32_t full = proved_argon2_hash_encoded(NULL, 0, bytes_of("somesalt"), 8, NULL, 0, NULL, 0, &small, text, len);
+    check(memcmp(buffer, before, sizeof buffer) == 0 && memcmp(text, before, sizeof text) == 0,
+        "refused buffers are as they were");
+    check_code(shorter, 65, "a buffer of one byte less than the tag");
+    check_code(longer, 65, "a buffer of one byte more than the tag");
+    check_code(full, 65, "a buffer without room for a zero");
 }
 
 int main(void)
@@ -246,11 +478,21 @@ int main(void)
     check_text();
     check_errors();
     check_lengths();
-    check_buffers();
-    check_no_texts();
-    check_reading();
     check_checking();
+    check_reading();
+    check_unread("\xff", 66, "what is not UTF-8");
+    check_unread("", 19, "an empty text");
+    check_unread("$argon2id$", PROVED_ARGON2_DECODING_FAIL, "the beginning of a text");
+    check_unread("$argon2id$v=19$m=8,t=1,p=1$c29tZXNhbHQ", PROVED_ARGON2_DECODING_FAIL, "a text without a hash");
+    check_unread("$argon2id$v=19$m=8,t=1,p=1$c29tZXNhbHQ$AAAAA", PROVED_ARGON2_DECODING_FAIL, "a faulty hash");
     check_rehash();
+    check_bytes();
+    check_reading_within();
+    check_limits();
+    check_limits_of_long_texts();
+    check_null_inputs();
+    check_null_buffers();
+    check_buffers();
     check(proved_argon2_library_version() == 1000000, "the version of the library");
-    return finish(76);
+    return finish(123);
 }

@@ -230,7 +230,7 @@ def test_takes_an_older_build_without_wide_registers(objects):
 
 
 @needs_qemu
-@pytest.mark.parametrize('name', ['results', 'texts', 'jobs', 'null_pointers'])
+@pytest.mark.parametrize('name', ['results', 'jobs', 'null_pointers'])
 def test_leads_to_no_newer_build(name):
     """qemu ends a program at an instruction that its processor does not have."""
     said('qemu-x86_64', '-cpu', 'Nehalem', TESTS / name)
@@ -241,8 +241,8 @@ def test_finds_a_jump_to_a_newer_build(objects):
     said('objcopy', '--redefine-sym=proved_x86_64_v2_encode=proved_x86_64_v3_encode',
          objects / 'proved_argon2_table.o')
     program = objects / 'astray'
-    said('gcc', '-std=c11', '-D_GNU_SOURCE', '-I', FACE / 'include', HERE / 'texts.c', *objects.glob('*.o'), '-pthread',
-         '-o', program)
+    said('gcc', '-std=c11', '-D_GNU_SOURCE', '-I', FACE / 'include', HERE / 'results.c', *objects.glob('*.o'),
+         '-pthread', '-o', program)
     said(program)
     assert run('qemu-x86_64', '-cpu', 'Nehalem', program).returncode != 0
 

@@ -1,16 +1,27 @@
--- What the calls return. The definitions take the configuration of the settings, or the error of their numbers,
--- and are made of the words of the library's own contract.
-use Rattle.std.specs.Prelude.{◌≡◌, ℕ, Bool, true, false, List, length, Option, Some, None, Result, Ok, Err, IsUtf8}
+-- What the calls answer, and what a string leaves in a buffer.
+use Rattle.std.specs.Prelude.{◌≡◌, ℕ, ◌-◌, ◌<◌, ◌≤◌, List, ◌++◌, length, replicate, Result, Ok, Err, Bool, true, false, Option, Some, None, IsUtf8}
+use Rattle.argon2_c.specs.declared.errors.CallError.{CallError}
+use Rattle.argon2_c.specs.declared.errors.CallError.TheVariants.{WrongLength, Library, Mismatch, NotUtf8, UnknownNumber}
 use Rattle.argon2_standard.specs.declared.config.Config.{Config}
 use Rattle.argon2_standard.specs.declared.error.Error.{Error}
 use Rattle.argon2_standard.specs.declared.error.Error.TheVariants.{DecodingFail}
 use Rattle.argon2_standard.specs.Standard.Grammar.{Spells, SpellsNothing}
 use Rattle.argon2_standard.specs.Standard.Text.{Spelled, spelled_of, text_of}
-use Rattle.argon2_c.specs.Buffer.{WritesText}
-use Rattle.argon2_c.specs.ErrorTable.{message_of, number_of}
-use Rattle.argon2_c.specs.ErrorNumbers.{IsNoNumber}
-use Rattle.argon2_c.specs.declared.errors.CallError.{CallError}
-use Rattle.argon2_c.specs.declared.errors.CallError.TheVariants.{Library, Mismatch, NotUtf8, UnknownNumber, WrongLength}
+use Rattle.argon2_c.specs.ErrorTable.{message_of, number_of, IsNoNumber}
+
+-- ---- what a string leaves in a caller's buffer
+
+-- the string, and zeros up to the buffer's length
+abbrev pub padded : ℕ → List ℕ → List ℕ
+padded len text = text ++ replicate (len - length text) 0
+
+-- the buffer has the string, where there is room for it and a zero; else the buffer is as it was
+pub record WritesText (text old new : List ℕ) (answer : Result (Unit {0}) CallError) : Type 0 where
+  pub fits : length text < length old → (answer ≡ Ok tt) × (new ≡ padded (length old) text)
+  pub wrong_length : length old ≤ length text → (answer ≡ Err WrongLength) × (new ≡ old)
+
+-- ---- what the calls return. The definitions take the configuration of the settings, or the error of their numbers,
+-- and are made of the words of the library's own contract
 
 -- ---- errors
 

@@ -1,11 +1,13 @@
--- The code's own table: the numbers and the messages of the errors. A caller of C compares a number with the header,
--- and no definition beside `code_of`, `IsNoNumber` and `WritesMessage` looks into the table.
-use Rattle.std.specs.Prelude.{ℕ, List, codes}
+-- The errors of the calls for C: their numbers and messages, and what a call returns.
+use Rattle.std.specs.Prelude.{ℕ, List, codes, ◌≡◌, Result, Ok, Err}
 use Rattle.argon2_standard.specs.declared.error.Error.{Error}
-use Rattle.argon2_standard.specs.declared.error.Error.TheVariants as error
 use Rattle.argon2_standard.specs.Views.Messages.{message_of as library_message}
 use Rattle.argon2_c.specs.declared.errors.CallError.{CallError}
+use Rattle.argon2_standard.specs.declared.error.Error.TheVariants as error
 use Rattle.argon2_c.specs.declared.errors.CallError.TheVariants as call
+
+-- ---- the code's own table: the numbers and the messages of the errors. A caller of C compares a number with the header,
+-- and no definition beside `code_of`, `IsNoNumber` and `WritesMessage` looks into the table
 
 -- the numbers of the library's errors, from 1 in their order
 abbrev pub library_number : Error → ℕ
@@ -65,3 +67,18 @@ message_of call.NoPlace = codes "The job has no such pass, slice or lane"
 message_of call.WrongBlocks = codes "There are too many or too few blocks"
 
 -- end
+
+-- ---- the number that a call returns to C, for an answer
+
+-- no error has the number
+abbrev pub IsNoNumber : ℕ → Type 0
+IsNoNumber number = (error : CallError) → number_of error ≡ number → ⊥
+
+-- what a call returns to C: 0, or the number of the error
+abbrev pub code_of : Result (Unit {0}) CallError → ℕ
+code_of (Ok _) = 0
+code_of (Err error) = number_of error
+
+-- the code is that of an answer for which P holds
+abbrev pub IsCodeOf : (Result (Unit {0}) CallError → Type 0) → ℕ → Type 0
+IsCodeOf P code = (answer : Result (Unit {0}) CallError) × (code ≡ code_of answer) × P answer

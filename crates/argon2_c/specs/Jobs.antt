@@ -13,8 +13,7 @@ use Rattle.argon2_standard.specs.Standard.Variant.{variant_number}
 use Rattle.argon2_standard.specs.declared.variant.Variant.{Variant}
 use Rattle.argon2_standard.specs.Standard.Version.{version_number}
 use Rattle.argon2_standard.specs.declared.version.Version.{Version}
-use Rattle.argon2_c.specs.Answers.{OfText, OrError, WritesWhere}
-use Rattle.argon2_c.specs.Buffer.{padded}
+use Rattle.argon2_c.specs.Answers.{OfText, OrError, WritesWhere, padded}
 use Rattle.argon2_c.specs.Reading.{AreLengths, Items, items_of}
 use Rattle.argon2_c.specs.Settings.{variant_of, version_of}
 use Rattle.argon2_c.specs.declared.jobs.CallerJob.{CallerJob}

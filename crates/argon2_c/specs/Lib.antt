@@ -1,14 +1,9 @@
 pub mod ErrorTable
-pub mod ErrorNumbers
 pub mod Settings
-pub mod Recommended
-pub mod Buffer
 pub mod Answers
 pub mod Reading
 pub mod Checks
-pub mod Heads
 pub mod Jobs
 pub mod Steps
 pub mod CallerBlocks
 pub mod Runs
-pub mod Limits

@@ -1,5 +1,5 @@
--- What the calls return that look at an encoded hash and verify nothing.
-use Rattle.std.specs.Prelude.{◌≡◌, ℕ, Bool, true, false, List, length, min, Result, Ok, Err}
+-- What an encoded hash decodes to, whole and by its head.
+use Rattle.std.specs.Prelude.{◌≡◌, ℕ, Bool, true, false, List, length, min, Result, Ok, Err, ◌⊎◌, IsUtf8}
 use Rattle.argon2_standard.specs.declared.config.Config.{Config}
 use Rattle.argon2_standard.specs.declared.error.Error.{Error}
 use Rattle.argon2.specs.Standard.Limits.{is_too_costly}
@@ -12,7 +12,13 @@ use Rattle.argon2.specs.declared.limits.Limits.{Limits as LibraryLimits}
 use Rattle.argon2_c.specs.Answers.{OfText, WritesWhere}
 use Rattle.argon2_c.specs.declared.reading.Stored.{Stored}
 use Rattle.argon2_c.specs.declared.errors.CallError.{CallError}
-use Rattle.argon2_c.specs.declared.errors.CallError.TheVariants.{Library, NeedsRehash, TooCostly}
+use Rattle.argon2_c.specs.declared.errors.CallError.TheVariants.{Library, NeedsRehash, TooCostly, NotUtf8}
+use Rattle.argon2_standard.specs.declared.error.Error.TheVariants.{DecodingFail}
+use Rattle.argon2_standard.specs.Standard.Grammar.{SpellsNothing}
+use Rattle.argon2_text.specs.Views.Texts.{IsSpellingOf}
+use Rattle.argon2_text.specs.declared.encoding.reading.Head.{Head}
+
+-- ---- what the calls return that look at an encoded hash and verify nothing
 
 -- ---- the numbers
 
@@ -75,3 +81,13 @@ Compares Same (Err error) = ⊥
 abbrev pub ComparesSettings : Result Config Error → List ℕ → Result (Unit {0}) CallError → Type 0
 ComparesSettings (Err e) text answer = answer ≡ Err (Library e)
 ComparesSettings (Ok config) text answer = OfText text (tt {0}) (tt {0}) answer (λ d. Compares (Agrees d config) answer)
+
+-- ---- the head of an encoded hash: all that it decodes to before its salt and its hash, and these two as they are written there
+
+-- the string decodes to a value with this head
+abbrev pub HasHead : List ℕ → Head → Type 0
+HasHead text h = IsUtf8 text × IsSpellingOf text h
+
+-- why the string has no head
+abbrev pub HasNone : List ℕ → CallError → Type 0
+HasNone text error = ((error ≡ NotUtf8) × (IsUtf8 text → ⊥)) ⊎ ((error ≡ Library DecodingFail) × IsUtf8 text × SpellsNothing text)

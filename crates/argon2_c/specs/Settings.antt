@@ -1,4 +1,4 @@
--- The configuration of settings in numbers.
+-- Settings, recommended ones, and limits, in numbers.
 use Rattle.std.specs.Prelude.{ℕ, ◌==◌, if◌then◌else◌, List, Option, Some, None, Result, Ok, Err}
 use Rattle.std.specs.Borrow.{Bor}
 use Rattle.argon2_standard.specs.declared.config.Config.{Config}
@@ -10,6 +10,12 @@ use Rattle.argon2_standard.specs.declared.variant.Variant.TheVariants.{Argon2d, 
 use Rattle.argon2_standard.specs.declared.version.Version.{Version}
 use Rattle.argon2_standard.specs.declared.version.Version.TheVariants.{Version10, Version13}
 use Rattle.argon2_c.specs.declared.settings.Settings.{Settings}
+use Rattle.argon2_standard.specs.Standard.Variant.{variant_number}
+use Rattle.argon2_standard.specs.Standard.Version.{version_number}
+use Rattle.argon2.specs.declared.limits.Limits.{Limits as LibraryLimits}
+use Rattle.argon2_c.specs.declared.limits.Limits.{Limits}
+
+-- ---- the configuration of settings in numbers
 
 -- the variant and the version of a number (RFC 9106, 3.2)
 abbrev pub variant_of : ℕ → Option Variant
@@ -42,3 +48,36 @@ config_at settings secret ad (Some variant) (Some version) = Ok (config_with set
 
 abbrev pub config_of : Settings → Bor (List ℕ) → Bor (List ℕ) → Result Config Error
 config_of settings secret ad = config_at settings secret ad (variant_of settings.variant) (version_of settings.version)
+
+-- ---- the recommended settings
+
+-- the settings of a configuration, in numbers
+abbrev pub settings_of : Config → Settings
+settings_of config = record {
+  variant = variant_number config.variant;
+  version = version_number config.version;
+  mem_cost = config.mem_cost;
+  time_cost = config.time_cost;
+  lanes = config.lanes;
+  hash_length = config.hash_length;
+}
+
+-- Argon2id, version 0x13, one lane and 32 bytes of hash, with this memory in KiB and these passes
+abbrev pub recommended : ℕ → ℕ → Settings
+recommended memory passes = record {
+  variant = 2;
+  version = 0x13;
+  mem_cost = memory;
+  time_cost = passes;
+  lanes = 1;
+  hash_length = 32;
+}
+
+-- ---- the limits for an encoded hash
+
+-- the limits as the library has them, and the other way
+abbrev pub limits_of : Limits → LibraryLimits
+limits_of limits = record { mem_cost = limits.mem_cost; time_cost = limits.time_cost; lanes = limits.lanes; work = limits.work }
+
+abbrev pub limits_from : LibraryLimits → Limits
+limits_from limits = record { mem_cost = limits.mem_cost; time_cost = limits.time_cost; lanes = limits.lanes; work = limits.work }

@@ -1,7 +1,6 @@
 //! Writing an encoded hash, or an error message, to a caller-provided buffer.
 
-ghost use Rattle.argon2_c.specs.Answers.{WritesMessage};
-ghost use Rattle.argon2_c.specs.Buffer.{WritesText};
+ghost use Rattle.argon2_c.specs.Answers.{WritesMessage, WritesText};
 
 use crate::errors::CallError;
 

@@ -2,7 +2,7 @@
 
 ghost use Rattle.std.specs.Prelude.{◌≡◌, IsUtf8, MatchResult, bit_or};
 ghost use Rattle.std.specs.List.{fold};
-ghost use Rattle.argon2_c.specs.Heads.{HasHead, HasNone};
+ghost use Rattle.argon2_c.specs.Reading.{HasHead, HasNone};
 ghost use Rattle.argon2_c.specs.declared.errors.CallError.TheVariants.{NotUtf8};
 
 use crate::errors::CallError;

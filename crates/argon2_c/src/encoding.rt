@@ -3,8 +3,7 @@
 ghost use Rattle.std.specs.Prelude.{◌≡◌, ◌<◌, ◌^◌, ℕ, List, [], length};
 ghost use Rattle.std.specs.Borrow.{Bor};
 ghost use Rattle.argon2_standard.specs.Standard.Text.{spelled_of, text_of};
-ghost use Rattle.argon2_c.specs.Answers.{WritesWhere};
-ghost use Rattle.argon2_c.specs.Buffer.{padded};
+ghost use Rattle.argon2_c.specs.Answers.{WritesWhere, padded};
 ghost use Rattle.argon2_c.specs.Jobs.{WritesTagText};
 ghost use Rattle.argon2_c.specs.Settings.{config_of};
 

@@ -3,8 +3,7 @@
 ghost use Rattle.std.specs.Prelude.{◌≡◌, IfSome};
 ghost use Rattle.argon2_standard.specs.declared.error.Error.{Error};
 ghost use Rattle.argon2_c.specs.Answers.{judgement_of};
-ghost use Rattle.argon2_c.specs.ErrorTable.{library_number, message_of, number_of};
-ghost use Rattle.argon2_c.specs.ErrorNumbers.{code_of};
+ghost use Rattle.argon2_c.specs.ErrorTable.{library_number, message_of, number_of, code_of};
 ghost use Rattle.argon2_c.specs.declared.errors.CallError.{CallError};
 ghost use Rattle.argon2_c.specs.declared.errors.CallError.TheVariants.{Library};
 

@@ -7,7 +7,7 @@ ghost use Rattle.argon2_c.specs.Checks.{ChecksJob};
 ghost use Rattle.argon2_c.specs.Jobs.{MakesJob, MakesStoredJob, WritesTagText, setting_of_job};
 ghost use Rattle.argon2_c.specs.Steps.{Begins, Fills, Finishes, Verifies};
 ghost use Rattle.argon2_c.specs.CallerBlocks.{HashesJob, JudgesJob};
-ghost use Rattle.argon2_c.specs.ErrorNumbers.{IsCodeOf};
+ghost use Rattle.argon2_c.specs.ErrorTable.{IsCodeOf};
 ghost use Rattle.argon2_c.specs.Runs.{EveryOrderOfTurnsIsARun, EveryRunGivesTheTag, EveryRunGivesTheVerdict, OneCallGivesTheTag, OneCallGivesTheVerdict};
 ghost use Rattle.argon2_c.specs.Settings.{config_of};
 

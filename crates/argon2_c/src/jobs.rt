@@ -56,6 +56,7 @@ pub struct CallerJob {
 
 impl CallerJob {
     /// The job of an accepted call.
+    #[tactic(auto, unfolding(argon2_standard::specs::Standard::Prehash::setting_of))]
     fn of(context: &Context<'_>) -> CallerJob
         ensures { let c = context.now in result ≡ job_of (setting_of_context c) c.config.hash_length }
     {

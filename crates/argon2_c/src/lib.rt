@@ -10,11 +10,10 @@ ghost use Rattle.std.specs.Prelude.{◌≡◌, ℕ, List, [], length};
 ghost use Rattle.std.specs.Borrow.{Bor};
 ghost use Rattle.argon2_c.specs.Answers.{IsTextLength, WritesMessage};
 ghost use Rattle.argon2_c.specs.Checks.{Checks, ChecksText};
-ghost use Rattle.argon2_c.specs.Limits.{limits_of};
+ghost use Rattle.argon2_c.specs.Settings.{limits_of, config_of};
 ghost use Rattle.argon2_c.specs.CallerBlocks.{HashesOver, JudgesOver, memory_len_of};
 ghost use Rattle.argon2_c.specs.Reading.{ComparesSettings, ReadsBytes, ReadsText, ReadsTextWithin};
-ghost use Rattle.argon2_c.specs.ErrorNumbers.{IsCodeOf};
-ghost use Rattle.argon2_c.specs.Settings.{config_of};
+ghost use Rattle.argon2_c.specs.ErrorTable.{IsCodeOf};
 
 mod buffer;
 mod caller_blocks;

@@ -2,7 +2,7 @@
 
 ghost use Rattle.std.specs.Prelude.{◌≡◌};
 ghost use Rattle.argon2.specs.Views.Limits.{default_limits};
-ghost use Rattle.argon2_c.specs.Limits.{limits_from, limits_of};
+ghost use Rattle.argon2_c.specs.Settings.{limits_from, limits_of};
 
 /// The highest memory, passes and lanes that an encoded hash may name, and the highest product of
 /// memory and passes, in a layout that C knows.

@@ -12,9 +12,8 @@ ghost use Rattle.argon2_text.specs.Views.Faults.{IsSomeItem};
 ghost use Rattle.argon2_c.specs.Answers.{WritesWhere};
 ghost use Rattle.argon2.specs.Standard.Limits.{is_too_costly};
 ghost use Rattle.argon2_c.specs.Checks.{ChecksText, error_within};
-ghost use Rattle.argon2_c.specs.Limits.{limits_of};
+ghost use Rattle.argon2_c.specs.Settings.{limits_of, config_of};
 ghost use Rattle.argon2_c.specs.Reading.{AreLengths, ComparesSettings, Items, ReadsBytes, ReadsText, ReadsTextWithin, held, stored_of};
-ghost use Rattle.argon2_c.specs.Settings.{config_of};
 
 use crate::encoded_hash::head_of;
 use crate::errors::CallError;

@@ -3,7 +3,7 @@
 //! Each is Argon2id, version 0x13, with one lane and a hash of 32 bytes.
 
 ghost use Rattle.std.specs.Prelude.{◌≡◌};
-ghost use Rattle.argon2_c.specs.Recommended.{recommended, settings_of};
+ghost use Rattle.argon2_c.specs.Settings.{recommended, settings_of};
 
 use crate::settings::Settings;
 use argon2::Config;

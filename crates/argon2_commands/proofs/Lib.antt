@@ -1,9 +1,3 @@
-pub mod Attempts
-pub mod Checks
-pub mod Digits
-pub mod Passwords
-pub mod Reading
-pub mod Faults
-pub mod Statuses
 pub mod UsageErrors
-pub mod Writes
+pub mod Passwords
+pub mod Statuses

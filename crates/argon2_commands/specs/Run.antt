@@ -1,10 +1,8 @@
--- What a run does.
-use Rattle.std.specs.Prelude.{◌≡◌, ◌⊎◌, ℕ, List, Option}
+-- A run of a program, and what it writes.
+use Rattle.std.specs.Prelude.{◌≡◌, ◌⊎◌, ℕ, List, Option, take}
 use Rattle.std.specs.Io.KnownBytes.{Appends, Keeps}
 use Rattle.argon2_commands.specs.Answer.{AsksTooMuch, IsAnswer, MayBeError, NeedsNoInput, ReadsUpTo, answer_status, lines_of, most_read}
-use Rattle.argon2_commands.specs.CommandLine.{AreWords}
-use Rattle.argon2_commands.specs.Output.{AppendsFront}
-use Rattle.argon2_commands.specs.Words.{IsCommand, IsNoCommand}
+use Rattle.argon2_commands.specs.Words.{AreWords, IsCommand, IsNoCommand}
 use Rattle.argon2_standard.specs.declared.error.Error.{Error}
 use Rattle.argon2_standard.specs.declared.error.Error.TheVariants.{OutOfMemory, PwdTooLong}
 use Rattle.argon2_commands.specs.declared.fault.Fault.{Fault}
@@ -13,6 +11,14 @@ use Rattle.argon2_commands.specs.declared.answer.Answer.{Answer}
 use Rattle.argon2_commands.specs.declared.command.Command.{Command}
 use Rattle.argon2_commands.specs.declared.usage.Program.{Program}
 use Rattle.argon2_commands.specs.declared.usage.Program.TheVariants.{Argon2, Tool}
+
+-- ---- what a writer that may fail was given
+
+-- known bytes grow by first bytes of these: all, some or none
+abbrev pub AppendsFront : Option (List ℕ) → Option (List ℕ) → List ℕ → Type 0
+AppendsFront before after bytes = (count : ℕ) × Appends before after (take count bytes)
+
+-- ---- what a run does
 
 -- the status is that of the answer to the words' command, whose lines were written: the input's bytes
 -- before the run, and the output's before and after it, where they are known

@@ -1,5 +1,6 @@
--- How the words of a command are read.
-use Rattle.std.specs.Prelude.{◌≡◌, ℕ, ◌<◌, ◌^◌, List, [], ◌++◌, codes, length, map, slice_index_or, string_bytes, Ok}
+-- The words of a command line.
+use Rattle.std.specs.Prelude.{◌≡◌, ℕ, ◌<◌, ◌^◌, List, [], ◌++◌, codes, length, map, slice_index_or, string_bytes, Ok, Option, Some, IfSome, IsUtf8}
+use Rattle.std.specs.Prelude.{Vec, drop, option_map, slice_get}
 use Rattle.std.specs.Str.Parse.{IsNumeral, digits_value, without_leading_plus}
 use Rattle.std.specs.declared.alloc.Global.{Global}
 use Rattle.std.specs.declared.string.String.{String}
@@ -13,6 +14,8 @@ use Rattle.argon2_commands.specs.declared.command.Command.{Command}
 use Rattle.argon2_commands.specs.declared.command.Command.TheVariants.{Hash, Verify, Rehash, New, Check}
 use Rattle.argon2_commands.specs.declared.usage.Program.{Program}
 use Rattle.argon2_commands.specs.declared.usage.Program.TheVariants.{Argon2, Tool}
+
+-- ---- how the words of a command are read
 
 -- the bytes of each word
 abbrev pub texts_of : List (String Global) → List (List ℕ)
@@ -104,3 +107,17 @@ IsCommand Tool words (Check encoded) = IsCheck words encoded.now
 -- the words are those of no command of the program
 abbrev pub IsNoCommand : Program → List (List ℕ) → Type 0
 IsNoCommand program words = (command : Command) → IsCommand program words command → ⊥
+
+-- ---- the arguments that a program is started with, where they are known
+
+-- what was found is the argument at the index, or none past the last
+abbrev pub IsArgument : Option (List (List ℕ)) → ℕ → Option (Vec ℕ Global) → Type 0
+IsArgument known index found = IfSome known (λ all. option_map (λ bytes. bytes.items) found ≡ slice_get all index)
+
+-- the words are all arguments after the program's name, in their order
+abbrev pub AreWords : Option (List (List ℕ)) → List (List ℕ) → Type 0
+AreWords known words = IfSome known (λ all. words ≡ drop 1 all)
+
+-- an argument after the program's name is not UTF-8
+abbrev pub HasNoText : Option (List (List ℕ)) → Type 0
+HasNoText known = IfSome known (λ all. (index : ℕ) × (word : List ℕ) × (0 < index) × (slice_get all index ≡ Some word) × (IsUtf8 word → ⊥))

@@ -48,6 +48,7 @@ pub enum Command<'a> {
 
 impl<'a> Command<'a> {
     /// A program's command of these arguments, those after its name, or what is wrong with them.
+    #[tactic(auto, using(crate::proofs::UsageErrors::no_command))]
     pub fn from_words(program: Program, words: &'a [String]) -> Result<Command<'a>, UsageError>
         ensures command { IfOk result (IsCommand program (texts_of words.now)) }
         ensures usage { IfErr result (IsUsageError program (texts_of words.now)) }

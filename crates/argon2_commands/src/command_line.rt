@@ -2,8 +2,7 @@
 
 ghost use Rattle.std.specs.Prelude.{◌≡◌, ◌⊎◌, ℕ, IfErr, IfOk, List, None, Option};
 ghost use Rattle.argon2_standard.specs.declared.error.Error.TheVariants.{OutOfMemory};
-ghost use Rattle.argon2_commands.specs.CommandLine.{AreWords, HasNoText, IsArgument};
-ghost use Rattle.argon2_commands.specs.Words.{texts_of};
+ghost use Rattle.argon2_commands.specs.Words.{AreWords, HasNoText, IsArgument, texts_of};
 
 use crate::fault::Fault;
 use argon2::Error;

@@ -3,9 +3,8 @@
 ghost use Rattle.std.specs.Prelude.{◌≡◌, ◌<◌, ◌↔◌, ◌⊎◌};
 ghost use Rattle.std.specs.Process.{exit_status};
 ghost use Rattle.std.specs.Io.KnownBytes.{Keeps};
-ghost use Rattle.argon2_commands.specs.CommandLine.{HasNoText};
+ghost use Rattle.argon2_commands.specs.Words.{HasNoText, IsNoCommand, texts_of};
 ghost use Rattle.argon2_commands.specs.Run.{Answered, AreTooCostly, HasAnswer, IsShortOrFails, NeedNoInput, OfWords, Reads, WritesAnswer, statuses_of};
-ghost use Rattle.argon2_commands.specs.Words.{IsNoCommand, texts_of};
 ghost use Rattle.argon2_commands.specs.declared.usage.Program.TheVariants.{Argon2};
 
 use crate::command_line::{CommandLine, arguments};

@@ -2,10 +2,9 @@
 
 ghost use Rattle.std.specs.Prelude.{◌≡◌, ◌≢◌, ◌<◌, ◌↔◌, IfErr, IfOk, IsErrAnd, MatchResult, OnOk};
 ghost use Rattle.std.specs.Io.KnownBytes.{Appends, Keeps};
-ghost use Rattle.argon2_commands.specs.Output.{AppendsFront};
+ghost use Rattle.argon2_commands.specs.Run.{AppendsFront, Answered, AreTooCostly, HasAnswer, MayFailWith, IsShortOrFails, MayPrecede, NeedNoInput, Reads, WritesAnswer, statuses_of};
 ghost use Rattle.argon2_standard.specs.declared.error.Error.{Error};
 ghost use Rattle.argon2_commands.specs.Fault.{IsBeforeOutput};
-ghost use Rattle.argon2_commands.specs.Run.{Answered, AreTooCostly, HasAnswer, MayFailWith, IsShortOrFails, MayPrecede, NeedNoInput, Reads, WritesAnswer, statuses_of};
 ghost use Rattle.argon2_commands.specs.Words.{IsCommand, IsNoCommand, texts_of};
 
 use crate::answer::Answer;

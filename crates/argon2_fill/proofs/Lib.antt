@@ -1,2 +1,3 @@
-pub mod Filling
-pub mod BoardFacts
+pub mod Passes
+pub mod CallerBlocks
+pub mod Boards

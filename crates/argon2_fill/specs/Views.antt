@@ -1,6 +1,3 @@
 -- How the types and the steps of the code look to contracts. No clause of a root call uses them.
-pub mod Replay
 pub mod Boards
-pub mod Slots
-pub mod Permits
 pub mod Chunks

@@ -6,13 +6,12 @@ ghost use Rattle.std.specs.List.{remove};
 ghost use Rattle.argon2_standard.specs.Standard.Outcome.{IsResourceError};
 ghost use Rattle.argon2_standard.specs.Views.Presets.{workers_of};
 ghost use Rattle.argon2_memory.specs.Views.Jobs.{setting_of_context};
-ghost use Rattle.argon2_fill.specs.Views.Boards.{NoneOut};
+ghost use Rattle.argon2_fill.specs.Views.Boards.{NoneOut, PermitsAll};
 ghost use Rattle.argon2_memory.specs.Views.Filling.{IsSnapshot};
-ghost use Rattle.argon2_memory.specs.Theorems.Matrix.{IsBegun};
+ghost use Rattle.argon2_memory.specs.Theorems.Schedule.{IsBegun};
 ghost use Rattle.argon2_memory.specs.Standard.Kept.{HoldsLastPass, HasShape, block_of, no_memory};
 ghost use Rattle.argon2_memory.specs.Views.Memories.{AreSlices, segments_of};
 ghost use Rattle.argon2_memory.specs.Views.Places.{places_in, AreFilledBelow};
-ghost use Rattle.argon2_fill.specs.Views.Permits.{PermitsAll};
 
 mod board;
 mod crew;

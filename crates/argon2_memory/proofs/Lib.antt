@@ -1,3 +1,6 @@
-pub mod Recurrence
-pub mod Schedules
-pub mod Filling
+pub mod Recurrences
+pub mod AnyOrder
+pub mod Entries
+pub mod ReferenceSets
+pub mod Filled
+pub mod Slices

@@ -1,4 +1,3 @@
 -- Statements about the definitions. The contracts of calls without arguments make them.
-pub mod Matrix
 pub mod Schedule
 pub mod AnyOrder

@@ -2,7 +2,6 @@
 -- calls that C makes over caller-provided blocks do.
 pub mod Jobs
 pub mod Segments
-pub mod Sources
 pub mod Places
 pub mod Filling
 pub mod References

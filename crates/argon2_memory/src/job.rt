@@ -183,7 +183,7 @@ impl Job {
     }
 
     /// How many blocks a segment has.
-    #[tactic(auto, using(crate::proofs::Recurrence::Jobs::lane_fits))]
+    #[tactic(auto, using(crate::proofs::Recurrences::lane_fits))]
     pub fn segment_length(&self) -> u32
         ensures value { result ≡ self.now.setting.segment_length }
         ensures job { IsJob self.now }
@@ -194,7 +194,7 @@ impl Job {
     }
 
     /// How many columns a lane has.
-    #[tactic(auto, using(crate::proofs::Recurrence::Jobs::lane_fits))]
+    #[tactic(auto, using(crate::proofs::Recurrences::lane_fits))]
     pub(crate) fn lane_length(&self) -> u32
         ensures value { result ≡ lane_length self.now.setting }
         ensures job { IsJob self.now }
@@ -247,7 +247,7 @@ impl Job {
     }
 
     /// The first column of the slice.
-    #[tactic(auto, using(crate::proofs::Recurrence::Jobs::start_fits, crate::proofs::Recurrence::Jobs::lane_fits))]
+    #[tactic(auto, using(crate::proofs::Recurrences::start_fits, crate::proofs::Recurrences::lane_fits))]
     pub fn start(&self) -> u32
         ensures value { result ≡ self.now.slice * self.now.setting.segment_length }
         ensures before_end { result + self.now.setting.segment_length ≤ lane_length self.now.setting }

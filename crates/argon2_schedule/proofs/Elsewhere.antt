@@ -12,8 +12,8 @@ use Rattle.argon2_standard.specs.Standard.ThreadModes.{may_lack_workers}
 use Rattle.argon2.specs.Standard.Limits.{AnswersWithin}
 use Rattle.argon2.specs.declared.limits.Unverified.{Unverified}
 use Rattle.argon2.specs.declared.limits.Unverified.TheVariants.{TooCostly, Refused}
-use Rattle.argon2.proofs.Verification.StoredHashes.{table_error-same}
-use Rattle.argon2.proofs.Verification.Verdicts.{length-tag_of}
+use Rattle.argon2.proofs.StoredHashes.{table_error-same}
+use Rattle.argon2.proofs.Verdicts.{length-tag_of}
 use Rattle.argon2_schedule.specs.Answers.{Inputs, IsTextLength, Returns, config_at, text_at}
 
 -- what is shown of a value, where there is one

@@ -1,7 +1,7 @@
 //! Whether the lanes of a slice are filled in the caller's thread or by workers.
 
 ghost use Rattle.std.specs.Prelude.{◌≡◌};
-ghost use Rattle.argon2_standard.specs.Views.Modes.{mode_of_threads};
+ghost use Rattle.argon2_standard.specs.Views.Names.{mode_of_threads};
 
 /// How many threads fill the lanes of a slice. The tag does not depend on it.
 #[derive(Clone, Copy, Debug, Eq, PartialEq)]

@@ -1,14 +1,15 @@
-//! Inputs of each length, and each number of lanes, up to some: that a value comes. Which value it
-//! has to be, a call's contract says; that no resource error comes where nothing is denied, none
-//! does.
+//! What takes minutes with the checks of `rt try`: the example of the original's documentation with
+//! settings of its own, 64 MiB in 10 passes; and inputs of each length, and each number of lanes, up
+//! to some: that a value comes. Which value it has to be, a call's contract says; that no resource
+//! error comes where nothing is denied, none does.
 
 ghost use Rattle.std.specs.Prelude.{◌<◌};
 
 use argon2::{
     Config, Limits, ThreadMode, Unverified, Variant, Version, hash_encoded,
-    hash_encoded_sequential, hash_raw, hash_raw_sequential, needs_rehash, verify_encoded_ext,
-    verify_encoded_sequential, verify_encoded_within, verify_encoded_within_sequential, verify_raw,
-    verify_raw_sequential,
+    hash_encoded_sequential, hash_raw, hash_raw_sequential, needs_rehash, verify_encoded,
+    verify_encoded_ext, verify_encoded_sequential, verify_encoded_within,
+    verify_encoded_within_sequential, verify_raw, verify_raw_sequential,
 };
 use std::alloc::Global;
 use std::marker::Sync;
@@ -179,5 +180,22 @@ fn each_number_of_lanes(rt: HostRuntime) -> Result<(), Fail> {
         };
         assert!(rt; is_right, "{lanes} lanes");
     }
+    Ok(())
+}
+
+#[test]
+fn verifies_by_own_settings(rt: HostRuntime) -> Result<(), Fail> {
+    let alloc = rt.alloc();
+    let config = Config {
+        lanes: 4,
+        mem_cost: 65536,
+        thread_mode: ThreadMode::Parallel,
+        time_cost: 10,
+        variant: Variant::Argon2i,
+        version: Version::Version13,
+        ..Config::default()
+    };
+    let text = hash_encoded(&rt, alloc, b"password", b"othersalt", &config)?;
+    assert!(rt; verify_encoded(&rt, alloc, text.as_str(), b"password")?);
     Ok(())
 }

@@ -4,8 +4,6 @@
 #![tactic(auto)]
 
 #[cfg(test)]
-mod documentation;
-#[cfg(test)]
 mod lengths;
 pub mod surface;
 #[cfg(test)]

@@ -6,7 +6,7 @@ ghost use Rattle.std.specs.List.{flat_map};
 ghost use Rattle.std.specs.Ordering.{nat_cmp, on};
 ghost use Rattle.argon2_blocks.specs.Standard.Blake2b.{blake2b};
 ghost use Rattle.argon2_blocks.specs.Standard.Block.{zero_block};
-ghost use Rattle.argon2_fill.specs.Views.Replay.{least_waiting};
+ghost use Rattle.argon2_fill.specs.Views.Boards.{least_waiting};
 ghost use Rattle.argon2_standard.specs.declared.error.Error.{Error};
 ghost use Rattle.argon2_standard.specs.Standard.Grammar.{Spells};
 ghost use Rattle.argon2.specs.Theorems.Definitions.{IsOnlySolution, MeetsRecurrence};

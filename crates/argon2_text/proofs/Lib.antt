@@ -1,3 +1,4 @@
 pub mod Letters
-pub mod Reading
+pub mod Pieces
+pub mod Items
 pub mod Writing

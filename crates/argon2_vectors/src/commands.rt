@@ -12,10 +12,10 @@
 //! | `arguments ARGUMENT..` | none: the words of these arguments are given, each behind how often it stands there in a row |
 //!
 //! The answer of a run is its status, and what stands on the output and on the error stream; of a start
-//! only the last two. An argument is bytes, as in `line_words`, with a number and `*` before it where it stands there
+//! only the last two. An argument is bytes, as in `line`, with a number and `*` before it where it stands there
 //! so often.
 
-use crate::line_words::{Words, bytes_of, repeated};
+use crate::line::{Words, bytes_of, repeated};
 use crate::streams::{Flaw, Input, Output, Started};
 use anyhow::{Result, bail};
 use argon2_commands::{Fault, OfProcess, Program, arguments, conclude, run, start};

@@ -1,6 +1,6 @@
 //! Questions on BLAKE2b and on H'.
 
-use crate::line_words::{Words, bytes_of};
+use crate::line::{Words, bytes_of};
 use anyhow::{Context, Result, anyhow, ensure};
 use argon2::parts::blake2b::{blake2b, hprime};
 use std::alloc::Global;

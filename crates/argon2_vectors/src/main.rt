@@ -27,15 +27,14 @@
 //!
 //! INPUTS are `VARIANT VERSION T M P LEN MODE PASSWORD SALT SECRET DATA`. MODE is `seq`, `par`,
 //! `max` and a number, or `all`: then all thread modes, and the call that goes by no mode, have to
-//! return the same. Bytes are `-` for none, text behind a `'`, or hexadecimal (`line_words.rt`). TEXT is
+//! return the same. Bytes are `-` for none, text behind a `'`, or hexadecimal (`line.rt`). TEXT is
 //! the rest of the line, or behind `hex` its bytes in hexadecimal. For an error the answer is `ERR`
 //! and its message.
 #![tactic(auto)]
 
 mod commands;
 mod hashes;
-mod inputs;
-mod line_words;
+mod line;
 mod modes;
 mod question;
 mod small_types;

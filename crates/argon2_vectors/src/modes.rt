@@ -1,6 +1,6 @@
 //! Calls whose answer is the same in all thread modes.
 
-use crate::inputs::Inputs;
+use crate::line::Inputs;
 use crate::question::{told_bytes, told_text, told_verdict};
 use anyhow::{Result, ensure};
 use argon2::{

@@ -3,8 +3,7 @@
 ghost use Rattle.std.specs.Prelude.{◌≡◌, ◌++◌, IfOk, codes, string_bytes};
 ghost use Rattle.argon2_standard.specs.Views.Messages.{message_of};
 
-use crate::inputs::Inputs;
-use crate::line_words::Words;
+use crate::line::{Inputs, Words};
 use crate::modes::Asked;
 use crate::{commands, hashes, small_types, stages, texts};
 use anyhow::Result;

@@ -1,6 +1,6 @@
 //! Questions on the small types: presets, names, numbers, errors and constants.
 
-use crate::line_words::Words;
+use crate::line::Words;
 use crate::question::told_error;
 use anyhow::{Result, anyhow, bail};
 use argon2::parts::common::{

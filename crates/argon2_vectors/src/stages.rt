@@ -1,8 +1,7 @@
 //! Questions on the stages of a hash: which settings are rejected, the context, its job, and what
 //! blocks refer to.
 
-use crate::inputs::Inputs;
-use crate::line_words::Words;
+use crate::line::{Inputs, Words};
 use crate::question::told_error;
 use anyhow::{Result, anyhow, ensure};
 use argon2::parts::context::{Job, first_refusal};

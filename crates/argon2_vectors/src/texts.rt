@@ -1,7 +1,6 @@
 //! Questions on encoded hashes.
 
-use crate::inputs::Inputs;
-use crate::line_words::Words;
+use crate::line::{Inputs, Words};
 use crate::question::{told_error, told_text, told_verdict};
 use anyhow::{Result, anyhow, bail, ensure};
 use argon2::parts::context::Context;

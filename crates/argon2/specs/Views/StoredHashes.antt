@@ -1,10 +1,13 @@
--- The configuration that an encoded hash is verified with.
-use Rattle.std.specs.Prelude.{◌≡◌, ℕ, List, Option, None, Some, Result, Ok, Err, length, min, nat_lt, if◌then◌else◌}
+-- What the code reads of a stored hash, and how it compares.
+use Rattle.std.specs.Prelude.{◌≡◌, ℕ, List, Option, None, Some, Result, Ok, Err, length, min, nat_lt, if◌then◌else◌, bit_or, bit_xor}
 use Rattle.argon2_standard.specs.declared.error.Error.{Error}
 use Rattle.argon2_standard.specs.declared.config.Config.{Config}
 use Rattle.argon2_standard.specs.declared.thread_mode.ThreadMode.TheVariants.{AtMost, Sequential}
 use Rattle.argon2_standard.specs.Standard.SettingsTable.{max_length, table_error}
 use Rattle.argon2_standard.specs.Standard.Text.{Spelled}
+use Rattle.std.specs.List.{fold, zip}
+
+-- ---- the configuration that an encoded hash is verified with
 
 -- the configuration has the settings of a decoded hash, and this secret and associated data: all that a
 -- verdict looks at
@@ -37,3 +40,9 @@ pub record IsConfigOf (d : Spelled) (secret ad : List ℕ) (config : Config) : T
   pub stored : IsStoredConfig d secret ad config
   pub thread_mode : config.thread_mode ≡ (if nat_lt 1 d.parallelism then AtMost max_workers else Sequential)
   pub hash_length : config.hash_length ≡ min (length d.hash) max_length
+
+-- ---- what a comparison of two hashes looks at
+
+-- the bits in which two lists of bytes differ at any place
+abbrev pub difference_of : List ℕ → List ℕ → ℕ
+difference_of one other = fold (λ difference (a, b). bit_or difference (bit_xor a b)) 0 (zip one other)

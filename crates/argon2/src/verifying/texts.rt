@@ -22,6 +22,7 @@ use std::thread::Threads;
 /// Verifies a password against an encoded hash, with no secret and no associated data. It returns
 /// what `verify_encoded_ext` does. Memory and time are what the hash names: use
 /// `verify_encoded_within` for a hash that others may have written.
+#[tactic(auto, using(crate::proofs::StoredHashes::verdict_without))]
 pub fn verify_encoded<R: Threads + Wait + Sync>(
     rt: &R,
     alloc: Global,

@@ -50,6 +50,7 @@ impl Link {
     }
 
     /// Replaces V by the next. Its hash is one F, without a hasher.
+    #[tactic(auto, using(crate::proofs::Hashing::blake2b_half_block))]
     fn advance(&mut self)
         ensures { self.new.bytes ≡ blake2b 64 self.old.bytes }
     {

@@ -9,8 +9,7 @@ ghost use Rattle.std.specs.Prelude.{◌≡◌, ◌<◌, ◌≤◌, ◌+◌, ◌*
 ghost use Rattle.std.specs.Simd.Lanes.{zip2, Each1, chunk, put_chunk};
 ghost use Rattle.argon2_blocks.specs.Standard.Block.{xor};
 ghost use Rattle.argon2_blocks.specs.Standard.Compression.{block_of_registers, compress_g, permute_p, permute_rows, registers_of, transpose};
-ghost use Rattle.argon2_blocks.specs.Views.Lane.{column, vector_pair, vector_words};
-ghost use Rattle.argon2_blocks.specs.Views.Spread.{diagonals, four_and_four, high_halves, low_halves, nth_vector, odd_and_even, spread_row, turned_halves, undo_diagonals};
+ghost use Rattle.argon2_blocks.specs.Views.Lanes.{column, vector_pair, vector_words, diagonals, four_and_four, high_halves, low_halves, nth_vector, odd_and_even, spread_row, turned_halves, undo_diagonals};
 
 use super::Block;
 use super::lanes::{mix_two, recall_vector};
@@ -81,6 +80,7 @@ fn turn_by_three(a: u64x8) -> u64x8
 
 // Spreads four rows, of two vectors each, over all eight vectors.
 #[inline(always)]
+#[tactic(auto, using(crate::proofs::Spread::rows_spread))]
 fn spread_rows(v: [u64x8; 8]) -> [u64x8; 8]
     ensures { (j : ℕ) → j < 4 → spread_row result j ≡ vector_pair v j }
 {
@@ -315,6 +315,7 @@ fn sum(x: &[u64; QWORDS_IN_BLOCK], y: &[u64; QWORDS_IN_BLOCK]) -> [u64x8; VECTOR
 
 // Writes the exclusive or of the vectors at one place of two lists.
 #[inline(always)]
+#[tactic(auto, using(crate::proofs::Stores::long_sum, crate::proofs::Stores::put_part))]
 fn store_at(x: &[u64x8; VECTORS], y: &[u64x8; VECTORS], w: &mut [u64; QWORDS_IN_BLOCK], k: usize)
     requires { k < 16 }
     ensures { w.new ≡ put_chunk (8 * k) w.old (zip2 bit_xor (nth_vector x.now k) (nth_vector y.now k)) }
@@ -324,6 +325,7 @@ fn store_at(x: &[u64x8; VECTORS], y: &[u64x8; VECTORS], w: &mut [u64; QWORDS_IN_
 
 // Writes the exclusive or of two lists of vectors.
 #[inline(always)]
+#[tactic(auto, using(crate::proofs::Stores::all_puts))]
 fn store(x: &[u64x8; VECTORS], y: &[u64x8; VECTORS], w: &mut [u64; QWORDS_IN_BLOCK])
     requires left { Each1 (λ a. length a ≡ 8) x.now }
     requires right { Each1 (λ a. length a ≡ 8) y.now }
@@ -349,6 +351,7 @@ fn store(x: &[u64x8; VECTORS], y: &[u64x8; VECTORS], w: &mut [u64; QWORDS_IN_BLO
 
 // Writes the exclusive or of the vectors at one place of two lists and of the old words there.
 #[inline(always)]
+#[tactic(auto, using(crate::proofs::Stores::long_sum, crate::proofs::Stores::part_read, crate::proofs::Stores::put_part))]
 fn store_onto_at(
     x: &[u64x8; VECTORS],
     y: &[u64x8; VECTORS],
@@ -415,6 +418,7 @@ fn permute_block(words: &[u64x8; VECTORS]) -> [u64x8; VECTORS]
 ///
 /// It is not inlined: a copy of this much code at each caller costs more.
 #[inline(never)]
+#[tactic(auto, using(crate::proofs::Stores::compressed))]
 fn fill_words(
     prev: &[u64; QWORDS_IN_BLOCK],
     reference: &[u64; QWORDS_IN_BLOCK],

@@ -4,8 +4,7 @@ ghost use Rattle.std.specs.Prelude.{◌≡◌, ◌<◌, ◌^◌, ℕ, List, leng
 ghost use Rattle.std.specs.Simd.Lanes.{zip2, Each1};
 ghost use Rattle.std.specs.Int.{w64, rotate_right};
 ghost use Rattle.argon2_blocks.specs.Standard.Compression.{add_product, permute_p};
-ghost use Rattle.argon2_blocks.specs.Views.Lane.{half_round, lane};
-ghost use Rattle.argon2_blocks.specs.Views.Spread.{two_mixes};
+ghost use Rattle.argon2_blocks.specs.Views.Lanes.{half_round, lane, two_mixes};
 
 use std::simd::prelude::*;
 
@@ -46,6 +45,7 @@ fn rotate_lanes(x: u64x8, bits: u32) -> u64x8
 
 // Each lane rotated right by 32 bits: its halves change places.
 #[inline(always)]
+#[tactic(auto, using(crate::proofs::Lanes::by32))]
 fn rotate_by_32(x: u64x8) -> u64x8
     ensures { result ≡ map (λ a. rotate_right w64 a 32) x }
 {
@@ -98,6 +98,7 @@ pub(super) fn mix_two(v: [u64x8; 8]) -> [u64x8; 8]
 
 // Four of the eight mixes.
 #[inline(always)]
+#[tactic(auto, using(crate::proofs::Lanes::half_round_at))]
 fn half_round(v: [u64x8; 16]) -> [u64x8; 16]
     ensures { (i : ℕ) → i < 8 → lane i result ≡ half_round (lane i v) }
 {
@@ -114,6 +115,7 @@ fn half_round(v: [u64x8; 16]) -> [u64x8; 16]
 
 // All eight mixes: the diagonals are turned into columns and back.
 #[inline(always)]
+#[tactic(auto, using(crate::proofs::Lanes::round_at))]
 fn round(v: [u64x8; 16]) -> [u64x8; 16]
     ensures { (i : ℕ) → i < 8 → lane i result ≡ permute_p (lane i v) }
 {

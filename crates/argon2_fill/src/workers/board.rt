@@ -5,9 +5,8 @@
 //! lanes and boards state what the fill relies on, and what no type states is checked when it runs.
 
 ghost use Rattle.std.specs.Prelude.{◌≡◌, ◌<◌, ◌↔◌, IfErr, IfOk, IsOk, ◌+◌, ◌*◌, ◌^◌, ◌≤◌, ◌++◌, ◌∷◌, [], IfNone, IfSome, IsTrue, None, OnErr, OnOk, Some, length, map, replicate, slice_get, slice_set, true};
-ghost use Rattle.argon2_fill.specs.Views.Boards.{IsReady-prop, AllDone, AreReady, HoldSlice, NoneOut};
+ghost use Rattle.argon2_fill.specs.Views.Boards.{IsReady-prop, AllDone, AreReady, HoldSlice, NoneOut, least_waiting, replay};
 ghost use Rattle.argon2_memory.specs.Views.Segments.{IsReady, segment_at};
-ghost use Rattle.argon2_fill.specs.Views.Replay.{least_waiting, replay};
 
 use argon2_memory::job::Job;
 use argon2_memory::segment::{Segment, Snapshot, fill_segment};
@@ -169,7 +168,7 @@ impl Model for Board {
 
     ghost Value = { BoardValue };
 
-    ghost use Rattle.argon2_fill.specs.Views.Slots.{IsBoard, board_of};
+    ghost use Rattle.argon2_fill.specs.Views.Boards.{IsBoard, board_of};
 
     ghost view = { board_of };
 

@@ -1,8 +1,7 @@
 //! The workers of one slice: which may be started, what each of them does, and how they are joined.
 
 ghost use Rattle.std.specs.Prelude.{◌≡◌, ◌↔◌, ◌+◌, ◌^◌, ◌<◌, IsTrue, ◌≤◌, true, IfErr, IfOk};
-ghost use Rattle.argon2_fill.specs.Views.Permits.{PermitsAll};
-ghost use Rattle.argon2_fill.specs.Views.Boards.{AllDone, NoneOut};
+ghost use Rattle.argon2_fill.specs.Views.Boards.{PermitsAll, AllDone, NoneOut};
 
 use crate::stack_wiping::wipe_stack;
 use crate::workers::board::{Board, Gate, is_filled, put_lane, take_lane};

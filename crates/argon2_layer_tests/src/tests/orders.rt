@@ -2,7 +2,7 @@
 
 ghost use Rattle.std.specs.Prelude.{◌<◌, length};
 
-use super::shared::{TAGS, Tested, rfc9106};
+use super::{TAGS, Tested, rfc9106};
 use Order::{LaneAfterLane, LastLaneFirst, OneBlockOfEachLane};
 use argon2_blocks::blake2b::hprime;
 use argon2_blocks::block::{Block, fill_block};

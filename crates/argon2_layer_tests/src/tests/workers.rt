@@ -8,12 +8,9 @@ ghost use Rattle.argon2_memory.specs.Views.Memories.{AreSlices, segments_of};
 ghost use Rattle.argon2_memory.specs.Views.Places.{places_in, AreFilledBelow};
 
 mod every_slice;
-mod lanes_put_back;
-mod meeting;
 mod overlap;
-mod starts;
 
-use super::shared::{Tested, rfc9106, two_lanes};
+use super::{Tested, rfc9106, two_lanes};
 use argon2_fill::fill::{fill_slice_in_turn, initialize, prepare_memory};
 use argon2_fill::workers::{
     Board, Claim, Event, Filled, NoGate, Permit, Place, board_of, fill_slice, fill_slice_with,

@@ -3,10 +3,9 @@ use Rattle.std.specs.Prelude.{◌≡◌, ◌≢◌, ℕ, ◌*◌, ◌/◌, ◌%�
 use Rattle.std.specs.List.{AllByRecursion}
 use Rattle.argon2_standard.specs.Standard.Setting.{Setting, Position}
 use Rattle.argon2_memory.specs.Views.Jobs.{IsSetting}
-use Rattle.argon2_memory.specs.Theorems.Matrix.{Matrix, IsBegun}
+use Rattle.argon2_memory.specs.Theorems.Schedule.{Matrix, IsBegun, IsSchedule, IsWrittenIn, Progress, after_slices, next_position, pick_from, progress, reads_from}
 use Rattle.argon2_memory.specs.Standard.Kept.{HoldsLastPass}
 use Rattle.argon2_standard.specs.Standard.Recurrence.{block_at}
-use Rattle.argon2_memory.specs.Theorems.Schedule.{IsSchedule, IsWrittenIn, Progress, after_slices, next_position, pick_from, progress, reads_from}
 
 -- a run of a setting: a schedule for each slice, over a matrix that holds the first two blocks of
 -- each lane and anything elsewhere

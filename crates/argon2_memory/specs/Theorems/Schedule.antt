@@ -1,11 +1,26 @@
--- Filling one shared matrix, block by block, in the order of a schedule.
-use Rattle.std.specs.Prelude.{◌≡◌, ℕ, zero, suc, ◌+◌, ◌-◌, ◌*◌, ◌/◌, ◌%◌, ◌<◌, ◌≤◌, ◌==◌, ◌&&◌, nat_lt, if◌then◌else◌, List, [], ◌∷◌, slice_index}
-use Rattle.std.specs.List.{fold, count_by, AllByRecursion}
-use Rattle.argon2_memory.specs.Theorems.Matrix.{Matrix, matrix_with}
+-- What a memory holds, and schedules that fill it.
+use Rattle.std.specs.Prelude.{◌≡◌, ℕ, ◌<◌, ◌==◌, ◌&&◌, if◌then◌else◌, List, zero, suc, ◌+◌, ◌-◌, ◌*◌, ◌/◌, ◌%◌, ◌≤◌, nat_lt, [], ◌∷◌, slice_index}
 use Rattle.argon2_standard.specs.Standard.Setting.{Setting, Position, slice_of}
+use Rattle.argon2_standard.specs.Standard.Recurrence.{first_block, address_word, combines, made_block}
+use Rattle.std.specs.List.{fold, count_by, AllByRecursion}
 use Rattle.argon2_memory.specs.Views.Jobs.{first_written}
 use Rattle.argon2_standard.specs.Standard.Reference.{is_data_independent, previous, pick}
-use Rattle.argon2_standard.specs.Standard.Recurrence.{address_word, combines, made_block}
+
+-- ---- what a memory holds at each lane and column, whatever the pass
+
+abbrev pub Matrix : Type 0
+Matrix = ℕ → ℕ → List ℕ
+
+-- the matrix with one block written
+abbrev pub matrix_with : Matrix → ℕ → ℕ → List ℕ → Matrix
+matrix_with matrix lane column block = λ l c. if (l == lane) && (c == column) then block else matrix l c
+
+-- the first two blocks of each lane are in the matrix
+abbrev pub IsBegun : Setting → Matrix → Type 0
+IsBegun s matrix = (lane column : ℕ) → lane < s.lanes → column < 2 →
+    matrix lane column ≡ first_block s (record { pass = 0; lane = lane; column = column })
+
+-- ---- filling one shared matrix, block by block, in the order of a schedule
 
 -- how many blocks each lane writes in a slice
 abbrev pub blocks_in_slice : Setting → ℕ → ℕ → ℕ

@@ -1,10 +1,15 @@
--- What a segment, one lane's part of a slice, holds, and how it keeps its blocks.
-use Rattle.std.specs.Prelude.{◌≡◌, ℕ, zero, suc, ◌+◌, ◌-◌, ◌*◌, ◌%◌, ◌^◌, ◌<◌, ◌≤◌, List, [], ◌++◌, map, length, replicate, slice_index_or, slice_set, take}
+-- Segments of the memory, and where a block is read from.
+use Rattle.std.specs.Prelude.{◌≡◌, ℕ, zero, suc, ◌+◌, ◌-◌, ◌*◌, ◌%◌, ◌^◌, ◌<◌, ◌≤◌, List, [], ◌++◌, map, length, replicate, slice_index_or, slice_set}
+use Rattle.std.specs.Prelude.{take}
 use Rattle.std.specs.List.{range_with_len}
 use Rattle.argon2_blocks.specs.Standard.Block.{zero_block}
 use Rattle.argon2_standard.specs.Standard.Setting.{Setting}
 use Rattle.argon2_standard.specs.Standard.Recurrence.{block_at}
 use Rattle.argon2_memory.specs.Standard.Kept.{SegmentValue}
+use Rattle.argon2_memory.specs.declared.segment.own_blocks.Source.{Source}
+use Rattle.argon2_memory.specs.declared.segment.own_blocks.Source.TheVariants.{Own, Other}
+
+-- ---- what a segment, one lane's part of a slice, holds, and how it keeps its blocks
 
 -- ---- the blocks of a pass
 
@@ -53,3 +58,15 @@ pub record IsMadeInPart (made : List (List ℕ)) (count capacity zeros : ℕ) : 
   pub room : count + zeros ≤ capacity
   pub some : 0 < zeros → 0 < count
   pub last : 0 < zeros → slice_index_or made (count - 1) [] ≡ zero_block
+
+-- ---- the block that a source names
+
+-- one of the segment's own blocks, or the other one
+abbrev pub source_block : List (List ℕ) → Source → List ℕ
+source_block blocks (Own index) = slice_index_or blocks index []
+source_block blocks (Other block) = block.now
+
+-- an own block comes before the index
+abbrev pub IsBefore : ℕ → Source → Type 0
+IsBefore index (Own at) = at < index
+IsBefore index (Other block) = Unit {0}

@@ -6,8 +6,7 @@ ghost use Rattle.argon2_memory.specs.Views.Filling.{FillsOn, IsFilledTo, IsSnaps
 ghost use Rattle.argon2_memory.specs.Views.References.{IsPicked, reference_of};
 ghost use Rattle.argon2_memory.specs.Views.Jobs.{position_of, first_index};
 ghost use Rattle.argon2_memory.specs.Views.Places.{FillsAmong};
-ghost use Rattle.argon2_memory.specs.Views.Segments.{IsReady, segment_at};
-ghost use Rattle.argon2_memory.specs.Views.Sources.{IsBefore, source_block};
+ghost use Rattle.argon2_memory.specs.Views.Segments.{IsReady, segment_at, IsBefore, source_block};
 ghost use Rattle.argon2_standard.specs.Standard.Recurrence.{block_at, drawn_word};
 ghost use Rattle.argon2_standard.specs.Standard.Reference.{is_data_independent};
 
@@ -193,6 +192,7 @@ fn fill_blocks<S: OtherBlocks, O: OwnBlocks>(
 }
 
 /// Fills a lane's segment of the job's slice.
+#[tactic(auto, using(crate::proofs::Filled::filled_none, crate::proofs::Filled::filled_all))]
 fn fill_own<S: OtherBlocks, O: OwnBlocks>(beside: &Beside<S>, lane: u32, own: &mut O)
     requires lane_fits { lane < beside.now.job.setting.lanes }
     requires long { length (O.seen own.old).blocks ≡ beside.now.job.setting.segment_length }
@@ -215,6 +215,7 @@ fn fill_own<S: OtherBlocks, O: OwnBlocks>(beside: &Beside<S>, lane: u32, own: &m
 }
 
 /// Fills a lane's segment of the job's slice.
+#[tactic(auto, using(crate::proofs::Filled::filled_none))]
 pub fn fill_segment(snapshot: &Snapshot<'_>, lane: u32, segment: &mut Segment)
     requires lane_fits { lane < snapshot.now.job.setting.lanes }
     requires ready { IsReady snapshot.now.job.setting snapshot.now.job.pass snapshot.now.job.slice

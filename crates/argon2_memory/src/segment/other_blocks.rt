@@ -5,7 +5,7 @@ ghost use Rattle.std.specs.List.{remove};
 ghost use Rattle.argon2_memory.specs.Views.Filling.{IsAround, slices_of_blocks, SnapshotValue, IsBeside, other_blocks, block_seen};
 ghost use Rattle.argon2_memory.specs.Views.Jobs.{position_of, first_index};
 ghost use Rattle.argon2_memory.specs.Standard.Kept.{segment_in};
-ghost use Rattle.argon2_memory.specs.Views.Sources.{IsBefore, source_block};
+ghost use Rattle.argon2_memory.specs.Views.Segments.{IsBefore, source_block};
 ghost use Rattle.argon2_standard.specs.Standard.Setting.{lane_length};
 ghost use Rattle.argon2_standard.specs.Standard.Reference.{previous};
 
@@ -207,6 +207,7 @@ fn previous_column(job: &Job, index: u32) -> u32
 }
 
 /// The block before the one at an index, as the lane that is filled sees it.
+#[tactic(auto, using(crate::proofs::Filled::seen_before))]
 pub(super) fn source_before<'a, S: OtherBlocks>(
     beside: &'a Beside<S>,
     lane: u32,

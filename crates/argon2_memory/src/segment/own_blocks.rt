@@ -3,9 +3,8 @@
 
 ghost use Rattle.std.specs.Prelude.{◌≡◌, ◌+◌, ◌%◌, ◌^◌, ◌<◌, ◌≤◌, [], IfOk, length, replicate, slice_index_or, slice_set, vec_capacity, vec_len};
 ghost use Rattle.argon2_blocks.specs.Standard.Block.{zero_block};
-ghost use Rattle.argon2_memory.specs.Views.Segments.{wiped_segment, zero_segment, with_block, IsMadeInPart, with_zeros};
+ghost use Rattle.argon2_memory.specs.Views.Segments.{wiped_segment, zero_segment, with_block, IsMadeInPart, with_zeros, IsBefore, source_block};
 ghost use Rattle.argon2_standard.specs.Standard.Recurrence.{made_block};
-ghost use Rattle.argon2_memory.specs.Views.Sources.{IsBefore, source_block};
 
 use argon2_blocks::block::{Block, fill_block};
 use std::alloc::{AllocError, Global};

@@ -3,8 +3,8 @@ use Rattle.std.specs.Fmt.{digits}
 use Rattle.argon2_standard.specs.declared.variant.Variant.TheVariants.{Argon2id}
 use Rattle.argon2_standard.specs.declared.version.Version.TheVariants.{Version13}
 use Rattle.argon2_standard.specs.Standard.Text.{text_of}
-use Rattle.argon2_text.proofs.Reading.TextItems.{length-base64}
-use Rattle.argon2_text.proofs.Writing.TextLengths.{length-text_of}
+use Rattle.argon2_text.proofs.Items.{length-base64}
+use Rattle.argon2_text.proofs.Writing.{length-text_of}
 use Rattle.argon2_scheduled.proofs.main.Goals as goal
 
 -- the length of the encoded hash of 32 bytes with 16 bytes of salt

@@ -7,11 +7,10 @@
 mod allocates_nothing;
 mod hashing;
 mod limits;
-mod matrix;
-mod reusable_buffer;
+mod memory;
 mod verifying;
 
-use super::shared::rfc9106;
+use super::rfc9106;
 use argon2::{Config, Error, ThreadMode, Variant};
 use std::io::Print;
 use std::process::Abort;

@@ -2,7 +2,7 @@
 
 ghost use Rattle.std.specs.Prelude.{◌==◌, not, true};
 
-use super::shared::{rfc9106, small};
+use super::{rfc9106, small};
 use argon2::parts::board::{NoGate, Permit};
 use argon2::parts::context::Context;
 use argon2::parts::encoding::decode_string;

@@ -24,7 +24,7 @@ fn characters(len: u64) -> u64
 
 /// The length of the unpadded base64 (RFC 4648) of `len` bytes. It is in 64 bits, since four times
 /// a length may not fit 32.
-#[tactic(auto, using(crate::proofs::Writing::TextLengths::lengths))]
+#[tactic(auto, using(crate::proofs::Writing::lengths))]
 pub fn base64_len(len: u32) -> u64
     ensures value { result ≡ unpadded_len len }
     ensures exact { (bytes : List ℕ) → length bytes ≡ len → result ≡ length (base64 bytes) }
@@ -74,7 +74,7 @@ pub fn encoded_len(
 }
 
 /// The length of an encoded hash whose tag may be longer than any that the settings table accepts.
-#[tactic(auto, using(crate::proofs::Writing::TextLengths::lengths))]
+#[tactic(auto, using(crate::proofs::Writing::lengths))]
 pub fn text_len(
     variant: Variant,
     mem_cost: u32,

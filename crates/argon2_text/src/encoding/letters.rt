@@ -43,7 +43,7 @@ fn tail_faults(tail: &[u8]) -> u32
 
 /// How many bytes an unpadded base64 string encodes. It decodes none, so that lengths can be
 /// checked before memory is allocated.
-#[tactic(auto, using(crate::proofs::Writing::TextLengths::lengths))]
+#[tactic(auto, using(crate::proofs::Writing::lengths))]
 pub fn item_len(text: &str) -> u64
     ensures value { result ≡ 3 * length text.now / 4 }
     ensures exact { (bytes : List ℕ) → IsItem text.now bytes → result ≡ length bytes }
@@ -103,7 +103,7 @@ fn fault(letter: u8) -> u32
 }
 
 /// How many of four characters are not base64, gathered to the end.
-#[tactic(auto, using(crate::proofs::Letters::LetterSums::group_faults))]
+#[tactic(auto, using(crate::proofs::Letters::group_faults))]
 fn group_faults(group: &[u8]) -> u32
     requires { length group.now ≡ 4 }
     ensures value { result ≡ faults_of group.now }
@@ -113,6 +113,7 @@ fn group_faults(group: &[u8]) -> u32
 }
 
 /// The three bytes of four characters.
+#[tactic(auto, using(crate::proofs::Letters::placed), unfolding(crate::specs::Views::Letters::bytes_read))]
 pub fn three_bytes(group: &[u8]) -> [u8; 3]
     requires { length group.now ≡ 4 }
     ensures { result ≡ bytes_read group.now }
@@ -127,6 +128,7 @@ pub fn three_bytes(group: &[u8]) -> [u8; 3]
 }
 
 /// The four characters of three bytes.
+#[tactic(auto, using(crate::proofs::Letters::three_written))]
 pub fn four_letters(group: &[u8]) -> [u8; 4]
     requires { length group.now ≡ 3 }
     ensures { result ≡ base64 group.now }

@@ -147,7 +147,7 @@ fn version_piece(text: &str) -> Option<(Option<&str>, &str)>
 }
 
 /// What is after `front`: `strip_prefix`, apart so that other proofs go by the definition's words.
-#[tactic(auto, using(crate::proofs::Reading::TextCuts::strip_gives))]
+#[tactic(auto, using(crate::proofs::Pieces::strip_gives))]
 fn strip<'a>(text: &'a str, front: &str) -> Option<&'a str>
     ensures { option_map (λ x. x.now) result ≡ strip front.now text.now }
 {
@@ -195,7 +195,7 @@ fn version_of(piece: Option<&str>) -> Option<Version>
 
 /// The number that a piece names: a plus or nothing, and decimal digits. It is apart, so that other
 /// proofs go by the grammar's words and not by those of `parse`.
-#[tactic(auto, using(crate::proofs::Reading::TextNumbers::number_gives))]
+#[tactic(auto, using(crate::proofs::Pieces::number_gives))]
 fn number(text: &str) -> Option<u32>
     ensures { MatchOption result (IsNoNumber text.now) (IsNumber text.now) }
 {

@@ -14,7 +14,7 @@ use argon2_standard::version::Version;
 
 /// Writes the encoded hash that `encode_string` returns for these settings and this salt to a
 /// buffer of exactly its length.
-#[tactic(auto, using(crate::proofs::Writing::TextLengths::lengths))]
+#[tactic(auto, using(crate::proofs::Writing::lengths))]
 pub fn write_encoded(config: &Config<'_>, salt: &[u8], hash: &[u8], text: &mut [u8])
     requires { length text.old ≡ length (text_of (spelled_of config.now salt.now hash.now)) }
     ensures { text.new ≡ text_of (spelled_of config.now salt.now hash.now) }
@@ -58,7 +58,7 @@ fn put_front(text: &mut [u8], config: &Config<'_>) -> usize
 }
 
 /// Puts the number of a version behind the first `at` bytes of a buffer. Returns where it ends.
-#[tactic(auto, using(crate::proofs::Writing::TextLengths::lengths))]
+#[tactic(auto, using(crate::proofs::Writing::lengths))]
 fn put_version(text: &mut [u8], at: usize, version: Version) -> usize
     requires { at + 2 ≤ length text.old }
     ensures end { result ≡ at + 2 }

@@ -2,8 +2,8 @@
 use Rattle.std.proofs.Common.{◌∙◌, ap, Err}
 use Rattle.std.proofs.lemmas.Result.{err_from_is_err_and}
 use Rattle.argon2_text.specs.Views.Texts.{spelled_by}
-use Rattle.argon2.proofs.Verification.StoredHashes.{not_agreeing, refuses_some, refuses_nothing}
-use Rattle.argon2.proofs.TextTheorems.TextSpellings.{spells_one}
+use Rattle.argon2.proofs.StoredHashes.{not_agreeing, refuses_some, refuses_nothing}
+use Rattle.argon2.proofs.Texts.{spells_one}
 use Rattle.argon2.proofs.rehashing.needs_rehash.Goals as goal
 
 pub returns-in_err-stored-clause-unspelled : goal.returns-in_err-stored-clause-unspelled

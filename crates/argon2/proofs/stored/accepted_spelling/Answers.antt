@@ -1,7 +1,7 @@
 -- The head of a string that decodes to a value is rejected as the value is.
 use Rattle.std.proofs.lemmas.Option.{MatchOption-at_none, MatchOption-at_some}
 use Rattle.argon2_text.specs.Views.Texts.{IsSpellingOf}
-use Rattle.argon2.proofs.Verification.StoredHashes.{head_accepted, head_rejected, spells_some}
+use Rattle.argon2.proofs.StoredHashes.{head_accepted, head_rejected, spells_some}
 use Rattle.argon2.proofs.stored.accepted_spelling.Goals as goal
 
 pub returns-in_err-head-clause-spelled : goal.returns-in_err-head-clause-spelled

@@ -3,7 +3,7 @@ use Rattle.std.proofs.Common.{◌≡◌}
 use Rattle.std.proofs.lemmas.Result.{err_from_is_err_and}
 use Rattle.argon2_text.specs.declared.decoded.Decoded.{Decoded}
 use Rattle.argon2_text.specs.Views.Texts.{spelled_by}
-use Rattle.argon2.proofs.Verification.StoredHashes.{refused_too, text_decoded}
+use Rattle.argon2.proofs.StoredHashes.{refused_too, text_decoded}
 use Rattle.argon2.proofs.stored.accepted_text.Goals as goal
 
 pub returns-in_err-head-clause-spelled : goal.returns-in_err-head-clause-spelled

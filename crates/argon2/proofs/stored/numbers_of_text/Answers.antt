@@ -1,7 +1,7 @@
 -- The head of a string has the numbers of each value that the string decodes to.
 use Rattle.std.proofs.Common.{Ok, ap, sym, ◌∙◌}
 use Rattle.argon2_text.specs.Views.Texts.{numbers_of}
-use Rattle.argon2.proofs.Verification.StoredHashes.{spelled_at, spells_some}
+use Rattle.argon2.proofs.StoredHashes.{spelled_at, spells_some}
 use Rattle.argon2.proofs.stored.numbers_of_text.Goals as goal
 
 pub returns-in-None-clause-spelled : goal.returns-in-None-clause-spelled

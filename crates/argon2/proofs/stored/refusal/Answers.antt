@@ -1,7 +1,7 @@
 use Rattle.std.proofs.Common.{ap, sym, ◌∙◌}
 use Rattle.argon2_text.specs.declared.numbers.Numbers.{Numbers}
 use Rattle.argon2_text.specs.Views.Texts.{spelled_with}
-use Rattle.argon2.proofs.Verification.StoredHashes.{error_found}
+use Rattle.argon2.proofs.StoredHashes.{error_found}
 use Rattle.argon2.proofs.stored.refusal.Goals as goal
 
 pub returns : goal.returns

@@ -1,8 +1,5 @@
-use Rattle.argon2.proofs.TextTheorems.TextMarks.{head_has_items}
-use Rattle.argon2.proofs.TextTheorems.TextSpellings.{spells_one}
-use Rattle.argon2.proofs.TextTheorems.TextVerdicts.{hashed_text_verifies}
-use Rattle.argon2.proofs.TextTheorems.TextWritten.{is_joined_items, spells_example, spells_own_value, writes_example}
-use Rattle.argon2.proofs.Verification.Verdicts.{length_is_the_hash, own_tag_verifies, tag_forgets_mode}
+use Rattle.argon2.proofs.Texts.{head_has_items, spells_one, is_joined_items, spells_example, spells_own_value, writes_example}
+use Rattle.argon2.proofs.Verdicts.{hashed_text_verifies, length_is_the_hash, own_tag_verifies, tag_forgets_mode}
 use Rattle.argon2.proofs.theorems.laws.Goals as goal
 
 pub returns : goal.returns

@@ -1,5 +1,5 @@
 use Rattle.std.proofs.lemmas.Bool.{eqb-true, eq-eqb}
-use Rattle.argon2.proofs.Verification.Verdicts.{difference-zero}
+use Rattle.argon2.proofs.Verdicts.{difference-zero}
 use Rattle.argon2.proofs.verifying.are_equal.Goals as goal
 use Rattle.std.proofs.Common.{sym, ◌∙◌}
 

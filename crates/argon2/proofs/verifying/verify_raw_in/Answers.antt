@@ -1,6 +1,6 @@
 use Rattle.argon2_standard.specs.Standard.ThreadModes.{may_lack_workers}
-use Rattle.argon2.proofs.Verification.Memories.{leaves_of_length}
-use Rattle.argon2.proofs.Verification.Verdicts.{verdict_of_length}
+use Rattle.argon2.proofs.StoredHashes.{leaves_of_length}
+use Rattle.argon2.proofs.Verdicts.{verdict_of_length}
 use Rattle.argon2.proofs.verifying.verify_raw_in.Goals as goal
 
 pub returns-in-Ok-clause-answer : goal.returns-in-Ok-clause-answer

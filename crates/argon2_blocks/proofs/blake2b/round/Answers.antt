@@ -1,6 +1,6 @@
 use Rattle.std.proofs.Common.{◌∙◌, ap}
 use Rattle.argon2_blocks.specs.Views.Rounds.{half_of_round}
-use Rattle.argon2_blocks.proofs.Hashing.Rounds.{round_by_halves}
+use Rattle.argon2_blocks.proofs.Hashing.{round_by_halves}
 use Rattle.argon2_blocks.proofs.blake2b.round.Goals as goal
 
 pub returns : goal.returns

@@ -1,6 +1,6 @@
 use Rattle.std.proofs.Common.{ap, arith, length, sym, ◌∙◌}
 use Rattle.argon2_blocks.specs.Standard.Word.{words_of}
-use Rattle.argon2_blocks.proofs.WordLists.Bytes.{bytes_of_all, bytes_of_more, bytes_of_none, words_of-bytes_of}
+use Rattle.argon2_blocks.proofs.WordLists.{bytes_of_all, bytes_of_more, bytes_of_none, words_of-bytes_of}
 use Rattle.argon2_blocks.proofs.blake2b.write_words.Goals as goal
 
 pub loop-i-init : goal.loop-i-init

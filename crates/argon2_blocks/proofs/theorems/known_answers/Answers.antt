@@ -1,5 +1,4 @@
-use Rattle.argon2_blocks.proofs.Hashing.KnownAnswers.{compresses_one_bit, compresses_zeros, hashes_abc, hashes_nothing, hashes_to_100_bytes}
-use Rattle.argon2_blocks.proofs.Hashing.KnownAnswers.{hashes_to_16_bytes, hashes_two_blocks}
+use Rattle.argon2_blocks.proofs.KnownAnswers.{compresses_one_bit, compresses_zeros, hashes_abc, hashes_nothing, hashes_to_100_bytes, hashes_to_16_bytes, hashes_two_blocks}
 use Rattle.argon2_blocks.proofs.theorems.known_answers.Goals as goal
 
 pub returns : goal.returns

@@ -1,7 +1,6 @@
 -- The settings' own configuration has no secret and no data, as any that is asked about.
 use Rattle.std.proofs.Common.{length, refl, sym, arith, ◌∙◌}
-use Rattle.argon2_c.proofs.Inputs.{other_inputs, same_error}
-use Rattle.argon2_c.proofs.Lengths.{accepted_salt}
+use Rattle.argon2_c.proofs.JobNumbers.{other_inputs, same_error, accepted_salt}
 use Rattle.argon2_c.proofs.encoding.encode.Goals as goal
 
 pub write_tag_text-requires : goal.write_tag_text-requires

@@ -6,8 +6,7 @@ use Rattle.argon2_c.specs.CallerBlocks.{HashesJob, JudgesJob, BlocksAndTag}
 use Rattle.argon2_c.specs.Runs.{IsMade, IsRun, slice_at}
 use Rattle.argon2_c.specs.declared.jobs.CallerJob.{CallerJob}
 use Rattle.argon2_c.specs.declared.errors.CallError.TheVariants.{Mismatch}
-use Rattle.argon2_c.proofs.Runs.{called_match, called_mismatch, called_tag, made_match, made_mismatch, made_tag}
-use Rattle.argon2_c.proofs.Turns.{run_of_turns}
+use Rattle.argon2_c.proofs.Runs.{called_match, called_mismatch, called_tag, made_match, made_mismatch, made_tag, run_of_turns}
 use Rattle.argon2_c.proofs.job_calls.any_order_of_steps.Goals as goal
 
 pub returns-clause-turns : goal.returns-clause-turns

@@ -3,9 +3,9 @@ use Rattle.std.proofs.Common.{Err, length, refl, sym, ap, ◌∙◌}
 use Rattle.std.proofs.lemmas.Result.{err_from_is_err_and}
 use Rattle.argon2_text.specs.Views.Texts.{spelled_with}
 use Rattle.argon2_standard.specs.Standard.Decoded.{decoded_config}
-use Rattle.argon2.proofs.Verification.StoredHashes.{is_stored, own_length, stored_accepted}
-use Rattle.argon2_text.proofs.Reading.TextItems.{item_unique}
-use Rattle.argon2_c.proofs.StoredJobs.{made_job, with_items}
+use Rattle.argon2.proofs.StoredHashes.{is_stored, own_length, stored_accepted}
+use Rattle.argon2_text.proofs.Items.{item_unique}
+use Rattle.argon2_c.proofs.JobNumbers.{made_job, with_items}
 use Rattle.argon2_c.proofs.jobs.make_of_head.Goals as goal
 
 pub returns-in-Some : goal.returns-in-Some

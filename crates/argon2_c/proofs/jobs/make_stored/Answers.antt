@@ -1,4 +1,4 @@
-use Rattle.argon2_c.proofs.Heads.{by_head, no_head}
+use Rattle.argon2_c.proofs.JobNumbers.{by_head, no_head}
 use Rattle.argon2_c.proofs.jobs.make_stored.Goals as goal
 
 pub make_of_head-requires-clause-salt_item : goal.make_of_head-requires-clause-salt_item

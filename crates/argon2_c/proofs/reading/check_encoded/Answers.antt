@@ -1,6 +1,6 @@
 use Rattle.std.proofs.Common.{refl, sym, ◌∙◌}
 use Rattle.argon2_text.specs.Views.Texts.{spelled_with}
-use Rattle.argon2_c.proofs.Heads.{by_head, no_head}
+use Rattle.argon2_c.proofs.JobNumbers.{by_head, no_head}
 use Rattle.argon2_c.proofs.reading.check_encoded.Goals as goal
 
 pub returns-in_err-head : goal.returns-in_err-head

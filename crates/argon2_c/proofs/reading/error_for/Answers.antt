@@ -3,8 +3,8 @@ use Rattle.std.proofs.Common.{◌≡◌, false, refl, rules, sym, true, ap, ◌�
 use Rattle.argon2.specs.Standard.Limits.{is_too_costly}
 use Rattle.argon2_standard.specs.Standard.Decoded.{decoded_config}
 use Rattle.argon2_text.specs.declared.numbers.Numbers.{Numbers}
-use Rattle.argon2.proofs.Verification.StoredHashes.{error_found}
-use Rattle.argon2_c.specs.Limits.{limits_of}
+use Rattle.argon2.proofs.StoredHashes.{error_found}
+use Rattle.argon2_c.specs.Settings.{limits_of}
 use Rattle.argon2_c.proofs.reading.error_for.Goals as goal
 
 pub returns-then-is_above : goal.returns-then-is_above

@@ -2,8 +2,7 @@
 use Rattle.std.proofs.Common.{Err, ap, ◌∙◌}
 use Rattle.std.proofs.lemmas.Result.{err_from_is_err_and}
 use Rattle.argon2_text.specs.Views.Texts.{spelled_with}
-use Rattle.argon2_c.proofs.Heads.{by_head, no_head}
-use Rattle.argon2_c.proofs.Inputs.{agrees_with, agrees_without, no_inputs, other_inputs}
+use Rattle.argon2_c.proofs.JobNumbers.{by_head, no_head, agrees_with, agrees_without, no_inputs, other_inputs}
 use Rattle.argon2_c.proofs.reading.needs_rehash.Goals as goal
 
 pub returns-in_err-config : goal.returns-in_err-config

@@ -1,4 +1,4 @@
-use Rattle.argon2_c.proofs.Heads.{by_head, no_head}
+use Rattle.argon2_c.proofs.JobNumbers.{by_head, no_head}
 use Rattle.argon2_c.proofs.reading.read_bytes.Goals as goal
 
 pub read_items-requires-clause-salt_item : goal.read_items-requires-clause-salt_item

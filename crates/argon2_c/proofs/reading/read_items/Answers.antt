@@ -1,6 +1,6 @@
 -- What is read of an item is all that it holds.
 use Rattle.std.proofs.Common.{refl, ◌∙◌}
-use Rattle.argon2_text.proofs.Reading.TextItems.{item_unique}
+use Rattle.argon2_text.proofs.Items.{item_unique}
 use Rattle.argon2_c.proofs.reading.read_items.Goals as goal
 
 pub returns-clause-answer : goal.returns-clause-answer

@@ -1,8 +1,8 @@
 use Rattle.std.proofs.Common.{◌≡◌, false, refl, sym, true, ◌∙◌}
 use Rattle.argon2.specs.Standard.Limits.{is_too_costly}
 use Rattle.argon2_text.specs.Views.Texts.{spelled_with}
-use Rattle.argon2_c.specs.Limits.{limits_of}
-use Rattle.argon2_c.proofs.Heads.{by_head, no_head}
+use Rattle.argon2_c.specs.Settings.{limits_of}
+use Rattle.argon2_c.proofs.JobNumbers.{by_head, no_head}
 use Rattle.argon2_c.proofs.reading.read_within.Goals as goal
 
 pub returns-in_err-head : goal.returns-in_err-head

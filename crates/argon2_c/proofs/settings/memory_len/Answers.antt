@@ -1,6 +1,6 @@
 -- Accepted settings have some lanes, and few.
 use Rattle.std.proofs.Common.{arith, refl, sym, ◌∙◌}
-use Rattle.argon2_standard.proofs.Settings.Accepted.{accepted}
+use Rattle.argon2_standard.proofs.Settings.{accepted}
 use Rattle.argon2_c.proofs.settings.memory_len.Goals as goal
 
 pub overflow_mul-segments : goal.overflow_mul-segments

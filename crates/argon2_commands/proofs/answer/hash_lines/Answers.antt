@@ -1,6 +1,6 @@
 use Rattle.std.proofs.Common.{◌≡◌, length}
 use Rattle.argon2_standard.specs.Standard.SettingsTable.{table_error}
-use Rattle.argon2_commands.proofs.Faults.{at_accepted}
+use Rattle.argon2_commands.proofs.Statuses.{at_accepted}
 use Rattle.argon2_commands.proofs.answer.hash_lines.Goals as goal
 
 pub returns-in-Ok-clause-lines : goal.returns-in-Ok-clause-lines

@@ -2,9 +2,8 @@ use Rattle.std.proofs.Common.{arith, ◌≡◌, ◌+◌, ◌∷◌, ◌++◌, []
 use Rattle.std.proofs.lemmas.List.{map_push}
 use Rattle.std.specs.Prelude.{string_bytes}
 use Rattle.std.specs.Result.{IsOk}
-use Rattle.argon2_commands.specs.CommandLine.{IsArgument}
-use Rattle.argon2_commands.specs.Words.{texts_of}
-use Rattle.argon2_commands.proofs.Reading.{IsReadTo, all_read, no_text, none_read, one_more}
+use Rattle.argon2_commands.specs.Words.{IsArgument, texts_of}
+use Rattle.argon2_commands.proofs.Passwords.{IsReadTo, all_read, no_text, none_read, one_more}
 use Rattle.argon2_commands.proofs.command_line.arguments.Goals as goal
 
 pub returns-in_default-clause-all : goal.returns-in_default-clause-all

@@ -1,6 +1,6 @@
 use Rattle.std.proofs.Common.{◌≤◌}
 use Rattle.argon2_commands.specs.Words.{texts_of}
-use Rattle.argon2_commands.proofs.Reading.{IsReadTo}
+use Rattle.argon2_commands.proofs.Passwords.{IsReadTo}
 use Rattle.argon2_commands.proofs.command_line.arguments.Given as goal
 
 abbrev pub invariant-loop-index : goal.invariant-loop-index

@@ -1,8 +1,7 @@
 use Rattle.std.proofs.Common.{inl, subst, sym}
-use Rattle.argon2_commands.proofs.Faults.{untouched}
-use Rattle.argon2_commands.proofs.Reading.{of_all_words}
-use Rattle.argon2_commands.specs.CommandLine.{AreWords}
-use Rattle.argon2_commands.specs.Words.{texts_of}
+use Rattle.argon2_commands.proofs.Statuses.{untouched}
+use Rattle.argon2_commands.proofs.Passwords.{of_all_words}
+use Rattle.argon2_commands.specs.Words.{AreWords, texts_of}
 use Rattle.argon2_commands.proofs.program.start.Goals as goal
 
 pub returns-in-Err-clause-written : goal.returns-in-Err-clause-written

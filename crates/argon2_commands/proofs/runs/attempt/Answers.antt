@@ -2,12 +2,10 @@ use Rattle.std.proofs.Common.{◌≡◌, Err, ap, inl, inr, sym, subst, ◌∙�
 use Rattle.std.specs.Io.KnownBytes.{Appends}
 use Rattle.std.proofs.lemmas.Result.{IfOk-from_err, err_from_is_err_and}
 use Rattle.argon2_commands.specs.Fault.{IsBeforeOutput}
-use Rattle.argon2_commands.specs.Output.{AppendsFront}
+use Rattle.argon2_commands.specs.Run.{AppendsFront}
 use Rattle.argon2_commands.specs.Words.{texts_of}
 use Rattle.argon2_commands.specs.declared.fault.Fault.TheVariants.{Usage, Refused, TooCostly}
-use Rattle.argon2_commands.proofs.Attempts.{answer_is_no_usage, output_is_not, same_error, status_is_no_usage}
-use Rattle.argon2_commands.proofs.Checks.{fails_costly, is_costly, no_answer}
-use Rattle.argon2_commands.proofs.Faults.{is_no_output, is_refused, passed_on, told, untouched}
+use Rattle.argon2_commands.proofs.Statuses.{answer_is_no_usage, output_is_not, same_error, status_is_no_usage, fails_costly, is_costly, no_answer, is_no_output, is_refused, passed_on, told, untouched}
 use Rattle.argon2_commands.proofs.runs.attempt.Goals as goal
 
 -- ---- words of no command

@@ -1,8 +1,7 @@
 use Rattle.std.proofs.Common.{sym, subst, arith}
 use Rattle.argon2_commands.specs.Fault.{IsBeforeOutput}
 use Rattle.argon2_commands.specs.Words.{texts_of}
-use Rattle.argon2_commands.proofs.Faults.{untouched}
-use Rattle.argon2_commands.proofs.Statuses.{answered_bounded, answered_not, answered_usage, at_five, at_three, at_two, fault_above, fault_bounded, no_fault, usage_status}
+use Rattle.argon2_commands.proofs.Statuses.{untouched, answered_bounded, answered_not, answered_usage, at_five, at_three, at_two, fault_above, fault_bounded, no_fault, usage_status}
 use Rattle.argon2_commands.proofs.runs.conclude.Goals as goal
 
 pub returns-in-Ok-clause-answered : goal.returns-in-Ok-clause-answered

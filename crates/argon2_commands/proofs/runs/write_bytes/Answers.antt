@@ -1,7 +1,7 @@
 use Rattle.std.proofs.Common.{ℕ, ◌≤◌, length, subst, sym, take}
 use Rattle.std.specs.Io.KnownBytes.{Appends}
 use Rattle.std.proofs.KnownBytes.{Appends-kept}
-use Rattle.argon2_commands.proofs.Writes.{one_more_piece}
+use Rattle.argon2_commands.proofs.Statuses.{one_more_piece}
 use Rattle.argon2_commands.proofs.runs.write_bytes.Goals.{in-Ok, in-Err+else-ne}
 use Rattle.argon2_commands.proofs.runs.write_bytes.Goals as goal
 

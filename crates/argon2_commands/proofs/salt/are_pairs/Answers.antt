@@ -3,7 +3,7 @@ use Rattle.std.specs.List.{AllPass}
 use Rattle.std.proofs.lemmas.List.{take_all}
 use Rattle.std.proofs.lemmas.List.Elements.{All-more}
 use Rattle.hex.specs.Hex.{is_hex_digit}
-use Rattle.argon2_commands.proofs.Digits.{no_pairs, pairs, same_test}
+use Rattle.argon2_commands.proofs.UsageErrors.{no_pairs, pairs, same_test}
 use Rattle.argon2_commands.proofs.salt.are_pairs.Goals as goal
 
 pub returns-then-not-is_ascii_hexdigit : goal.returns-then-not-is_ascii_hexdigit

@@ -3,7 +3,7 @@ use Rattle.argon2_standard.specs.Standard.Decoded.{decoded_config}
 use Rattle.argon2_standard.specs.Standard.Outcome.{IsVerdict}
 use Rattle.argon2.specs.Standard.Limits.{AnswersWithin, is_too_costly}
 use Rattle.argon2.specs.declared.limits.Limits.{Limits}
-use Rattle.argon2.proofs.Verification.StoredHashes.{within_without}
+use Rattle.argon2.proofs.StoredHashes.{within_without}
 use Rattle.argon2_examples.proofs.service.log_in.Goals as goal
 
 pub returns-clause-spelled : goal.returns-clause-spelled

@@ -1,4 +1,4 @@
-use Rattle.argon2_fill.proofs.Filling.CallerBlocks.{slice_begun}
+use Rattle.argon2_fill.proofs.CallerBlocks.{slice_begun}
 use Rattle.argon2_fill.proofs.caller_blocks.begin_segment.Goals as goal
 
 pub returns : goal.returns

@@ -1,8 +1,8 @@
 use Rattle.std.proofs.Common.{◌≡◌, ℕ, ◌+◌, ◌-◌, ◌*◌, ◌<◌, [], length, get_or, arith, ap, sym, ◌∙◌}
 use Rattle.std.proofs.lemmas.List.{get_or_default}
 use Rattle.argon2_memory.specs.Views.Places.{blocks_of_lane}
-use Rattle.argon2_memory.proofs.Filling.CallerBlocks.{get-blocks_of_lane}
-use Rattle.argon2_fill.proofs.Filling.Passes.{combine_more}
+use Rattle.argon2_memory.proofs.Slices.{get-blocks_of_lane}
+use Rattle.argon2_fill.proofs.Passes.{combine_more}
 use Rattle.argon2_fill.proofs.caller_blocks.combine_last_of_slice.Goals as goal
 
 pub loop-lane-preserved : goal.loop-lane-preserved

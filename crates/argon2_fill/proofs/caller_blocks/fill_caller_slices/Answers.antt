@@ -1,6 +1,6 @@
 use Rattle.std.proofs.Common.{◌≡◌, ◌*◌, ◌/◌, ◌%◌, [], ◌∷◌, arith}
 use Rattle.argon2_memory.specs.Views.Places.{places_of_slices}
-use Rattle.argon2_fill.proofs.Filling.Passes.{last_slices, next_slice}
+use Rattle.argon2_fill.proofs.Passes.{last_slices, next_slice}
 use Rattle.argon2_fill.proofs.caller_blocks.fill_caller_slices.Goals as goal
 
 pub loop-n-preserved : goal.loop-n-preserved

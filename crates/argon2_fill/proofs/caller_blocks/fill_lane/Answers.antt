@@ -1,5 +1,5 @@
 use Rattle.std.proofs.Common.{arith}
-use Rattle.argon2_fill.proofs.Filling.CallerBlocks.{others-stay}
+use Rattle.argon2_fill.proofs.CallerBlocks.{others-stay}
 use Rattle.argon2_fill.proofs.caller_blocks.fill_lane.Goals as goal
 
 pub returns-clause-others : goal.returns-clause-others

@@ -1,5 +1,5 @@
 use Rattle.std.proofs.Common.{[], ◌∷◌, refl, arith}
-use Rattle.argon2_fill.proofs.Filling.CallerBlocks.{filled_at}
+use Rattle.argon2_fill.proofs.CallerBlocks.{filled_at}
 use Rattle.argon2_fill.proofs.caller_blocks.fill_one_of_four.Goals as goal
 
 pub returns-in-0 : goal.returns-in-0

@@ -3,7 +3,7 @@ use Rattle.argon2_blocks.specs.Standard.Block.{block_bytes}
 use Rattle.argon2_blocks.specs.Standard.Hprime.{hprime}
 use Rattle.argon2_standard.specs.Standard.Tag.{tag_from}
 use Rattle.argon2_memory.specs.Views.Places.{blocks_of_lane}
-use Rattle.argon2_fill.proofs.Filling.Passes.{last_blocks-held}
+use Rattle.argon2_fill.proofs.Passes.{last_blocks-held}
 use Rattle.argon2_fill.proofs.caller_blocks.finalize_slice.Goals as goal
 
 pub returns-clause-hash : goal.returns-clause-hash

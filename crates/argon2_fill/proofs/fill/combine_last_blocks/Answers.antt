@@ -1,6 +1,6 @@
 use Rattle.std.proofs.Common.{◌-◌, arith, ◌∙◌}
 use Rattle.argon2_memory.specs.Views.Places.{places_in}
-use Rattle.argon2_fill.proofs.Filling.Passes.{combine_more, last_of_lane}
+use Rattle.argon2_fill.proofs.Passes.{combine_more, last_of_lane}
 use Rattle.argon2_fill.proofs.fill.combine_last_blocks.Goals as goal
 
 pub loop-lane-init : goal.loop-lane-init

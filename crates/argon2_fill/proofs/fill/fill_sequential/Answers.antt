@@ -3,8 +3,7 @@ use Rattle.argon2_memory.specs.Views.Jobs.{setting_of_context, Job}
 use Rattle.argon2_standard.specs.Standard.Setting.{memory_blocks}
 use Rattle.argon2_memory.specs.Views.Memories.{blocks_written, writes_in}
 use Rattle.argon2_memory.specs.Standard.Kept.{HasShape, SegmentValue}
-use Rattle.argon2_fill.proofs.Filling.First.{filled_begun}
-use Rattle.argon2_fill.proofs.Filling.Passes.{all_written, holds_last_pass}
+use Rattle.argon2_fill.proofs.Passes.{filled_begun, all_written, holds_last_pass}
 use Rattle.argon2_fill.proofs.fill.fill_sequential.Goals as goal
 
 pub fill_slices-requires-clause-begun : goal.fill_slices-requires-clause-begun

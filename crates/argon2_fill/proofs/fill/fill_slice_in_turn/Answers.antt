@@ -4,7 +4,7 @@ use Rattle.std.specs.Vec.{with_items}
 use Rattle.argon2_memory.specs.Theorems.Schedule.{blocks_in_slice}
 use Rattle.argon2_memory.specs.Standard.Kept.{SegmentValue}
 use Rattle.argon2_memory.specs.Views.Memories.{segments_of}
-use Rattle.argon2_memory.proofs.Filling.Slices.{is_snapshot, slices_stay, filled_next, set-writes, others-taken, put_back}
+use Rattle.argon2_memory.proofs.Slices.{is_snapshot, slices_stay, filled_next, set-writes, others-taken, put_back}
 use Rattle.argon2_fill.proofs.fill.fill_slice_in_turn.Goals as goal
 
 pub new-snapshot-requires : goal.new-snapshot-requires

@@ -1,5 +1,5 @@
 use Rattle.std.proofs.Common.{◌≡◌, ℕ, arith, ◌+◌, ◌*◌, ◌/◌, ◌%◌, ◌^◌, sym, ◌∙◌, ap}
-use Rattle.argon2_fill.proofs.Filling.Passes.{next_slice, blocks_more, add_written}
+use Rattle.argon2_fill.proofs.Passes.{next_slice, blocks_more, add_written}
 use Rattle.argon2_memory.specs.Views.Memories.{blocks_written, writes_in, segments_of}
 use Rattle.argon2_memory.specs.Views.Places.{places_in}
 use Rattle.argon2_memory.specs.Theorems.Schedule.{blocks_in_slice}

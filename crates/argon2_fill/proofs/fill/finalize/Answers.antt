@@ -4,7 +4,7 @@ use Rattle.argon2_blocks.specs.Standard.Block.{block_bytes}
 use Rattle.argon2_blocks.specs.Standard.Hprime.{hprime}
 use Rattle.argon2_memory.specs.Views.Jobs.{setting_of_context}
 use Rattle.argon2_standard.specs.Standard.Tag.{tag_from, tag_of}
-use Rattle.argon2_fill.proofs.Filling.Passes.{last_blocks-memory}
+use Rattle.argon2_fill.proofs.Passes.{last_blocks-memory}
 use Rattle.argon2_fill.proofs.fill.finalize.Goals as goal
 
 pub returns-clause-hash : goal.returns-clause-hash

@@ -1,4 +1,4 @@
-use Rattle.argon2_fill.proofs.Filling.Passes.{run_agrees}
+use Rattle.argon2_fill.proofs.Passes.{run_agrees}
 use Rattle.argon2_fill.proofs.theorems.any_order_of_lanes.Goals as goal
 
 pub returns : goal.returns

@@ -1,4 +1,4 @@
-use Rattle.argon2_fill.proofs.Filling.Turns.{every_order_of_turns}
+use Rattle.argon2_fill.proofs.Passes.{every_order_of_turns}
 use Rattle.argon2_fill.proofs.theorems.any_order_of_turns.Goals as goal
 
 pub returns : goal.returns

@@ -1,6 +1,6 @@
 use Rattle.std.proofs.Common.{◌<◌, length, arith}
 use Rattle.argon2_memory.specs.Views.Memories.{segments_of}
-use Rattle.argon2_memory.proofs.Filling.Slices.{is_snapshot, others-taken}
+use Rattle.argon2_memory.proofs.Slices.{is_snapshot, others-taken}
 use Rattle.argon2_fill.proofs.workers.board_of.Goals as goal
 
 pub returns-clause-snapshot : goal.returns-clause-snapshot

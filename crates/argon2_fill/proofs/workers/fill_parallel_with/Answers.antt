@@ -5,9 +5,8 @@ use Rattle.argon2_memory.specs.Standard.Kept.{HasShape}
 use Rattle.argon2_memory.specs.Views.Places.{places_in}
 use Rattle.std.proofs.Math.Nat.{mul-le-mul_right}
 use Rattle.std.proofs.lemmas.Bool.{cases_lt}
-use Rattle.argon2_fill.specs.Views.Permits.{PermitsAll}
-use Rattle.argon2_fill.proofs.Filling.First.{filled_begun}
-use Rattle.argon2_fill.proofs.Filling.Passes.{holds_last_pass, next_slice}
+use Rattle.argon2_fill.specs.Views.Boards.{PermitsAll}
+use Rattle.argon2_fill.proofs.Passes.{filled_begun, holds_last_pass, next_slice}
 use Rattle.argon2_fill.proofs.workers.fill_parallel_with.Goals as goal
 
 -- numbers that follow one another

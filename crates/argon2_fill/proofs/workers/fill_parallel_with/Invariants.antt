@@ -1,7 +1,7 @@
 use Rattle.std.proofs.Common.{◌*◌, ◌/◌, ◌%◌}
 use Rattle.argon2_memory.specs.Views.Memories.{AreSlices, segments_of}
 use Rattle.argon2_memory.specs.Views.Places.{places_in, AreFilledBelow}
-use Rattle.argon2_fill.specs.Views.Permits.{PermitsAll}
+use Rattle.argon2_fill.specs.Views.Boards.{PermitsAll}
 use Rattle.argon2_fill.proofs.workers.fill_parallel_with.Given as goal
 
 abbrev pub invariant-loop-n : goal.invariant-loop-n

@@ -3,7 +3,7 @@ use Rattle.argon2_fill.specs.Views.Boards.{HoldSlice}
 use Rattle.argon2_memory.specs.Views.Filling.{SnapshotValue}
 use Rattle.argon2_memory.specs.Views.Jobs.{Job}
 use Rattle.argon2_memory.specs.Views.Memories.{segments_of}
-use Rattle.argon2_memory.proofs.Filling.Slices.{slices_stay, filled_next, put_back}
+use Rattle.argon2_memory.proofs.Slices.{slices_stay, filled_next, put_back}
 use Rattle.argon2_fill.proofs.workers.fill_slice_by_workers.Goals as goal
 
 pub returns : goal.returns

@@ -1,15 +1,21 @@
-//! Workers under a gate that holds one back until another has come so far.
+//! Workers under gates, which count those that start, or hold them back until others have come so far.
 
-use super::{Call, Tested, second_board, snapshot_of};
+use super::{AllBut, Call, Tested, second_board, snapshot_of, two_lanes};
 use argon2_fill::workers::Event::{Put, Take};
-use argon2_fill::workers::{Claim, Event, Filled, Gate, fill_slice};
+use argon2_fill::workers::{Claim, Event, Filled, Gate, Permit, fill_slice, fill_slice_with};
 use argon2_memory::segment::Snapshot;
+use argon2_standard::config::Config;
+use argon2_standard::error::Error;
 use std::alloc::Global;
 use std::marker::Sync;
 use std::process::Abort;
 use std::sync::Wait;
 use std::sync::atomic::{AtomicU64, Ordering};
 use std::thread::Threads;
+
+// ---- workers under gates that hold them back until others have come so far
+
+// ---- workers under a gate that holds one back until another has come so far
 
 /// How often a gate looks before it gives up.
 const LOOKS: u32 = 1_000_000_000;
@@ -111,4 +117,195 @@ fn fills_four_lanes_by_two_workers(rt: HostRuntime) -> Tested<()> {
         Put(0),
     ];
     check_overlap(&rt, rt.alloc(), &Call::of_four_lanes(), &log)
+}
+
+// ---- workers that are all in their fillings at once
+
+/// More workers than a batch of handles holds.
+const WORKERS: u32 = 40;
+
+/// Keeps each lane in its filling until all are there.
+#[derive(Drop)]
+struct Meeting {
+    there: AtomicU64,
+    late: AtomicU64,
+}
+
+impl Gate for Meeting {
+    fn fill(&self, claim: Claim, snapshot: &Snapshot<'_>) -> std::result::Result<Filled, Claim> {
+        self.there.fetch_add(1, Ordering::SeqCst);
+        wait(&self.there, u64::from(WORKERS), &self.late);
+        claim.fill(snapshot)
+    }
+
+    fn put(&self, _lane: u32) {}
+}
+
+#[test]
+fn forty_workers_meet(rt: HostRuntime) -> Tested<()> {
+    let config = Config {
+        lanes: WORKERS,
+        mem_cost: 320,
+        time_cost: 1,
+        ..two_lanes()
+    };
+    let (board, slices) = second_board(rt.alloc(), &Call::of(config))?;
+    let snapshot = snapshot_of(&board, &slices);
+    let gate = Meeting {
+        there: AtomicU64::new(0),
+        late: AtomicU64::new(0),
+    };
+    let board = fill_slice(&rt, board, &snapshot, &gate, WORKERS)?;
+    assert!(rt; board.finish().is_ok());
+    assert!(rt; gate.late.load(Ordering::SeqCst) == 0, "they did not meet");
+    assert_eq!(rt; gate.there.load(Ordering::SeqCst), u64::from(WORKERS));
+    Ok(())
+}
+
+// ---- when a gate is told of a put
+
+/// Keeps lane 0 in its filling until lane 1's put is told, and the worker that is told of it until
+/// lane 2 is filled, which the other one takes once it has put lane 0.
+#[derive(Drop)]
+struct Told {
+    begun: AtomicU64,
+    told: AtomicU64,
+    third: AtomicU64,
+    late: AtomicU64,
+}
+
+impl Gate for Told {
+    fn fill(&self, claim: Claim, snapshot: &Snapshot<'_>) -> std::result::Result<Filled, Claim> {
+        match claim.lane() {
+            0 => {
+                self.begun.store(1, Ordering::SeqCst);
+                wait(&self.told, 1, &self.late);
+            }
+            1 => wait(&self.begun, 1, &self.late),
+            2 => self.third.store(1, Ordering::SeqCst),
+            _ => {}
+        }
+        claim.fill(snapshot)
+    }
+
+    fn put(&self, lane: u32) {
+        if lane == 1 {
+            self.told.store(1, Ordering::SeqCst);
+            wait(&self.third, 1, &self.late);
+        }
+    }
+}
+
+#[test]
+fn tells_of_a_put_after_it_and_outside_the_lock(rt: HostRuntime) -> Tested<()> {
+    let alloc = rt.alloc();
+    let (board, slices) = second_board(alloc, &Call::of_four_lanes())?;
+    let snapshot = snapshot_of(&board, &slices);
+    let gate = Told {
+        begun: AtomicU64::new(0),
+        told: AtomicU64::new(0),
+        third: AtomicU64::new(0),
+        late: AtomicU64::new(0),
+    };
+    let board = fill_slice(&rt, board, &snapshot, &gate, 2)?;
+    assert!(rt; gate.late.load(Ordering::SeqCst) == 0, "the gate gave up");
+    let first = [Take(0), Take(1), Put(1), Put(0), Take(2)];
+    assert!(rt; board.log().starts_with(&first), "{:?}", board.log());
+    Ok(())
+}
+
+// ---- which workers start, counted by a gate
+
+/// How often a filling looks whether too many are under way.
+const LOOKS_AT_COUNT: u32 = 20_000_000;
+
+/// Counts the fillings, and sees where more are under way at once than there are workers.
+#[derive(Drop)]
+struct Count {
+    workers: u64,
+    fills: AtomicU64,
+    under_way: AtomicU64,
+    too_many: AtomicU64,
+}
+
+impl Count {
+    fn new(workers: u64) -> Count {
+        Count {
+            workers,
+            fills: AtomicU64::new(0),
+            under_way: AtomicU64::new(0),
+            too_many: AtomicU64::new(0),
+        }
+    }
+}
+
+impl Gate for Count {
+    fn fill(&self, claim: Claim, snapshot: &Snapshot<'_>) -> std::result::Result<Filled, Claim> {
+        self.fills.fetch_add(1, Ordering::SeqCst);
+        self.under_way.fetch_add(1, Ordering::SeqCst);
+        for _look in 0..LOOKS_AT_COUNT {
+            if self.under_way.load(Ordering::SeqCst) > self.workers {
+                self.too_many.store(1, Ordering::SeqCst);
+                break;
+            }
+        }
+        self.under_way.fetch_sub(1, Ordering::SeqCst);
+        claim.fill(snapshot)
+    }
+
+    fn put(&self, _lane: u32) {}
+}
+
+/// No number.
+#[derive(Clone, Copy)]
+struct Nobody;
+
+impl Permit for Nobody {
+    ghost use Rattle.std.specs.Prelude.{false};
+
+    ghost permits = { λ _ number. false };
+
+    fn may_start(&self, _number: u64) -> bool {
+        false
+    }
+}
+
+#[test]
+fn starts_the_others_of_a_refused_worker(rt: HostRuntime) -> Tested<()> {
+    let alloc = rt.alloc();
+    for denied in 0..2 {
+        let (board, slices) = second_board(alloc, &Call::of_two_lanes())?;
+        let snapshot = snapshot_of(&board, &slices);
+        let gate = Count::new(1);
+        let board = fill_slice_with(&rt, board, &snapshot, &gate, &AllBut(denied), 0, 2);
+        assert!(rt; board.err() == Some(Error::WorkerRefused));
+        assert_eq!(rt; gate.fills.load(Ordering::SeqCst), 2);
+        assert!(rt; gate.too_many.load(Ordering::SeqCst) == 0, "two started");
+    }
+    Ok(())
+}
+
+#[test]
+fn starts_nobody_without_a_permit(rt: HostRuntime) -> Tested<()> {
+    let alloc = rt.alloc();
+    let (board, slices) = second_board(alloc, &Call::of_two_lanes())?;
+    let snapshot = snapshot_of(&board, &slices);
+    let gate = Count::new(0);
+    let board = fill_slice_with(&rt, board, &snapshot, &gate, &Nobody, 0, 2);
+    assert!(rt; board.err() == Some(Error::WorkerRefused));
+    assert_eq!(rt; gate.fills.load(Ordering::SeqCst), 0);
+    Ok(())
+}
+
+#[test]
+fn starts_no_more_than_asked(rt: HostRuntime) -> Tested<()> {
+    let alloc = rt.alloc();
+    let (board, slices) = second_board(alloc, &Call::of_four_lanes())?;
+    let snapshot = snapshot_of(&board, &slices);
+    let gate = Count::new(2);
+    let board = fill_slice(&rt, board, &snapshot, &gate, 2)?;
+    assert!(rt; board.finish().is_ok());
+    assert_eq!(rt; gate.fills.load(Ordering::SeqCst), 4);
+    assert_eq!(rt; gate.too_many.load(Ordering::SeqCst), 0);
+    Ok(())
 }

@@ -1,5 +1,5 @@
 use Rattle.std.proofs.Common.{arith}
-use Rattle.argon2_memory.proofs.Recurrence.Jobs.{context_setting}
+use Rattle.argon2_memory.proofs.Recurrences.{context_setting}
 use Rattle.argon2_memory.proofs.job.recall_context.Goals as goal
 
 pub returns-clause-setting : goal.returns-clause-setting

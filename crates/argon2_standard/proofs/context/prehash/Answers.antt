@@ -1,7 +1,7 @@
 use Rattle.std.proofs.Common.{ℕ, List, ap, ◌∙◌}
 use Rattle.argon2_blocks.specs.Standard.Blake2b.{blake2b}
 use Rattle.argon2_standard.specs.Standard.Prehash.{prehash_of, le32}
-use Rattle.argon2_standard.proofs.Settings.Accepted.{inputs_fit, inputs_joined}
+use Rattle.argon2_standard.proofs.Settings.{inputs_fit, inputs_joined}
 use Rattle.argon2_standard.proofs.context.prehash.Goals as goal
 
 pub returns : goal.returns

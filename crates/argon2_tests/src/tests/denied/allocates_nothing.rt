@@ -2,7 +2,7 @@
 
 use super::tell;
 use crate::tests::encoding::HEAD_FAULTS;
-use crate::tests::shared::small;
+use crate::tests::small;
 use argon2::Error::{
     LanesTooFew, LanesTooMany, MemoryTooLittle, OutputTooShort, SaltTooShort, TimeTooSmall,
 };

@@ -1,7 +1,7 @@
 //! Hashing, to a tag and to an encoded hash.
 
 use super::{PASSWORD, SALT, TEXT, in_mode, tag_of, tell};
-use crate::tests::shared::small;
+use crate::tests::small;
 use argon2::ThreadMode::{AtMost, Parallel, Sequential};
 use argon2::Variant::{Argon2d, Argon2i, Argon2id};
 use argon2::{

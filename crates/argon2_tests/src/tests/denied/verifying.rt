@@ -1,7 +1,7 @@
 //! Verifying, against a tag and against an encoded hash, and what an encoded hash was made with.
 
 use super::{AD, ARGON2ID, PASSWORD, SALT, SECRET, TEXT, in_mode, tell};
-use crate::tests::shared::small;
+use crate::tests::small;
 use argon2::{
     Config, ThreadMode, Variant, Version, needs_rehash, verify_encoded, verify_encoded_ext,
     verify_encoded_sequential, verify_raw, verify_raw_sequential,

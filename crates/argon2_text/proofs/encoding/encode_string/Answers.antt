@@ -1,9 +1,9 @@
 use Rattle.std.proofs.Common.{arith, drop, length}
 use Rattle.std.proofs.lemmas.List.{take_at}
 use Rattle.std.proofs.lemmas.Str.{IsUtf8-from_ascii}
-use Rattle.argon2_standard.proofs.Settings.Accepted as settings
+use Rattle.argon2_standard.proofs.Settings as settings
 use Rattle.argon2_standard.specs.Standard.Text.{spelled_of, text_of}
-use Rattle.argon2_text.proofs.Writing.TextBytes.{IsAscii-text_of}
+use Rattle.argon2_text.proofs.Writing.{IsAscii-text_of}
 use Rattle.argon2_text.proofs.encoding.encode_string.Goals as goal
 
 pub text_len-len-requires-clause-salt : goal.text_len-len-requires-clause-salt

@@ -3,8 +3,7 @@ use Rattle.std.proofs.Common.{◌≡◌, length, ap, false, inr, refl, sym, ◌�
 use Rattle.argon2_standard.specs.Standard.Decoded.{decoded_config}
 use Rattle.argon2_standard.specs.declared.config.Config.{Config}
 use Rattle.argon2_text.specs.Views.Texts.{spelled_by}
-use Rattle.argon2.proofs.Verification.Memories.{stored_leaves}
-use Rattle.argon2.proofs.Verification.StoredHashes.{accepted_value, is_stored, own_length, stored_accepted, stored_verdict}
+use Rattle.argon2.proofs.StoredHashes.{stored_leaves, accepted_value, is_stored, own_length, stored_accepted, stored_verdict}
 use Rattle.argon2.proofs.verifying.texts.verify_encoded_in_sequential.Goals as goal
 
 pub stored_context-context-requires : goal.stored_context-context-requires

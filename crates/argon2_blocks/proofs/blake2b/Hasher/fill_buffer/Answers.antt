@@ -2,7 +2,7 @@ use Rattle.std.proofs.Common.{◌≡◌, ◌+◌, ◌%◌, ◌^◌, ℕ, List, l
 use Rattle.std.proofs.lemmas.List.{length-take-le}
 use Rattle.std.proofs.lemmas.Slice.{take-put_mid}
 use Rattle.argon2_blocks.specs.declared.blake2b.Hasher.{Hasher}
-use Rattle.argon2_blocks.proofs.Hashing.Hasher.{Holds_more, Holds_next}
+use Rattle.argon2_blocks.proofs.Hashing.{Holds_more, Holds_next}
 use Rattle.argon2_blocks.proofs.blake2b.Hasher.fill_buffer.Goals as goal
 use Rattle.argon2_blocks.proofs.blake2b.Hasher.fill_buffer.Goals.{then-self-eq-BLOCK_LENGTH, else-self-eq-BLOCK_LENGTH}
 

@@ -1,7 +1,7 @@
 use Rattle.std.proofs.Common.{◌≡◌, ◌++◌, List, ℕ, length, arith, sym, ◌∙◌}
 use Rattle.std.proofs.lemmas.List.{append-nil}
 use Rattle.std.specs.Int.{w32, to_le_bytes}
-use Rattle.argon2_blocks.proofs.Hashing.Chain.{hprime_long, hprime_short}
+use Rattle.argon2_blocks.proofs.Hashing.{hprime_long, hprime_short}
 use Rattle.argon2_blocks.proofs.blake2b.variable_length.hprime.Goals as goal
 
 pub returns-then-out-le-BLAKE2B_OUT_LENGTH : goal.returns-then-out-le-BLAKE2B_OUT_LENGTH

@@ -1,5 +1,5 @@
 use Rattle.std.proofs.Common.{arith}
-use Rattle.argon2_blocks.proofs.Hashing.Chain.{hash_chain_ends, hash_chain_first, hash_chain_more}
+use Rattle.argon2_blocks.proofs.Hashing.{hash_chain_ends, hash_chain_first, hash_chain_more}
 use Rattle.argon2_blocks.proofs.blake2b.variable_length.write_chain.Goals as goal
 
 pub loop-i-init : goal.loop-i-init

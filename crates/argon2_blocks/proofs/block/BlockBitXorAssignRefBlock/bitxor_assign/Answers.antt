@@ -1,6 +1,6 @@
 use Rattle.std.proofs.Common.{◌≡◌, ◌∙◌, ap, refl, sym, arith}
 use Rattle.argon2_blocks.specs.Standard.Block.{xor}
-use Rattle.argon2_blocks.proofs.WordLists.Xor.{xor-step_at, xor-undone}
+use Rattle.argon2_blocks.proofs.WordLists.{xor-step_at, xor-undone}
 use Rattle.argon2_blocks.proofs.block.BlockBitXorAssignRefBlock.bitxor_assign.Goals as goal
 
 pub loop-i-init : goal.loop-i-init

@@ -1,4 +1,4 @@
-use Rattle.argon2_blocks.proofs.Compression.SpreadPlaces.{halves_long, rows_joined}
+use Rattle.argon2_blocks.proofs.Spread.{halves_long, rows_joined}
 use Rattle.argon2_blocks.proofs.block.kernel.join_halves.Goals as goal
 
 pub returns-clause-long : goal.returns-clause-long

@@ -1,4 +1,4 @@
-use Rattle.argon2_blocks.proofs.Compression.SpreadPlaces.{left_columns}
+use Rattle.argon2_blocks.proofs.Spread.{left_columns}
 use Rattle.argon2_blocks.proofs.block.kernel.left_halves.Goals as goal
 
 pub returns : goal.returns

@@ -1,9 +1,8 @@
 use Rattle.std.proofs.Common.{arith, ap, ◌∙◌}
 use Rattle.argon2_blocks.specs.Standard.Compression.{permute_p}
-use Rattle.argon2_blocks.specs.Views.Lane.{column, vector_pair}
-use Rattle.argon2_blocks.specs.Views.Spread.{nth_vector, spread_row}
-use Rattle.argon2_blocks.proofs.Compression.SpreadPlaces.{eight_columns, eight_rows, lower_pairs, eight_by_fours, upper_pairs}
-use Rattle.argon2_blocks.proofs.Compression.Whole.{whole}
+use Rattle.argon2_blocks.specs.Views.Lanes.{column, vector_pair, nth_vector, spread_row}
+use Rattle.argon2_blocks.proofs.Spread.{eight_columns, eight_rows, lower_pairs, eight_by_fours, upper_pairs}
+use Rattle.argon2_blocks.proofs.Stores.{whole}
 use Rattle.argon2_blocks.proofs.block.kernel.permute_block.Goals as goal
 
 pub returns-clause-value : goal.returns-clause-value

@@ -1,5 +1,5 @@
 use Rattle.std.proofs.Common.{arith}
-use Rattle.argon2_blocks.proofs.Compression.SpreadRounds.{column_at}
+use Rattle.argon2_blocks.proofs.Spread.{column_at}
 use Rattle.argon2_blocks.proofs.block.kernel.permute_four_columns.Goals as goal
 
 pub returns-clause-value : goal.returns-clause-value

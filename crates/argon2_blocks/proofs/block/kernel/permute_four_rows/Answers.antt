@@ -1,6 +1,6 @@
 use Rattle.std.proofs.Common.{arith, ap, ◌∙◌}
 use Rattle.argon2_blocks.specs.Standard.Compression.{permute_p}
-use Rattle.argon2_blocks.proofs.Compression.SpreadRounds.{row_at}
+use Rattle.argon2_blocks.proofs.Spread.{row_at}
 use Rattle.argon2_blocks.proofs.block.kernel.permute_four_rows.Goals as goal
 
 pub returns : goal.returns

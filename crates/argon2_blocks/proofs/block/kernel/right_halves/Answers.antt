@@ -1,4 +1,4 @@
-use Rattle.argon2_blocks.proofs.Compression.SpreadPlaces.{right_columns}
+use Rattle.argon2_blocks.proofs.Spread.{right_columns}
 use Rattle.argon2_blocks.proofs.block.kernel.right_halves.Goals as goal
 
 pub returns : goal.returns

@@ -1,5 +1,5 @@
 use Rattle.std.proofs.Common.{arith, refl}
-use Rattle.argon2_blocks.proofs.Compression.Stores.{onto_done, onto_step}
+use Rattle.argon2_blocks.proofs.Stores.{onto_done, onto_step}
 use Rattle.argon2_blocks.proofs.block.kernel.store_onto.Goals as goal
 
 pub returns : goal.returns

@@ -2,9 +2,8 @@ use Rattle.std.proofs.Common.{◌≡◌, ◌*◌, [], ◌∷◌, length, arith, 
 use Rattle.std.specs.Prelude.{slice_index_or}
 use Rattle.std.specs.Simd.Lanes.{chunk}
 use Rattle.argon2_blocks.specs.Standard.Block.{xor}
-use Rattle.argon2_blocks.proofs.Compression.Chunks.{chunk_xor, length_xor}
-use Rattle.argon2_blocks.proofs.Compression.Places.{each_of_16}
-use Rattle.argon2_blocks.proofs.Compression.Stores.{all_chunks, all_long}
+use Rattle.argon2_blocks.proofs.Stores.{chunk_xor, length_xor, all_chunks, all_long}
+use Rattle.argon2_blocks.proofs.Lanes.{each_of_16}
 use Rattle.argon2_blocks.proofs.block.kernel.sum.Goals as goal
 
 pub returns : goal.returns

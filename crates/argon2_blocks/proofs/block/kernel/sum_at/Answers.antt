@@ -1,5 +1,5 @@
 use Rattle.std.proofs.Common.{arith}
-use Rattle.argon2_blocks.proofs.Compression.Stores.{chunk_made}
+use Rattle.argon2_blocks.proofs.Stores.{chunk_made}
 use Rattle.argon2_blocks.proofs.block.kernel.sum_at.Goals as goal
 
 pub returns : goal.returns

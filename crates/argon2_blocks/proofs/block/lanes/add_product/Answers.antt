@@ -1,4 +1,4 @@
-use Rattle.argon2_blocks.proofs.Compression.Sums.{all_lanes}
+use Rattle.argon2_blocks.proofs.Lanes.{all_lanes}
 use Rattle.argon2_blocks.proofs.block.lanes.add_product.Goals as goal
 
 pub returns-clause-value : goal.returns-clause-value

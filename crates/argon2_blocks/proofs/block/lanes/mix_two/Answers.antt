@@ -1,6 +1,5 @@
 use Rattle.std.proofs.Common.{arith}
-use Rattle.argon2_blocks.proofs.Compression.Mixes.{mix_at}
-use Rattle.argon2_blocks.proofs.Compression.LaneRounds.{two_mixes_at}
+use Rattle.argon2_blocks.proofs.Lanes.{mix_at, two_mixes_at}
 use Rattle.argon2_blocks.proofs.block.lanes.mix_two.Goals as goal
 
 pub returns : goal.returns

@@ -1,4 +1,4 @@
-use Rattle.argon2_blocks.proofs.Compression.Turns.{by_two, turns24}
+use Rattle.argon2_blocks.proofs.Lanes.{by_two, turns24}
 use Rattle.argon2_blocks.proofs.block.lanes.rotate_by_24.Goals as goal
 
 pub returns : goal.returns

@@ -1,4 +1,4 @@
-use Rattle.argon2_blocks.proofs.Compression.Turns.{by_shifts}
+use Rattle.argon2_blocks.proofs.Lanes.{by_shifts}
 use Rattle.argon2_blocks.proofs.block.lanes.rotate_lanes.Goals as goal
 
 pub returns : goal.returns

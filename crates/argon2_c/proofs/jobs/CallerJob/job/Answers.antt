@@ -1,5 +1,5 @@
 use Rattle.std.proofs.Common.{refl}
-use Rattle.argon2_c.proofs.Numbers.{variant_of-none}
+use Rattle.argon2_c.proofs.JobNumbers.{variant_of-none}
 use Rattle.argon2_c.proofs.jobs.CallerJob.job.Goals as goal
 
 pub returns-in-Err : goal.returns-in-Err

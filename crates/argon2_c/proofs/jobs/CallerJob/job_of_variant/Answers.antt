@@ -1,5 +1,5 @@
 use Rattle.std.proofs.Common.{refl}
-use Rattle.argon2_c.proofs.Numbers.{version_of-none}
+use Rattle.argon2_c.proofs.JobNumbers.{version_of-none}
 use Rattle.argon2_c.proofs.jobs.CallerJob.job_of_variant.Goals as goal
 
 pub returns-in-Err : goal.returns-in-Err

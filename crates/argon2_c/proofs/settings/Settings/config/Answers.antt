@@ -1,7 +1,7 @@
 -- A number that is none leaves no configuration.
 use Rattle.std.proofs.Common.{refl}
 use Rattle.std.proofs.lemmas.Result.{err_from_is_err_and}
-use Rattle.argon2_c.proofs.Numbers.{variant_of-none, variant_of-number, version_of-none, version_of-number}
+use Rattle.argon2_c.proofs.JobNumbers.{variant_of-none, variant_of-number, version_of-none, version_of-number}
 use Rattle.argon2_c.proofs.settings.Settings.config.Goals as goal
 
 pub returns-in_err-variant : goal.returns-in_err-variant

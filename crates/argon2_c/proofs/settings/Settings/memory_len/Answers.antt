@@ -1,6 +1,6 @@
 use Rattle.std.proofs.Common.{refl, sym}
 use Rattle.argon2_standard.specs.Standard.SettingsTable.{min_salt_length}
-use Rattle.argon2_c.proofs.Inputs.{no_inputs, other_inputs, same_error}
+use Rattle.argon2_c.proofs.JobNumbers.{no_inputs, other_inputs, same_error}
 use Rattle.argon2_c.proofs.settings.Settings.memory_len.Goals as goal
 
 pub returns-in-Ok : goal.returns-in-Ok

@@ -2,9 +2,8 @@ use Rattle.std.proofs.Common.{Err, Ok, inl, inr, refl, string_bytes, subst}
 use Rattle.std.proofs.lemmas.Result.{IfOk-from_err}
 use Rattle.argon2_standard.specs.declared.error.Error.TheVariants.{OutOfMemory}
 use Rattle.argon2_commands.specs.Answer.{CheckAnswers, HashAnswers, IsHashError, MayBeError, NeedsNoInput, VerifyAnswers}
-use Rattle.argon2_commands.proofs.Checks.{check_fault}
+use Rattle.argon2_commands.proofs.Statuses.{check_fault, passed_on, read_fault, untouched}
 use Rattle.argon2_commands.proofs.Passwords.{hash_of_input, error_of_input, verify_of_input}
-use Rattle.argon2_commands.proofs.Faults.{passed_on, read_fault, untouched}
 use Rattle.argon2_commands.proofs.answer.Answer.to.Goals as goal
 
 -- ---- a fault

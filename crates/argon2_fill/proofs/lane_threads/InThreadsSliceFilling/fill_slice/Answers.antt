@@ -1,6 +1,6 @@
 use Rattle.std.proofs.Common.{◌*◌, ◌%◌, ◌<◌, [], ◌∷◌, length, arith, sym, ap, subst, ◌∙◌}
 use Rattle.std.proofs.Math.Nat.{mul-mod_left}
-use Rattle.argon2_fill.proofs.Filling.Chunks.{below_mul, can_fill, filled_lane}
+use Rattle.argon2_fill.proofs.CallerBlocks.{below_mul, can_fill, filled_lane}
 use Rattle.argon2_fill.proofs.lane_threads.InThreadsSliceFilling.fill_slice.Goals as goal
 
 pub for_each_chunk_mut-requires-clause-accepts : goal.for_each_chunk_mut-requires-clause-accepts

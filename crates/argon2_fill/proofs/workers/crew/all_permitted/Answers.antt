@@ -2,7 +2,7 @@ use Rattle.std.proofs.Common.{◌≡◌, ◌+◌, ℕ, zero, suc, Bool, true, ru
 use Rattle.std.specs.List.{list_all, range_with_len}
 use Rattle.std.proofs.lemmas.Iterator.{YieldsList-from_range}
 use Rattle.std.proofs.lemmas.Iterator.Search.{all_from_yields_List}
-use Rattle.argon2_fill.specs.Views.Permits.{PermitsAll}
+use Rattle.argon2_fill.specs.Views.Boards.{PermitsAll}
 use Rattle.std.proofs.lemmas.Bool.{and_parts}
 use Rattle.argon2_fill.proofs.workers.crew.all_permitted.Goals as goal
 

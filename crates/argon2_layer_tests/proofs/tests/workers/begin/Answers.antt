@@ -1,5 +1,5 @@
 use Rattle.argon2_memory.specs.Views.Jobs.{setting_of_context, IsSetting}
-use Rattle.argon2_fill.proofs.Filling.First.{filled_begun}
+use Rattle.argon2_fill.proofs.Passes.{filled_begun}
 use Rattle.argon2_layer_tests.proofs.tests.workers.begin.Goals as goal
 
 pub fill_slice_in_turn-requires-clause-ready : goal.fill_slice_in_turn-requires-clause-ready

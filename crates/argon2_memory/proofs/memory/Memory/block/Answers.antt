@@ -3,7 +3,7 @@ use Rattle.std.proofs.lemmas.List.{length-map}
 use Rattle.std.proofs.Math.Nat.{mod-lt}
 use Rattle.argon2_memory.specs.declared.segment.own_blocks.Segment.{Segment}
 use Rattle.argon2_memory.specs.Standard.Kept.{SegmentValue}
-use Rattle.argon2_memory.proofs.Filling.Slices.{read_slice, read_in, slice_fits}
+use Rattle.argon2_memory.proofs.Slices.{read_slice, read_in, slice_fits}
 use Rattle.argon2_memory.proofs.memory.Memory.block.Goals as goal
 
 -- the segments of a vector, as a list

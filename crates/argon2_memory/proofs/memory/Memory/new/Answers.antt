@@ -1,4 +1,4 @@
-use Rattle.argon2_memory.proofs.Filling.Slices.{zeros_are, whole_lanes}
+use Rattle.argon2_memory.proofs.Slices.{zeros_are, whole_lanes}
 use Rattle.std.proofs.Common.{◌/◌, arith}
 use Rattle.argon2_memory.proofs.memory.Memory.new.Goals as goal
 

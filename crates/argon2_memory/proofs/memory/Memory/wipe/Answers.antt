@@ -1,5 +1,5 @@
 use Rattle.std.proofs.Common.{map}
-use Rattle.argon2_memory.proofs.Filling.Wiped.{wiped_slices-are}
+use Rattle.argon2_memory.proofs.Filled.{wiped_slices-are}
 use Rattle.argon2_memory.proofs.memory.Memory.wipe.Goals as goal
 
 pub invariant_of-self : goal.invariant_of-self

@@ -3,7 +3,7 @@ use Rattle.std.specs.Prelude.{slice_index}
 use Rattle.argon2_memory.specs.Views.Jobs.{position_of}
 use Rattle.argon2_memory.specs.Views.Filling.{block_seen}
 use Rattle.argon2_standard.specs.Standard.Reference.{previous}
-use Rattle.argon2_memory.proofs.Filling.Filled.{drawn_from_previous}
+use Rattle.argon2_memory.proofs.Filled.{drawn_from_previous}
 use Rattle.argon2_memory.proofs.segment.filling.dependent_word.Goals as goal
 
 pub returns : goal.returns

@@ -1,5 +1,5 @@
 use Rattle.std.proofs.Common.{rules}
-use Rattle.argon2_memory.proofs.Filling.CallerBlocks.{caller_beside, caller_snapshot}
+use Rattle.argon2_memory.proofs.Slices.{caller_beside, caller_snapshot}
 use Rattle.argon2_memory.proofs.segment.filling.fill_caller_segment.Goals as goal
 
 pub beside_blocks-beside-requires : goal.beside_blocks-beside-requires

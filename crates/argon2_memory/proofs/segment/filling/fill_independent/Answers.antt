@@ -2,7 +2,7 @@ use Rattle.std.proofs.Common.{◌≡◌, ℕ, true, length, take, replicate, ari
 use Rattle.std.proofs.lemmas.List.{length-take}
 use Rattle.argon2_memory.specs.Views.Jobs.{first_index, Job}
 use Rattle.argon2_standard.specs.Standard.Reference.{is_data_independent}
-use Rattle.argon2_memory.proofs.Schedules.IndependentPositions.{references_known}
+use Rattle.argon2_memory.proofs.ReferenceSets.{references_known}
 use Rattle.argon2_memory.proofs.segment.filling.fill_independent.Goals as goal
 
 pub write_blocks-requires-clause-chosen : goal.write_blocks-requires-clause-chosen

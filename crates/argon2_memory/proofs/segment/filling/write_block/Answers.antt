@@ -1,4 +1,4 @@
-use Rattle.argon2_memory.proofs.Filling.Filled.{reference_lane, reference_column, reference_before, write_filled}
+use Rattle.argon2_memory.proofs.Filled.{reference_lane, reference_column, reference_before, write_filled}
 use Rattle.argon2_memory.proofs.segment.filling.write_block.Goals as goal
 
 pub source-reference-requires-clause-lane_fits : goal.source-reference-requires-clause-lane_fits

@@ -1,7 +1,7 @@
 use Rattle.std.proofs.Common.{ℕ, List}
 use Rattle.std.specs.Borrow.{Bor}
 use Rattle.argon2_memory.specs.Views.Filling.{slice_of_blocks}
-use Rattle.argon2_memory.proofs.Filling.Beside.{around}
+use Rattle.argon2_memory.proofs.Slices.{around}
 use Rattle.argon2_memory.proofs.segment.other_blocks.beside_blocks.Goals as goal
 
 pub invariant_of-result : goal.invariant_of-result

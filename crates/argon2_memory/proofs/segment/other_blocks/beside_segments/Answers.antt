@@ -2,7 +2,7 @@ use Rattle.std.proofs.Common.{List, map, ap, sym, ◌∙◌}
 use Rattle.std.specs.Borrow.{Bor}
 use Rattle.argon2_memory.specs.Standard.Kept.{SegmentValue}
 use Rattle.argon2_memory.specs.Views.Filling.{SnapshotValue}
-use Rattle.argon2_memory.proofs.Filling.Beside.{around, map-remove}
+use Rattle.argon2_memory.proofs.Slices.{around, map-remove}
 use Rattle.argon2_memory.proofs.segment.other_blocks.beside_segments.Goals as goal
 
 abbrev segments : Bor (List SegmentValue) → List SegmentValue

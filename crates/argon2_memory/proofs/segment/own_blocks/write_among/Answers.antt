@@ -1,6 +1,6 @@
 use Rattle.std.proofs.Common.{◌≡◌, get_or, refl}
 use Rattle.argon2_standard.specs.Standard.Recurrence.{made_block}
-use Rattle.argon2_memory.proofs.Filling.Written.{write_in_place}
+use Rattle.argon2_memory.proofs.Filled.{write_in_place}
 use Rattle.argon2_memory.proofs.segment.own_blocks.write_among.Goals as goal
 
 pub returns-clause-written : goal.returns-clause-written

@@ -1,7 +1,7 @@
 use Rattle.std.proofs.Common.{ℕ, Bool, sym, ◌∙◌, ap}
 use Rattle.argon2_memory.specs.Views.References.{reference_set_column, reference_set_size}
 use Rattle.argon2_standard.specs.Standard.Reference.{relative_position}
-use Rattle.argon2_memory.proofs.Recurrence.ReferenceSets.{pick-is}
+use Rattle.argon2_memory.proofs.ReferenceSets.{pick-is}
 use Rattle.argon2_memory.proofs.segment.positions.pick.Goals as goal
 
 pub returns : goal.returns

@@ -3,8 +3,8 @@ use Rattle.std.specs.Prelude.{slice_index}
 use Rattle.argon2_standard.specs.Standard.Recurrence.{addresses}
 use Rattle.argon2_memory.specs.Views.References.{independent_reference, pick_of}
 use Rattle.argon2_memory.specs.Views.Jobs.{first_index}
-use Rattle.argon2_memory.proofs.Schedules.IndependentEntries.{reference_positions_of-setting}
-use Rattle.argon2_memory.proofs.Schedules.IndependentPositions.{address_word-is, positions-all}
+use Rattle.argon2_memory.proofs.Entries.{reference_positions_of-setting}
+use Rattle.argon2_memory.proofs.ReferenceSets.{address_word-is, positions-all}
 use Rattle.argon2_memory.proofs.segment.positions.reference_positions.Goals as goal
 
 pub loop-k-preserved : goal.loop-k-preserved

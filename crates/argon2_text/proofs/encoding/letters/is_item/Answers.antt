@@ -2,7 +2,7 @@ use Rattle.std.proofs.Common.{◌≡◌, ◌++◌, take-append-drop, ap, arith}
 use Rattle.std.proofs.lemmas.Bool.{and_parts, and_from, eqb-true, eq-eqb}
 use Rattle.argon2_text.specs.Views.Letters.{faults_of}
 use Rattle.base64.specs.GeneralPurpose.{IsBytes}
-use Rattle.argon2_text.proofs.Letters.LetterSums.{faults_behind, faults_tell}
+use Rattle.argon2_text.proofs.Letters.{faults_behind, faults_tell}
 use Rattle.argon2_text.proofs.encoding.letters.is_item.Goals as goal
 
 pub loop-rest-preserved : goal.loop-rest-preserved

@@ -1,6 +1,6 @@
 use Rattle.std.proofs.Common.{ap, arith, sym}
 use Rattle.argon2_text.specs.Views.Letters.{faults_of}
-use Rattle.argon2_text.proofs.Letters.LetterSums.{placed}
+use Rattle.argon2_text.proofs.Letters.{placed}
 use Rattle.argon2_text.proofs.encoding.letters.tail_faults.Goals as goal
 
 pub returns-in-empty : goal.returns-in-empty

@@ -3,7 +3,7 @@ use Rattle.std.proofs.Common.{◌≡◌, ◌+◌, ◌<◌, ℕ, List, length, dr
 use Rattle.std.specs.Str.{IsCharBoundary, IsUtf8}
 use Rattle.std.proofs.lemmas.List.{get_or-drop, length-drop}
 use Rattle.std.proofs.lemmas.Str.{IsCharBoundary-after_ascii, IsCharBoundary-before_ascii, IsUtf8-drop}
-use Rattle.argon2_text.proofs.Reading.TextCuts.{Lacks-from_places, cut_at, cut_none}
+use Rattle.argon2_text.proofs.Pieces.{Lacks-from_places, cut_at, cut_none}
 use Rattle.argon2_text.proofs.encoding.reading.cut.Goals as goal
 
 -- a string may be cut one byte behind an ASCII byte at which it was cut

@@ -1,9 +1,8 @@
 -- At each exit the pieces that were cut are those of any head, so the piece that is rejected rejects every head.
 use Rattle.std.proofs.Common.{refl, sym}
 use Rattle.argon2_text.specs.Views.Texts.{pieces_view}
-use Rattle.argon2_text.proofs.Reading.TextHeads.{no_head, head_at}
-use Rattle.argon2_text.proofs.Reading.TextPieces.{pieces_found}
-use Rattle.argon2_text.proofs.Reading.TextSteps.{read_part}
+use Rattle.argon2_text.proofs.Items.{no_head, head_at, read_part}
+use Rattle.argon2_text.proofs.Pieces.{pieces_found}
 use Rattle.argon2_text.proofs.encoding.reading.head_of.Goals as goal
 
 pub returns-in_err-pieces : goal.returns-in_err-pieces

@@ -1,7 +1,7 @@
 use Rattle.std.proofs.Common.{arith, ◌∙◌}
 use Rattle.argon2_standard.specs.Standard.Text.{base64}
-use Rattle.argon2_text.proofs.Letters.LetterSums.{written_behind}
-use Rattle.argon2_text.proofs.Writing.Placing.{put_ahead}
+use Rattle.argon2_text.proofs.Letters.{written_behind}
+use Rattle.argon2_text.proofs.Writing.{put_ahead}
 use Rattle.argon2_text.proofs.encoding.salt_and_hash.put_hash.Goals as goal
 
 pub loop-rest-preserved : goal.loop-rest-preserved

@@ -1,8 +1,8 @@
 use Rattle.std.proofs.Common.{ap, arith, refl, sym}
 use Rattle.std.proofs.lemmas.List.{append-nil, take_all}
 use Rattle.argon2_text.specs.Views.Letters.{bytes_read}
-use Rattle.argon2_text.proofs.Letters.LetterSums.{none_read, placed}
-use Rattle.argon2_text.proofs.Writing.Placing.{all_put}
+use Rattle.argon2_text.proofs.Letters.{none_read, placed}
+use Rattle.argon2_text.proofs.Writing.{all_put}
 use Rattle.argon2_text.proofs.encoding.salt_and_hash.put_last_bytes.Goals as goal
 
 pub returns-in-empty : goal.returns-in-empty

@@ -2,8 +2,8 @@ use Rattle.std.proofs.Common.{arith, refl}
 use Rattle.std.proofs.lemmas.List.{append-nil, take_all}
 use Rattle.base64.specs.GeneralPurpose.{IsBytes}
 use Rattle.argon2_standard.specs.Standard.Text.{base64}
-use Rattle.argon2_text.proofs.Letters.LetterSums.{none_written, one_written, two_written}
-use Rattle.argon2_text.proofs.Writing.Placing.{all_put}
+use Rattle.argon2_text.proofs.Letters.{none_written, one_written, two_written}
+use Rattle.argon2_text.proofs.Writing.{all_put}
 use Rattle.argon2_text.proofs.encoding.salt_and_hash.put_last_letters.Goals as goal
 
 pub returns-in-empty : goal.returns-in-empty

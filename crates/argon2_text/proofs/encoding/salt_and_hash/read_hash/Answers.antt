@@ -1,8 +1,8 @@
 use Rattle.std.proofs.Common.{arith, ◌∙◌}
 use Rattle.base64.specs.GeneralPurpose.{IsBytes}
 use Rattle.argon2_text.specs.Views.Letters.{bytes_read}
-use Rattle.argon2_text.proofs.Letters.LetterSums.{item_read, read_behind}
-use Rattle.argon2_text.proofs.Writing.Placing.{put_ahead}
+use Rattle.argon2_text.proofs.Letters.{item_read, read_behind}
+use Rattle.argon2_text.proofs.Writing.{put_ahead}
 use Rattle.argon2_text.proofs.encoding.salt_and_hash.read_hash.Goals as goal
 
 pub loop-rest-preserved : goal.loop-rest-preserved

@@ -1,6 +1,6 @@
 -- An item's bytes are decoded, and fill the buffer.
 use Rattle.std.proofs.Common.{length, sym}
-use Rattle.argon2_text.proofs.Reading.TextItems.{item_filled}
+use Rattle.argon2_text.proofs.Items.{item_filled}
 use Rattle.argon2_text.proofs.encoding.salt_and_hash.read_salt.Goals as goal
 
 pub unreachable-requires : goal.unreachable-requires

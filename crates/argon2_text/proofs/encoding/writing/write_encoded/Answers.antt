@@ -1,4 +1,4 @@
-use Rattle.argon2_text.proofs.Reading.TextSteps.{text_in_steps}
+use Rattle.argon2_text.proofs.Items.{text_in_steps}
 use Rattle.argon2_text.proofs.encoding.writing.write_encoded.Goals as goal
 
 pub returns : goal.returns

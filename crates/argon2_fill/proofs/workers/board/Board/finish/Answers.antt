@@ -5,8 +5,8 @@ use Rattle.std.proofs.lemmas.List.{map-append}
 use Rattle.argon2_fill.specs.declared.workers.board.Slot.{Slot}
 use Rattle.argon2_fill.specs.declared.workers.board.Slot.TheVariants as slot
 use Rattle.argon2_fill.specs.declared.workers.board.Place.TheVariants as place
-use Rattle.argon2_fill.specs.Views.Slots.{place_in}
-use Rattle.argon2_fill.proofs.BoardFacts.Boards.{not-all-done, all-done, hold-slice}
+use Rattle.argon2_fill.specs.Views.Boards.{place_in}
+use Rattle.argon2_fill.proofs.Boards.{not-all-done, all-done, hold-slice}
 use Rattle.argon2_fill.proofs.workers.board.Board.finish.Goals as goal
 
 -- nothing is left of the slots

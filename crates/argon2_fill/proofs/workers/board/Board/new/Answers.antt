@@ -1,7 +1,7 @@
 use Rattle.std.proofs.Common.{arith, ◌≡◌, ◌*◌, map, refl, ◌∙◌, ap}
 use Rattle.std.specs.List.{sum_by}
-use Rattle.argon2_fill.specs.Views.Slots.{events_left, place_in}
-use Rattle.argon2_fill.proofs.BoardFacts.Boards.{lanes-new, none_out-waiting, waiting-all, waiting-left}
+use Rattle.argon2_fill.specs.Views.Boards.{events_left, place_in}
+use Rattle.argon2_fill.proofs.Boards.{lanes-new, none_out-waiting, waiting-all, waiting-left}
 use Rattle.argon2_fill.proofs.workers.board.Board.new.Goals as goal
 
 pub invariant_of-result : goal.invariant_of-result

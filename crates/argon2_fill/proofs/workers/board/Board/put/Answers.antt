@@ -3,10 +3,8 @@ use Rattle.argon2_fill.specs.declared.workers.board.Place.TheVariants as place
 use Rattle.argon2_fill.specs.declared.workers.board.Slot.TheVariants as slot
 use Rattle.argon2_memory.specs.Views.Jobs.{Job}
 use Rattle.argon2_memory.specs.Views.Segments.{segment_at}
-use Rattle.argon2_fill.specs.Views.Slots.{place_in}
-use Rattle.argon2_fill.proofs.BoardFacts.Boards.{left-set, out-read, read-out, place_at, lanes-put}
-use Rattle.argon2_fill.proofs.BoardFacts.Jobs.{no_other_job, other_job}
-use Rattle.argon2_fill.proofs.BoardFacts.Replays.{left-out}
+use Rattle.argon2_fill.specs.Views.Boards.{place_in}
+use Rattle.argon2_fill.proofs.Boards.{left-set, out-read, read-out, place_at, lanes-put, no_other_job, other_job, left-out}
 use Rattle.std.proofs.lemmas.List.{map-set}
 use Rattle.argon2_fill.proofs.workers.board.Board.put.Goals as goal
 

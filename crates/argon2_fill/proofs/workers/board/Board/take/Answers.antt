@@ -3,9 +3,8 @@ use Rattle.std.proofs.lemmas.List.{map-set}
 use Rattle.argon2_fill.specs.declared.workers.board.Place.TheVariants as place
 use Rattle.argon2_fill.specs.declared.workers.board.Slot.{Slot}
 use Rattle.argon2_fill.specs.declared.workers.board.Slot.TheVariants as slot
-use Rattle.argon2_fill.specs.Views.Slots.{place_in, IsSlot}
-use Rattle.argon2_fill.proofs.BoardFacts.Boards.{lanes-least, lanes-more, lanes-none, lanes-take, lanes-waiting, left-set}
-use Rattle.argon2_fill.proofs.BoardFacts.Replays.{left-waiting}
+use Rattle.argon2_fill.specs.Views.Boards.{place_in, IsSlot}
+use Rattle.argon2_fill.proofs.Boards.{lanes-least, lanes-more, lanes-none, lanes-take, lanes-waiting, left-set, left-waiting}
 use Rattle.argon2_fill.proofs.workers.board.Board.take.Goals as goal
 
 pub returns-then-self-lanes-clause-none : goal.returns-then-self-lanes-clause-none

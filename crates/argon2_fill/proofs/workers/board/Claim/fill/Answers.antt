@@ -1,7 +1,7 @@
 use Rattle.std.proofs.Common.{◌∙◌, sym, refl, subst, ap}
 use Rattle.argon2_memory.specs.Views.Jobs.{Job}
 use Rattle.argon2_memory.specs.Views.Segments.{IsReady, segment_at}
-use Rattle.argon2_fill.proofs.BoardFacts.Jobs.{no_other_job}
+use Rattle.argon2_fill.proofs.Boards.{no_other_job}
 use Rattle.argon2_fill.proofs.workers.board.Claim.fill.Goals as goal
 
 pub fill_segment-requires-clause-ready : goal.fill_segment-requires-clause-ready

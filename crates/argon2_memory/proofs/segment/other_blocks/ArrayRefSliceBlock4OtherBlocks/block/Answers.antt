@@ -2,7 +2,7 @@ use Rattle.std.proofs.Common.{ℕ, List, arith, sym, ◌∙◌}
 use Rattle.std.specs.Borrow.{Bor}
 use Rattle.std.proofs.lemmas.List.{length-map}
 use Rattle.argon2_memory.specs.Views.Filling.{slice_of_blocks}
-use Rattle.argon2_memory.proofs.Filling.CallerBlocks.{place_fits, block-is}
+use Rattle.argon2_memory.proofs.Slices.{place_fits, block-is}
 use Rattle.argon2_memory.proofs.segment.other_blocks.ArrayRefSliceBlock4OtherBlocks.block.Goals as goal
 
 pub bounds-blocks-place : goal.bounds-blocks-place

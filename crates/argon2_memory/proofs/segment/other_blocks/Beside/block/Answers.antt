@@ -1,4 +1,4 @@
-use Rattle.argon2_memory.proofs.Filling.Beside.{lanes-at, blocks-at}
+use Rattle.argon2_memory.proofs.Slices.{lanes-at, blocks-at}
 use Rattle.argon2_memory.proofs.segment.other_blocks.Beside.block.Goals as goal
 
 pub block-requires-clause-lanes : goal.block-requires-clause-lanes

@@ -2,9 +2,9 @@ use Rattle.std.proofs.Common.{ℕ, ◌+◌, ◌%◌, ◌<◌, List, [], length, 
 use Rattle.std.proofs.lemmas.List.{with_items_is, length-set}
 use Rattle.argon2_blocks.specs.Standard.Block.{zero_block}
 use Rattle.argon2_memory.specs.Standard.Kept.{SegmentValue}
-use Rattle.argon2_memory.specs.Views.Sources.{source_block}
+use Rattle.argon2_memory.specs.Views.Segments.{source_block}
 use Rattle.argon2_standard.specs.Standard.Recurrence.{made_block}
-use Rattle.argon2_memory.proofs.Filling.Made.{made_in_front}
+use Rattle.argon2_memory.proofs.Filled.{made_in_front}
 use Rattle.argon2_memory.proofs.segment.own_blocks.Segment.write.Goals as goal
 
 pub returns : goal.returns

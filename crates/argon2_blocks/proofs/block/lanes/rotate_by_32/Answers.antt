@@ -1,5 +1,0 @@
-use Rattle.argon2_blocks.proofs.Compression.Turns.{by32}
-use Rattle.argon2_blocks.proofs.block.lanes.rotate_by_32.Goals as goal
-
-pub returns : goal.returns
-returns c = by32 c.args.x c.recall_vector.ensures.long c.recall_vector.ensures.fits

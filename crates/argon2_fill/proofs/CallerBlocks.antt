@@ -1,0 +1,154 @@
+-- Caller-provided blocks while they are filled.
+use Rattle.std.proofs.Common.{◌≡◌, ◌≢◌, ℕ, ◌+◌, ◌-◌, ◌*◌, ◌<◌, ◌≤◌, List, [], ◌∷◌, ◌++◌, length, take, drop, set, get_or, refl, arith, inl, inr, sym}
+use Rattle.std.proofs.Common.{◌∙◌, ap, subst, ◌/◌}
+use Rattle.std.specs.List.{remove}
+use Rattle.std.proofs.Math.Nat.{mul-le-mul_right, div-lt_iff_lt-mul, mul-div_cancel}
+use Rattle.std.proofs.lemmas.Bool.Decides.{eqb_tells}
+use Rattle.std.proofs.lemmas.Bool.{cases_lt}
+use Rattle.std.proofs.lemmas.List.{get_or_append_left, get_or-append_right, get_or-set_other, get_or-set_same, get_or-take, get_or-drop, length-take}
+use Rattle.std.proofs.lemmas.List.{length-drop, length-append, ext_get_or}
+use Rattle.argon2_standard.specs.Standard.Setting.{Setting}
+use Rattle.argon2_standard.specs.Standard.Recurrence.{first_block}
+use Rattle.argon2_memory.specs.Views.Jobs.{IsSetting, Job, IsJob}
+use Rattle.argon2_memory.specs.Views.Places.{AreFilledBelow, Fills, FillsAmong, HoldOthers, HoldsSlice, IsReadySlice, among, blocks_of_lane}
+use Rattle.argon2_memory.specs.Views.Places.{places_of_slices}
+use Rattle.argon2_memory.specs.Views.Segments.{IsReady, segment_at}
+use Rattle.argon2_memory.proofs.Slices.{get-blocks_of_lane, length-blocks_of_lane, among-remove, others_hold, filled_further}
+use Rattle.argon2_fill.proofs.Passes.{ready_first}
+use Rattle.argon2_fill.specs.Views.Chunks.{CanFill}
+
+-- ---- one lane of a slice of the caller, and from slice to slice
+
+-- ---- one lane of a slice
+
+module _ (s : Setting) (old : List (List ℕ)) (lane : ℕ) (long : length old ≡ s.lanes * s.segment_length) (fits : lane < s.lanes)
+    (new : List (List ℕ)) (same : length new ≡ s.segment_length) where
+  abbrev start : ℕ
+  start = lane * s.segment_length
+
+  -- the slice with the lane's part replaced
+  abbrev placed : List (List ℕ)
+  placed = take start old ++ (new ++ drop s.segment_length (drop start old))
+
+  -- the slice is cut twice, and put together again
+  placed-is : (front rest after : List (List ℕ)) (at len : ℕ) → front ≡ take at old → rest ≡ drop at old → after ≡ drop len rest →
+      at ≡ start → len ≡ s.segment_length → front ++ (new ++ after) ≡ placed
+  placed-is front rest after at len f r a e n = rw (f, a, r, e, n) refl
+
+  room : start + s.segment_length ≤ s.lanes * s.segment_length
+  room = let next : lane + 1 ≤ s.lanes = omega arith in let m = mul-le-mul_right s.segment_length next in omega (arith, m)
+
+  length-front : length (take start old) ≡ start
+  length-front = let t = length-take start old in omega (arith, t, long, room)
+
+  length-placed : length placed ≡ s.lanes * s.segment_length
+  length-placed =
+      let a = length-append (take start old) (new ++ drop s.segment_length (drop start old)) in
+      let b = length-append new (drop s.segment_length (drop start old)) in
+      let d = length-drop s.segment_length (drop start old) in
+      let e = length-drop start old in
+      omega (arith, a, b, d, e, long, room, same, length-front)
+
+  get-before : (i : ℕ) → i < start → get_or placed i [] ≡ get_or old i []
+  get-before i h =
+      get_or_append_left (take start old) (new ++ drop s.segment_length (drop start old)) [] i (omega (arith, h, length-front))
+      ∙ get_or-take start old i [] h
+
+  get-behind : (i : ℕ) → start + s.segment_length ≤ i → get_or placed i [] ≡ get_or old i []
+  get-behind i h =
+      get_or-append_right (take start old) (new ++ drop s.segment_length (drop start old)) start i [] length-front (omega (arith, h))
+      ∙ get_or-append_right new (drop s.segment_length (drop start old)) s.segment_length (i - start) [] same (omega (arith, h))
+      ∙ get_or-drop s.segment_length (drop start old) (i - start - s.segment_length) []
+      ∙ get_or-drop start old (s.segment_length + (i - start - s.segment_length)) []
+      ∙ ap (λ n. get_or old n []) (omega (arith, h))
+
+  -- and the other lanes are as they were
+  other-placed : (l : ℕ) → l < s.lanes → l ≢ lane → blocks_of_lane s placed l ≡ blocks_of_lane s old l
+  other-placed l h ne =
+      let a = length-blocks_of_lane s placed l length-placed h in
+      let b = length-blocks_of_lane s old l long h in
+      ext_get_or [] (blocks_of_lane s placed l) (blocks_of_lane s old l) (a ∙ sym b) (λ k lt. let h' : k < s.segment_length = omega (arith, lt, a) in
+      get-blocks_of_lane s placed l k h' ∙ elim (cases_lt l lane) [
+        | inl w ↦ let next : l + 1 ≤ lane = omega (arith, w) in let m = mul-le-mul_right s.segment_length next in
+            get-before (l * s.segment_length + k) (omega (arith, m, h'))
+        | inr w ↦ let next : lane + 1 ≤ l = omega (arith, w, ne) in let m = mul-le-mul_right s.segment_length next in
+            get-behind (l * s.segment_length + k) (omega (arith, m, h'))
+      ] ∙ sym (get-blocks_of_lane s old l k h'))
+
+  pub others-stay : (front rest after : List (List ℕ)) (at len : ℕ) → front ≡ take at old → rest ≡ drop at old → after ≡ drop len rest →
+      at ≡ start → len ≡ s.segment_length → (l : ℕ) → l < s.lanes → l ≢ lane → blocks_of_lane s (front ++ (new ++ after)) l ≡ blocks_of_lane s old l
+  others-stay front rest after at len f r a e n l h ne =
+      ap (λ (b : List (List ℕ)). blocks_of_lane s b l) (placed-is front rest after at len f r a e n) ∙ other-placed l h ne
+
+-- ---- the beginning
+
+pub slice_begun : (s : Setting) → IsSetting s → (lane : ℕ) → lane < s.lanes → (old : List (List ℕ)) → length old ≡ s.segment_length → (x y : List ℕ) →
+    x ≡ first_block s (record { pass = 0; lane = lane; column = 0 }) → y ≡ first_block s (record { pass = 0; lane = lane; column = 1 }) →
+    IsReady s 0 0 lane (set (set old 0 x) 1 y)
+slice_begun s good lane fits [] long x y ex ey = absurd (omega (arith, long, good.long_segments))
+slice_begun s good lane fits (a ∷ []) long x y ex ey = absurd (omega (arith, long, good.long_segments))
+slice_begun s good lane fits (a ∷ b ∷ rest) long x y ex ey =
+    ready_first s good lane fits (x ∷ y ∷ rest) (omega (arith, long)) (λ column h. elim (eqb_tells column 0) [
+      | inl w ↦ rw w.1 ex
+      | inr w ↦ let e : column ≡ 1 = omega (arith, h, w.1) in rw e ey
+    ])
+
+-- ---- from slice to slice
+
+-- where the job's slice, number k of four, is filled beside the others, they are filled one slice further
+pub filled_at : (j : Job) → IsJob j → (m : List (List (List ℕ))) → length m ≡ 4 → (k : ℕ) → j.slice ≡ k → (new : List (List ℕ)) →
+    (HoldOthers j (among j (places_of_slices j.setting (remove m k))) → IsReadySlice j.setting j.pass j.slice (places_of_slices j.setting m k) →
+    HoldsSlice j.setting j.pass j.slice (blocks_of_lane j.setting new)) →
+    AreFilledBelow j.setting j.pass j.slice (places_of_slices j.setting m) → AreFilledBelow j.setting j.pass (j.slice + 1) (places_of_slices j.setting (set m k new))
+filled_at j good m four k e new fills ready =
+    let few : j.slice < length m = let g = good.slice_fits in omega (arith, g, four) in
+    let lanes : List (List ℕ) → ℕ → List (List ℕ) = λ l lane. blocks_of_lane j.setting l lane in
+    let Filled : ℕ → Type 0 = λ n. HoldOthers j (among j (places_of_slices j.setting (remove m n))) → IsReadySlice j.setting j.pass j.slice (places_of_slices j.setting m n)
+    → HoldsSlice j.setting j.pass j.slice (blocks_of_lane j.setting new) in
+    let held = others_hold j (places_of_slices j.setting m) ready (among j (places_of_slices j.setting (remove m j.slice)))
+    (λ i lane ne. ap (λ l. lanes l lane) (among-remove j m [] few i ne)) in
+    let holds = subst Filled (sym e) fills held (λ lane fits. ready.above j.slice lane (omega arith) good.slice_fits fits) in
+    let Next : ℕ → Type 0 = λ n. AreFilledBelow j.setting j.pass (j.slice + 1) (places_of_slices j.setting (set m n new)) in
+    subst Next e (filled_further j (places_of_slices j.setting m) ready (places_of_slices j.setting (set m j.slice new))
+    (λ i lane ne. ap (λ l. lanes l lane) (get_or-set_other m j.slice i new [] ne))
+    (λ lane fits. ap (λ l. lanes l lane) (get_or-set_same m j.slice new [] few) ∙ holds lane fits))
+
+-- a fill beside three slices is one among all four
+pub fills_among : (j : Job) (m : List (List (List ℕ))) → j.slice < length m → (lane : ℕ) (old new : List (List ℕ)) →
+    FillsAmong j lane (remove m j.slice) old new → Fills j lane (places_of_slices j.setting m) old new
+fills_among j m few lane old new fills held =
+    let same : (k l : ℕ) → k ≢ j.slice → among j (places_of_slices j.setting (remove m j.slice)) k l ≡ places_of_slices j.setting m k l =
+    λ k l ne. ap (λ x. blocks_of_lane j.setting x l) (among-remove j m [] few k ne) in
+    fills (record {
+      lower = λ k l h fits. same k l (λ n. absurd (omega (arith, h, n))) ∙ held.lower k l h fits;
+      upper = λ k l last low high fits p. same k l (λ n. absurd (omega (arith, low, n))) ∙ held.upper k l last low high fits p;
+    })
+
+-- ---- a chunk of a slice is a lane's segment
+
+pub below_mul : (n lanes seg : ℕ) → 0 < seg → n < lanes → n * seg < lanes * seg
+below_mul n lanes seg some below = grind arith
+
+pub can_fill : (j : Job) (first second third slice : List (List ℕ)) (start : ℕ) (own : List (List ℕ)) → 0 < j.setting.segment_length
+    → length first ≡ j.setting.lanes * j.setting.segment_length → length second ≡ j.setting.lanes * j.setting.segment_length
+    → length third ≡ j.setting.lanes * j.setting.segment_length → length slice ≡ j.setting.lanes * j.setting.segment_length
+    → start < length slice → length own ≡ j.setting.segment_length → CanFill j first second third start own
+can_fill j first second third slice start own some one two three four within len = record {
+  lane_fits = (div-lt_iff_lt-mul some).1 (subst (λ n. start < n) four within);
+  first_fits = one;
+  second_fits = two;
+  third_fits = three;
+  own_fits = len;
+}
+
+pub filled_lane : (j : Job) (others : List (List (List ℕ))) (lane n : ℕ) (old new arg after : List (List ℕ)) → n ≡ j.setting.segment_length → 0 < j.setting.segment_length
+    → arg ≡ take n (drop (lane * n) old) → FillsAmong j (lane * n / j.setting.segment_length) others arg after → after ≡ take n (drop (lane * n) new)
+    → HoldOthers j (among j (places_of_slices j.setting others)) → IsReadySlice j.setting j.pass j.slice (blocks_of_lane j.setting old) → lane < j.setting.lanes
+    → blocks_of_lane j.setting new lane ≡ segment_at j.setting j.pass j.slice lane
+filled_lane j others lane n old new arg after e some argument fills left holds ready fits =
+    let seg = j.setting.segment_length in
+    let was : arg ≡ blocks_of_lane j.setting old lane = subst (λ k. arg ≡ take k (drop (lane * k) old)) e argument in
+    let is : after ≡ blocks_of_lane j.setting new lane = subst (λ k. after ≡ take k (drop (lane * k) new)) e left in
+    let place : lane * n / seg ≡ lane = ap (λ k. lane * k / seg) e ∙ mul-div_cancel lane some in
+    let own : FillsAmong j lane others arg after = subst (λ l. FillsAmong j l others arg after) place fills in
+    sym is ∙ own holds (subst (λ o. IsReady j.setting j.pass j.slice lane o) (sym was) (ready lane fits))
