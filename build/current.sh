@@ -1,28 +1,27 @@
 # Whether what was built, and what release/ has, is of the sources as they are: functions for sh, for the repository
-# `root`. They start few processes, since each call of ./argon2 asks them. Each leaves in `why` what is wrong.
+# `root`. Each leaves in `why` what is wrong.
 # shellcheck shell=sh disable=SC2034,SC2154
 
-# The crates that are named, or all, and those below them, each behind those below it: `find_crates NAME..` leaves them
-# in `found`. Fails where one is not there, or stands above one below it.
-find_crates() {
-    seen=' ' requested=" $* " found=''
+# crates.txt and the sources (src, specs, proofs) of crates and of those below them: `find_sources NAME..` leaves them
+# in `sources`. Fails where a crate is not there, or stands above one below it.
+find_sources() {
+    sources=crates.txt seen=' ' asked=" $* "
     while IFS=':' read -r named below; do
         crate=${named%% *}
         seen="$seen$crate "
+        case $asked in *" $crate "*) ;; *) continue ;; esac
+        asked="$asked$below "
         for lower in $below; do
             case $seen in *" $lower "*) why="crates.txt has $crate above $lower" && return 1 ;; esac
         done
-        case $requested in
-        '  ') ;;
-        *" $crate "*) requested="$requested$below " ;;
-        *) continue ;;
-        esac
-        found="$crate $found"
+        for kind in src specs proofs; do
+            [ ! -d "$root/crates/$crate/$kind" ] || sources="$sources crates/$crate/$kind"
+        done
     done <<END
 $(tac "$root/crates.txt")
 END
-    for asked; do
-        case $seen in *" $asked "*) ;; *) why="crates.txt has no $asked" && return 1 ;; esac
+    for crate; do
+        case $seen in *" $crate "*) ;; *) why="crates.txt has no $crate" && return 1 ;; esac
     done
 }
 
@@ -31,37 +30,6 @@ END
 sum_files() {
     sum=$(cd "$root" && find "$@" ! -type d ! -name CMakeLists.txt ! -name '*.cmake' -exec sha256sum -- {} + \
         | LC_ALL=C sort -k 2 | sha256sum) && sum=${sum%% *}
-}
-
-# crates.txt and the sources (src, specs, proofs) of crates and of those below them: `find_sources NAME..` leaves them
-# in `sources`.
-find_sources() {
-    find_crates "$@" || return
-    sources=crates.txt
-    for crate in $found; do
-        for kind in src specs proofs; do
-            [ ! -d "$root/crates/$crate/$kind" ] || sources="$sources crates/$crate/$kind"
-        done
-    done
-}
-
-# Whether a command that judges files succeeds. It is not run again where they are as they were when it has, by their
-# inodes, sizes and times of change, of which a note in out/ tells: `holds NOTE PATHS COMMAND..`, where PATHS are words.
-holds() {
-    held=$root/out/$1 paths=$2
-    shift 2
-    [ ! -e "$held" ] || ! list_states | cmp -s - "$held" || return 0
-    states=$(list_states)
-    "$@" || return
-    # (what has just changed may change again within the same time)
-    # shellcheck disable=SC2086
-    [ ! "$(cd "$root" && find $paths -newerct '3 seconds ago' -print -quit 2>&1)" ] || return 0
-    { mkdir -p "$root/out" && printf '%s\n' "$states" >"$held.$$" && mv -f "$held.$$" "$held"; } 2>/dev/null || return 0
-}
-
-list_states() {
-    # shellcheck disable=SC2086
-    (cd "$root" && exec find $paths -printf '%p %i %s %C@\n' 2>/dev/null)
 }
 
 # A machine of build/machines.txt, by its name or that of a build: `find_machine NAME` leaves what the table has of it
@@ -85,6 +53,26 @@ find_machine() {
 # The names of all machines, into `machines`.
 find_machines() {
     machines=$(sed -n 's/^\([^# ]*\) .*/\1/p' "$root/build/machines.txt" | tr '\n' ' ')
+}
+
+# Prints the release of Debian and the packages of the tools here that link a part of release/, as its list names them,
+# `CODENAME PACKAGE=VERSION..`: `list_packages PART`. Fails where one is not there.
+list_packages() {
+    packages='gcc gcc-12 cpp-12 libgcc-12-dev binutils libc6-dev'
+    case $1 in
+    wasm32) packages='binaryen wabt' ;;
+    portable) packages=wabt ;;
+    windows-x86_64)
+        packages="$packages gcc-mingw-w64-x86-64-posix gcc-mingw-w64-x86-64-posix-runtime mingw-w64-x86-64-dev
+            binutils-mingw-w64-x86-64 mingw-w64-common python3-pyelftools"
+        ;;
+    aarch64)
+        packages='gcc-aarch64-linux-gnu gcc-12-aarch64-linux-gnu binutils-aarch64-linux-gnu libc6-dev-arm64-cross'
+        ;;
+    esac
+    # shellcheck disable=SC2086 # they are words
+    packages=$(dpkg-query -Wf '${Package}=${Version}\n' $packages) \
+        && echo "$(. /etc/os-release && echo "$VERSION_CODENAME")" $packages
 }
 
 # ---- what is built here
@@ -122,15 +110,12 @@ is_built() {
 
 # What a folder of release/ is built from beside proved crates: `others_of FOLDER` leaves the paths in `others`.
 others_of() {
+    others=''
     case $1 in
     wasm32) others='build/link_wasm bindings/wasm/instance.s' ;;
     windows-x86_64)
         others='build/link build/coff build/machines.txt bindings/c bindings/kernels bindings/windows
             crates/argon2_c/include'
-        ;;
-    x86-64-* | armv8-a)
-        others=''
-        [ ! -e "$root/bindings/kernels/$1.c" ] || others="build/kernel build/machines.txt bindings/kernels/$1.c"
         ;;
     portable)
         others='build/portable bindings/wasm/instance.s bindings/portable/translate.py bindings/portable/module.h
@@ -138,10 +123,14 @@ others_of() {
             crates/argon2_c/include'
         ;;
     *)
-        others='VERSION build/link build/library.map build/machines.txt bindings/c bindings/kernels
-            bindings/javascript/addon crates/argon2_c/include bindings/libargon2/argon2.h
-            bindings/libargon2/command.c bindings/libargon2/libargon2.c bindings/libargon2/libargon2.map
-            bindings/shell/words.c'
+        if grep -q "^$1 " "$root/build/machines.txt"; then
+            others='VERSION build/link build/library.map build/machines.txt bindings/c bindings/kernels
+                bindings/javascript/addon crates/argon2_c/include bindings/libargon2/argon2.h
+                bindings/libargon2/command.c bindings/libargon2/libargon2.c bindings/libargon2/libargon2.map
+                bindings/shell/words.c'
+        elif [ -e "$root/bindings/kernels/$1.c" ]; then
+            others="build/kernel build/machines.txt bindings/kernels/$1.c"
+        fi
         ;;
     esac
 }
@@ -153,31 +142,20 @@ sum_part() {
     sum_files $sources $others
 }
 
-# Whether the manifest has a line: `says LINE`.
-says() {
-    case $manifest in *"
-$1
-"*) ;; *) return 1 ;; esac
-}
-
-# Whether release/ is of these sources, as its manifest says: `is_of_sources FOLDER`. It reads the manifest once.
+# Whether release/ is of these sources, as its manifest says: `is_of_sources FOLDER`.
 is_of_sources() {
-    [ "${manifest-}" ] || manifest="
-$(cat "$root/release/MANIFEST" 2>/dev/null)
-"
     sum_part "$1" || return
     why="release/MANIFEST is of other sources of $1"
-    says "# sources $1 $sum"
+    grep -qxF "# sources $1 $sum" "$root/release/MANIFEST" 2>/dev/null
 }
 
 # Whether a file is there as the manifest has it: `is_listed FILE`.
 is_listed() {
     why="release/MANIFEST does not name $1"
     case $1 in *[!A-Za-z0-9_./-]* | */*/* | *..*) return 1 ;; esac
-    case $manifest in *"  $1
-"*) ;; *) return 1 ;; esac
+    listed=$(grep "  $1\$" "$root/release/MANIFEST") || return
     why="release/$1 is not there, and release/MANIFEST names it"
     [ -f "$root/release/$1" ] || return
     why="release/$1 is not the file that release/MANIFEST names: it was changed"
-    sum=$(sha256sum <"$root/release/$1") && says "${sum%% *}  $1"
+    sum=$(sha256sum <"$root/release/$1") && [ "$listed" = "${sum%% *}  $1" ]
 }

@@ -15,14 +15,12 @@ class Machine(NamedTuple):
     proved: list  # those that the toolchain makes, which come first
 
 
-def read_machine(line):
-    head, builds = line.split(":")
-    name, number, target, prefix, base = head.split()
-    proved, kernels = (part.split() for part in builds.partition("+")[::2])
-    return Machine(name, int(number), target, prefix.removeprefix("-"), base, proved + kernels, proved)
-
-
 def machines():
+    found = {}
     with open(f"{HERE}/machines.txt", encoding="utf-8") as lines:
-        found = [read_machine(line) for line in lines if not line.startswith("#")]
-    return {machine.name: machine for machine in found}
+        for line in (line for line in lines if not line.startswith("#")):
+            head, builds = line.split(":")
+            name, number, target, prefix, base = head.split()
+            proved, kernels = (part.split() for part in builds.partition("+")[::2])
+            found[name] = Machine(name, int(number), target, prefix.removeprefix("-"), base, proved + kernels, proved)
+    return found

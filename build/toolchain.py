@@ -39,9 +39,9 @@ def locked(crate):
             os.close(descriptor)
 
 
-def stamp(*crates):
-    """What the sources of crates and of those below them are, in one line: `build/stamp` says how it is made."""
-    return subprocess.run([f"{HERE}/stamp", *crates], stdout=subprocess.PIPE, check=True, text=True).stdout.strip()
+def stamp(crate):
+    """What the sources of a crate and of those below it are, in one line: `build/stamp` says how it is made."""
+    return subprocess.run([f"{HERE}/stamp", crate], stdout=subprocess.PIPE, check=True, text=True).stdout.strip()
 
 
 def mark(crate, line, *files):
@@ -55,7 +55,13 @@ def is_current(crate, *files, says_why=False):
     return subprocess.run([f"{HERE}/stamp", "--check", crate, *files], stderr=errors, check=False).returncode == 0
 
 
-def are_current(libraries):
-    """Whether all these libraries are as a whole proof left them, and no source has changed since. They fit only each
-    other: where another command has built one anew, the mark in its folder is gone."""
-    return all(is_current(library.name, os.path.dirname(library.rlib)) for library in libraries)
+def build_below(crate):
+    """Has the libraries below a crate proved and built, unless all are as a whole proof left them, and no source has
+    changed since; gives whether they are there. They fit only each other: where another command has built one anew, the
+    mark in its folder is gone."""
+    libraries = crate.below()
+    if all(is_current(library.name, os.path.dirname(library.rlib)) for library in libraries):
+        return True
+    for library in libraries:
+        library.out = crate.out
+    return not any(library.build_rlib([], anew=False) for library in libraries)

@@ -22,6 +22,7 @@
 #define IS_MISSING(name) ((name) == NULL && name##_len != 0)
 #define ARE_INPUTS_MISSING \
     (IS_MISSING(pwd) || IS_MISSING(salt) || IS_MISSING(secret) || IS_MISSING(ad) || settings == NULL)
+#define IS_STORED_MISSING (IS_MISSING(text) || IS_MISSING(pwd) || IS_MISSING(secret) || IS_MISSING(ad))
 
 typedef proved_argon2_block block;
 typedef proved_argon2_options options;

@@ -121,8 +121,7 @@ static uint32_t read_text(struct call *call, STORED)
 uint32_t proved_argon2_verify_encoded_with(const options *with, STORED)
 {
     struct call call;
-    uint32_t code = proved_driver_begin_call(
-        &call, with, IS_MISSING(text) || IS_MISSING(pwd) || IS_MISSING(secret) || IS_MISSING(ad));
+    uint32_t code = proved_driver_begin_call(&call, with, IS_STORED_MISSING);
     if (code != PROVED_ARGON2_OK) {
         goto end;
     }

@@ -75,9 +75,14 @@ show_help() {
     sed "s|NAME|$name|g" "$help"
 }
 
+# Adds a line on standard error: `add LINE`.
+add() {
+    printf '%s: %s\n' "$name" "$1" >&2
+}
+
 # Ends with a line on standard error: `fail STATUS LINE`.
 fail() {
-    printf '%s: %s\n' "$name" "$2" >&2
+    add "$2"
     exit "$1"
 }
 
@@ -87,17 +92,15 @@ run() {
     if [ -t 0 ]; then
         judge "$@"
         ask 'Password: '
-        printf '%s' "$answer" | call "$@"
+        printf '%s' "$answer" | "$program" "$@"
         exit
     fi
-    GLIBC_TUNABLES=${GLIBC_TUNABLES-$tunables}
-    export GLIBC_TUNABLES
     exec "$program" "$@"
 }
 
 # Ends where the program does not come to read the password: it judges its arguments first, and no folder can be read.
 judge() {
-    { said=$(call "$@" </ 2>&1 >&3 3>&-); } 3>&1
+    { said=$("$program" "$@" </ 2>&1 >&3 3>&-); } 3>&1
     status=$?
     [ "$status:$said" != 4:input ] || return 0
     [ -z "$said" ] || printf '%s\n' "$said" >&2
@@ -109,6 +112,8 @@ make_ready() {
     is_known=
     prepare || exit 70
     [ "$is_known" ] || require_loader
+    GLIBC_TUNABLES=${GLIBC_TUNABLES-$tunables}
+    export GLIBC_TUNABLES
 }
 
 # Ends where the program cannot be loaded: then the loader names a version that the system's C library lacks, or the
@@ -120,12 +125,6 @@ require_loader() {
         fail 70 "the programs need glibc $least_glibc or newer, which this system does not have"
         ;;
     esac
-}
-
-# Runs the program that was made ready, in huge pages where the user has not set what the C library's memory is tuned
-# by.
-call() {
-    GLIBC_TUNABLES=${GLIBC_TUNABLES-$tunables} "$program" "$@"
 }
 
 # ---- the processor
@@ -164,11 +163,6 @@ has_flags() {
 refuse_processor() {
     fail 70 "this processor is older than x86-64-v2, or neither x86-64 nor ARM64, for which the programs are built: \
 see /proc/cpuinfo"
-}
-
-# Adds a line on standard error: `add LINE`.
-add() {
-    printf '%s: %s\n' "$name" "$1" >&2
 }
 
 # ---- passwords
@@ -238,12 +232,12 @@ new_text() {
         ask 'Password again: '
         [ "$password" = "$answer" ] || fail 1 'the two passwords are not the same'
         [ -n "$password" ] || is_empty=yes
-        lines=$(printf '%s' "$password" | call new "$@" "$salt") || exit
+        lines=$(printf '%s' "$password" | "$program" new "$@" "$salt") || exit
     else
         [ -e /dev/fd/0 ] || fail 4 'there is no input'
         trap 'exit 4' USR1
         trap 'is_empty=yes' USR2
-        lines=$(watch_input | call new "$@" "$salt") || exit
+        lines=$(watch_input | "$program" new "$@" "$salt") || exit
         trap - USR1 USR2
     fi
     [ -z "$is_empty" ] || fail 2 'the password is empty'
@@ -285,7 +279,7 @@ measure() {
     for turn in 1 2 3; do
         progress "$(count_passes "$1") over $2 KiB, measurement $turn of 3"
         began=$(date +%s%N)
-        said=$(printf password | call new argon2id 19 "$1" "$2" 1 32 seq "$tuned_salt" 2>&1 >/dev/null)
+        said=$(printf password | "$program" new argon2id 19 "$1" "$2" 1 32 seq "$tuned_salt" 2>&1 >/dev/null)
         status=$?
         case $status in
         0) ;;
@@ -293,18 +287,11 @@ measure() {
         *) progress '' && printf '%s\n' "$said" >&2 && exit "$status" ;;
         esac
         ended=$(date +%s%N)
-        is_clock "$ended" || fail 4 'there is no clock of milliseconds'
+        case $ended in *[!0-9]*) ended= ;; esac
+        [ "${#ended}" -ge 19 ] || fail 4 'there is no clock of milliseconds'
         elapsed=$(((ended - began) / 1000000 + 1))
         [ -n "$took" ] && [ "$elapsed" -ge "$took" ] || took=$elapsed
     done
-}
-
-# Whether a string is the nanoseconds that `date` counts.
-is_clock() {
-    case $1 in
-    '' | *[!0-9]*) return 1 ;;
-    esac
-    [ "${#1}" -ge 19 ]
 }
 
 # Says where other programs may have disturbed what was measured.

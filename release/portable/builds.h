@@ -22,16 +22,15 @@
 
 #ifdef ONLY_BUILD /* (where there is no other) */
 
-#define DECLARED(answer, name, taken) answer IN_BUILD(ONLY_BUILD, name) taken;
+#define DECLARED(name) __typeof__(proved_argon2_##name) IN_BUILD(ONLY_BUILD, name);
 #define MADE_BY(answer, name, arguments, otherwise) answer(IN_BUILD(ONLY_BUILD, name) arguments);
 
 #else
 
 /* (in Linux's convention for calls, which a compiler for Windows has beside its own) */
-#define DECLARED(answer, name, taken) \
-    __attribute__((sysv_abi)) answer IN_BUILD(x86_64_v2, name) taken; \
-    __attribute__((sysv_abi)) answer IN_BUILD(x86_64_v3, name) taken; \
-    __attribute__((sysv_abi)) answer IN_BUILD(x86_64_v4, name) taken;
+#define DECLARED(name) \
+    __attribute__((sysv_abi)) __typeof__(proved_argon2_##name) IN_BUILD(x86_64_v2, name), IN_BUILD(x86_64_v3, name), \
+        IN_BUILD(x86_64_v4, name);
 #define MADE_BY(answer, name, arguments, otherwise) \
     switch (build_here()) { \
     case X86_64_V4: answer(IN_BUILD(x86_64_v4, name) arguments); \

@@ -1,10 +1,10 @@
-/* Made by bindings/c/table.py --write: the proved calls behind the tests of their pointers, and messages. */
+/* The proved calls as a program sees them: C that looks at a call's pointers, and then makes it in a build of builds.h.
+ * A null pointer whose length is 0 passes none, and any other returns PROVED_ARGON2_NULL_POINTER. Then blocks at an
+ * address that no block has return PROVED_ARGON2_MISALIGNED. Where no build runs on the processor, a call returns
+ * PROVED_ARGON2_OLD_PROCESSOR, or zeros where it returns no code. It is tested and not proved. */
 #define ONLY_BUILD portable
 #include "builds.h"
 #include "driver.h"
-
-#define IS_MISALIGNED(name) (name##_len != 0 && (uintptr_t)name % _Alignof(proved_argon2_block) != 0)
-#define SOME(name) some(name, name##_len), name##_len
 
 /* An address of nothing in place of a null pointer, which no proved call takes. */
 static inline void *some(const void *at, size_t len)
@@ -13,387 +13,111 @@ static inline void *some(const void *at, size_t len)
     return (void *)(uintptr_t)(len == 0 ? &none : at);
 }
 
-#pragma GCC visibility push(hidden)
-DECLARED(uint32_t, check, (const proved_argon2_settings *settings, uint64_t pwd_len, uint64_t salt_len, uint64_t
-    secret_len, uint64_t ad_len))
-DECLARED(uint32_t, check_encoded, (const char *text, size_t text_len, const proved_argon2_limits *limits,
-    uint64_t pwd_len, uint64_t secret_len, uint64_t ad_len, proved_argon2_stored *stored))
-DECLARED(proved_argon2_limits, default_limits, (void))
-DECLARED(uint32_t, encode, (const uint8_t *salt, size_t salt_len, const proved_argon2_settings *settings,
-    const uint8_t *tag, size_t tag_len, char *text, size_t text_len))
-DECLARED(uint64_t, encoded_len, (const proved_argon2_settings *settings, uint32_t salt_len))
-DECLARED(uint32_t, hash_over, (const uint8_t *pwd, size_t pwd_len,
-    const uint8_t *salt, size_t salt_len,
-    const uint8_t *secret, size_t secret_len,
-    const uint8_t *ad, size_t ad_len,
-    const proved_argon2_settings *settings,
-    proved_argon2_block *blocks, size_t blocks_len,
-    uint8_t *out, size_t out_len))
-DECLARED(uint32_t, job_begin, (const proved_argon2_job *job, uint32_t lane, proved_argon2_block *own, size_t own_len))
-DECLARED(uint32_t, job_check, (const proved_argon2_job *job))
-DECLARED(uint32_t, job_fill, (const proved_argon2_job *job, uint32_t pass, uint32_t slice, uint32_t lane,
-    const proved_argon2_block *first, size_t first_len,
-    const proved_argon2_block *second, size_t second_len,
-    const proved_argon2_block *third, size_t third_len,
-    proved_argon2_block *own, size_t own_len))
-DECLARED(uint32_t, job_finish, (const proved_argon2_job *job, const proved_argon2_block *last, size_t last_len, uint8_t
-    *out, size_t out_len))
-DECLARED(uint32_t, job_hash_over, (const proved_argon2_job *job, proved_argon2_block *blocks, size_t blocks_len, uint8_t
-    *out, size_t out_len))
-DECLARED(uint32_t, job_make, (const uint8_t *pwd, size_t pwd_len,
-    const uint8_t *salt, size_t salt_len,
-    const uint8_t *secret, size_t secret_len,
-    const uint8_t *ad, size_t ad_len,
-    const proved_argon2_settings *settings,
-    proved_argon2_job *job))
-DECLARED(uint32_t, job_read, (const char *text, size_t text_len,
-    const uint8_t *pwd, size_t pwd_len,
-    const uint8_t *secret, size_t secret_len,
-    const uint8_t *ad, size_t ad_len,
-    proved_argon2_job *job,
-    uint8_t *salt, size_t salt_len,
-    uint8_t *hash, size_t hash_len))
-DECLARED(uint32_t, job_verify, (const proved_argon2_job *job, const proved_argon2_block *last, size_t last_len,
-    const uint8_t *hash, size_t hash_len, uint8_t *tag, size_t tag_len))
-DECLARED(uint32_t, job_verify_over, (const proved_argon2_job *job, proved_argon2_block *blocks, size_t blocks_len,
-    const uint8_t *hash, size_t hash_len, uint8_t *tag, size_t tag_len))
-DECLARED(uint32_t, library_version, (void))
-DECLARED(uint64_t, memory_len, (const proved_argon2_settings *settings))
-DECLARED(uint32_t, needs_rehash, (const char *text, size_t text_len, const proved_argon2_settings *settings))
-DECLARED(proved_argon2_settings, owasp1, (void))
-DECLARED(proved_argon2_settings, owasp2, (void))
-DECLARED(proved_argon2_settings, owasp3, (void))
-DECLARED(proved_argon2_settings, owasp4, (void))
-DECLARED(proved_argon2_settings, owasp5, (void))
-DECLARED(uint32_t, read, (const char *text, size_t text_len, proved_argon2_stored *stored))
-DECLARED(uint32_t, read_bytes, (const char *text, size_t text_len, uint8_t *salt, size_t salt_len, uint8_t *hash, size_t
-    hash_len))
-DECLARED(uint32_t, read_within, (const char *text, size_t text_len, const proved_argon2_limits *limits,
-    proved_argon2_stored *stored))
-DECLARED(proved_argon2_settings, rfc9106, (void))
-DECLARED(proved_argon2_settings, rfc9106_low_mem, (void))
-DECLARED(uint32_t, verify_over, (const uint8_t *pwd, size_t pwd_len,
-    const uint8_t *salt, size_t salt_len,
-    const uint8_t *secret, size_t secret_len,
-    const uint8_t *ad, size_t ad_len,
-    const proved_argon2_settings *settings,
-    proved_argon2_block *blocks, size_t blocks_len,
-    const uint8_t *hash, size_t hash_len,
-    uint8_t *tag, size_t tag_len))
-#pragma GCC visibility pop
+#define IN_HIDDEN(declared) _Pragma("GCC visibility push(hidden)") declared _Pragma("GCC visibility pop")
 
-uint32_t proved_argon2_check(const proved_argon2_settings *settings, uint64_t pwd_len, uint64_t salt_len, uint64_t
-    secret_len, uint64_t ad_len)
-{
-    if (settings == NULL) {
-        return PROVED_ARGON2_NULL_POINTER;
+#define CALL(name, given, is_missing, passed) \
+    IN_HIDDEN(DECLARED(name)) \
+    uint32_t proved_argon2_##name given \
+    { \
+        if (is_missing) { \
+            return PROVED_ARGON2_NULL_POINTER; \
+        } \
+        MADE(name, passed, PROVED_ARGON2_OLD_PROCESSOR) \
     }
-    MADE(check, (settings, pwd_len, salt_len, secret_len, ad_len), PROVED_ARGON2_OLD_PROCESSOR)
-}
-
-uint32_t proved_argon2_check_encoded(const char *text, size_t text_len, const proved_argon2_limits *limits,
-    uint64_t pwd_len, uint64_t secret_len, uint64_t ad_len, proved_argon2_stored *stored)
-{
-    if (IS_MISSING(text) || limits == NULL || stored == NULL) {
-        return PROVED_ARGON2_NULL_POINTER;
+#define COMPUTES(name, given, is_missing, is_misaligned, passed) \
+    IN_HIDDEN(DECLARED(name)) \
+    CLEARS_REGISTERS uint32_t proved_argon2_##name given \
+    { \
+        if (is_missing) { \
+            return PROVED_ARGON2_NULL_POINTER; \
+        } \
+        if (is_misaligned) { \
+            return PROVED_ARGON2_MISALIGNED; \
+        } \
+        MADE_CLEARING(name, passed, PROVED_ARGON2_OLD_PROCESSOR) \
     }
-    MADE(check_encoded, (SOME(text), limits, pwd_len, secret_len, ad_len, stored),
-        PROVED_ARGON2_OLD_PROCESSOR)
-}
-
-proved_argon2_limits proved_argon2_default_limits(void)
-{
-    MADE(default_limits, (), (proved_argon2_limits){0})
-}
-
-uint32_t proved_argon2_encode(const uint8_t *salt, size_t salt_len, const proved_argon2_settings *settings,
-    const uint8_t *tag, size_t tag_len, char *text, size_t text_len)
-{
-    if (IS_MISSING(salt) || settings == NULL || IS_MISSING(tag) || IS_MISSING(text)) {
-        return PROVED_ARGON2_NULL_POINTER;
+#define LENGTH(name, given, passed) \
+    IN_HIDDEN(DECLARED(name)) \
+    uint64_t proved_argon2_##name given \
+    { \
+        if (settings == NULL) { \
+            return 0; \
+        } \
+        MADE(name, passed, 0) \
     }
-    MADE(encode, (SOME(salt), settings, SOME(tag), SOME(text)), PROVED_ARGON2_OLD_PROCESSOR)
-}
-
-uint64_t proved_argon2_encoded_len(const proved_argon2_settings *settings, uint32_t salt_len)
-{
-    if (settings == NULL) {
-        return (uint64_t){0};
+#define NUMBERS(type, name) \
+    IN_HIDDEN(DECLARED(name)) \
+    type proved_argon2_##name(void) \
+    { \
+        MADE(name, (), (type){0}) \
     }
-    MADE(encoded_len, (settings, salt_len), (uint64_t){0})
-}
+#define PRESET(name) NUMBERS(proved_argon2_settings, name)
+#define BYTES(name) some(name, name##_len), name##_len
+#define BYTES_OF_INPUTS BYTES(pwd), BYTES(salt), BYTES(secret), BYTES(ad)
+#define SETTINGS(settings) settings
+#define LIMITS(limits) limits
+#define JOB(job) job
+#define TO_JOB(job) job
+#define TO_STORED(stored) stored
+#include "proved_calls.h"
+NUMBERS(proved_argon2_limits, default_limits)
+NUMBERS(uint32_t, library_version)
 
-CLEARS_REGISTERS uint32_t proved_argon2_hash_over(const uint8_t *pwd, size_t pwd_len,
-    const uint8_t *salt, size_t salt_len,
-    const uint8_t *secret, size_t secret_len,
-    const uint8_t *ad, size_t ad_len,
-    const proved_argon2_settings *settings,
-    proved_argon2_block *blocks, size_t blocks_len,
-    uint8_t *out, size_t out_len)
-{
-    if (IS_MISSING(pwd) || IS_MISSING(salt) || IS_MISSING(secret) || IS_MISSING(ad) || settings == NULL ||
-        IS_MISSING(blocks) || IS_MISSING(out)) {
-        return PROVED_ARGON2_NULL_POINTER;
-    }
-    if (IS_MISALIGNED(blocks)) {
-        return PROVED_ARGON2_MISALIGNED;
-    }
-    MADE_CLEARING(hash_over, (SOME(pwd), SOME(salt), SOME(secret), SOME(ad), settings, SOME(blocks),
-        SOME(out)), PROVED_ARGON2_OLD_PROCESSOR)
-}
-
-CLEARS_REGISTERS uint32_t proved_argon2_job_begin(const proved_argon2_job *job, uint32_t lane, proved_argon2_block *own,
-    size_t own_len)
-{
-    if (job == NULL || IS_MISSING(own)) {
-        return PROVED_ARGON2_NULL_POINTER;
-    }
-    if (IS_MISALIGNED(own)) {
-        return PROVED_ARGON2_MISALIGNED;
-    }
-    MADE_CLEARING(job_begin, (job, lane, SOME(own)), PROVED_ARGON2_OLD_PROCESSOR)
-}
-
-uint32_t proved_argon2_job_check(const proved_argon2_job *job)
-{
-    if (job == NULL) {
-        return PROVED_ARGON2_NULL_POINTER;
-    }
-    MADE(job_check, (job), PROVED_ARGON2_OLD_PROCESSOR)
-}
-
-CLEARS_REGISTERS uint32_t proved_argon2_job_fill(const proved_argon2_job *job, uint32_t pass, uint32_t slice, uint32_t
-    lane,     const proved_argon2_block *first, size_t first_len,     const proved_argon2_block *second, size_t
-    second_len,     const proved_argon2_block *third, size_t third_len,     proved_argon2_block *own, size_t own_len)
-{
-    if (job == NULL || IS_MISSING(first) || IS_MISSING(second) || IS_MISSING(third) || IS_MISSING(own)) {
-        return PROVED_ARGON2_NULL_POINTER;
-    }
-    if (IS_MISALIGNED(first) || IS_MISALIGNED(second) || IS_MISALIGNED(third) || IS_MISALIGNED(own)) {
-        return PROVED_ARGON2_MISALIGNED;
-    }
-    MADE_CLEARING(job_fill, (job, pass, slice, lane, SOME(first), SOME(second), SOME(third), SOME(own)),
-        PROVED_ARGON2_OLD_PROCESSOR)
-}
-
-CLEARS_REGISTERS uint32_t proved_argon2_job_finish(const proved_argon2_job *job, const proved_argon2_block *last, size_t
-    last_len, uint8_t *out, size_t out_len)
-{
-    if (job == NULL || IS_MISSING(last) || IS_MISSING(out)) {
-        return PROVED_ARGON2_NULL_POINTER;
-    }
-    if (IS_MISALIGNED(last)) {
-        return PROVED_ARGON2_MISALIGNED;
-    }
-    MADE_CLEARING(job_finish, (job, SOME(last), SOME(out)), PROVED_ARGON2_OLD_PROCESSOR)
-}
-
-CLEARS_REGISTERS uint32_t proved_argon2_job_hash_over(const proved_argon2_job *job, proved_argon2_block *blocks, size_t
-    blocks_len, uint8_t *out, size_t out_len)
-{
-    if (job == NULL || IS_MISSING(blocks) || IS_MISSING(out)) {
-        return PROVED_ARGON2_NULL_POINTER;
-    }
-    if (IS_MISALIGNED(blocks)) {
-        return PROVED_ARGON2_MISALIGNED;
-    }
-    MADE_CLEARING(job_hash_over, (job, SOME(blocks), SOME(out)), PROVED_ARGON2_OLD_PROCESSOR)
-}
-
-CLEARS_REGISTERS uint32_t proved_argon2_job_make(const uint8_t *pwd, size_t pwd_len,
-    const uint8_t *salt, size_t salt_len,
-    const uint8_t *secret, size_t secret_len,
-    const uint8_t *ad, size_t ad_len,
-    const proved_argon2_settings *settings,
-    proved_argon2_job *job)
-{
-    if (IS_MISSING(pwd) || IS_MISSING(salt) || IS_MISSING(secret) || IS_MISSING(ad) || settings == NULL || job
-        == NULL) {
-        return PROVED_ARGON2_NULL_POINTER;
-    }
-    MADE_CLEARING(job_make, (SOME(pwd), SOME(salt), SOME(secret), SOME(ad), settings, job),
-        PROVED_ARGON2_OLD_PROCESSOR)
-}
-
-CLEARS_REGISTERS uint32_t proved_argon2_job_read(const char *text, size_t text_len,
-    const uint8_t *pwd, size_t pwd_len,
-    const uint8_t *secret, size_t secret_len,
-    const uint8_t *ad, size_t ad_len,
-    proved_argon2_job *job,
-    uint8_t *salt, size_t salt_len,
-    uint8_t *hash, size_t hash_len)
-{
-    if (IS_MISSING(text) || IS_MISSING(pwd) || IS_MISSING(secret) || IS_MISSING(ad) || job == NULL ||
-        IS_MISSING(salt) || IS_MISSING(hash)) {
-        return PROVED_ARGON2_NULL_POINTER;
-    }
-    MADE_CLEARING(job_read, (SOME(text), SOME(pwd), SOME(secret), SOME(ad), job, SOME(salt), SOME(hash)),
-        PROVED_ARGON2_OLD_PROCESSOR)
-}
-
-CLEARS_REGISTERS uint32_t proved_argon2_job_verify(const proved_argon2_job *job, const proved_argon2_block *last, size_t
-    last_len,     const uint8_t *hash, size_t hash_len, uint8_t *tag, size_t tag_len)
-{
-    if (job == NULL || IS_MISSING(last) || IS_MISSING(hash) || IS_MISSING(tag)) {
-        return PROVED_ARGON2_NULL_POINTER;
-    }
-    if (IS_MISALIGNED(last)) {
-        return PROVED_ARGON2_MISALIGNED;
-    }
-    MADE_CLEARING(job_verify, (job, SOME(last), SOME(hash), SOME(tag)), PROVED_ARGON2_OLD_PROCESSOR)
-}
-
-CLEARS_REGISTERS uint32_t proved_argon2_job_verify_over(const proved_argon2_job *job, proved_argon2_block *blocks,
-    size_t blocks_len,     const uint8_t *hash, size_t hash_len, uint8_t *tag, size_t tag_len)
-{
-    if (job == NULL || IS_MISSING(blocks) || IS_MISSING(hash) || IS_MISSING(tag)) {
-        return PROVED_ARGON2_NULL_POINTER;
-    }
-    if (IS_MISALIGNED(blocks)) {
-        return PROVED_ARGON2_MISALIGNED;
-    }
-    MADE_CLEARING(job_verify_over, (job, SOME(blocks), SOME(hash), SOME(tag)), PROVED_ARGON2_OLD_PROCESSOR)
-}
-
-uint32_t proved_argon2_library_version(void)
-{
-    MADE(library_version, (), (uint32_t){0})
-}
-
-uint64_t proved_argon2_memory_len(const proved_argon2_settings *settings)
-{
-    if (settings == NULL) {
-        return (uint64_t){0};
-    }
-    MADE(memory_len, (settings), (uint64_t){0})
-}
-
-uint32_t proved_argon2_needs_rehash(const char *text, size_t text_len, const proved_argon2_settings *settings)
-{
-    if (IS_MISSING(text) || settings == NULL) {
-        return PROVED_ARGON2_NULL_POINTER;
-    }
-    MADE(needs_rehash, (SOME(text), settings), PROVED_ARGON2_OLD_PROCESSOR)
-}
-
-proved_argon2_settings proved_argon2_owasp1(void)
-{
-    MADE(owasp1, (), (proved_argon2_settings){0})
-}
-
-proved_argon2_settings proved_argon2_owasp2(void)
-{
-    MADE(owasp2, (), (proved_argon2_settings){0})
-}
-
-proved_argon2_settings proved_argon2_owasp3(void)
-{
-    MADE(owasp3, (), (proved_argon2_settings){0})
-}
-
-proved_argon2_settings proved_argon2_owasp4(void)
-{
-    MADE(owasp4, (), (proved_argon2_settings){0})
-}
-
-proved_argon2_settings proved_argon2_owasp5(void)
-{
-    MADE(owasp5, (), (proved_argon2_settings){0})
-}
-
-uint32_t proved_argon2_read(const char *text, size_t text_len, proved_argon2_stored *stored)
-{
-    if (IS_MISSING(text) || stored == NULL) {
-        return PROVED_ARGON2_NULL_POINTER;
-    }
-    MADE(read, (SOME(text), stored), PROVED_ARGON2_OLD_PROCESSOR)
-}
-
-uint32_t proved_argon2_read_bytes(const char *text, size_t text_len, uint8_t *salt, size_t salt_len, uint8_t *hash,
-    size_t hash_len)
-{
-    if (IS_MISSING(text) || IS_MISSING(salt) || IS_MISSING(hash)) {
-        return PROVED_ARGON2_NULL_POINTER;
-    }
-    MADE(read_bytes, (SOME(text), SOME(salt), SOME(hash)), PROVED_ARGON2_OLD_PROCESSOR)
-}
-
-uint32_t proved_argon2_read_within(const char *text, size_t text_len, const proved_argon2_limits *limits,
-    proved_argon2_stored *stored)
-{
-    if (IS_MISSING(text) || limits == NULL || stored == NULL) {
-        return PROVED_ARGON2_NULL_POINTER;
-    }
-    MADE(read_within, (SOME(text), limits, stored), PROVED_ARGON2_OLD_PROCESSOR)
-}
-
-proved_argon2_settings proved_argon2_rfc9106(void)
-{
-    MADE(rfc9106, (), (proved_argon2_settings){0})
-}
-
-proved_argon2_settings proved_argon2_rfc9106_low_mem(void)
-{
-    MADE(rfc9106_low_mem, (), (proved_argon2_settings){0})
-}
-
-CLEARS_REGISTERS uint32_t proved_argon2_verify_over(const uint8_t *pwd, size_t pwd_len,
-    const uint8_t *salt, size_t salt_len,
-    const uint8_t *secret, size_t secret_len,
-    const uint8_t *ad, size_t ad_len,
-    const proved_argon2_settings *settings,
-    proved_argon2_block *blocks, size_t blocks_len,
-    const uint8_t *hash, size_t hash_len,
-    uint8_t *tag, size_t tag_len)
-{
-    if (IS_MISSING(pwd) || IS_MISSING(salt) || IS_MISSING(secret) || IS_MISSING(ad) || settings == NULL ||
-        IS_MISSING(blocks) || IS_MISSING(hash) || IS_MISSING(tag)) {
-        return PROVED_ARGON2_NULL_POINTER;
-    }
-    if (IS_MISALIGNED(blocks)) {
-        return PROVED_ARGON2_MISALIGNED;
-    }
-    MADE_CLEARING(verify_over, (SOME(pwd), SOME(salt), SOME(secret), SOME(ad), settings, SOME(blocks),
-        SOME(hash), SOME(tag)), PROVED_ARGON2_OLD_PROCESSOR)
-}
+/* clang-format off */
+static const struct {
+    uint32_t number;
+    char message[60];
+} errors[] = {
+    /* errors, by .ci/pages/presets */
+    {PROVED_ARGON2_OUTPUT_TOO_SHORT, "Output is too short"},
+    {PROVED_ARGON2_OUTPUT_TOO_LONG, "Output is too long"},
+    {PROVED_ARGON2_PWD_TOO_SHORT, "Password is too short"},
+    {PROVED_ARGON2_PWD_TOO_LONG, "Password is too long"},
+    {PROVED_ARGON2_SALT_TOO_SHORT, "Salt is too short"},
+    {PROVED_ARGON2_SALT_TOO_LONG, "Salt is too long"},
+    {PROVED_ARGON2_AD_TOO_SHORT, "Associated data is too short"},
+    {PROVED_ARGON2_AD_TOO_LONG, "Associated data is too long"},
+    {PROVED_ARGON2_SECRET_TOO_SHORT, "Secret is too short"},
+    {PROVED_ARGON2_SECRET_TOO_LONG, "Secret is too long"},
+    {PROVED_ARGON2_TIME_TOO_SMALL, "Time cost is too small"},
+    {PROVED_ARGON2_TIME_TOO_LARGE, "Time cost is too large"},
+    {PROVED_ARGON2_MEMORY_TOO_LITTLE, "Memory cost is too small"},
+    {PROVED_ARGON2_MEMORY_TOO_MUCH, "Memory cost is too large"},
+    {PROVED_ARGON2_LANES_TOO_FEW, "Too few lanes"},
+    {PROVED_ARGON2_LANES_TOO_MANY, "Too many lanes"},
+    {PROVED_ARGON2_INCORRECT_TYPE, "There is no such type of Argon2"},
+    {PROVED_ARGON2_INCORRECT_VERSION, "There is no such version of Argon2"},
+    {PROVED_ARGON2_DECODING_FAIL, "Decoding failed"},
+    {PROVED_ARGON2_OUT_OF_MEMORY, "Out of memory"},
+    {PROVED_ARGON2_WORKER_REFUSED, "A worker was refused"},
+    {PROVED_ARGON2_MISMATCH, "The password does not match"},
+    {PROVED_ARGON2_WRONG_LENGTH, "The buffer has the wrong length"},
+    {PROVED_ARGON2_NOT_UTF8, "The encoded hash is not UTF-8"},
+    {PROVED_ARGON2_UNKNOWN_NUMBER, "There is no error of this number"},
+    {PROVED_ARGON2_NEEDS_REHASH, "The encoded hash was made with other settings"},
+    {PROVED_ARGON2_TOO_COSTLY, "The encoded hash is above the limits"},
+    {PROVED_ARGON2_NO_JOB, "The job is of no accepted call"},
+    {PROVED_ARGON2_NO_PLACE, "The job has no such pass, slice or lane"},
+    {PROVED_ARGON2_WRONG_BLOCKS, "There are too many or too few blocks"},
+    {PROVED_ARGON2_NULL_POINTER, "A pointer is null"},
+    {PROVED_ARGON2_NO_RANDOM_BYTES, "There are no random bytes"},
+    {PROVED_ARGON2_STOPPED, "The hash was stopped"},
+    {PROVED_ARGON2_OLD_PROCESSOR, "The processor is too old"},
+    {PROVED_ARGON2_MISALIGNED, "The memory is at an address that is not a multiple of 8"},
+    /* end */
+};
+/* clang-format on */
 
 const char *proved_argon2_message(uint32_t number)
 {
-    switch (number) {
-    case 1: return "Output is too short";
-    case 2: return "Output is too long";
-    case 3: return "Password is too short";
-    case 4: return "Password is too long";
-    case 5: return "Salt is too short";
-    case 6: return "Salt is too long";
-    case 7: return "Associated data is too short";
-    case 8: return "Associated data is too long";
-    case 9: return "Secret is too short";
-    case 10: return "Secret is too long";
-    case 11: return "Time cost is too small";
-    case 12: return "Time cost is too large";
-    case 13: return "Memory cost is too small";
-    case 14: return "Memory cost is too large";
-    case 15: return "Too few lanes";
-    case 16: return "Too many lanes";
-    case 17: return "There is no such type of Argon2";
-    case 18: return "There is no such version of Argon2";
-    case 19: return "Decoding failed";
-    case 20: return "Out of memory";
-    case 21: return "A worker was refused";
-    case 64: return "The password does not match";
-    case 65: return "The buffer has the wrong length";
-    case 66: return "The encoded hash is not UTF-8";
-    case 68: return "The encoded hash was made with other settings";
-    case 69: return "The encoded hash is above the limits";
-    case 70: return "The job is of no accepted call";
-    case 71: return "The job has no such pass, slice or lane";
-    case 72: return "There are too many or too few blocks";
-    case PROVED_ARGON2_NULL_POINTER: return "A pointer is null";
-    case PROVED_ARGON2_NO_RANDOM_BYTES: return "There are no random bytes";
-    case PROVED_ARGON2_STOPPED: return "The hash was stopped";
-    case PROVED_ARGON2_OLD_PROCESSOR: return "The processor is too old";
-    case PROVED_ARGON2_MISALIGNED: return "The memory is at an address that is not a multiple of 8";
-    default: return "There is no error of this number";
+    const char *unknown = NULL;
+    for (size_t i = 0; i < sizeof errors / sizeof *errors; i++) {
+        if (errors[i].number == number) {
+            return errors[i].message;
+        }
+        if (errors[i].number == PROVED_ARGON2_UNKNOWN_NUMBER) {
+            unknown = errors[i].message;
+        }
     }
+    return unknown;
 }

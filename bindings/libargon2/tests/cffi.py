@@ -1,7 +1,7 @@
-"""What Debian's argon2-cffi answers over the libargon2.so.1 of this process, a line each: its tags, its errors but
-those for versions that do not exist, and its verdicts.
+"""What Debian's argon2-cffi answers over the libargon2.so.1 of this process, a line each: its errors but those for
+versions that do not exist, and its verdicts.
 
-    cffi.py tags
+    cffi.py errors
     cffi.py make
     cffi.py check FILE
 """
@@ -12,7 +12,6 @@ import sys
 import argon2
 from argon2 import Type, low_level
 
-PASSWORDS = (b'', b'pw', b'a\0b', 'p\u00e4ss'.encode(), b'x' * 300)
 COSTS = ((1, 8, 1), (2, 64, 2), (3, 256, 4), (1, 1024, 3))  # passes, memory, lanes
 RIGHT = {'secret': b'x', 'salt': b'saltsalt', 'time_cost': 1, 'memory_cost': 64, 'parallelism': 1, 'hash_len': 16,
          'type': Type.ID}
@@ -33,16 +32,6 @@ def outcome(call, *words, **named):
         return f'{type(error).__name__}: {error}'
 
 
-def cases():
-    return itertools.product((Type.D, Type.I, Type.ID), (16, 19), COSTS, (4, 16, 32, 65), PASSWORDS)
-
-
-def print_tags():
-    for kind, version, (passes, memory, lanes), length, password in cases():
-        words = password, b'somesalt' + bytes([length]), passes, memory, lanes, length, kind, version
-        print(low_level.hash_secret_raw(*words).hex(), low_level.hash_secret(*words).decode())
-
-
 def print_errors():
     for wrong, call in itertools.product(WRONG, (low_level.hash_secret, low_level.hash_secret_raw)):
         print(outcome(call, **{**RIGHT, **wrong}))
@@ -50,20 +39,6 @@ def print_errors():
         print(low_level.error_to_str(code))
     for text in TEXTS:
         print(outcome(argon2.PasswordHasher(1, 64, 2).verify, text, 'x'))
-
-
-def print_contexts():
-    """Calls with a secret, associated data and flags, by a context."""
-    ffi = low_level.ffi
-    for flags in range(4):
-        tag, password = ffi.new('uint8_t[]', 32), ffi.new('uint8_t[]', b'password')
-        salt, secret, data = (ffi.new('uint8_t[]', value) for value in (b'somesalt', b'pepper', b'user'))
-        context = ffi.new('argon2_context*', {
-            'version': 19, 'out': tag, 'outlen': 32, 'pwd': password, 'pwdlen': 8, 'salt': salt, 'saltlen': 8,
-            'secret': secret, 'secretlen': 6, 'ad': data, 'adlen': 4, 't_cost': 2, 'm_cost': 64, 'lanes': 4,
-            'threads': 2, 'allocate_cbk': ffi.NULL, 'free_cbk': ffi.NULL, 'flags': flags})
-        print(low_level.core(context, Type.ID.value), context.pwdlen, context.secretlen,
-              *(bytes(ffi.buffer(buffer)).hex() for buffer in (tag, password, secret)))
 
 
 def make():
@@ -78,10 +53,8 @@ def check(file):
                   argon2.extract_parameters(line))
 
 
-if sys.argv[1] == 'tags':
-    print_tags()
+if sys.argv[1] == 'errors':
     print_errors()
-    print_contexts()
 elif sys.argv[1] == 'make':
     make()
 else:

@@ -5,20 +5,197 @@
  *
  * What differs on purpose is in `is_on_purpose` alone (docs/LIBARGON2.md); each of it, and each error, has to be met by
  * 20,000 calls or more. The last line says what was met. The status is 0 where nothing else differs. */
-#include "calls.h"
+#include "../argon2.h"
+#include <dlfcn.h>
 #include <stdio.h>
 #include <stdlib.h>
 #include <string.h>
+
+#define SIZE 128 /* bytes of each buffer */
+#define TEXT 512
+#define CANARY 0xA5
+#define MOST_MEMORY 4096 /* KiB, which a callback gives */
+
+#define NUMBERS_AND_INPUTS uint32_t, uint32_t, uint32_t, const void *, size_t, const void *, size_t
+typedef int hash_encoded(NUMBERS_AND_INPUTS, size_t, char *, size_t);
+typedef int hash_raw(NUMBERS_AND_INPUTS, void *, size_t);
+
+/* The calls of a library; those of one type by their number. */
+typedef struct library {
+    int (*ctx)(argon2_context *, argon2_type);
+    int (*verify_ctx)(argon2_context *, const char *, argon2_type);
+    int (*hash)(NUMBERS_AND_INPUTS, void *, size_t, char *, size_t, argon2_type, uint32_t);
+    int (*verify)(const char *, const void *, size_t, argon2_type);
+    size_t (*encodedlen)(uint32_t, uint32_t, uint32_t, uint32_t, uint32_t, argon2_type);
+    const char *(*error_message)(int);
+    const char *(*type2string)(argon2_type, int);
+    int (*ctx_of[3])(argon2_context *);
+    int (*verify_ctx_of[3])(argon2_context *, const char *);
+    hash_encoded *hash_encoded_of[3];
+    hash_raw *hash_raw_of[3];
+    int (*verify_of[3])(const char *, const void *, size_t);
+} library;
+
+enum call { CTX, VERIFY_CTX, HASH, HASH_ENCODED, HASH_RAW, VERIFY, CALLS };
+enum callback { PLAIN, REFUSING, FAILING, MISALIGNED, CALLBACKS }; /* FAILING gives memory and returns an error */
+
+/* What a callback noted. */
+typedef struct notes {
+    enum callback kind;
+    uint64_t taken, freed, bytes, others; /* others: what was freed is not what was taken, or not cleared */
+    void *start;
+    uint8_t *memory;
+} notes;
+
+/* All that a call is given, and what it leaves there. */
+typedef struct inputs {
+    argon2_context context; /* (its pointers are set for each copy) */
+    int type, is_of_type;   /* is_of_type: the call of the type's own name */
+    int no_context, no_out, no_pwd, no_salt, no_secret, no_ad, takes, gives_back;
+    size_t pwdlen, saltlen, hashlen, encodedlen; /* of argon2_hash, which may be above 32 bits */
+    int has_hash, has_encoded;
+    uint8_t out[SIZE], pwd[SIZE], salt[SIZE], secret[SIZE], ad[SIZE], hash[SIZE];
+    char text[TEXT];
+    notes noted;
+} inputs;
 
 #define MOST_PASSES 12 /* that a text may ask for */
 #define MOST_LANES 9
 #define ENOUGH 20000 /* calls to meet what few of them meet */
 
+/* ---- the libraries */
+
+static void *name(void *handle, const char *before, const char *after)
+{
+    char both[64];
+    snprintf(both, sizeof both, "%s%s", before, after);
+    void *const found = dlsym(handle, both);
+    if (found == NULL) {
+        printf("FAILED: there is no %s\n", both);
+        exit(1);
+    }
+    return found;
+}
+#define FIND(field, before, after) *(void **)&(field) = name(handle, before, after)
+
+static void load(const char *path, library *to)
+{
+    static const char *const types[] = {"argon2d", "argon2i", "argon2id"};
+    void *const handle = dlopen(path, RTLD_NOW | RTLD_LOCAL);
+    if (handle == NULL) {
+        printf("FAILED: %s\n", dlerror());
+        exit(1);
+    }
+    FIND(to->ctx, "argon2", "_ctx");
+    FIND(to->verify_ctx, "argon2", "_verify_ctx");
+    FIND(to->hash, "argon2", "_hash");
+    FIND(to->verify, "argon2", "_verify");
+    FIND(to->encodedlen, "argon2", "_encodedlen");
+    FIND(to->error_message, "argon2", "_error_message");
+    FIND(to->type2string, "argon2", "_type2string");
+    for (int i = 0; i < 3; i++) {
+        FIND(to->ctx_of[i], types[i], "_ctx");
+        FIND(to->verify_ctx_of[i], types[i], "_verify_ctx");
+        FIND(to->hash_encoded_of[i], types[i], "_hash_encoded");
+        FIND(to->hash_raw_of[i], types[i], "_hash_raw");
+        FIND(to->verify_of[i], types[i], "_verify");
+    }
+}
+
+/* ---- callbacks */
+
+static notes *noting; /* of the call that is made */
+
+static int take(uint8_t **memory, size_t bytes)
+{
+    noting->taken++;
+    noting->bytes = bytes;
+    if (noting->kind == REFUSING || bytes > MOST_MEMORY * UINT64_C(1024)) {
+        return 1;
+    }
+    noting->start = malloc(bytes + 16);
+    noting->memory = (uint8_t *)noting->start + (noting->kind == MISALIGNED ? 4 : 0);
+    memset(noting->memory, CANARY, bytes);
+    *memory = noting->memory;
+    return noting->kind == FAILING;
+}
+
+static int is_clear(const uint8_t *bytes, size_t count)
+{
+    uint8_t any = 0;
+    for (size_t i = 0; i < count; i++) {
+        any |= bytes[i];
+    }
+    return any == 0;
+}
+
+static void give_back(uint8_t *memory, size_t bytes)
+{
+    noting->freed++;
+    noting->others += memory != noting->memory || bytes != noting->bytes
+        || (noting->kind != MISALIGNED && !is_clear(memory, bytes));
+    free(noting->start);
+    noting->start = NULL;
+}
+
+/* ---- calls */
+
+static void point(inputs *i)
+{
+    argon2_context *const c = &i->context;
+    c->out = i->no_out ? NULL : i->out;
+    c->pwd = i->no_pwd ? NULL : i->pwd;
+    c->salt = i->no_salt ? NULL : i->salt;
+    c->secret = i->no_secret ? NULL : i->secret;
+    c->ad = i->no_ad ? NULL : i->ad;
+    c->allocate_cbk = i->takes ? take : NULL;
+    c->free_cbk = i->gives_back ? give_back : NULL;
+    noting = &i->noted;
+}
+
+/* Makes a call of a library, whose pointers lead into the inputs, and returns its answer. */
+static int make_call(const library *l, enum call which, inputs *i)
+{
+    argon2_context *const c = i->no_context ? NULL : &i->context;
+    const argon2_type type = (argon2_type)i->type;
+    char *const encoded = i->has_encoded ? i->text : NULL;
+    void *const hash = i->has_hash ? i->hash : NULL;
+    point(i);
+    switch (which) {
+    case CTX: return i->is_of_type ? l->ctx_of[type](c) : l->ctx(c, type);
+    case VERIFY_CTX:
+        return i->is_of_type ? l->verify_ctx_of[type](c, (char *)i->hash) : l->verify_ctx(c, (char *)i->hash, type);
+    case HASH:
+        return l->hash(c->t_cost, c->m_cost, c->lanes, c->pwd, i->pwdlen, c->salt, i->saltlen, hash, i->hashlen,
+            encoded, i->encodedlen, type, c->version);
+    case HASH_ENCODED:
+        return l->hash_encoded_of[type](
+            c->t_cost, c->m_cost, c->lanes, c->pwd, i->pwdlen, c->salt, i->saltlen, i->hashlen, encoded, i->encodedlen);
+    case HASH_RAW:
+        return l->hash_raw_of[type](
+            c->t_cost, c->m_cost, c->lanes, c->pwd, i->pwdlen, c->salt, i->saltlen, hash, i->hashlen);
+    default:
+        return i->is_of_type ? l->verify_of[type](i->text, c->pwd, i->pwdlen)
+                             : l->verify(i->text, c->pwd, i->pwdlen, type);
+    }
+}
+
+/* Whether what two calls wrote, cleared, took and gave back is the same, but for out where it is not looked at. */
+static int is_same(const inputs *a, const inputs *b, int but_out)
+{
+    return (but_out || memcmp(a->out, b->out, SIZE) == 0) && memcmp(a->pwd, b->pwd, SIZE) == 0
+        && memcmp(a->salt, b->salt, SIZE) == 0 && memcmp(a->secret, b->secret, SIZE) == 0
+        && memcmp(a->ad, b->ad, SIZE) == 0 && memcmp(a->hash, b->hash, SIZE) == 0 && memcmp(a->text, b->text, TEXT) == 0
+        && a->context.pwdlen == b->context.pwdlen && a->context.secretlen == b->context.secretlen
+        && a->noted.taken == b->noted.taken && a->noted.freed == b->noted.freed && a->noted.bytes == b->noted.bytes
+        && a->noted.others == b->noted.others;
+}
+
+/* ---- drawing */
+
 static library both[2];
 static const library *const its = &both[0], *const ours = &both[1];
 static uint64_t state;
-
-/* ---- drawing */
 
 static uint64_t draw(void)
 {

@@ -108,8 +108,7 @@ def check_cffi(libraries):
                             stdout=subprocess.PIPE, stderr=subprocess.DEVNULL, check=False).stdout
     module = module or subprocess.check_output([python, '-c', 'import argon2._ffi as m; print(m.__file__)'])
     libraries.are_taken('argon2-cffi', module.decode().strip())
-    compare('argon2-cffi: tags, errors and contexts',
-            *(libraries.run(name, python, script, 'tags')[0] for name in BOTH))
+    compare('argon2-cffi: errors', *(libraries.run(name, python, script, 'errors')[0] for name in BOTH))
     both_ways(libraries, 'argon2-cffi', [python, script, 'make'], [python, script, 'check'])
 
 

@@ -1,185 +1,110 @@
-/* What calls of libargon2.so.1 leave: no H0 and no tag on their stack, in what they free or in registers, though a name
- * is bound late behind them. With H0 a password is tried at the cost of one hash. Where they are to be sought, the
- * proved call beside it says (libproved_argon2.a). Prints a line for each call; the status is 0 where all is right. */
+/* What calls of libargon2.so.1 leave: nothing of H0, of blocks or of the tag in memory that can be written or in
+ * registers, though a name is bound late behind them. With H0 a password is tried at the cost of one hash. What is to
+ * be sought, the proved calls say (libproved_argon2.a). It is linked with --wrap for what system.h has. */
 #define _GNU_SOURCE
-#include "../argon2.h"
-#include "registers.h"
-#include <malloc.h>
-#include <proved_argon2.h>
-#include <pthread.h>
-#include <stdbool.h>
-#include <stdio.h>
-#include <stdlib.h>
-#include <string.h>
-#include <sys/wait.h>
-#include <unistd.h>
+#include "search.h"
 
-#define LENGTH 32
-#define STACK (256 * 1024)
-#define FREED (64 * 1024) /* bytes, of which a call frees fewer in blocks that are not of its memory */
-#define PIECE 16
-#define PASSES 1
-#define MEMORY 64
+#include <sys/resource.h>
 
-static const char password[] = "the password", salt[] = "somesaltsomesalt";
-static const uint8_t zeros[LENGTH];
-static uint8_t stack[STACK] __attribute__((aligned(4096))), seen[STACK + FREED + sizeof registers], tag[LENGTH];
-static char encoded[128];
-static size_t freed; /* bytes that were noted */
-static int is_noting, is_out_of_memory;
-void __libc_free(void *block);
-void *__libc_memalign(size_t alignment, size_t len);
+static uint8_t out[TEXT];
 
-/* Stands in for the C library's, and notes what small blocks have. */
-void free(void *block)
+#define OF_ALONE \
+    calls[ALONE].settings.time_cost, calls[ALONE].settings.mem_cost, 1, calls[ALONE].pwd, calls[ALONE].pwd_len, \
+        calls[ALONE].salt, calls[ALONE].salt_len
+
+static int does_hash(void)
 {
-    const size_t len = is_noting && block != NULL ? malloc_usable_size(block) : 0;
-    if (len <= FREED - freed) {
-        memcpy(seen + STACK + freed, block == NULL ? seen : block, len);
-        freed += len;
-    }
-    __libc_free(block);
+    return argon2id_hash_raw(OF_ALONE, out, TAG);
 }
 
-void *aligned_alloc(size_t alignment, size_t len)
+static int does_hash_encoded(void)
 {
-    return is_out_of_memory ? NULL : __libc_memalign(alignment, len);
+    return argon2id_hash_encoded(OF_ALONE, TAG, (char *)out, TEXT);
 }
 
-static argon2_context context(uint8_t *out)
+static int does_verify(void)
+{
+    return argon2id_verify(sought->text, calls[ALONE].pwd, calls[ALONE].pwd_len);
+}
+
+static argon2_context context_of(struct call *call)
 {
     return (argon2_context){.out = out,
-        .outlen = LENGTH,
-        .pwd = (uint8_t *)(uintptr_t)password,
-        .pwdlen = sizeof password - 1,
-        .salt = (uint8_t *)(uintptr_t)salt,
-        .saltlen = sizeof salt - 1,
-        .t_cost = PASSES,
-        .m_cost = MEMORY,
-        .lanes = 1,
-        .threads = 1,
-        .version = ARGON2_VERSION_13};
+        .outlen = TAG,
+        .pwd = call->pwd,
+        .pwdlen = call->pwd_len,
+        .salt = call->salt,
+        .saltlen = call->salt_len,
+        .secret = call->secret,
+        .secretlen = call->secret_len,
+        .ad = call->ad,
+        .adlen = call->ad_len,
+        .t_cost = call->settings.time_cost,
+        .m_cost = call->settings.mem_cost,
+        .lanes = call->settings.lanes,
+        .threads = call->settings.lanes,
+        .version = call->settings.version};
 }
 
-#define INPUTS PASSES, MEMORY, 1, password, sizeof password - 1, salt, sizeof salt - 1
-
-static int does_hash(uint8_t *out)
+/* (the inputs are not written to: there are no flags) */
+static int does_ctx(void)
 {
-    return argon2id_hash_raw(INPUTS, out, LENGTH);
-}
-static int does_hash_encoded(uint8_t *out)
-{
-    return argon2id_hash_encoded(INPUTS, LENGTH, (char *)out, sizeof encoded);
-}
-static int does_verify(uint8_t *out)
-{
-    (void)out;
-    return argon2id_verify(encoded, password, sizeof password - 1);
-}
-static int does_ctx(uint8_t *out)
-{
-    argon2_context c = context(out);
+    argon2_context c = context_of((struct call *)(uintptr_t)&calls[SMALL]);
     return argon2id_ctx(&c);
 }
-static int does_verify_ctx(uint8_t *out)
+
+static int does_verify_ctx(void)
 {
-    argon2_context c = context(out);
-    return argon2id_verify_ctx(&c, (const char *)zeros) == ARGON2_VERIFY_MISMATCH ? ARGON2_OK
-                                                                                  : ARGON2_INCORRECT_PARAMETER;
+    argon2_context c = context_of((struct call *)(uintptr_t)&calls[SMALL]);
+    return argon2id_verify_ctx(&c, (const char *)zeros);
 }
 
-struct row {
+static const struct row {
     const char *name;
-    int (*does)(uint8_t *out);
-    int code;
-};
+    int (*does)(void);
+    size_t call;
+    int expected;
+} rows[] = {{"a hash", does_hash, ALONE, ARGON2_OK}, {"an encoded hash", does_hash_encoded, ALONE, ARGON2_OK},
+    {"a verified one", does_verify, ALONE, ARGON2_OK}, {"a context", does_ctx, SMALL, ARGON2_OK},
+    {"a verified context", does_verify_ctx, SMALL, ARGON2_VERIFY_MISMATCH},
+    {"a hash without memory", does_hash, ALONE, ARGON2_MEMORY_ALLOCATION_ERROR},
+    {"a verified one without memory", does_verify, ALONE, ARGON2_MEMORY_ALLOCATION_ERROR}};
 
-static const struct row rows[] = {{"a hash", does_hash, ARGON2_OK}, {"an encoded hash", does_hash_encoded, ARGON2_OK},
-    {"a verified one", does_verify, ARGON2_OK}, {"a context", does_ctx, ARGON2_OK},
-    {"a verified context", does_verify_ctx, ARGON2_OK},
-    {"a hash without memory", does_hash, ARGON2_MEMORY_ALLOCATION_ERROR},
-    {"a verified one without memory", does_verify, ARGON2_MEMORY_ALLOCATION_ERROR}};
-
-/* Whether something is called behind the call. It is bound late, and then the loader has put registers on the stack, in
- * the place of what may have been there. */
-static bool is_called_behind;
-
-/* The call, which writes to memory that is not looked at. */
-static void *call(void *arg)
+static uint32_t does_row(const void *row)
 {
-    static uint8_t out[sizeof encoded];
+    return (uint32_t)((const struct row *)row)->does();
+}
+
+/* (a call of which nothing else here has the name) */
+static void calls_late(void)
+{
+    (void)!getpgrp();
+}
+
+/* In a process of its own, since a name is bound once, and what is denied stays so. */
+static int leaves_something(const void *arg)
+{
     const struct row *const row = arg;
-    is_noting = 1;
-    is_out_of_memory = row->code != ARGON2_OK;
-    const int code = row->does(out);
-    if (is_called_behind) {
-        (void)!getpgrp();
+    const struct rlimit none = {1 << 20, RLIM_INFINITY};
+    seek(row->call);
+    if (row->expected == ARGON2_MEMORY_ALLOCATION_ERROR) {
+        setrlimit(RLIMIT_AS, &none);
     }
-    NOTE_ALL();
-    is_noting = is_out_of_memory = 0;
-    return code == row->code ? arg : NULL;
-}
-
-/* Makes a call over a stack of its own, and keeps what it leaves. */
-static int is_done(const struct row *row)
-{
-    pthread_t thread;
-    pthread_attr_t attributes;
-    void *result = NULL;
-    freed = 0;
-    memset(stack, 0xA5, STACK);
-    memset(seen, 0, sizeof seen);
-    pthread_attr_init(&attributes);
-    const int is_made = pthread_attr_setstack(&attributes, stack, STACK) == 0
-        && pthread_create(&thread, &attributes, call, (void *)(uintptr_t)row) == 0
-        && pthread_join(thread, &result) == 0;
-    memcpy(seen, stack, STACK);
-    memcpy(seen + STACK + FREED, registers, sizeof registers);
-    return is_made && result != NULL;
-}
-
-/* How many pieces of some bytes were left. */
-static int found(const uint8_t *bytes, size_t len)
-{
-    int count = 0;
-    for (size_t at = 0; at + PIECE <= len; at += PIECE) {
-        count += memmem(seen, sizeof seen, bytes + at, PIECE) != NULL;
-    }
-    return count;
-}
-
-/* Whether a call leaves nothing, in a process of its own, since a name is bound once. */
-static int leaves_nothing(const struct row *row, const proved_argon2_job *job)
-{
-    int status = 1;
-    const pid_t child = fork();
-    if (child != 0) {
-        return child > 0 && waitpid(child, &status, 0) == child && status == 0;
-    }
-    const int is_made = is_done(row), of_job = found(job->prehash, sizeof job->prehash), of_tag = found(tag, LENGTH);
-    printf(
-        "%s leaves %d pieces of H0 and %d of the tag, in %zu bytes that it freed\n", row->name, of_job, of_tag, freed);
-    fflush(stdout);
-    _exit(is_made && of_job == 0 && of_tag == 0 ? 0 : 1);
+    const int code = (int)far_below(does_row, row);
+    __real_explicit_bzero(out, sizeof out);
+    setrlimit(RLIMIT_AS, &(struct rlimit){RLIM_INFINITY, RLIM_INFINITY});
+    look_everywhere();
+    return is_nothing_found(row->name) && code == row->expected ? 0 : 1;
 }
 
 int main(void)
 {
-    static const proved_argon2_settings settings = {
-        PROVED_ARGON2_ID, PROVED_ARGON2_VERSION_13, MEMORY, PASSES, 1, LENGTH};
-    proved_argon2_job job;
-    int good = argon2id_hash_encoded(INPUTS, LENGTH, encoded, sizeof encoded) == ARGON2_OK
-        && argon2id_hash_raw(INPUTS, tag, LENGTH) == ARGON2_OK
-        && proved_argon2_job_make((const uint8_t *)password, sizeof password - 1, (const uint8_t *)salt,
-               sizeof salt - 1, zeros, 0, zeros, 0, &settings, &job)
-            == PROVED_ARGON2_OK;
-    printf("of the registers are looked at: %s\n", REGISTERS);
-    fflush(stdout);
+    check_nothing_before();
     for (size_t i = 0; i < sizeof rows / sizeof *rows; i++) {
-        is_called_behind = false;
-        good &= leaves_nothing(&rows[i], &job);
-        is_called_behind = true;
-        good &= leaves_nothing(&rows[i], &job);
+        calls_behind = NULL;
+        check(status_of(leaves_something, &rows[i]) == 0, rows[i].name);
+        calls_behind = calls_late;
+        check(status_of(leaves_something, &rows[i]) == 0, "the same where a name is bound late");
     }
-    return !good;
+    return finish(16);
 }

@@ -2,7 +2,6 @@
  *
  *     starved threads NUMBER     all threads but the first NUMBER of each call: the tag is the same
  *     starved memory NUMBER      address space: each call returns the error for it, and leaves what it was given
- *     starved callbacks NUMBER   the memory of a callback, which is null or at no multiple of 8: likewise
  *     starved texts NUMBER       nothing, but for an encoded hash of 64 lanes at most 16 threads may run
  *
  * Each makes the calls again and again, and the process may not grow. Prints what it met; the status is 0 where all is
@@ -24,14 +23,11 @@
 #define TIMES 30
 #define MOST_GROWTH (4 << 20) /* bytes, of which each call would leave more if it left its memory */
 #define GREAT (1 << 18)       /* KiB, more than the process may have */
-#define SMALL 1024            /* KiB */
 #define PAYING 4096           /* KiB, for which all threads pay */
 #define MOST_FOR_A_TEXT 16    /* threads */
 
 static const char password[] = "password", salt[] = "somesaltsomesalt";
 static unsigned denied, granted, most = ~0u; /* threads of a call */
-static unsigned taken, freed;                /* memory of callbacks */
-static int is_misaligned;
 
 /* Stands in for the C library's, and denies all threads behind the first few. */
 int pthread_create(pthread_t *thread, const pthread_attr_t *how, void *(*start)(void *), void *arg)
@@ -62,20 +58,6 @@ static size_t size_of_process(void)
     }
     fclose(file);
     return pages * (size_t)sysconf(_SC_PAGESIZE);
-}
-
-static int take(uint8_t **memory, size_t bytes)
-{
-    static uint64_t any[(SMALL * 1024 + 8) / 8];
-    taken++;
-    *memory = is_misaligned && bytes <= SMALL * 1024 ? (uint8_t *)any + 4 : NULL;
-    return 0;
-}
-
-static void give_back(uint8_t *memory, size_t bytes)
-{
-    (void)bytes;
-    freed += memory != NULL;
 }
 
 static argon2_context context_of(uint8_t *tag, char *own, uint32_t memory, uint32_t lanes)
@@ -122,14 +104,12 @@ static int is_right_for_a_text(void)
 }
 
 /* Whether a context's calls return the error of memory, and leave the password, its length and out as they were. */
-static int is_denied(uint32_t memory, int has_callbacks)
+static int is_denied(void)
 {
     static const uint8_t zeros[LENGTH];
     uint8_t tag[LENGTH] = {0};
     char own[sizeof password];
-    argon2_context c = context_of(tag, own, memory, 1);
-    c.allocate_cbk = has_callbacks ? take : NULL;
-    c.free_cbk = has_callbacks ? give_back : NULL;
+    argon2_context c = context_of(tag, own, GREAT, 1);
     return argon2id_ctx(&c) == ARGON2_MEMORY_ALLOCATION_ERROR
         && argon2id_verify_ctx(&c, (const char *)zeros) == ARGON2_MEMORY_ALLOCATION_ERROR
         && c.pwdlen == sizeof password - 1 && strcmp(own, password) == 0 && memcmp(tag, zeros, LENGTH) == 0;
@@ -146,13 +126,7 @@ static int is_right_without_memory(void)
                            "AAAAAAAAAAAAAAAAAAAAAAAAAAAAAAAAAAAAAAAAAAA",
                password, 8)
         == ARGON2_MEMORY_ALLOCATION_ERROR
-        && is_denied(GREAT, 0);
-}
-
-static int is_right_without_callbacks(void)
-{
-    const unsigned before = taken - freed;
-    return is_denied(SMALL, 1) && taken - freed == before + (is_misaligned ? 0 : 2);
+        && is_denied();
 }
 
 static int stays_right(int (*is_right)(void))
@@ -166,8 +140,7 @@ static int stays_right(int (*is_right)(void))
         count += is_right();
     }
     const size_t after = size_of_process(), growth = after > before ? after - before : 0;
-    printf("%d of %d right, %zu bytes of growth, %u threads denied, memory taken %u times and given back %u times\n",
-        count, TIMES + FIRST, growth, denied, taken, freed);
+    printf("%d of %d right, %zu bytes of growth, %u threads denied\n", count, TIMES + FIRST, growth, denied);
     return count == TIMES + FIRST && growth < MOST_GROWTH;
 }
 
@@ -181,10 +154,6 @@ int main(int count, char **words)
     }
     if (number >= 0 && strcmp(words[1], "memory") == 0) {
         return !(setrlimit(RLIMIT_AS, &space) == 0 && stays_right(is_right_without_memory));
-    }
-    if (number >= 0 && strcmp(words[1], "callbacks") == 0) {
-        is_misaligned = number % 2;
-        return !stays_right(is_right_without_callbacks);
     }
     if (number >= 0 && strcmp(words[1], "texts") == 0) {
         return !stays_right(is_right_for_a_text);
