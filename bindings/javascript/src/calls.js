@@ -1,27 +1,31 @@
 // The calls that hash and verify.
-import { copyOf, passwordOf } from './bytes.js';
-import { MISMATCH, OK, Rejected, check } from './codes.js';
-import { splitData } from './data.js';
+import { bytesOf, copyOf, Inputs, passwordOf } from './bytes.js';
+import { MISMATCH, OK, Rejected, check, errorOf } from './codes.js';
 import { Encoder } from './encoder.js';
 import { Argon2Error } from './errors.js';
-import { runInPlace } from './in_place.js';
-import { lanesOf } from './job.js';
-import { addonFor, NativeEncoder, runByThreads } from './native.js';
+import { Line, Progress } from './line.js';
+import { Calls, runInPlace } from './module.js';
+import { addonFor, runByThreads } from './native.js';
 import {
     encodedOf, inputsOf, inputsToVerify, isRaw, limitsOf, optionsOf, runningOf, settingsOf,
 } from './options.js';
 import { canStartWorkers } from './platform.js';
 import { runByWorkers } from './pool.js';
-import { Progress } from './progress.js';
-import { errorOf } from './rejection.js';
+import { lanesOf } from './run.js';
 
 /** The most threads for a stored string, as in the library's other languages. */
 // most threads of a string, by .ci/pages/presets
 const MAX_THREADS_OF_STRING = 16;
 // end
 
+/** How a call runs, with the addon that it runs by, if any, and what stops it. */
+function waysOf(own) {
+    const { native, onProgress, signal, ...running } = runningOf(own);
+    return { ...running, addon: addonFor(native), progress: new Progress(onProgress, signal) };
+}
+
 /** Runs a task where the call wants it to. */
-function run(task, { worker, threads, addon }, progress) {
+function run(task, { addon, worker, threads, progress }) {
     const most = Math.min(threads, lanesOf(task.settings));
     if (worker && addon) {
         return runByThreads(addon, task, most, progress);
@@ -30,44 +34,50 @@ function run(task, { worker, threads, addon }, progress) {
 }
 
 /** The code and the tag of a task whose settings the library has checked. */
-async function compute(task, running, progress) {
+async function compute(task, ways) {
+    ways.progress.throwIfStopped();
     try {
-        progress.throwIfStopped();
-        const answer = await run(task, running, progress);
-        progress.throwIfStopped();
-        return answer;
-    } catch (error) {
-        progress.throwIfStopped();
-        throw error;
+        return await run(task, ways);
+    } finally {
+        ways.progress.throwIfStopped();
     }
 }
 
-/** What a call returns. An error's number becomes the error of that name. The inputs are overwritten. */
-async function callWith(addon, inputs, work) {
+/** What a call gives, in the caller's line if there is one. The inputs are overwritten. */
+async function callInLine(line, running, inputs, call) {
     try {
-        const encoder = addon ? new NativeEncoder(addon) : await Encoder.open();
+        if (line !== undefined && !(line instanceof Line)) {
+            throw new TypeError("'line' has to be a Line");
+        }
+        return await (line ? line.run(call, running) : call());
+    } finally {
+        inputs?.clear();
+    }
+}
+
+/** .. by an encoder. An error's number becomes the error of that name. */
+function callWith({ line, addon, progress }, inputs, work) {
+    return callInLine(line, progress, inputs, async () => {
+        const encoder = new Encoder(addon ?? await Calls.open());
         try {
             return await work(encoder);
         } catch (error) {
             throw error instanceof Rejected ? errorOf(error, encoder.message(error.code)) : error;
         }
-    } finally {
-        inputs?.clear();
-    }
+    });
 }
 
 /** Hashes a password to a PHC string, or to bytes. */
 export async function hash(password, options = {}) {
     const own = optionsOf(options);
     const settings = settingsOf(own);
-    const running = runningOf(own);
+    const ways = waysOf(own);
     const raw = isRaw(own);
-    const progress = new Progress(running.onProgress, running.signal);
     const inputs = inputsOf(password, own);
     const salt = copyOf(inputs.salt);
-    return callWith(running.addon, inputs, async (encoder) => {
+    return callWith(ways, inputs, async (encoder) => {
         encoder.checkSettings(settings, inputs);
-        const { code, tag } = await compute({ settings, saltLength: 0, encoded: undefined, inputs }, running, progress);
+        const { code, tag } = await compute({ settings, saltLength: 0, encoded: undefined, inputs }, ways);
         check(code);
         return raw ? tag : encoder.encode(salt, settings, tag);
     });
@@ -76,16 +86,14 @@ export async function hash(password, options = {}) {
 /** Verifies a password against a PHC string. If that cannot be decided, it rejects. */
 export async function verify(encoded, password, options = {}) {
     const own = optionsOf(options);
-    const { text, data } = splitData(encodedOf(encoded));
+    const { bytes, data } = encodedOf(encoded);
     const limits = limitsOf(own);
-    const running = runningOf(own);
-    const progress = new Progress(running.onProgress, running.signal);
+    const ways = waysOf(own);
     const inputs = inputsToVerify(password, { __proto__: null, associatedData: data, ...own });
-    running.threads = Math.min(running.threads, MAX_THREADS_OF_STRING);
-    return callWith(running.addon, inputs, async (encoder) => {
-        const bytes = new TextEncoder().encode(text);
+    ways.threads = Math.min(ways.threads, MAX_THREADS_OF_STRING);
+    return callWith(ways, inputs, async (encoder) => {
         const task = { ...encoder.decode(bytes, limits, inputs), encoded: bytes, inputs };
-        const { code } = await compute(task, running, progress);
+        const { code } = await compute(task, ways);
         if (code !== MISMATCH) {
             check(code);
         }
@@ -95,9 +103,9 @@ export async function verify(encoded, password, options = {}) {
 
 /** Whether a PHC string has other settings than these. */
 export async function needsRehash(encoded, options = {}) {
-    const { text } = splitData(encodedOf(encoded));
+    const { bytes } = encodedOf(encoded);
     const settings = settingsOf(optionsOf(options));
-    return callWith(addonFor(), undefined, (encoder) => encoder.needsRehash(new TextEncoder().encode(text), settings));
+    return callWith({ addon: addonFor() }, undefined, (encoder) => encoder.needsRehash(bytes, settings));
 }
 
 /**
@@ -110,16 +118,15 @@ export async function verifyAndUpdate(encoded, password, options = {}) {
 
 /** The same. With a new secret, which is another one, the new hash has that, and a match is always hashed anew. */
 export async function verifyAndRenew(encoded, password, options, newSecret) {
-    const own = { __proto__: null, ...optionsOf(options), salt: undefined, raw: undefined };
-    const copy = passwordOf(password);
-    try {
-        if (!(await verify(encoded, copy, own))) {
-            return { matches: false, update: null };
-        }
-        return { matches: true, update: await renewed(encoded, copy, own, newSecret) };
-    } finally {
-        copy.fill(0);
-    }
+    const { line, ...all } = optionsOf(options);
+    const copyOfOption = (name) => all[name] && bytesOf(name, all[name]);
+    const keys = { secret: copyOfOption('secret'), associatedData: copyOfOption('associatedData') };
+    const inputs = new Inputs({ ...keys, password: passwordOf(password) });
+    const own = { ...all, ...keys, salt: undefined, raw: undefined };
+    return callInLine(line, all, inputs, async () => {
+        const matches = await verify(encoded, inputs.password, own);
+        return { matches, update: matches ? await renewed(encoded, inputs.password, own, newSecret) : null };
+    });
 }
 
 /** The PHC string to store in place of one, or null if there is none. */

@@ -1,4 +1,5 @@
-// The numbers that the calls return (proved_argon2.h).
+// The numbers that the calls return (proved_argon2.h), and the errors that they become.
+import * as errors from './errors.js';
 
 export const OK = 0;
 export const OUT_OF_MEMORY = 20;
@@ -20,4 +21,12 @@ export function check(code) {
     if (code !== OK) {
         throw new Rejected(code);
     }
+}
+
+const classes = Object.values(errors);
+
+/** The error of a number, in the library's words, and with those of its cause. */
+export function errorOf({ code, cause }, words) {
+    const Named = classes.find((errorClass) => errorClass.prototype.code === code) ?? errors.Argon2Error;
+    return cause === undefined ? new Named(words) : new Named(`${words}: ${cause.message}`, { cause });
 }

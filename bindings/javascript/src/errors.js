@@ -41,8 +41,11 @@ export const WorkerRefused = define('WorkerRefused', 21);
 export const TooCostly = define('TooCostly', 69);
 export const NoRandomBytes = define('NoRandomBytes', 129);
 
-/** The engine lacks what the package needs. The library for C has no such error. */
+// (the library for C has neither)
+/** The engine lacks what the package needs. */
 export const Unsupported = define('Unsupported', 256);
+/** As many calls compute and wait as a line lets. */
+export const BusyError = define('BusyError', 257);
 
 /** A signal without a reason of its own has stopped the call. */
 export class AbortError extends Error {}

@@ -54,6 +54,32 @@ export interface Running {
     /** The most workers or threads, at least 1, for the lanes of a slice. Without it there is one a lane, if there are enough
      * processors. */
     threads?: number;
+    /** The line in which the call takes a place while it computes. */
+    line?: Line;
+}
+
+/** The options of a `Line`: how much a hash takes, and the bounds. */
+export interface LineOptions extends Settings {
+    /** How many calls compute at a time. Without it as many as fit into the processors, a lane each, and into a quarter of
+     * the memory. */
+    concurrency?: number;
+    /** How many more calls may wait. Without it 16 times as many as compute. */
+    waiting?: number;
+}
+
+/**
+ * A bound on how many calls compute at a time, and on how many more wait for that: one beyond them is rejected with
+ * `BusyError` at once. One whose signal is aborted leaves the line, or stops computing; its place is free then.
+ */
+export class Line {
+    /** By default the bounds are of this machine, and of the default settings. */
+    constructor(options?: LineOptions);
+    /** How many calls compute at a time. */
+    readonly concurrency: number;
+    /** How many more may wait. */
+    readonly waiting: number;
+    /** Makes a call in its turn, in one place until it has ended, such as one of calls that have no line of their own. */
+    run<T>(call: () => T | PromiseLike<T>, options?: { signal?: StopSignal }): Promise<T>;
 }
 
 /**
@@ -266,6 +292,9 @@ export class NoRandomBytes extends Argon2Error {}
 /** The engine has no WebAssembly, is a Node that is too old, or has no addon where `native` is `true`. */
 export class Unsupported extends Argon2Error {}
 
+/** As many calls compute and wait as their line lets: try again later. */
+export class BusyError extends Argon2Error {}
+
 /** A signal has stopped the call, by `abort()` without a reason. `cause` is the platform's error. */
 export class AbortError extends Error {
     /** The name of its class. */
@@ -280,6 +309,7 @@ declare const argon2: {
     verify: typeof verify;
     verifyAndUpdate: typeof verifyAndUpdate;
     needsRehash: typeof needsRehash;
+    Line: typeof Line;
     PepperedHasher: typeof PepperedHasher;
     tune: typeof tune;
     argon2d: typeof argon2d;

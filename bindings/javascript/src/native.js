@@ -2,11 +2,10 @@
 import { addonFile } from './assets.js';
 import { allocate } from './bytes.js';
 import { check, OK, OUT_OF_MEMORY, Rejected, STOPPED } from './codes.js';
-import { isRehashDue, lengthsOf, limitsAsBytes, STORED, storedOf } from './encoder.js';
 import { Unsupported } from './errors.js';
-import { hashLengthOf } from './job.js';
+import { Queue } from './line.js';
 import { nodeThreads, processors } from './platform.js';
-import { Queue } from './queue.js';
+import { hashLengthOf } from './run.js';
 
 const NOT_WANTED = '0';
 const queue = new Queue();
@@ -48,42 +47,6 @@ export function addonFor(native) {
     return addon;
 }
 
-/** What an encoder does, by the addon. */
-export class NativeEncoder {
-    #addon;
-
-    constructor(addon) {
-        this.#addon = addon;
-    }
-
-    message(code) {
-        return this.#addon.message(Uint32Array.of(code));
-    }
-
-    checkSettings(settings, { password, salt, secret, associatedData }) {
-        const lengths = BigUint64Array.from(lengthsOf(password, salt, secret, associatedData));
-        check(this.#addon.check(Uint32Array.from(settings), lengths));
-    }
-
-    decode(encoded, limits, { password, secret, associatedData }) {
-        const stored = new Uint32Array(STORED);
-        const lengths = BigUint64Array.from(lengthsOf(password, secret, associatedData));
-        check(this.#addon.checkEncoded(encoded, limitsAsBytes(limits), lengths, stored));
-        return storedOf([...stored]);
-    }
-
-    encode(salt, settings, tag) {
-        const numbers = Uint32Array.from(settings);
-        const text = new Uint8Array(this.#addon.encodedLength(salt, numbers) + 1);
-        check(this.#addon.encode(salt, numbers, tag, text));
-        return new TextDecoder().decode(text).slice(0, -1);
-    }
-
-    needsRehash(encoded, settings) {
-        return isRehashDue(this.#addon.needsRehash(encoded, Uint32Array.from(settings)));
-    }
-}
-
 /** A thread at once or in its turn, and as many that help it as there are processors without work. */
 async function takeThreads(most, progress) {
     if (busy < processors()) {
@@ -98,7 +61,7 @@ async function takeThreads(most, progress) {
 
 function giveBack(threads) {
     busy -= threads;
-    while (busy < processors() && !queue.isEmpty) {
+    while (busy < processors() && queue.length > 0) {
         busy += 1;
         queue.give();
     }

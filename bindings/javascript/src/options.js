@@ -1,9 +1,7 @@
 // What a caller passes: checked, and copied at once, since it may change what it has passed. Options are read once, and
 // only an object's own ones: what somebody adds to Object.prototype is nobody's option.
-import { allocate, bytesOf, passwordOf } from './bytes.js';
+import { allocate, bytesOf, Inputs, passwordOf } from './bytes.js';
 import { NoRandomBytes } from './errors.js';
-import { Inputs } from './inputs.js';
-import { addonFor } from './native.js';
 import { requireEngine } from './platform.js';
 
 /** The variants: where a block's reference is drawn from (RFC 9106, 1). */
@@ -43,14 +41,14 @@ const NO_LIMITS = Object.freeze({
 
 const NAMES = new Set([
     ...Object.keys(DEFAULTS), 'salt', 'secret', 'associatedData', 'raw', 'limits', 'onProgress', 'signal', 'native',
-    'worker', 'threads',
+    'worker', 'threads', 'line',
 ]);
 const NAMES_OF_LIMITS = new Set(Object.keys(defaultLimits));
 
 const typeError = (name, expected) => new TypeError(`'${name}' has to be ${expected}`);
 
 /** The own properties of an object that have a value, each read once. */
-function ownOf(object, names, what) {
+export function ownOf(object, names, what) {
     if (Object.prototype.toString.call(object) !== '[object Object]') {
         throw typeError(what, 'an object');
     }
@@ -68,7 +66,7 @@ export function optionsOf(options) {
     return ownOf(options, NAMES, 'options');
 }
 
-function numberOf(name, value, most = MAX_NUMBER) {
+export function numberOf(name, value, most = MAX_NUMBER) {
     if (typeof value !== 'number') {
         throw typeError(name, 'a number');
     }
@@ -103,11 +101,29 @@ export function limitsOf({ limits = {} }) {
     return all;
 }
 
+// The strings of node-argon2 that have the associated data in them, as `data=..` behind the lanes. RFC 9106 and the
+// reference know no such part, and neither does the proved decoder, which reads the rest of the string.
+const WITH_DATA = /^(\$argon2(?:id|i|d)\$(?:v=\d+\$)?m=\d+,t=\d+,p=\d+),data=([A-Za-z0-9+/]+)(\$[^$]*\$[^$]*)$/;
+
+/** Bytes of base64 without padding, or nothing where it is not how these bytes are encoded. */
+function decodeBase64(text) {
+    try {
+        const characters = atob(text);
+        return btoa(characters).replace(/=*$/, '') === text
+            ? Uint8Array.from(characters, (character) => character.charCodeAt(0)) : undefined;
+    } catch {
+        return undefined;
+    }
+}
+
+/** The bytes of a string without its associated data, and the data. What is no such string stays as it is. */
 export function encodedOf(encoded) {
     if (typeof encoded !== 'string') {
         throw typeError('encoded', 'a string');
     }
-    return encoded;
+    const [, front, base64, rest] = encoded.match(WITH_DATA) ?? [];
+    const data = base64 && decodeBase64(base64);
+    return { bytes: new TextEncoder().encode(data ? front + rest : encoded), data };
 }
 
 /** The bytes of an option, or none. */
@@ -144,17 +160,22 @@ function threadsOf(threads = MAX_NUMBER) {
     return threads;
 }
 
-/** How a call runs. */
-export function runningOf({ onProgress, signal, native, worker = true, threads }) {
+export function signalOf(signal) {
     if (signal !== undefined && !(signal instanceof AbortSignal)) {
         throw typeError('signal', 'an AbortSignal');
     }
+    return signal;
+}
+
+/** How a call runs. */
+export function runningOf({ onProgress, signal, native, worker = true, threads, line }) {
     return {
         onProgress: optionOf('onProgress', onProgress, 'function'),
-        signal,
-        addon: addonFor(optionOf('native', native, 'boolean')),
+        signal: signalOf(signal),
+        native: optionOf('native', native, 'boolean'),
         worker: optionOf('worker', worker, 'boolean'),
         threads: threadsOf(threads),
+        line,
     };
 }
 

@@ -29,6 +29,14 @@ export function processors() {
     return nodeThreads ? builtin('os').availableParallelism() : globalThis.navigator?.hardwareConcurrency ?? 1;
 }
 
+/** The bytes of memory that this process may come to, as far as the engine says it. */
+export function memoryOfSystem() {
+    const { navigator, process } = globalThis;
+    return nodeThreads
+        ? Math.min(builtin('os').totalmem(), process.constrainedMemory() || Infinity)
+        : (navigator?.deviceMemory ?? Infinity) * 2 ** 30;
+}
+
 /** How many programs ran at once in the last minute, as far as Node says it: on Windows always 0. */
 export const loadOfSystem = () => builtin('os')?.loadavg()[0] ?? null;
 

@@ -1,9 +1,9 @@
 // The workers of this thread: at most as many as there are processors. A worker leads a call, and others help it.
 import { Rejected, STOPPED, WORKER_REFUSED } from './codes.js';
 import { LaneWorker } from './lane_worker.js';
+import { Queue } from './line.js';
 import { compiledModule } from './module.js';
 import { canShare, processors } from './platform.js';
-import { Queue } from './queue.js';
 
 const workers = new Set();
 /** Workers with nothing to do. The last one to work is taken first, so that others can go. */
@@ -47,7 +47,7 @@ function forgetWorker(ended) {
         idle.splice(idle.indexOf(ended), 1);
     }
     idle.filter((worker) => worker.joined.has(ended)).forEach((worker) => worker.end());
-    if (!queue.isEmpty) {
+    if (queue.length > 0) {
         passWorkerOn();
     }
 }
@@ -72,7 +72,7 @@ function release(worker) {
     }
     if ([...worker.joined].some((leader) => leader.isEnded)) {
         worker.end();
-    } else if (queue.isEmpty) {
+    } else if (queue.length === 0) {
         idle.push(worker);
         worker.rest();
     } else {

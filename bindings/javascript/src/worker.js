@@ -1,5 +1,5 @@
 // What a worker does: it leads runs in its own memory, or helps another worker to fill that one's.
-import { Inputs } from './inputs.js';
+import { Inputs } from './bytes.js';
 import { Memory } from './memory.js';
 import { caller, yieldToTasks } from './platform.js';
 import { help, run } from './run.js';

@@ -2,12 +2,11 @@
 import assert from 'node:assert/strict';
 import { spawn, spawnSync } from 'node:child_process';
 import { once } from 'node:events';
-import { existsSync, mkdtempSync, readFileSync, rmSync, writeFileSync } from 'node:fs';
+import { existsSync, mkdtempSync, readdirSync, readFileSync, rmSync, writeFileSync } from 'node:fs';
 import { connect, createServer } from 'node:net';
 import { tmpdir } from 'node:os';
 import { join } from 'node:path';
 import { setTimeout as sleep } from 'node:timers/promises';
-import { memoryBelow } from './processes.mjs';
 
 /** Whether a program is there, a browser or another one. */
 export const isThere = (program) => spawnSync('sh', ['-c', `command -v ${program}`]).status === 0;
@@ -17,6 +16,24 @@ export class BrowserEnded extends Error {}
 
 /** How long anything of a browser may take, in milliseconds: nothing waits for ever. */
 const LONGEST_WAIT = 300000;
+
+/** What the system says of a process, or nothing where it has just ended. */
+function statusOf(number) {
+    try {
+        return Object.fromEntries(readFileSync(`/proc/${number}/status`, 'utf8').split('\n')
+            .map((line) => line.split(/:\s+/)));
+    } catch {
+        return {};
+    }
+}
+
+/** The bytes that a process and those below it have written and keep: without the files that they map. */
+function memoryBelow(first) {
+    const all = new Map(readdirSync('/proc').filter(Number).map((number) => [number, statusOf(number)]));
+    const isBelow = (number) => all.has(number) && (number === String(first) || isBelow(all.get(number).PPid));
+    return [...all].filter(([number]) => isBelow(number)).reduce((bytes, [, { RssAnon = 0, RssShmem = 0 }]) =>
+        bytes + 1024 * (parseInt(RssAnon) + parseInt(RssShmem)), 0);
+}
 
 /** Requests by numbers, and what waits for their answers. */
 class Requests {
@@ -225,8 +242,31 @@ export class Chromium extends Browser {
     }
 }
 
+/** By commands of WebDriver, which `send` carries. */
+class WebDriver extends Browser {
+    async navigate(url) {
+        await this.send('Navigate', { url });
+    }
+
+    evaluate(expression) {
+        return this.send('ExecuteScript', { script: `return (${expression});`, args: [] });
+    }
+
+    async version() {
+        return this.name;
+    }
+
+    async show({ width, height }) {
+        await this.send('SetWindowRect', { width, height });
+    }
+
+    async screenshot() {
+        return Buffer.from(await this.send('TakeScreenshot', { full: true }), 'base64');
+    }
+}
+
 /** By Marionette: messages behind their lengths, over a socket whose port it writes to its profile. */
-export class Firefox extends Browser {
+export class Firefox extends WebDriver {
     static command = 'firefox-esr';
     #rest = Buffer.alloc(0);
 
@@ -239,9 +279,9 @@ export class Firefox extends Browser {
         this.socket = connect(Number(readFileSync(port, 'utf8')), '127.0.0.1');
         this.socket.on('data', (data) => this.#read(data));
         await once(this.socket, 'connect');
-        const { capabilities } = await this.#send('WebDriver:NewSession');
+        const { capabilities } = await this.send('NewSession');
         this.name = `Firefox ${capabilities.browserVersion}`;
-        await this.#send('WebDriver:SetTimeouts', { script: LONGEST_WAIT });
+        await this.send('SetTimeouts', { script: LONGEST_WAIT });
         return this;
     }
 
@@ -255,42 +295,25 @@ export class Firefox extends Browser {
             const message = JSON.parse(this.#rest.subarray(at + 1, end));
             this.#rest = this.#rest.subarray(end);
             if (Array.isArray(message)) {
-                this.requests.end(message[1], message[2], message[3]);
+                const [, id, error, result] = message;
+                this.requests.end(id, error, result && 'value' in result ? result.value : result);
             }
         }
     }
 
-    #send(name, parameters = {}) {
+    send(name, parameters = {}, from = 'WebDriver') {
         return this.requests.begin((id) => {
-            const message = JSON.stringify([0, id, name, parameters]);
+            const message = JSON.stringify([0, id, `${from}:${name}`, parameters]);
             this.socket.write(`${Buffer.byteLength(message)}:${message}`);
         });
     }
 
-    async navigate(url) {
-        await this.#send('WebDriver:Navigate', { url });
-    }
-
-    async evaluate(expression) {
-        return (await this.#send('WebDriver:ExecuteScript', { script: `return (${expression});`, args: [] })).value;
-    }
-
-    async version() {
-        return this.name;
-    }
-
-    async show({ width, height, isDark }) {
-        await this.#send('WebDriver:SetWindowRect', { width, height });
-        await this.#send('Marionette:SetContext', { value: 'chrome' });
+    async show(size) {
+        await super.show(size);
+        await this.send('SetContext', { value: 'chrome' }, 'Marionette');
         const name = 'layout.css.prefers-color-scheme.content-override';
-        const setting = `Services.prefs.setIntPref('${name}', ${isDark ? 0 : 1})`;
-        await this.#send('WebDriver:ExecuteScript', { script: setting, args: [] });
-        await this.#send('Marionette:SetContext', { value: 'content' });
-    }
-
-    async screenshot() {
-        const { value } = await this.#send('WebDriver:TakeScreenshot', { full: true });
-        return Buffer.from(value, 'base64');
+        await this.evaluate(`Services.prefs.setIntPref('${name}', ${size.isDark ? 0 : 1})`);
+        await this.send('SetContext', { value: 'content' }, 'Marionette');
     }
 
     async close() {
@@ -317,8 +340,15 @@ async function openDisplay() {
     return { name: `:${number.trim()}`, close: () => display.kill() };
 }
 
-/** By WebDriver: requests to a server, which starts the browser of WebKitGTK. WebKit is Safari's engine. */
-export class WebKit extends Browser {
+/** Where a server has WebDriver's commands. */
+const PATHS = {
+    NewSession: '', SetTimeouts: '/timeouts', Navigate: '/url', ExecuteScript: '/execute/sync',
+    SetWindowRect: '/window/rect', TakeScreenshot: '/screenshot', DeleteSession: '',
+};
+const METHODS = { TakeScreenshot: 'GET', DeleteSession: 'DELETE' };
+
+/** By requests to a server, which starts the browser of WebKitGTK. WebKit is Safari's engine. */
+export class WebKit extends WebDriver {
     static command = 'WebKitWebDriver';
     #session = '';
 
@@ -333,7 +363,7 @@ export class WebKit extends Browser {
         this.#session = `/${sessionId}`;
         this.isOpen = true;
         this.name = `WebKit ${capabilities.browserVersion}`;
-        await this.#send('POST', '/timeouts', { script: LONGEST_WAIT });
+        await this.send('SetTimeouts', { script: LONGEST_WAIT });
         return this;
     }
 
@@ -341,7 +371,7 @@ export class WebKit extends Browser {
     async #openSession() {
         for (;;) {
             try {
-                return await this.#send('POST', '', { capabilities: {} });
+                return await this.send('NewSession', { capabilities: {} });
             } catch (error) {
                 if (error.cause?.code !== 'ECONNREFUSED') {
                     throw error;
@@ -352,11 +382,12 @@ export class WebKit extends Browser {
     }
 
     /** A request that fails where the server has ended, too. */
-    #send(method, path, parameters) {
+    send(name, parameters) {
         return this.requests.begin(async (number) => {
             try {
-                const body = parameters && JSON.stringify(parameters);
-                const answer = await fetch(`${this.address}${this.#session}${path}`, { method, body });
+                const method = METHODS[name] ?? 'POST';
+                const body = method === 'POST' ? JSON.stringify(parameters) : undefined;
+                const answer = await fetch(`${this.address}${this.#session}${PATHS[name]}`, { method, body });
                 const { value } = await answer.json();
                 if (value?.error === 'invalid session id') {
                     this.hasEnded(value.message);
@@ -371,28 +402,8 @@ export class WebKit extends Browser {
         });
     }
 
-    async navigate(url) {
-        await this.#send('POST', '/url', { url });
-    }
-
-    async evaluate(expression) {
-        return this.#send('POST', '/execute/sync', { script: `return (${expression});`, args: [] });
-    }
-
-    async version() {
-        return this.name;
-    }
-
-    async show({ width, height }) {
-        await this.#send('POST', '/window/rect', { width, height });
-    }
-
-    async screenshot() {
-        return Buffer.from(await this.#send('GET', '/screenshot'), 'base64');
-    }
-
     async close() {
-        await this.#send('DELETE', '').catch(() => {});
+        await this.send('DeleteSession').catch(() => {});
         await super.close();
         this.display.close();
     }

@@ -1,7 +1,7 @@
 // The package as bundlers, module systems and policies for content meet it. docs/JAVASCRIPT.md has these lines.
 import assert from 'node:assert/strict';
 import { execFile } from 'node:child_process';
-import { cpSync, mkdtempSync, readFileSync, writeFileSync } from 'node:fs';
+import { mkdtempSync, readFileSync, writeFileSync } from 'node:fs';
 import { dirname, join } from 'node:path';
 import { test } from 'node:test';
 import { fileURLToPath } from 'node:url';
@@ -33,6 +33,26 @@ tell().catch(String).then((outcome) => {
 
 const INLINE = programOf("import { hash, verify } from 'proved-argon2/inline';");
 const FILES = programOf("import { hash, verify } from 'proved-argon2';");
+const SERVED = programOf("import { hash, verify } from './proved-argon2/index.js';");
+const REQUIRED = programOf("const { hash, verify } = require('proved-argon2');");
+const ROLLED = INLINE.replace('proved-argon2/inline', join(sources, 'inline.js'));
+const WEBPACK = 'webpack ./app.mjs --mode=production --output-path=. --output-filename=bundle';
+
+/** What a command makes of a program, and where that runs: a file in Node, or bundle.js in pages by a policy. */
+const MADE = [
+    ['esbuild for Node, esm', INLINE, 'esbuild app.mjs --bundle --platform=node --format=esm --outfile=a.mjs', 'a.mjs'],
+    ['esbuild for Node, cjs', INLINE, 'esbuild app.mjs --bundle --platform=node --format=cjs --outfile=a.cjs', 'a.cjs'],
+    ['esbuild for pages', INLINE, 'esbuild app.mjs --bundle --minify --outfile=bundle.js', INLINE_POLICY],
+    ['esbuild for pages: worker and modules as files', FILES, 'esbuild bundle=app.mjs worker=proved-argon2/worker.js '
+        + '--bundle --format=esm --outdir=. && cp ../node_modules/proved-argon2/src/*.wasm .', FILES_POLICY],
+    ['webpack for Node', INLINE, `${WEBPACK}.cjs --target=node20`, 'bundle.cjs'],
+    ['webpack for pages', INLINE, `${WEBPACK}.js --target=web`, INLINE_POLICY],
+    ['webpack for pages: worker and modules as files', FILES, `${WEBPACK}.js --target=web`, FILES_POLICY],
+    ['rollup for Node', ROLLED, 'rollup app.mjs --format=es --file=a.mjs', 'a.mjs'],
+    ['rollup for pages', ROLLED, 'rollup app.mjs --format=es --file=bundle.js', INLINE_POLICY],
+    ['pages without a bundler', SERVED, 'cp app.mjs bundle.js', FILES_POLICY],
+    ['CommonJS', REQUIRED, 'cp app.mjs app.cjs', 'app.cjs'],
+];
 
 /** A folder of the site with a program in it. */
 function folderWith(program, name = 'app.mjs') {
@@ -46,13 +66,8 @@ const NODE_OPTIONS = `--require=${join(import.meta.dirname, 'debian.cjs')}`;
 const env = { ...process.env, NODE_PATH: '/usr/share/nodejs', NODE_OPTIONS };
 const run = (folder, command, ...words) => promisify(execFile)(command, words, { cwd: folder, timeout: 600000, env });
 
-async function runsInNode(folder, file) {
-    const { stdout } = await run(folder, process.execPath, file);
-    assert.equal(stdout.trim(), RIGHT);
-}
-
 /** What a folder's page tells, which has its program as bundle.js. */
-async function runsInPage(folder, policy, isIsolated = false) {
+async function runsInPage(folder, policy, isIsolated) {
     writeFileSync(join(folder, 'index.html'), PAGE);
     const server = await serve(folder, { isIsolated, policy });
     const browser = await new Chromium().open();
@@ -72,61 +87,19 @@ function lacks(...programs) {
     return lacking === undefined ? false : `there is no ${lacking}`;
 }
 
-const bundledTest = (name, programs, call) => test(name, { skip: lacks(...programs) }, call);
-
-for (const format of ['esm', 'cjs']) {
-    bundledTest(`esbuild for Node, ${format}: the single file`, ['esbuild'], async () => {
-        const folder = folderWith(INLINE);
-        const out = format === 'esm' ? 'bundle.mjs' : 'bundle.cjs';
-        const words = ['--bundle', '--platform=node', `--format=${format}`, `--outfile=${out}`];
-        await run(folder, 'esbuild', 'app.mjs', ...words);
-        await runsInNode(folder, out);
+for (const [what, program, command, where] of MADE) {
+    const isPage = where.includes('script-src');
+    test(what, { skip: lacks(command.split(' ')[0], ...(isPage ? ['chromium'] : [])) }, async () => {
+        const folder = folderWith(program);
+        await run(folder, 'sh', '-c', command);
+        if (isPage) {
+            await runsInPage(folder, where, false);
+            await runsInPage(folder, where, true);
+        } else {
+            assert.equal((await run(folder, process.execPath, where)).stdout.trim(), RIGHT);
+        }
     });
 }
-
-bundledTest('esbuild for pages: the single file', ['esbuild', 'chromium'], async () => {
-    const folder = folderWith(INLINE);
-    await run(folder, 'esbuild', 'app.mjs', '--bundle', '--minify', '--outfile=bundle.js');
-    await runsInPage(folder, INLINE_POLICY);
-    await runsInPage(folder, INLINE_POLICY, true);
-});
-
-bundledTest('esbuild for pages: worker and modules as files', ['esbuild', 'chromium'], async () => {
-    const folder = folderWith(FILES);
-    const entries = ['bundle=app.mjs', 'worker=proved-argon2/worker.js'];
-    await run(folder, 'esbuild', ...entries, '--bundle', '--format=esm', '--outdir=.');
-    for (const file of ['proved_argon2.wasm', 'proved_argon2_shared.wasm']) {
-        cpSync(join(sources, file), join(folder, file));
-    }
-    await runsInPage(folder, FILES_POLICY);
-    await runsInPage(folder, FILES_POLICY, true);
-});
-
-const webpack = (folder, target) => run(folder, 'webpack', './app.mjs', '--mode=production', `--target=${target}`,
-    '--output-path=.', '--output-filename=bundle.js');
-
-bundledTest('webpack for Node: the single file', ['webpack'], async () => {
-    const folder = folderWith(INLINE);
-    await webpack(folder, 'node20');
-    writeFileSync(join(folder, 'package.json'), '{}');
-    await runsInNode(folder, 'bundle.js');
-});
-
-bundledTest('webpack for pages: the single file, and the files', ['webpack', 'chromium'], async () => {
-    for (const [program, policy] of [[INLINE, INLINE_POLICY], [FILES, FILES_POLICY]]) {
-        const folder = folderWith(program);
-        await webpack(folder, 'web');
-        await runsInPage(folder, policy);
-    }
-});
-
-bundledTest('rollup for Node and for pages: the single file', ['rollup', 'chromium'], async () => {
-    const folder = folderWith(INLINE.replace('proved-argon2/inline', join(sources, 'inline.js')));
-    await run(folder, 'rollup', 'app.mjs', '--format=es', '--file=bundle.mjs');
-    await runsInNode(folder, 'bundle.mjs');
-    cpSync(join(folder, 'bundle.mjs'), join(folder, 'bundle.js'));
-    await runsInPage(folder, INLINE_POLICY);
-});
 
 test('the files are as large as the page says', () => {
     const page = readFileSync(join(process.env.PAGE, '../JAVASCRIPT.md'), 'utf8').replace(/\s+/g, ' ');
@@ -138,12 +111,7 @@ test('the files are as large as the page says', () => {
     }
 });
 
-test('CommonJS requires it', async () => {
-    const program = programOf("const { hash, verify } = require('proved-argon2');");
-    await runsInNode(folderWith(program, 'app.cjs'), 'app.cjs');
-});
-
-bundledTest('jest tests with it, and ends', ['jest'], async () => {
+test('jest tests with it, and ends', { skip: lacks('jest') }, async () => {
     const folder = folderWith(`const { hash, verify } = require('proved-argon2');
 test('a hash', async () => {
     expect(await verify(await hash('password', { memoryCost: 256, parallelism: 2 }), 'password')).toBe(true);
@@ -154,13 +122,9 @@ test('a hash', async () => {
     assert.match(stderr, /^Tests: +1 passed, 1 total$/m);
 });
 
-bundledTest('the files under a policy that allows nothing else', ['chromium'], async () => {
-    const folder = folderWith(FILES.replace("'proved-argon2'", "'./proved-argon2/index.js'"), 'bundle.js');
-    await runsInPage(folder, FILES_POLICY);
-});
-
-bundledTest('a policy that allows no worker is named by the error', ['chromium'], async () => {
-    const folder = folderWith(FILES.replace("'proved-argon2'", "'./proved-argon2/index.js'"), 'bundle.js');
-    const outcome = await runsInPage(folder, `${FILES_POLICY}; worker-src 'none'`).catch((error) => error.actual);
+test('a policy that allows no worker is named by the error', { skip: lacks('chromium') }, async () => {
+    const folder = folderWith(SERVED, 'bundle.js');
+    const policy = `${FILES_POLICY}; worker-src 'none'`;
+    const outcome = await runsInPage(folder, policy, false).catch((error) => error.actual);
     assert.match(outcome, /^WorkerRefused: A worker was refused: \w.*$/);
 });

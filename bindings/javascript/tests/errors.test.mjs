@@ -95,6 +95,14 @@ const VERIFYING = [
     ['DecodingFail', '', { limits: { work: 2 ** 53 - 1 } }],
 ];
 
+const REHASHING = [
+    ['DecodingFail', '$argon2id$'],
+    ['IncorrectType', ENCODED, { type: 7 }],
+    ['IncorrectVersion', ENCODED, { version: 0 }],
+    ['TypeError', null],
+    ['TypeError', ENCODED, { timeCost: '2' }],
+];
+
 const PASSWORDS = [5, null, undefined, {}, ['password'], true, 'half a pair \ud800', '\udc00'];
 
 /** Checks that a call is rejected by an error of this name. */
@@ -131,11 +139,9 @@ test('each error of verify has its name, and comes before a worker', async () =>
 });
 
 test('each error of needsRehash has its name', async () => {
-    await rejects('DecodingFail', () => argon2.needsRehash('$argon2id$'), 'a part');
-    await rejects('IncorrectType', () => argon2.needsRehash(ENCODED, { type: 7 }), 'a type');
-    await rejects('IncorrectVersion', () => argon2.needsRehash(ENCODED, { version: 0 }), 'a version');
-    await rejects('TypeError', () => argon2.needsRehash(null), 'null');
-    await rejects('TypeError', () => argon2.needsRehash(ENCODED, { timeCost: '2' }), 'a string');
+    for (const [name, encoded, options] of REHASHING) {
+        await rejects(name, () => argon2.needsRehash(encoded, options), `${encoded} ${JSON.stringify(options)}`);
+    }
 });
 
 test('memory that the engine refuses is OutOfMemory, and the next call is made', async () => {
@@ -214,41 +220,30 @@ test('inputs are overwritten where a call is stopped before it runs', async () =
     assert.ok(inputs.every((bytes) => bytes.every((byte) => byte === 0)));
 });
 
-/** What a program of these lines says, by Node with some flags, and with some variables. */
-async function saidWith(flags, lines, variables = {}) {
-    const program = join(import.meta.dirname, 'flagged.mjs');
-    writeFileSync(program, `import { hash, needsRehash, verify } from 'proved-argon2';\n${lines}\n`);
-    return (await promisify(execFile)(process.execPath, [...flags, program],
-        { timeout: 600000, env: { ...process.env, ...variables } })).stdout.trim();
+const OLD = 'data:text/javascript,delete process.getBuiltinModule; delete globalThis.crypto';
+const { allowedNodeEnvironmentFlags, arch, platform, versions } = process;
+const PERMISSION = ['--permission', '--experimental-permission'].find((flag) => allowedNodeEnvironmentFlags.has(flag));
+/** What a call gives in a process with some flags, and with variables. */
+const PROCESSES = [
+    ['an engine without WebAssembly is Unsupported', ['--jitless'], { PROVED_ARGON2_NATIVE: '0' },
+        "hash('password')", 'Unsupported: This engine has no WebAssembly'],
+    ['.. and so is a Node that gives no module without an import', ['--import', OLD], {},
+        "Promise.any([hash, verify, needsRehash].map((call) => call('', ''))).catch(({ errors }) => errors.join())",
+        Array(3).fill(`Unsupported: Node ${versions.node} is too old: this needs Node 20.19, 22.12 or 24`).join()],
+    ['.. and so is an engine without the addon that a call asks for', [], { PROVED_ARGON2_NATIVE: '0' },
+        "hash('password', { native: true })", `Unsupported: There is no addon for ${platform} on ${arch}, `
+        + "where WebAssembly computes without 'native': PROVED_ARGON2_NATIVE is 0"],
+    ['where Node denies workers, the caller computes', [PERMISSION, `--allow-fs-read=${import.meta.dirname}/*`], {},
+        `hash('password', { memoryCost: 64, parallelism: 2 }).then(async (encoded) =>
+            [process.permission.has('worker'), await verify(encoded, 'password')].join())`, 'false,true'],
+];
+
+for (const [what, flags, variables, call, expected] of PROCESSES) {
+    test(what, async () => {
+        const program = join(import.meta.dirname, 'flagged.mjs');
+        writeFileSync(program, `import { hash, needsRehash, verify } from 'proved-argon2';
+            console.log(await ${call}.catch(String));`);
+        const how = { timeout: 600000, env: { ...process.env, ...variables } };
+        assert.equal((await promisify(execFile)(process.execPath, [...flags, program], how)).stdout.trim(), expected);
+    });
 }
-
-test('an engine without WebAssembly is Unsupported', async () => {
-    const program = "console.log(await hash('password').catch((error) => String(error)));";
-    const said = await saidWith(['--jitless'], program, { PROVED_ARGON2_NATIVE: '0' });
-    assert.equal(said, 'Unsupported: This engine has no WebAssembly');
-});
-
-test('.. and so is a Node that gives no module without an import', async () => {
-    const old = 'data:text/javascript,delete process.getBuiltinModule; delete globalThis.crypto';
-    const said = await saidWith(['--import', old], `for (const call of [hash, verify, needsRehash]) {
-            console.log(await call('password', 'password').catch((error) => error.name));
-        }`);
-    assert.equal(said, 'Unsupported\nUnsupported\nUnsupported');
-});
-
-test('.. and so is an engine without the addon that a call asks for', async () => {
-    const program = "console.log(await hash('password', { native: true }).catch((error) => String(error)));";
-    const said = await saidWith([], program, { PROVED_ARGON2_NATIVE: '0' });
-    const { platform, arch } = process;
-    assert.equal(said, `Unsupported: There is no addon for ${platform} on ${arch}, where WebAssembly computes without`
-        + " 'native': PROVED_ARGON2_NATIVE is 0");
-});
-
-test('where Node denies workers, the caller computes', async () => {
-    const [permission] = ['--permission', '--experimental-permission']
-        .filter((flag) => process.allowedNodeEnvironmentFlags.has(flag));
-    const flags = [permission, `--allow-fs-read=${join(import.meta.dirname, '*')}`];
-    const said = await saidWith(flags, `const encoded = await hash('password', { memoryCost: 64, parallelism: 2 });
-        console.log(process.permission.has('worker'), await verify(encoded, 'password'));`);
-    assert.equal(said, 'false true');
-});

@@ -13,7 +13,9 @@ const SIZES = [4096, 16384];
 const LANES = [1, 4];
 /** What a process may have more than it began with: the code and the heaps of its workers. */
 const BESIDES = 96 * MIB;
+/** How long workers stay, in milliseconds: the package's own time, and those that stand for it here. */
 const STAYS = 5000;
+const LONG = 1000;
 const SOON = 50;
 
 const workers = [];
@@ -39,54 +41,10 @@ const inMib = (bytes) => `${Math.round(bytes / MIB)} MiB`;
 const settingsOf = (call) =>
     ({ memoryCost: SIZES[(call >> 1) % 2], parallelism: LANES[call % 2], timeCost: 1, native: false });
 
-/** The most that a process had above its start, over so many calls. */
-async function highest(calls, makeCall) {
-    let most = 0;
-    for (let call = 0; call < calls; call++) {
-        await makeCall(call);
-        most = Math.max(most, above());
-    }
-    return most;
-}
-
 function assertFlat(bytes, memories) {
     const limit = memories * SIZES[1] * 1024 + BESIDES;
     assert.ok(bytes <= limit, `${inMib(bytes)} above the start, and ${inMib(limit)} is the limit`);
 }
-
-async function idle() {
-    while (workers.length > 0) {
-        await sleep(SOON);
-    }
-}
-
-test('300 calls of one and four lanes and two sizes take one memory a worker at most', async () => {
-    const most = await highest(CALLS, (call) => argon2.hash('password', settingsOf(call)));
-    assert.ok(most > SIZES[1] * 1024 / 2, 'no memory was seen');
-    assertFlat(most, WORKERS);
-});
-
-test('.. and so do calls at the same time, by all workers', async () => {
-    const most = await highest(CALLS / 10, (round) =>
-        Promise.all(Array.from({ length: 10 }, (_, i) => argon2.hash('password', settingsOf(10 * round + i)))));
-    assertFlat(most, WORKERS);
-});
-
-test('an idle process is back at its first size', async () => {
-    stays = SOON;
-    await argon2.hash('password', settingsOf(3));
-    await idle();
-    assertFlat(above(), 0);
-});
-
-test('where workers end between calls, a process has one memory a worker at most', async () => {
-    stays = 1;
-    const most = await highest(CALLS / 5, async (call) => {
-        await argon2.hash('password', settingsOf(call));
-        await sleep(SOON);
-    });
-    assertFlat(most, WORKERS);
-});
 
 /** Ends all workers once a call has begun. */
 const killer = () => {
@@ -94,29 +52,54 @@ const killer = () => {
     return () => alive.splice(0).forEach((worker) => worker.terminate());
 };
 
-test('where workers die in a call, too, and then an idle process is back at its first size', async () => {
-    stays = STAYS;
-    const most = await highest(CALLS / 5, async (call) => {
-        const isKilled = call % 5 === 4;
-        const onProgress = isKilled ? killer() : undefined;
-        const made = argon2.hash('password', { ...settingsOf(call), timeCost: 3, onProgress });
-        const outcome = await made.then(() => 'made', (error) => error.name);
-        assert.equal(outcome, isKilled ? 'WorkerRefused' : 'made');
+async function hashOrDie(call) {
+    const isKilled = call % 5 === 4;
+    const onProgress = isKilled ? killer() : undefined;
+    const made = argon2.hash('password', { ...settingsOf(call), timeCost: 3, onProgress });
+    assert.equal(await made.then(() => 'made', (error) => error.name), isKilled ? 'WorkerRefused' : 'made');
+}
+
+async function hashAndRest(call) {
+    await argon2.hash('password', settingsOf(call));
+    await sleep(SOON);
+}
+
+const hashWith = (options) => (call) => argon2.hash('password', { ...settingsOf(call), ...options });
+const manyWith = (options, round = 0) => Array.from({ length: 10 }, (_, i) => hashWith(options)(10 * round + i));
+const hashTogether = (round) => Promise.all(manyWith({}, round));
+let waiting;
+
+function hashInTurn(call) {
+    waiting ??= manyWith({ worker: false });
+    return waiting[call];
+}
+
+/** Calls: how many, how long workers stay meanwhile, how many memories they may take, and what each does. */
+const KINDS = {
+    'calls of one and four lanes and two sizes take one memory a worker at most': [CALLS, LONG, WORKERS, hashWith({})],
+    '.. and so do calls at the same time, by all workers': [CALLS / 10, LONG, WORKERS, hashTogether],
+    '.. and where workers end between calls': [CALLS / 5, 1, WORKERS, hashAndRest],
+    '.. and where workers die in a call': [CALLS / 5, LONG, WORKERS, hashOrDie],
+    'threads of the addon leave no memory': [10 * CALLS, LONG, 0, hashWith({ native: true })],
+    'calls in place take one memory, however many wait': [10, LONG, 1, hashInTurn],
+};
+
+for (const [what, [calls, stay, memories, makeCall]] of Object.entries(KINDS)) {
+    test(`${what}, and an idle process is back at its first size`, async () => {
+        stays = stay;
+        let most = 0;
+        for (let call = 0; call < calls; call++) {
+            await makeCall(call);
+            most = Math.max(most, above());
+        }
+        // (where workers end soon, theirs may be gone before it is seen)
+        assert.ok(stay < LONG || memories < WORKERS || most > SIZES[1] * 1024 / 2, 'no memory was seen');
+        assertFlat(most, memories);
+        stays = SOON;
+        await argon2.hash('password', settingsOf(3));
+        while (workers.length > 0) {
+            await sleep(SOON);
+        }
+        assertFlat(above(), memories === 1 ? 1 : 0);
     });
-    assertFlat(most, WORKERS);
-    stays = SOON;
-    await argon2.hash('password', settingsOf(3));
-    await idle();
-    assertFlat(above(), 0);
-});
-
-test('threads of the addon leave no memory', async () => {
-    const most = await highest(10 * CALLS, (call) => argon2.hash('password', { ...settingsOf(call), native: true }));
-    assertFlat(most, 0);
-});
-
-test('calls in place take one memory, however many wait', async () => {
-    const made = Array.from({ length: 16 }, (_, i) => argon2.hash('password', { ...settingsOf(i), worker: false }));
-    const most = await highest(made.length, (call) => made[call]);
-    assertFlat(most, 1);
-});
+}

@@ -1,4 +1,4 @@
-// What callers pass that is not what it seems: views without bytes, forged objects, and options that are nobody's.
+// What callers pass: passwords, views without bytes, forged objects, options that are nobody's, and what is left out.
 import assert from 'node:assert/strict';
 import { test } from 'node:test';
 import * as argon2 from 'proved-argon2';
@@ -8,42 +8,26 @@ const SALT = new TextEncoder().encode('somesalt');
 const CHEAP = { memoryCost: 256, salt: SALT };
 const PASSWORD = new TextEncoder().encode('password');
 
-/** Views and buffers that had the password, and have no bytes any more. */
+function cut(length, viewOf) {
+    const buffer = new ArrayBuffer(16, { maxByteLength: 16 });
+    const view = viewOf(buffer);
+    buffer.resize(length);
+    return view;
+}
+
+function moved(value) {
+    structuredClone(value, { transfer: [value.buffer ?? value] });
+    return value;
+}
+
+/** Views and buffers that had bytes, and have none any more. */
 const GONE = {
-    'a view of a buffer that was cut': () => {
-        const buffer = new ArrayBuffer(16, { maxByteLength: 16 });
-        const view = new Uint8Array(buffer, 8, 8);
-        view.set(PASSWORD);
-        buffer.resize(12);
-        return view;
-    },
-    'a DataView of one': () => {
-        const buffer = new ArrayBuffer(16, { maxByteLength: 16 });
-        const view = new DataView(buffer, 8, 8);
-        buffer.resize(12);
-        return view;
-    },
-    'a view of wider numbers of one': () => {
-        const buffer = new ArrayBuffer(16, { maxByteLength: 16 });
-        const view = new Float64Array(buffer, 8, 1);
-        buffer.resize(8);
-        return view;
-    },
-    'a view of a buffer that was moved away': () => {
-        const view = Uint8Array.from(PASSWORD);
-        structuredClone(view, { transfer: [view.buffer] });
-        return view;
-    },
-    'a DataView of one that was moved away': () => {
-        const view = new DataView(new ArrayBuffer(8));
-        structuredClone(view, { transfer: [view.buffer] });
-        return view;
-    },
-    'a buffer that was moved away': () => {
-        const buffer = new ArrayBuffer(8);
-        structuredClone(buffer, { transfer: [buffer] });
-        return buffer;
-    },
+    'a view of a buffer that was cut': () => cut(12, (buffer) => new Uint8Array(buffer, 8, 8)),
+    'a DataView of one': () => cut(12, (buffer) => new DataView(buffer, 8, 8)),
+    'a view of wider numbers of one': () => cut(8, (buffer) => new Float64Array(buffer, 8, 1)),
+    'a view of a buffer that was moved away': () => moved(Uint8Array.from(PASSWORD)),
+    'a DataView of one that was moved away': () => moved(new DataView(new ArrayBuffer(8))),
+    'a buffer that was moved away': () => moved(new ArrayBuffer(8)),
 };
 
 /** Objects that say they are bytes. */
@@ -157,4 +141,40 @@ test('.. and a part that is no base64, or is elsewhere, is DecodingFail', async 
         const outcome = await argon2.verify(changed, 'password').catch((error) => error.name);
         assert.equal(outcome, 'DecodingFail', change);
     }
+});
+
+test('a password is its UTF-8, and no other text has the same', async () => {
+    const same = { salt: new Uint8Array(8), memoryCost: 8, timeCost: 1, raw: true };
+    const text = 'pässwörd \u{1f511}\0';
+    assert.deepEqual(await argon2.hash(text, same), await argon2.hash(new TextEncoder().encode(text), same));
+    assert.deepEqual(await argon2.hash(text, same), await argon2.hash(new TextEncoder().encode(text).buffer, same));
+    assert.notDeepEqual(await argon2.hash(text, same), await argon2.hash(text.slice(0, -1), same));
+    // (what looks alike may have other bytes, and no form is made of another)
+    for (const form of ['NFC', 'NFD', 'NFKC', 'NFKD']) {
+        const normalized = 'pässwörd ﬁ \u212b'.normalize(form);
+        const bytes = new TextEncoder().encode(normalized);
+        assert.deepEqual(await argon2.hash(normalized, same), await argon2.hash(bytes, same), form);
+    }
+});
+
+test('salts are 16 random bytes, new for each hash', async () => {
+    const small = { memoryCost: 8, timeCost: 1 };
+    const encoded = await Promise.all(Array.from({ length: 200 }, () => argon2.hash('password', small)));
+    const salts = encoded.map((text) => Buffer.from(text.split('$')[4], 'base64'));
+    assert.ok(salts.every((salt) => salt.length === 16));
+    assert.equal(new Set(salts.map((salt) => salt.toString('hex'))).size, 200);
+    // each bit is set in some, and not in others: but once in 2^191 runs
+    for (let bit = 0; bit < 128; bit++) {
+        const set = salts.filter((salt) => salt[bit >> 3] & (1 << (bit & 7))).length;
+        assert.ok(set > 0 && set < 200, `bit ${bit} is set in ${set} of 200`);
+    }
+});
+
+test('what is left out are the library\'s own recommendations', async () => {
+    const encoded = await argon2.hash('password');
+    assert.match(encoded, /^\$argon2id\$v=19\$m=19456,t=2,p=1\$[A-Za-z0-9+/]{22}\$[A-Za-z0-9+/]{43}$/);
+    assert.equal(await argon2.needsRehash(encoded), false);
+    assert.equal(await argon2.needsRehash(encoded, argon2.presets.owasp2), false);
+    assert.equal(await argon2.needsRehash(encoded, argon2.presets.owasp1), true);
+    assert.equal(await argon2.default.verify(encoded, 'password'), true);
 });

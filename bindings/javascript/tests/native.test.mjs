@@ -1,9 +1,7 @@
-// The addon of Node: that it is taken, how many threads it has, and what ends in the middle of a hash.
+// The addon of Node: that it is taken, and what ends in the middle of a hash.
 import assert from 'node:assert/strict';
 import { spawn } from 'node:child_process';
 import { once } from 'node:events';
-import { readdirSync } from 'node:fs';
-import { availableParallelism } from 'node:os';
 import { createRequire } from 'node:module';
 import { test } from 'node:test';
 import { Worker } from 'node:worker_threads';
@@ -14,7 +12,6 @@ const SMALL = { memoryCost: 1024, timeCost: 1, salt: new Uint8Array(16), raw: tr
 /** Takes a minute or so. */
 const ENDLESS = '{ memoryCost: 65536, timeCost: 1000, parallelism: 2, native: true, onProgress }';
 const SOON = 10000;
-const countThreads = () => readdirSync('/proc/self/task').length;
 
 test('the addon computes, without a worker, and WebAssembly where it is asked for', async () => {
     const started = countWorkers();
@@ -28,32 +25,6 @@ test('the addon computes, without a worker, and WebAssembly where it is asked fo
 test('.. and so it does by require', async () => {
     const required = createRequire(import.meta.url)('proved-argon2');
     assert.deepEqual(await required.hash('password', { ...SMALL, native: true }), await argon2.hash('password', SMALL));
-});
-
-test('many calls at once are each right, and take about as many threads as there are processors', async () => {
-    const before = countThreads();
-    let most = 0;
-    const onProgress = () => {
-        most = Math.max(most, countThreads() - before);
-    };
-    const settings = Array.from({ length: 40 }, (_, i) => ({ ...SMALL, memoryCost: 8192, parallelism: 1 + i % 5 }));
-    const all = await Promise.all(settings.map((options, i) => argon2.hash(`${i}`, { ...options, onProgress })));
-    // (Node has a few threads of its own, which come and go)
-    assert.ok(most > 1 && most <= 2 * availableParallelism(), `${most} threads`);
-    for (const [i, tag] of all.entries()) {
-        assert.deepEqual(tag, await argon2.hash(`${i}`, { ...settings[i], native: false }), `${i}`);
-    }
-});
-
-test('a call that waits for a thread can be stopped, and the next has its turn', async () => {
-    const controller = new AbortController();
-    const large = { ...SMALL, memoryCost: 16384 };
-    const others = Array.from({ length: availableParallelism() }, () => argon2.hash('password', large));
-    const waiting = argon2.hash('password', { ...SMALL, signal: controller.signal });
-    const next = argon2.hash('password', SMALL);
-    controller.abort();
-    await assert.rejects(waiting, argon2.AbortError);
-    await Promise.all([...others, next]);
 });
 
 /** How a process ends that runs some lines once it is in the middle of a hash, and how long that takes. */

@@ -97,6 +97,9 @@ const REFUSED_IN_PAGE = `
         () => argon2.verify('$argon2id$v=19$m=4194304,t=1,p=1$c29tZXNhbHQ$nf65EOgLrQM', 'password'),
         () => argon2.hash('password', { signal: AbortSignal.abort() }),
     ];
+    const line = new argon2.Line({ memoryCost: 1024, waiting: 0 });
+    const busy = Array.from({ length: line.concurrency + 1 }, () => argon2.hash('password', { line }));
+    tried.push(() => Promise.resolve(line.concurrency === navigator.hardwareConcurrency), () => Promise.all(busy));
     for (const call of tried) names.push(await call().then(String, (error) => error.name));
     return names;`;
 
@@ -172,7 +175,7 @@ function tests(Browser, isIsolated) {
 
     pageTest('errors have their names', async () => {
         assert.deepEqual(await browser.resultOf(REFUSED_IN_PAGE),
-            ['OutOfMemory', 'OutOfMemory', 'OutOfMemory', 'TimeTooSmall', 'TooCostly', 'AbortError']);
+            [...Array(3).fill('OutOfMemory'), 'TimeTooSmall', 'TooCostly', 'AbortError', 'true', 'BusyError']);
     });
 
     pageTest('a visitor hashes and verifies', async () => {

@@ -2,12 +2,12 @@
 import assert from 'node:assert/strict';
 import { execFile } from 'node:child_process';
 import { getEventListeners } from 'node:events';
-import { availableParallelism } from 'node:os';
+import { readdirSync } from 'node:fs';
+import os, { availableParallelism } from 'node:os';
 import { test } from 'node:test';
 import { setTimeout as sleep } from 'node:timers/promises';
 import { promisify } from 'node:util';
-import { look } from './memories.mjs';
-import { countWorkers, letStay, lookIntoWorkers, workers } from './watching.mjs';
+import { countWorkers, letStay, look, lookIntoWorkers, workers } from './watching.mjs';
 import * as argon2 from 'proved-argon2';
 
 const SMALL = { memoryCost: 1024, timeCost: 3, parallelism: 4, salt: new Uint8Array(16), raw: true, native: false };
@@ -114,31 +114,45 @@ test('a signal that comes later does nothing, and has no listener of the call', 
     assert.equal(await argon2.verify(await argon2.hash('password', { ...SMALL, raw: false }), 'password'), true);
 });
 
-test('many calls at once are each right, and take no more workers than there are processors', async () => {
-    const settings = Array.from({ length: 40 }, (_, i) => ({ ...SMALL, parallelism: 1 + i % 5 }));
-    const all = await Promise.all(settings.map((options, i) => argon2.hash(`${i}`, options)));
-    assert.ok(workers.length <= availableParallelism(), `${workers.length} workers`);
-    for (const [i, tag] of all.entries()) {
-        assert.deepEqual(tag, await argon2.hash(`${i}`, { ...settings[i], worker: false }), `${i}`);
-    }
-    await assertNothingHeld();
-});
+/** What computes in a process: the workers, or the threads of the addon and a few of Node's own, which come and go. */
+const COMPUTING = {
+    workers: [false, () => workers.length, availableParallelism()],
+    threads: [true, () => readdirSync('/proc/self/task').length, 2 * availableParallelism()],
+};
 
-test('a call that waits for a worker can be stopped', async () => {
-    const controller = new AbortController();
-    const large = { ...SMALL, memoryCost: 16384 };
-    const others = Array.from({ length: availableParallelism() }, () => argon2.hash('password', large));
-    const waiting = argon2.hash('password', { ...SMALL, signal: controller.signal });
-    await sleep(1);
-    controller.abort();
-    await assert.rejects(waiting, { name: 'AbortError' });
-    await Promise.all(others);
-    await argon2.hash('password', SMALL);
-});
+for (const [what, [native, count, limit]] of Object.entries(COMPUTING)) {
+    test(`many calls at once are each right, and take no more ${what} than fit the processors`, async () => {
+        const before = native ? count() : 0;
+        let most = 0;
+        const onProgress = () => {
+            most = Math.max(most, count() - before);
+        };
+        const settings = Array.from({ length: 40 }, (_, i) =>
+            ({ ...SMALL, memoryCost: native ? 8192 : 1024, parallelism: 1 + i % 5, native }));
+        const all = await Promise.all(settings.map((options, i) => argon2.hash(`${i}`, { ...options, onProgress })));
+        assert.ok(most > 1 && most <= limit, `${most} ${what}`);
+        for (const [i, tag] of all.entries()) {
+            const other = native ? { native: false } : { worker: false };
+            assert.deepEqual(tag, await argon2.hash(`${i}`, { ...settings[i], ...other }), `${i}`);
+        }
+        await assertNothingHeld();
+    });
+
+    test(`a call that waits for one of the ${what} can be stopped, and the next has its turn`, async () => {
+        const controller = new AbortController();
+        const large = { ...SMALL, memoryCost: 16384, native };
+        const others = Array.from({ length: availableParallelism() }, () => argon2.hash('password', large));
+        const waiting = argon2.hash('password', { ...SMALL, native, signal: controller.signal });
+        const next = argon2.hash('password', { ...SMALL, native });
+        await sleep(1);
+        controller.abort();
+        await assert.rejects(waiting, { name: 'AbortError' });
+        await Promise.all([...others, next]);
+    });
+}
 
 test('a call that is stopped as its turn comes takes no other from the line', async () => {
-    const [{ Queue }, { Progress }] = await Promise.all(['./queue.js', './progress.js'].map((name) =>
-        import(new URL(name, import.meta.resolve('proved-argon2')))));
+    const { Queue, Progress } = await import(new URL('line.js', import.meta.resolve('proved-argon2')));
     const queue = new Queue();
     const controller = new AbortController();
     const first = queue.wait(new Progress(undefined, controller.signal));
@@ -146,7 +160,7 @@ test('a call that is stopped as its turn comes takes no other from the line', as
     queue.give('first');
     controller.abort();
     assert.equal(await first, 'first');
-    assert.equal(queue.isEmpty, false);
+    assert.equal(queue.length, 1);
     queue.give('second');
     assert.equal(await second, 'second');
 });
@@ -186,10 +200,10 @@ test('a process ends while a worker waits for work', async () => {
 });
 
 test('a memory that a port loses goes another way', async () => {
-    const words = ['--import', './lost_memories.mjs', '--test-reporter=tap',
+    const words = ['--import', './watching.mjs', '--test-reporter=tap',
         '--test-name-pattern=by a worker for each lane', 'vectors.test.mjs'];
     const how = { cwd: import.meta.dirname, timeout: 120000,
-        env: { ...process.env, NODE_TEST_CONTEXT: undefined, PROVED_ARGON2_NATIVE: '0' } };
+        env: { ...process.env, NODE_TEST_CONTEXT: undefined, PROVED_ARGON2_NATIVE: '0', LOSES_MEMORIES: '1' } };
     const { stdout } = await promisify(execFile)(process.execPath, words, how);
     assert.match(stdout, /^# pass 1$/m);
 });
@@ -203,4 +217,23 @@ test('workers without work go', async () => {
         await sleep(10);
     }
     await argon2.hash('password', SMALL);
+});
+
+test('a string is verified by 16 workers at most, and a password hashed by more', async () => {
+    while (workers.length > 0) {
+        await sleep(10);
+    }
+    letStay(3600000);
+    const started = countWorkers();
+    const { availableParallelism: processors } = os;
+    os.availableParallelism = () => 20;
+    try {
+        const encoded = '$argon2id$v=19$m=256,t=2,p=20$c29tZXNhbHQ$zuWsx5SW6qv+2xEgzAPJ2yaCCn9xi6Aq48Uvm9in6ao';
+        assert.equal(await argon2.verify(encoded, 'password', { limits: { parallelism: 20 }, native: false }), true);
+        assert.equal(started(), 16);
+        await argon2.hash('password', { memoryCost: 256, parallelism: 18, native: false });
+        assert.equal(started(), 18);
+    } finally {
+        os.availableParallelism = processors;
+    }
 });

@@ -1,9 +1,12 @@
-// What is left of passwords and secrets in the memory of a process that passed them as bytes, and overwrote its own.
+// What is left of passwords and secrets in the memory of a process that passed them as bytes, and overwrote its own: it
+// prints each, changed by a mask, and then waits to be looked into.
 import assert from 'node:assert/strict';
 import { spawn } from 'node:child_process';
+import { randomFillSync } from 'node:crypto';
 import { closeSync, openSync, readFileSync, readSync } from 'node:fs';
 import { createInterface } from 'node:readline';
 import { test } from 'node:test';
+import * as argon2 from 'proved-argon2';
 
 /** No byte of a secret is in the process that looks: it has them changed by this. */
 const MASK = 0x5a;
@@ -11,6 +14,14 @@ const ROUNDS = 60;
 /** Bytes of a secret that are enough to know it by. */
 const KNOWN_BY = 16;
 const CHUNK = 2 ** 24;
+const VICTIM = 'victim';
+const RUNNINGS = [{ threads: 1 }, { threads: 2 }, { worker: false }];
+const LANES = 2;
+const LENGTH = 48;
+
+const hidden = (bytes) => Array.from(bytes, (byte) => (byte ^ MASK).toString(16).padStart(2, '0')).join('');
+/** Outside the engine's heap, where a caller can overwrite them. */
+const drawn = () => randomFillSync(Buffer.allocUnsafeSlow(LENGTH));
 
 /** The writable regions of a process. */
 function regionsOf(pid) {
@@ -65,8 +76,32 @@ async function lookInto(words) {
     return { ...seen, masked: masked.found };
 }
 
-test('of passwords and secrets that are bytes, nothing is left in the process', async () => {
-    const { bytes, found, masked } = await lookInto(['victim.mjs', String(MASK), String(ROUNDS)]);
-    assert.ok(bytes > 2 ** 20 && masked > 0, 'the memory was not seen');
-    assert.equal(found, 0);
-});
+/** What the process does that is looked into. */
+async function useSecrets() {
+    const objects = [];
+    for (let round = 0; round < ROUNDS; round++) {
+        const [password, secret] = [drawn(), drawn()];
+        console.log(hidden(password));
+        console.log(hidden(secret));
+        const running = { ...RUNNINGS[round % RUNNINGS.length], secret };
+        const made = argon2.hash(password, { ...running, memoryCost: 64, timeCost: 1, parallelism: LANES });
+        // (what is on the engine's heap is moved by its collector)
+        objects.push(Array.from({ length: 20000 }, () => ({})));
+        objects.splice(0, objects.length - 3);
+        await argon2.verify(await made, password, running);
+        password.fill(0);
+        secret.fill(0);
+    }
+    console.log('done');
+    process.stdin.resume();
+}
+
+if (process.argv[2] === VICTIM) {
+    await useSecrets();
+} else {
+    test('of passwords and secrets that are bytes, nothing is left in the process', async () => {
+        const { bytes, found, masked } = await lookInto([import.meta.filename, VICTIM]);
+        assert.ok(bytes > 2 ** 20 && masked > 0, 'the memory was not seen');
+        assert.equal(found, 0);
+    });
+}

@@ -1,17 +1,49 @@
-// What a service calls beside hash and verify: peppers that rotate, and settings for this machine.
+// What a service calls beside hash and verify: it renews hashes, rotates peppers, and takes settings for this machine.
 import assert from 'node:assert/strict';
 import os from 'node:os';
 import { readFileSync, writeFileSync } from 'node:fs';
+import { createRequire } from 'node:module';
 import { test } from 'node:test';
 import { inspect } from 'node:util';
 import * as argon2 from 'proved-argon2';
 
 const { PepperedHasher } = argon2;
-const { fittingCosts } = await import(new URL('tuning.js', import.meta.resolve('proved-argon2')));
+const sources = import.meta.resolve('proved-argon2');
+const { fittingCosts } = await import(new URL('tuning.js', sources));
+const { Memory, pointer } = await import(new URL('memory.js', sources));
+const openMemory = async () =>
+    Memory.open(new WebAssembly.Module(readFileSync(new URL('proved_argon2.wasm', sources))));
 const small = { memoryCost: 64, timeCost: 1, parallelism: 2 };
 const bytes = (text) => new TextEncoder().encode(text);
 const wrong = { matches: false, update: null };
 const right = { matches: true, update: null };
+const pepper = { secret: bytes('pepper') };
+
+test('a hash of other settings is renewed for the right password alone', async () => {
+    const options = { ...small, ...pepper };
+    const old = await argon2.hash('password', { ...options, timeCost: 2 });
+    assert.deepEqual(await argon2.verifyAndUpdate(old, 'Password', options), wrong);
+    assert.deepEqual(await argon2.verifyAndUpdate(old, 'password', small), wrong);
+    const { matches, update } = await argon2.verifyAndUpdate(old, 'password', options);
+    assert.equal(matches, true);
+    assert.equal(await argon2.verify(update, 'password', pepper), true);
+    assert.equal(await argon2.needsRehash(update, small), false);
+    const password = bytes('password');
+    const called = argon2.verifyAndUpdate(update, password, options);
+    password.fill(0);
+    assert.deepEqual(await called, right);
+});
+
+test('a new hash that fails makes no password wrong, and what verify rejects is rejected', async () => {
+    const old = await argon2.hash('password', small);
+    const failing = { ...small, timeCost: 0 };
+    assert.deepEqual(await argon2.verifyAndUpdate(old, 'password', failing), right);
+    await assert.rejects(argon2.verifyAndUpdate('x', 'password', small), argon2.DecodingFail);
+    const limits = { memoryCost: 63 };
+    await assert.rejects(argon2.verifyAndUpdate(old, 'password', { ...small, limits }), argon2.TooCostly);
+    const signal = AbortSignal.abort();
+    await assert.rejects(argon2.verifyAndUpdate(old, 'password', { ...small, signal }), argon2.AbortError);
+});
 
 test('hashes have the newest pepper, and others are renewed with it', async () => {
     const old = new PepperedHasher([['2025', bytes('old')]], small);
@@ -80,6 +112,27 @@ test('a new hash that has no salt makes no password wrong', async () => {
     }
 });
 
+/** What a call of the module writes of its structure, as numbers of 32 bits. */
+async function numbersOf(name, count) {
+    const memory = await openMemory();
+    const place = memory.take(4 * count);
+    memory.call(name, pointer(place));
+    return memory.numbersAt(place, count);
+}
+
+test('the presets, limits and version are those of the module', async () => {
+    for (const [name, preset] of Object.entries(argon2.presets)) {
+        const call = name.replace(/[A-Z]/g, (letter) => `_${letter.toLowerCase()}`);
+        const { type, version, memoryCost, timeCost, parallelism, hashLength } = preset;
+        const numbers = [type, version, memoryCost, timeCost, parallelism, hashLength];
+        assert.deepEqual(await numbersOf(call, 6), numbers, name);
+    }
+    const { memoryCost, timeCost, parallelism, work } = argon2.defaultLimits;
+    assert.deepEqual(await numbersOf('default_limits', 6), [memoryCost, timeCost, parallelism, 0, work, 0]);
+    const [major, minor, patch] = createRequire(import.meta.url)('proved-argon2/package.json').version.split('.');
+    assert.equal((await openMemory()).call('library_version'), +major * 1000000 + +minor * 1000 + +patch);
+});
+
 test('as much memory as there is time for, and then passes', async () => {
     const measure = async (memory, passes) => memory * passes / 1000;
     const known = [
@@ -119,7 +172,9 @@ test('the example of the page runs', async () => {
     const page = readFileSync(new URL('../../../docs/JAVASCRIPT.md', `file://${process.env.HEADER}`), 'utf8');
     const [, example] = page.match(/(?<=^```js\n).*?(?=^```)/gms);
     const known = "const newKey = Uint8Array.of(1), oldKey = newKey, password = 'password', store = () => {};\n";
-    writeFileSync('page_example.mjs', `${known}${example}export { keyId, matches, update };\n`);
-    const { keyId, matches, update } = await import(new URL('page_example.mjs', import.meta.url));
+    const patient = example.replace('tune(250', 'tune(2500'); // (the machine may be slow)
+    writeFileSync('page_example.mjs', `${known}${patient}export { keyId, line, matches, update };\n`);
+    const { keyId, line, matches, update } = await import(new URL('page_example.mjs', import.meta.url));
+    assert.equal(line.waiting, 32);
     assert.deepEqual({ keyId, matches, update }, { keyId: '2026', matches: true, update: null });
 });

@@ -1,9 +1,10 @@
 // What the types let through, and what they do not: tsc --noEmit --strict. It is never run.
 import argon2, {
-    AbortError, Argon2Error, PepperedHasher, SaltTooShort, argon2id, defaultLimits, hash, needsRehash, presets, tune,
+    AbortError, Argon2Error, BusyError, Line, PepperedHasher, SaltTooShort, argon2id, defaultLimits, hash, needsRehash, presets, tune,
     verify, verifyAndUpdate,
 } from 'proved-argon2';
 import type { HashOptions, Limits, Settings } from 'proved-argon2';
+import * as inline from 'proved-argon2/inline';
 
 export async function right(password: string, key: Uint8Array, signal: AbortSignal): Promise<boolean> {
     const all: Settings = { type: argon2id, version: 0x13, memoryCost: 19456, timeCost: 2, parallelism: 1, hashLength: 24 };
@@ -17,20 +18,22 @@ export async function right(password: string, key: Uint8Array, signal: AbortSign
     const verdict: boolean = await verify(encoded, password, { secret: tag, limits });
     const renewed: boolean = await needsRehash(encoded, settings);
     const { matches, update } = await verifyAndUpdate(encoded, password, { ...settings, secret: key, limits });
-    const hasher = new PepperedHasher([['2026', key]], { ...settings, limits });
+    const line = new Line({ ...settings, concurrency: 2 });
+    const length: number = await line.run(async () => line.concurrency + line.waiting, { signal });
+    const hasher = new PepperedHasher([['2026', key]], { ...settings, limits, line });
     const stored: { keyId: string, encoded: string } = await hasher.hash(password, { associatedData: key });
     const peppered = await hasher.verifyAndUpdate(null, stored.encoded, password);
     const { parameters, milliseconds, load } = await tune(250, { memoryCost: 65536, signal });
-    console.log(matches, update?.length, peppered.update?.keyId, parameters.timeCost, milliseconds, load?.toFixed());
+    console.log(length, matches, update?.length, peppered.update?.keyId, parameters.timeCost, milliseconds, load?.toFixed());
     try {
-        return verdict && renewed && await argon2.verify(encoded, key, { limits: null }) && either !== tag;
+        return verdict && renewed && await inline.verify(encoded, key, { limits: null }) && either !== tag;
     } catch (error) {
         if (error instanceof SaltTooShort || error instanceof Argon2Error) {
             const code: number = error.code;
             return error.name === 'TooCostly' && code === 69;
         }
-        if (error instanceof AbortError) {
-            return error.code === 'ABORT_ERR';
+        if (error instanceof AbortError || error instanceof BusyError) {
+            return error.name === 'AbortError';
         }
         throw error;
     }
@@ -59,6 +62,8 @@ export async function wrong(password: string): Promise<void> {
     await verify('', password, { limits: { memory: 5 } });
     // @ts-expect-error: an object does not keep the order of its IDs
     new PepperedHasher({ 2026: new Uint8Array(1) });
+    // @ts-expect-error: a line is no number
+    await hash(password, { line: 2 });
     // @ts-expect-error: presets cannot be changed
     presets.owasp1.timeCost = 5;
 }

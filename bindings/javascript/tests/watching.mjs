@@ -1,38 +1,44 @@
-// What the tests see of the package from outside: which workers are started, and what all memories hold.
+// What the tests see of the package from outside: which workers are started, and what all memories of the module hold.
+// It is loaded before the package, in the thread of a test and, by `--import`, in each worker.
 import { setTimeout as sleep } from 'node:timers/promises';
-import threads, { BroadcastChannel } from 'node:worker_threads';
+import threads, { BroadcastChannel, MessagePort, isMainThread, threadId } from 'node:worker_threads';
 
-const { Worker } = threads;
-const HOOK = ['--import', new URL('./memories.mjs', import.meta.url).href];
-
+const STACK = 65536;
+const STAYS = 5000;
+/** Each instance of the package's with its memory, kept here, so that what the package drops can be looked at too. */
+const instances = [];
 /** The workers that are not gone. */
 export const workers = [];
 let started = 0;
-
-threads.Worker = class extends Worker {
-    constructor(file, options) {
-        super(file, { ...options, execArgv: HOOK });
-        started += 1;
-        workers.push(this);
-        this.on('exit', () => workers.splice(workers.indexOf(this), 1));
-    }
-};
-
-const { setTimeout: wait } = globalThis;
-const STAYS = 5000;
 let stays = 3600000;
 
-/** How long workers stay that have nothing to do from now on: else they may go while a test waits for its turn. */
-export function letStay(milliseconds) {
-    stays = milliseconds;
+const { instantiate } = WebAssembly;
+WebAssembly.instantiate = async (...values) => {
+    const made = await instantiate(...values);
+    const { exports } = made.instance ?? made;
+    if ('proved_argon2_job_make' in exports) { // (Node has modules of its own)
+        const { memory = values[1].env.memory, __heap_base: base } = exports;
+        instances.push({ base: Number(base.value), memory });
+    }
+    return made;
+};
+
+function held(memory, from, to) {
+    let bytes = 0;
+    for (const word of new Uint32Array(memory.buffer, from, (to - from) / 4)) {
+        bytes += word === 0 ? 0 : 4;
+    }
+    return bytes;
 }
 
-globalThis.setTimeout = (call, delay, ...more) => wait(call, delay === STAYS ? stays : delay, ...more);
-
-/** A call that says how many workers were started since this one. */
-export function countWorkers() {
-    const before = started;
-    return () => started - before;
+/** How many bytes of the memories are in words that are not zero, but for the module's tables, and how many in all. */
+export function look() {
+    const memories = instances.map(({ base, memory }) => {
+        const bytes = memory.buffer.byteLength;
+        return { bytes, held: held(memory, 0, STACK) + held(memory, base, bytes) };
+    });
+    const sumOf = (name) => memories.reduce((sum, memory) => sum + memory[name], 0);
+    return { threadId, bytes: sumOf('bytes'), held: sumOf('held') };
 }
 
 /** What the memories of each worker hold. */
@@ -46,4 +52,58 @@ export async function lookIntoWorkers() {
     }
     channel.close();
     return found;
+}
+
+/** How long workers stay that have nothing to do from now on: else they may go while a test waits for its turn. */
+export function letStay(milliseconds) {
+    stays = milliseconds;
+}
+
+/** A call that says how many workers were started since this one. */
+export function countWorkers() {
+    const before = started;
+    return () => started - before;
+}
+
+function watchWorkers() {
+    threads.Worker = class extends threads.Worker {
+        constructor(file, options) {
+            super(file, { ...options, execArgv: ['--import', import.meta.url] });
+            started += 1;
+            workers.push(this);
+            this.on('exit', () => workers.splice(workers.indexOf(this), 1));
+        }
+    };
+    const { setTimeout: wait } = globalThis;
+    globalThis.setTimeout = (call, delay, ...more) => wait(call, delay === STAYS ? stays : delay, ...more);
+}
+
+function tellWhatIsHeld() {
+    const channel = new BroadcastChannel('memories');
+    channel.onmessage = ({ data }) => {
+        if (data === 'look') { // (and no other worker's answer)
+            channel.postMessage(look());
+        }
+    };
+    channel.unref();
+}
+
+/** As now and then in Firefox: a memory that goes by a port is lost, and a `messageerror` tells of it. */
+function loseMemories() {
+    const { get, set } = Object.getOwnPropertyDescriptor(MessagePort.prototype, 'onmessage');
+    Object.defineProperty(MessagePort.prototype, 'onmessage', {
+        get,
+        set(hear) {
+            set.call(this, (event) => (event.data.memory ? this.onmessageerror?.(event) : hear(event)));
+        },
+    });
+}
+
+if (isMainThread) {
+    watchWorkers();
+} else {
+    tellWhatIsHeld();
+    if (process.env.LOSES_MEMORIES) {
+        loseMemories();
+    }
 }

@@ -1,0 +1,150 @@
+// A line: so many calls compute at a time, so many wait in their order, others are rejected at once, and each call that
+// ends in any way frees its place.
+import assert from 'node:assert/strict';
+import os from 'node:os';
+import { test } from 'node:test';
+import { setImmediate as immediate, setTimeout as sleep } from 'node:timers/promises';
+import { BusyError, hash, Line, PepperedHasher, verify, verifyAndUpdate } from 'proved-argon2';
+
+const SMALL = { memoryCost: 64, timeCost: 1 };
+const ENDLESS = { memoryCost: 4096, timeCost: 2 ** 31 };
+const MISMATCH = { matches: false, update: null };
+const limited = { timeout: 60000 };
+const key = new TextEncoder().encode('pepper');
+const old = await hash('password', { ...SMALL, timeCost: 2 });
+
+/** Requires that one call more computes in a line of one place, and one more waits. */
+async function requireFree(line) {
+    const two = [hash('password', { ...SMALL, line }), verify(old, 'password', { line })];
+    await assert.rejects(hash('password', { ...SMALL, line }), BusyError);
+    assert.equal(await two[1], true);
+    assert.equal(await verify(await two[0], 'password', { line }), true);
+}
+
+test('so many compute, so many wait in their order, and others are rejected at once', limited, async () => {
+    const line = new Line({ concurrency: 2, waiting: 3 });
+    const begun = [];
+    const ends = [];
+    const begin = (number) => line.run(() => new Promise((resolve, reject) => {
+        begun.push(number);
+        ends[number] = { resolve, reject };
+    }));
+    const calls = [0, 1, 2, 3, 4].map(begin);
+    await assert.rejects(begin(5), { name: 'BusyError', message: 'Too many calls compute or wait', code: 257 });
+    assert.deepEqual(begun, [0, 1]);
+    ends[1].resolve('one');
+    assert.equal(await calls[1], 'one');
+    calls.push(begin(5));
+    await assert.rejects(begin(6), BusyError);
+    ends[0].reject(new Error('failed'));
+    await assert.rejects(calls[0], /failed/);
+    for (const number of [2, 3, 4, 5]) {
+        await immediate();
+        assert.equal(begun.length, Math.min(6, number + 2));
+        ends[number].resolve();
+    }
+    await Promise.all(calls.slice(1));
+    assert.deepEqual(begun, [0, 1, 2, 3, 4, 5]);
+});
+
+/** Aborts a call as it reports its progress. */
+const aborting = (call) => {
+    const controller = new AbortController();
+    return call({ ...ENDLESS, signal: controller.signal, onProgress: () => controller.abort() });
+};
+const peppered = new PepperedHasher([['2026', key]], SMALL);
+const encoded = (await peppered.hash('password')).encoded;
+const OUTCOMES = {
+    'a call that is aborted while it computes': (line) => aborting((options) => hash('password', { ...options, line })),
+    '.. or verifies': (line) => aborting((options) =>
+        verify(old.replace('t=2', 't=4294967295'), 'password', { ...options, limits: null, line })),
+    '.. or was aborted before': (line) => hash('password', { line, signal: AbortSignal.abort() }),
+    'a call whose callback throws': (line) => hash('password', { line, onProgress: () => assert.fail('AbortError') }),
+    'a call with an error': (line) => hash('password', { line, timeCost: 0 }),
+    'a string that is none': (line) => verify('x', 'password', { line }),
+    'another password': async (line) =>
+        assert.deepEqual(await verifyAndUpdate(old, 'Password', { ...SMALL, line }), MISMATCH),
+    'a new hash that fails': async (line) =>
+        assert.equal((await verifyAndUpdate(old, 'password', { timeCost: 0, line })).matches, true),
+    'a pepper': async (line) =>
+        assert.deepEqual(await peppered.verifyAndUpdate('2026', encoded, 'Password', { line }), MISMATCH),
+    'a call of a line alone': (line) => line.run(() => assert.fail('thrown at once')),
+    '.. that is none': (line) => line.run(),
+};
+
+for (const [what, call] of Object.entries(OUTCOMES)) {
+    test(`${what} frees its place`, limited, async () => {
+        const line = new Line({ concurrency: 1, waiting: 1 });
+        await Promise.resolve(call(line)).catch((error) => assert.notEqual(error.name, 'BusyError'));
+        await requireFree(line);
+    });
+}
+
+test('a call that is aborted while it waits leaves the line', limited, async () => {
+    const line = new Line({ concurrency: 1, waiting: 1 });
+    const controllers = [new AbortController(), new AbortController()];
+    const calls = controllers.map(({ signal }) => hash('password', { ...ENDLESS, line, signal }));
+    await assert.rejects(hash('password', { ...SMALL, line }), BusyError);
+    controllers[1].abort();
+    await assert.rejects(calls[1], { name: 'AbortError', code: 'ABORT_ERR' });
+    const next = hash('password', { ...SMALL, line });
+    await assert.rejects(line.run(() => 0, { signal: AbortSignal.timeout(1000) }), BusyError);
+    controllers[0].abort(new Error('enough'));
+    await assert.rejects(calls[0], /enough/);
+    assert.equal(await verify(await next, 'password'), true);
+    await requireFree(line);
+});
+
+test('a password is verified and hashed anew in one place, by what was passed at first', async () => {
+    const line = new Line({ concurrency: 1, waiting: 1 });
+    const first = line.run(() => sleep(20));
+    const [password, secret, associatedData] = ['password', 'pepper', 'user 7'].map((text) => Buffer.from(text));
+    const keys = { secret: Buffer.from(secret), associatedData: Buffer.from(associatedData) };
+    const stored = await hash(password, { ...SMALL, timeCost: 2, ...keys });
+    const busy = [];
+    const onProgress = (done) => busy.push(line.run(() => done).catch((error) => error.name));
+    const call = verifyAndUpdate(stored, password, { ...SMALL, ...keys, onProgress, line });
+    [password, keys.secret, keys.associatedData].forEach((bytes) => bytes.fill(0));
+    await first;
+    const { matches, update } = await call;
+    assert.equal(matches, true);
+    assert.equal(await verify(update, 'password', { secret, associatedData }), true);
+    // (one of these waits until the call has ended)
+    assert.deepEqual((await Promise.all(busy)).filter((outcome) => outcome !== 'BusyError'), [1]);
+    assert.equal(busy.length, 8 + 4);
+});
+
+test('by default as many compute as fit into processors and memory, and 16 times as many wait', () => {
+    const { availableParallelism, totalmem } = os;
+    const { constrainedMemory } = process;
+    const boundsOf = (gibibytes, constrained, options) => {
+        os.totalmem = () => gibibytes * 2 ** 30;
+        process.constrainedMemory = () => constrained * 2 ** 30;
+        const { concurrency, waiting } = new Line(options);
+        assert.equal(waiting, 16 * concurrency);
+        return concurrency;
+    };
+    os.availableParallelism = () => 9;
+    try {
+        assert.deepEqual([boundsOf(1, 0), boundsOf(0.5, 0), boundsOf(1, 0.25), boundsOf(0.25, 2 ** 30)], [9, 6, 3, 3]);
+        assert.deepEqual([boundsOf(1, 0, { parallelism: 4 }), boundsOf(64, 0, { parallelism: 10 })], [2, 1]);
+        assert.deepEqual([boundsOf(1, 0, { memoryCost: 2 ** 18 }), boundsOf(1, 0, { memoryCost: 2 ** 20 })], [1, 1]);
+    } finally {
+        Object.assign(os, { availableParallelism, totalmem });
+        Object.assign(process, { constrainedMemory });
+    }
+});
+
+test('bounds and lines of another kind are rejected', async () => {
+    for (const [options, expected] of [
+        [{ concurrency: 0 }, RangeError], [{ waiting: -1 }, RangeError], [{ waiting: 0.5 }, RangeError],
+        [{ concurrency: '2' }, TypeError], [{ wait: 1 }, TypeError], [{ memoryCost: null }, TypeError], [5, TypeError],
+    ]) {
+        assert.throws(() => new Line(options), expected);
+    }
+    for (const line of [null, {}, 5]) {
+        await assert.rejects(hash('password', { line }), TypeError);
+        await assert.rejects(verifyAndUpdate(old, 'password', { line }), TypeError);
+    }
+    await assert.rejects(new Line().run(() => 0, { signal: {} }), TypeError);
+});
