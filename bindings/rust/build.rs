@@ -24,13 +24,9 @@ fn main() {
 
 /// The folder of the archive, or why there is none.
 fn library_folder() -> Result<PathBuf, String> {
-    if let Some(named) = env::var_os(VARIABLE) {
-        let folder = PathBuf::from(named);
-        return if has_archive(&folder) {
-            Ok(folder)
-        } else {
-            Err(format!("{VARIABLE} is {}, which has no {ARCHIVE}", folder.display()))
-        };
+    if let Some(folder) = env::var_os(VARIABLE).map(PathBuf::from) {
+        let reason = format!("{VARIABLE} is {}, which has no {ARCHIVE}", folder.display());
+        return has_archive(&folder).then_some(folder).ok_or(reason);
     }
     let libraries = here().join("lib");
     if libraries.is_dir() {
@@ -90,12 +86,10 @@ fn name_of_target() -> Result<String, String> {
 fn packaged_folder(libraries: &Path) -> Result<PathBuf, String> {
     let folder = libraries.join(name_of_target()?);
     if !folder.is_dir() {
-        Err(format!("the crate has no archive for {}", named("TARGET")))
-    } else if has_archive(&folder) {
-        Ok(folder)
-    } else {
-        Err(format!("{} has no {ARCHIVE}: the crate is not whole", folder.display()))
+        return Err(format!("the crate has no archive for {}", named("TARGET")));
     }
+    let reason = format!("{} has no {ARCHIVE}: the crate is not whole", folder.display());
+    has_archive(&folder).then_some(folder).ok_or(reason)
 }
 
 /// The repository, where this crate stands in it.
@@ -133,23 +127,17 @@ fn sources_in_c() -> Option<PathBuf> {
 
 /// The folder of the archive that a C compiler makes of the library as C, where that is of the repository's sources.
 fn compiled_folder(sources: &Path) -> Result<PathBuf, String> {
-    let names = names_in(sources)?;
+    let entries = fs::read_dir(sources).map_err(|error| format!("{}: {error}", sources.display()))?;
+    let files = entries.flatten().map(|entry| entry.path());
+    let c: Vec<_> = files.filter(|file| file.extension() == Some("c".as_ref())).collect();
     require_released(repository().unwrap_or(sources), "portable")?;
     let folder = PathBuf::from(named("OUT_DIR"));
-    let stems: Vec<_> = names.iter().filter_map(|name| name.strip_suffix(".c")).collect();
-    let c = stems.iter().map(|stem| sources.join(format!("{stem}.c")));
-    let objects = stems.iter().map(|stem| format!("{stem}.o"));
-    run(Command::new(tool("CC", "cc")?).args(["-O2", "-fPIC", "-c"]).args(c).current_dir(&folder))?;
+    let objects = c.iter().filter_map(|file| Some(file.with_extension("o").file_name()?.to_owned()));
+    run(Command::new(tool("CC", "cc")?).args(["-O2", "-fPIC", "-c"]).args(&c).current_dir(&folder))?;
     run(Command::new(tool("AR", "ar")?).args(["rcs", ARCHIVE]).args(objects).current_dir(&folder))?;
     println!("cargo:warning=there is no archive for {}: the library as C was compiled", named("TARGET"));
     println!("cargo:rerun-if-changed={}", sources.display());
     Ok(folder)
-}
-
-/// The names of the files of a folder.
-fn names_in(folder: &Path) -> Result<Vec<String>, String> {
-    let entries = fs::read_dir(folder).map_err(|error| format!("{}: {error}", folder.display()))?;
-    Ok(entries.flatten().filter_map(|entry| entry.file_name().into_string().ok()).collect())
 }
 
 /// A tool for the target, as cargo's variables name it, or this machine's own.

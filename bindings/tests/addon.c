@@ -3,6 +3,8 @@
 #include "node_api.h"
 #include "proved_argon2.h"
 
+#pragma GCC diagnostic ignored "-Wunused-parameter"
+
 #include <dlfcn.h>
 #include <semaphore.h>
 #include <stdio.h>
@@ -31,7 +33,6 @@ static unsigned made, reports;
 unsigned napi_get_cb_info(
     napi_env env, napi_callback_info info, size_t *count, napi_value *values, napi_value *receiver, void **data)
 {
-    (void)env, (void)info, (void)receiver, (void)data;
     for (size_t i = 0; i < *count; i++)
         values[i] = &inputs[i < 7 ? i : 3];
     return 0;
@@ -40,7 +41,6 @@ unsigned napi_get_cb_info(
 unsigned napi_get_typedarray_info(
     napi_env env, napi_value array, unsigned *type, size_t *length, void **data, napi_value *buffer, size_t *offset)
 {
-    (void)env, (void)type, (void)buffer, (void)offset;
     *data = array->at;
     *length = array->len;
     return 0;
@@ -48,14 +48,12 @@ unsigned napi_get_typedarray_info(
 
 unsigned napi_get_undefined(napi_env env, napi_value *value)
 {
-    (void)env;
     *value = NULL;
     return 0;
 }
 
 unsigned napi_create_double(napi_env env, double number, napi_value *value)
 {
-    (void)env;
     *value = &numbers[made++ % 64];
     (*value)->number = number;
     return 0;
@@ -63,41 +61,35 @@ unsigned napi_create_double(napi_env env, double number, napi_value *value)
 
 unsigned napi_create_string_utf8(napi_env env, const char *text, size_t length, napi_value *value)
 {
-    (void)env, (void)text, (void)length, (void)value;
     return 0;
 }
 
 unsigned napi_create_function(
     napi_env env, const char *name, size_t length, napi_callback callback, void *data, napi_value *value)
 {
-    (void)env, (void)length, (void)data, (void)value;
     if (strcmp(name, "hash") == 0) hash = callback;
     return 0;
 }
 
 unsigned napi_set_named_property(napi_env env, napi_value object, const char *name, napi_value value)
 {
-    (void)env, (void)object, (void)name, (void)value;
     return 0;
 }
 
 unsigned napi_call_function(
     napi_env env, napi_value receiver, napi_value function, size_t count, const napi_value *values, napi_value *result)
 {
-    (void)env, (void)receiver, (void)function, (void)count, (void)result;
     printf("%.0f %.0f %u ", values[0]->number, values[1]->number, reports);
     return 0;
 }
 
 unsigned napi_add_env_cleanup_hook(napi_env env, void (*hook)(void *arg), void *arg)
 {
-    (void)env, (void)hook, (void)arg;
     return 0;
 }
 
 unsigned napi_remove_env_cleanup_hook(napi_env env, void (*hook)(void *arg), void *arg)
 {
-    (void)env, (void)hook, (void)arg;
     return 0;
 }
 
@@ -105,8 +97,6 @@ unsigned napi_create_threadsafe_function(napi_env env, napi_value function, napi
     size_t queue, size_t threads, void *finalize_data, napi_finalize finalize, void *context,
     napi_threadsafe_function_call_js call, napi_threadsafe_function *result)
 {
-    (void)env, (void)function, (void)resource, (void)name, (void)queue, (void)threads, (void)finalize_data,
-        (void)finalize;
     listener = (struct napi_threadsafe_function__){context, call};
     *result = &listener;
     return 0;
@@ -114,14 +104,12 @@ unsigned napi_create_threadsafe_function(napi_env env, napi_value function, napi
 
 unsigned napi_call_threadsafe_function(napi_threadsafe_function function, void *data, unsigned mode)
 {
-    (void)function, (void)mode;
     reports += data != NULL;
     return data == NULL ? (unsigned)sem_post(&ended) : 0;
 }
 
 unsigned napi_release_threadsafe_function(napi_threadsafe_function function, unsigned mode)
 {
-    (void)function, (void)mode;
     return 0;
 }
 

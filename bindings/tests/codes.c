@@ -4,12 +4,9 @@
  */
 #include "proved_argon2.h"
 
-#include <stdatomic.h>
-#include <stdbool.h>
 #include <stdio.h>
 #include <stdlib.h>
 #include <string.h>
-#include <unistd.h>
 
 #define PIECE(name) const uint8_t *name, size_t name##_len
 #define SHOWN(name) (int)name##_len, (const char *)name
@@ -18,11 +15,21 @@
     (settings)->variant, (settings)->version, (settings)->mem_cost, (settings)->time_cost, (settings)->lanes, \
         (settings)->hash_length
 
-/* What proved_argon2_check answers, any call that computes, and proved_argon2_read. */
-static uint32_t checking, answer, reading;
+/* What is answered: by proved_argon2_check, by any call that computes, by proved_argon2_read, and to who asks for a
+ * memory. */
+static uint32_t checking, answer, reading, shortage;
 
-/* Whether the next call waits until it is let go, whether it does now, and whether nobody let it go for too long. */
-static atomic_bool is_held, is_waiting, is_left_alone;
+/* What the last call was passed that computes, that checks, and that does neither. */
+enum { COMPUTING, JUDGING, TELLING };
+static char passed[3][400];
+
+/* Of the last call with options: how many threads it asked for, which names no pool; how many bytes of memory it was
+ * passed, or -1; what it was answered that told that it had filled a slice, or -1 where nobody was to be told. */
+static uint32_t threads;
+static int64_t memory_len, progress_result;
+
+/* How many memories were asked for and how many are there. */
+static uint32_t asked, memories;
 
 void set_answers(uint32_t check, uint32_t then, uint32_t read)
 {
@@ -31,45 +38,15 @@ void set_answers(uint32_t check, uint32_t then, uint32_t read)
     reading = read;
 }
 
-void hold(void)
+void set_shortage(uint32_t number)
 {
-    is_left_alone = false;
-    is_held = true;
+    shortage = number;
 }
 
-uint32_t waits(void)
+const char *passed_to(uint32_t kind)
 {
-    return is_waiting;
+    return passed[kind];
 }
-
-void let_go(void)
-{
-    is_held = false;
-}
-
-uint32_t was_left_alone(void)
-{
-    return is_left_alone;
-}
-
-static void wait_while_held(void)
-{
-    is_waiting = is_held;
-    for (int turns = 0; is_held && !is_left_alone; turns++) {
-        usleep(10000);
-        is_left_alone = turns == 3000;
-    }
-    is_waiting = is_held = false;
-}
-
-/* How many threads the last call with options asked for, which names no pool, and how many bytes of memory it was
- * passed, or -1. */
-static uint32_t threads;
-static int64_t memory_len;
-
-/* What the last call with options was answered that told that it had filled a slice, or -1 where nobody was to be
- * told. */
-static int64_t progress_result;
 
 uint32_t threads_of_the_last(void)
 {
@@ -86,6 +63,16 @@ int64_t progress_result_of_the_last(void)
     return progress_result;
 }
 
+uint32_t memories_that_were_asked_for(void)
+{
+    return asked;
+}
+
+uint32_t memories_that_are_there(void)
+{
+    return memories;
+}
+
 static void take(const proved_argon2_options *with)
 {
     const int has_pool = with->run != NULL || with->pool != NULL;
@@ -94,25 +81,6 @@ static void take(const proved_argon2_options *with)
     memory_len = with->memory != NULL && (uintptr_t)with->memory % 8 == 0 ? (int64_t)with->memory_len
         : with->memory != NULL || with->memory_len != 0                   ? INT64_MIN
                                                                           : -1;
-}
-
-/* What the last call was passed that computes, that checks, and that does neither. */
-enum { COMPUTING, JUDGING, TELLING };
-static char passed[3][400];
-
-const char *passed_to(uint32_t kind)
-{
-    return passed[kind];
-}
-
-static uint32_t hash(const char *name, PIECE(pwd), PIECE(salt), PIECE(secret), PIECE(ad),
-    const proved_argon2_settings *settings, uint8_t *out, size_t out_len)
-{
-    wait_while_held();
-    snprintf(passed[COMPUTING], sizeof *passed, "%s %.*s %.*s %.*s %.*s " SETTINGS, name, SHOWN(pwd), SHOWN(salt),
-        SHOWN(secret), SHOWN(ad), EACH(settings));
-    memset(out, 'x', out_len);
-    return answer;
 }
 
 uint32_t proved_argon2_check(
@@ -124,36 +92,27 @@ uint32_t proved_argon2_check(
     return checking;
 }
 
-uint32_t proved_argon2_hash_raw(PIECE(pwd), PIECE(salt), PIECE(secret), PIECE(ad),
-    const proved_argon2_settings *settings, uint8_t *out, size_t out_len)
-{
-    return hash("raw", pwd, pwd_len, salt, salt_len, secret, secret_len, ad, ad_len, settings, out, out_len);
-}
-
-uint32_t proved_argon2_hash_encoded(PIECE(pwd), PIECE(salt), PIECE(secret), PIECE(ad),
-    const proved_argon2_settings *settings, char *text, size_t text_len)
-{
-    const uint32_t number = hash(
-        "encoded", pwd, pwd_len, salt, salt_len, secret, secret_len, ad, ad_len, settings, (uint8_t *)text, text_len);
-    if (text_len > 0) {
-        text[text_len - 1] = 0;
-    }
-    return number;
-}
-
 uint32_t proved_argon2_hash_raw_with(const proved_argon2_options *with, PIECE(pwd), PIECE(salt), PIECE(secret),
     PIECE(ad), const proved_argon2_settings *settings, uint8_t *out, size_t out_len)
 {
     take(with);
-    return proved_argon2_hash_raw(pwd, pwd_len, salt, salt_len, secret, secret_len, ad, ad_len, settings, out, out_len);
+    snprintf(passed[COMPUTING], sizeof *passed, "raw %.*s %.*s %.*s %.*s " SETTINGS, SHOWN(pwd), SHOWN(salt),
+        SHOWN(secret), SHOWN(ad), EACH(settings));
+    memset(out, 'x', out_len);
+    return answer;
 }
 
 uint32_t proved_argon2_hash_encoded_with(const proved_argon2_options *with, PIECE(pwd), PIECE(salt), PIECE(secret),
     PIECE(ad), const proved_argon2_settings *settings, char *text, size_t text_len)
 {
     take(with);
-    return proved_argon2_hash_encoded(
-        pwd, pwd_len, salt, salt_len, secret, secret_len, ad, ad_len, settings, text, text_len);
+    snprintf(passed[COMPUTING], sizeof *passed, "encoded %.*s %.*s %.*s %.*s " SETTINGS, SHOWN(pwd), SHOWN(salt),
+        SHOWN(secret), SHOWN(ad), EACH(settings));
+    if (text_len > 0) {
+        memset(text, 'x', text_len - 1);
+        text[text_len - 1] = 0;
+    }
+    return answer;
 }
 
 uint32_t proved_argon2_verify_raw_with(const proved_argon2_options *with, PIECE(pwd), PIECE(salt), PIECE(secret),
@@ -171,28 +130,9 @@ uint32_t proved_argon2_verify_encoded_with(
     static const proved_argon2_limits none = {0, 0, 0, 0};
     const proved_argon2_limits *const limits = with->limits == NULL ? &none : with->limits;
     take(with);
-    wait_while_held();
     snprintf(passed[COMPUTING], sizeof *passed, "text %.*s %.*s %.*s %.*s %u %u %u %llu", SHOWN(text), SHOWN(pwd),
         SHOWN(secret), SHOWN(ad), limits->mem_cost, limits->time_cost, limits->lanes, (unsigned long long)limits->work);
     return answer;
-}
-
-/* How many memories were asked for and how many are there, and what is answered to who asks for one. */
-static uint32_t asked, memories, shortage;
-
-void set_shortage(uint32_t number)
-{
-    shortage = number;
-}
-
-uint32_t memories_that_were_asked_for(void)
-{
-    return asked;
-}
-
-uint32_t memories_that_are_there(void)
-{
-    return memories;
 }
 
 uint64_t proved_argon2_memory_len(const proved_argon2_settings *settings)
@@ -248,9 +188,9 @@ uint64_t proved_argon2_encoded_len(const proved_argon2_settings *settings, uint3
 /* N and the number's three digits. */
 const char *proved_argon2_message(uint32_t number)
 {
-    static char texts[1000][5];
-    snprintf(texts[number % 1000], sizeof *texts, "N%03u", (unsigned)(number % 1000));
-    return texts[number % 1000];
+    static char text[5];
+    snprintf(text, sizeof text, "N%03u", (unsigned)(number % 1000));
+    return text;
 }
 
 uint32_t proved_argon2_library_version(void)

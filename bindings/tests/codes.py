@@ -3,8 +3,6 @@ the library of codes.c, which PROVED_ARGON2_LIBRARY names."""
 import concurrent.futures
 import contextlib
 import re
-import threading
-import time
 from pathlib import Path
 
 import pytest
@@ -41,6 +39,7 @@ STORED = Parameters(type=Type.ID, version=19, memory_cost=64, time_cost=3, paral
 # The values of the table: what is raised in place of a verdict says the number.
 VALUES = {"tag": b"x" * 5, "text": b"x" * 12, "true": True, "false": errors.VerifyMismatchError,
           "costly": errors.TooCostlyError, "stored": STORED}
+VERDICTS = {0: True, HEADER["MISMATCH"]: VALUES["false"], HEADER["TOO_COSTLY"]: VALUES["costly"]}
 CALLS = {
     "hash_raw": lambda **named: hash_secret_raw(*HASH, **{**NAMED, **named}),
     "hash_encoded": lambda **named: hash_secret(*HASH, **{**NAMED, **named}),
@@ -48,20 +47,17 @@ CALLS = {
     "verify_encoded_alone": lambda **named: verify_secret(*VERIFY, **named),
     "verify_encoded_within": lambda **named: verify_secret(*VERIFY, **{**NAMED, "limits": LIMITS, **named}),
 }
-
-
-def warned(call):
-    """What a call gives that warns of its age."""
-    with pytest.warns(DeprecationWarning):
-        return call(b"p")
-
-
 HASHERS = [(lambda: PasswordHasher().hash("p"), "x" * 12),
            (lambda: PasswordHasher(keep_memory=True).hash("p"), "x" * 12),
-           (lambda: warned(hash_password), b"x" * 12), (lambda: warned(hash_password_raw), b"x" * 32)]
+           (lambda: hash_password(b"p"), b"x" * 12), (lambda: hash_password_raw(b"p"), b"x" * 32)]
 VERIFIERS = [lambda: PasswordHasher().verify(TEXT, "p"), lambda: PasswordHasher(limits=None).verify(TEXT, "p"),
              lambda: PasswordHasher(keep_memory=True).verify(TEXT, "p"),
-             lambda: warned(lambda word: verify_password(TEXT.encode(), word, Type.ID))]
+             lambda: verify_password(TEXT.encode(), b"p", Type.ID)]
+SAME = PasswordHasher.from_parameters(STORED)
+READERS = [(lambda: extract_parameters(TEXT), STORED), (lambda: SAME.check_needs_rehash(TEXT), False),
+           (lambda: PasswordHasher().check_needs_rehash(TEXT), True)]
+pytestmark = pytest.mark.filterwarnings("ignore:.* is deprecated:DeprecationWarning")
+each_call = pytest.mark.parametrize("name", CALLS)
 
 
 def said_of(number):
@@ -99,7 +95,7 @@ def gives(place, call, values, other):
             assert (found, type(found)) == (expected, type(expected)), number
 
 
-@pytest.mark.parametrize("name", CALLS)
+@each_call
 @pytest.mark.parametrize("memory", [None, Memory])
 def test_a_call_gives_for_each_number_what_the_table_says(name, memory):
     places, *_, values = ROWS[name]
@@ -107,40 +103,35 @@ def test_a_call_gives_for_each_number_what_the_table_says(name, memory):
     other = errors.HashingError if name.startswith("hash") else errors.VerificationError
     if name.startswith("verify"):
         values[HEADER["TOO_COSTLY"]] = errors.TooCostlyError
+        gives("read", CALLS[name], {0: True}, other)
     for place in places.split():
         gives(place, lambda: CALLS[name](memory=memory and memory()), values, other)
-    if name.startswith("verify"):
-        gives("read", CALLS[name], {0: True}, other)
 
 
 def test_a_hasher_and_the_calls_before_it_give_the_same():
     for call, value in HASHERS:
         gives("then", call, {0: value}, errors.HashingError)
         gives("check", call, {0: value}, errors.HashingError)
-    verdicts = {0: True, HEADER["MISMATCH"]: VALUES["false"], HEADER["TOO_COSTLY"]: VALUES["costly"]}
     for call in VERIFIERS:
-        gives("then", call, verdicts, errors.VerificationError)
+        gives("then", call, VERDICTS, errors.VerificationError)
         gives("read", call, {0: True}, errors.VerificationError)
 
 
-def test_a_string_has_settings_for_ok_alone():
+@pytest.mark.parametrize("call, value", READERS)
+def test_a_string_has_settings_for_ok_alone(call, value):
     invalid = {HEADER["DECODING_FAIL"]: errors.InvalidHashError, HEADER["NOT_UTF8"]: errors.InvalidHashError,
                HEADER["OUT_OF_MEMORY"]: MemoryError}
-    same = PasswordHasher.from_parameters(STORED)
-    for call, value in ((lambda: extract_parameters(TEXT), STORED), (lambda: same.check_needs_rehash(TEXT), False),
-                        (lambda: PasswordHasher().check_needs_rehash(TEXT), True)):
-        gives("read", call, {**invalid, 0: value}, errors.Argon2Error)
+    gives("read", call, {**invalid, 0: value}, errors.Argon2Error)
 
 
 def test_the_numbers_are_the_header_s():
     assert [Type.D.value, Type.I.value, Type.ID.value] == [HEADER[name] for name in ("D", "I", "ID")]
-    assert ARGON2_VERSION == HEADER["VERSION_13"]
-    for name in ("OK", "DECODING_FAIL", "OUT_OF_MEMORY", "MISMATCH", "NOT_UTF8", "TOO_COSTLY"):
+    assert (ARGON2_VERSION, error_to_str(5)) == (HEADER["VERSION_13"], said_of(5))
+    for name in ("OK", "DECODING_FAIL", "OUT_OF_MEMORY", "MISMATCH", "NOT_UTF8", "UNKNOWN_NUMBER", "TOO_COSTLY"):
         assert getattr(_library, name) == HEADER[name], name
-    assert error_to_str(5) == said_of(5)
 
 
-@pytest.mark.parametrize("name", CALLS)
+@each_call
 def test_each_call_passes_what_it_is_given_in_its_place(name):
     _, computing, telling, _ = ROWS[name]
     for memory, length in ((None, -1), (Memory(), 0)):
@@ -165,32 +156,28 @@ def test_a_hasher_passes_what_it_is_given_in_its_place(keep_memory):
     assert Limits() == Limits(memory_cost=7, time_cost=8, parallelism=9, work=10)
 
 
-@pytest.mark.parametrize("name", CALLS)
-def test_a_kept_memory_grows_where_the_library_says_that_it_is_too_small(name):
-    for number in NUMBERS:
-        memory = Memory()
-        set_answers(then=number)
+@each_call
+@pytest.mark.parametrize("number", NUMBERS)
+def test_a_kept_memory_grows_where_the_library_says_that_it_is_too_small(name, number):
+    memory, size = Memory(), 64 << 10 if number == HEADER["OUT_OF_MEMORY"] else 0
+    asked = STUB.memories_that_were_asked_for() + (size > 0)
+    set_answers(then=number)
+    for is_again in (False, True):
         with contextlib.suppress(errors.Argon2Error):
             CALLS[name](memory=memory)
-        size = 64 << 10 if number == HEADER["OUT_OF_MEMORY"] else 0
-        assert (STUB.memory_len_of_the_last(), memory._free[0].length) == (size, size), number
-        assert STUB.memories_that_are_there() == int(size > 0)
-        if size:
-            assert passed(TELLING) == "memory 2 19 64 3 4 5"
-            before = STUB.memories_that_were_asked_for()
-            with pytest.raises(errors.Argon2Error):
-                CALLS[name](memory=memory)
-            assert STUB.memories_that_were_asked_for() == before
-        del memory
-        assert STUB.memories_that_are_there() == 0
+        assert (STUB.memory_len_of_the_last(), memory._free[0].length) == (size, size)
+        assert (STUB.memories_that_are_there(), STUB.memories_that_were_asked_for()) == (size > 0, asked)
+        assert is_again or not size or passed(TELLING) == "memory 2 19 64 3 4 5"
+    del memory
+    assert STUB.memories_that_are_there() == 0
 
 
 @pytest.mark.parametrize("number", NUMBERS[1:])
 def test_a_kept_memory_has_nothing_where_the_library_refuses_one(number):
     STUB.set_shortage(_library.ctypes.c_uint32(number))
-    memory, denied = Memory(), HEADER["OUT_OF_MEMORY"]
-    set_answers(then=denied)
-    with pytest.raises(errors.HashingError, match=said_of(denied)):
+    set_answers(then=HEADER["OUT_OF_MEMORY"])
+    memory = Memory()
+    with pytest.raises(errors.HashingError, match=said_of(HEADER["OUT_OF_MEMORY"])):
         hash_secret(*HASH, memory=memory)
     assert (STUB.memory_len_of_the_last(), memory._free[0].length) == (0, 0)
 
@@ -222,46 +209,23 @@ def test_a_call_tells_how_far_it_is_where_handlers_of_signals_run_or_where_it_is
 
 
 @pytest.mark.parametrize("error", [ValueError("enough"), KeyboardInterrupt(), SystemExit(3)])
-def test_what_progress_raises_stops_a_call_whatever_that_answers(error):
+@pytest.mark.parametrize("number", [HEADER["STOPPED"], 0, HEADER["MISMATCH"]])
+def test_what_progress_raises_stops_a_call_whatever_that_answers(error, number):
     def progress(*_):
         raise error
 
-    for number in (HEADER["STOPPED"], 0, HEADER["MISMATCH"]):
-        set_answers(then=number)
-        for call in computing(progress=progress):
-            with pytest.raises(type(error)) as raised:
-                call()
-            assert raised.value is error and STUB.progress_result_of_the_last() != 0
+    set_answers(then=number)
+    for call in computing(progress=progress):
+        with pytest.raises(type(error)) as raised:
+            call()
+        assert raised.value is error and STUB.progress_result_of_the_last() != 0
 
 
-def test_there_are_as_many_threads_as_lanes():
-    for call, expected in (
-        (lambda: hash_secret(b"p", b"somesalt", 3, 640, 40, 5, Type.ID), 40), (CALLS["hash_raw"], 4),
-        (lambda: PasswordHasher(parallelism=3).hash("p"), 3), (lambda: PasswordHasher(parallelism=1).hash("p"), 1),
-        (lambda: PasswordHasher(parallelism=3, keep_memory=True).hash("p"), 3),
-        *((call, 4) for call in [CALLS["verify_encoded"], *VERIFIERS]),
-    ):
-        call()
-        assert STUB.threads_of_the_last() == expected
-
-
-@pytest.mark.parametrize("variant", [Type.D, Type.I])
-def test_a_string_of_another_variant_does_not_verify(variant):
-    with pytest.raises(errors.VerificationError) as raised:
-        verify_secret(TEXT.encode(), b"p", variant)
-    assert raised.type is errors.VerificationError
-
-
-@pytest.mark.parametrize("name", ["hash_raw", "verify_encoded"])
-@pytest.mark.parametrize("memory", [None, Memory()])
-def test_other_threads_run_while_a_hash_is_computed(name, memory):
-    """Holds a call in the library until this thread lets it go, which it cannot if the call keeps it from running."""
-    STUB.hold()
-    thread = threading.Thread(target=lambda: CALLS[name](memory=memory))
-    thread.start()
-    while thread.is_alive() and not STUB.waits():
-        time.sleep(0.01)
-    waited = STUB.waits()
-    STUB.let_go()
-    thread.join()
-    assert waited and not STUB.was_left_alone()
+@pytest.mark.parametrize("call, threads", [
+    (lambda: hash_secret(b"p", b"somesalt", 3, 640, 40, 5, Type.ID), 40), (CALLS["hash_raw"], 4),
+    (lambda: PasswordHasher(parallelism=3).hash("p"), 3), (lambda: PasswordHasher(parallelism=1).hash("p"), 1),
+    (lambda: PasswordHasher(parallelism=3, keep_memory=True).hash("p"), 3), (CALLS["verify_encoded"], 4),
+    *((call, 4) for call in VERIFIERS)])
+def test_there_are_as_many_threads_as_lanes(call, threads):
+    call()
+    assert STUB.threads_of_the_last() == threads

@@ -1,11 +1,14 @@
 //! What each call of the crate for Rust gives for each number that the library may return, as codes.txt says: over the
 //! library of codes.c. HEADER names the header, and TABLE that table.
 
-use argon2::{Config, Error, Limits, Memory, Run, Stored, ThreadMode, Unverified, Variant, Version};
+use argon2::{
+    hash_encoded, hash_encoded_in, hash_raw, hash_raw_in, needs_rehash, read, verify_encoded,
+    verify_encoded_ext, verify_encoded_in, verify_encoded_within, verify_encoded_within_in, verify_raw,
+    verify_raw_in,
+};
+use argon2::{Config, Limits, Memory, Run, Stored, ThreadMode, Unverified, Variant, Version};
 use std::collections::HashMap;
-use std::env::var;
 use std::ffi::CStr;
-use std::fs::read_to_string;
 use std::ops::ControlFlow::{Break, Continue};
 use std::os::raw::c_char;
 use std::panic::{catch_unwind, set_hook, take_hook, AssertUnwindSafe};
@@ -46,19 +49,14 @@ fn quietly<T>(call: impl FnOnce() -> T) -> Option<T> {
 }
 
 /// The header's numbers by their names.
-fn header() -> HashMap<String, u32> {
-    let text = read_to_string(var("HEADER").unwrap()).unwrap();
-    let lines = text.lines().filter_map(|line| line.trim().strip_prefix("PROVED_ARGON2_")?.split_once(" = "));
-    lines
-        .map(|(name, rest)| {
-            let digits: &str = rest.split([',', ' ']).next().unwrap();
-            let number = match digits.strip_prefix("0x") {
-                Some(digits) => u32::from_str_radix(digits, 16),
-                None => digits.parse(),
-            };
-            (name.to_owned(), number.unwrap())
-        })
-        .collect()
+fn header() -> HashMap<&'static str, u32> {
+    let lines = include_str!(env!("HEADER")).lines();
+    let found = lines.filter_map(|line| line.trim().strip_prefix("PROVED_ARGON2_")?.split_once(" = "));
+    let number = |digits: &str| match digits.strip_prefix("0x") {
+        Some(digits) => u32::from_str_radix(digits, 16).unwrap(),
+        None => digits.parse().unwrap(),
+    };
+    found.map(|(name, rest)| (name, number(rest.split([',', ' ']).next().unwrap()))).collect()
 }
 
 /// The numbers of the header, those beside them, and some that no call returns.
@@ -69,60 +67,47 @@ fn numbers() -> impl Iterator<Item = u32> {
 
 /// A line of the table.
 struct Row {
-    name: String,
-    places: Vec<String>,
-    computing: String,
-    telling: String,
-    values: HashMap<String, String>,
+    name: &'static str,
+    places: Vec<&'static str>,
+    computing: &'static str,
+    telling: &'static str,
+    values: HashMap<u32, String>,
+}
+
+impl Row {
+    /// Its values are in the words of the table, or the names of errors.
+    fn of(line: &'static str) -> Row {
+        let columns: Vec<_> = line.split('|').map(str::trim).collect();
+        let mut values: HashMap<_, _> = header()
+            .into_iter()
+            .filter(|(name, _)| !["D", "I", "ID", "VERSION_10", "VERSION_13"].contains(name))
+            .filter(|(_, number)| *number < 64 || (129..=131).contains(number))
+            .map(|(name, number)| (number, camel(name)))
+            .collect();
+        for (code, value) in columns[4].split(' ').map(|pair| pair.split_once('=').unwrap()) {
+            values.insert(header()[code], value.to_owned());
+        }
+        let places = columns[1].split(' ').collect();
+        Row { name: columns[0], places, computing: columns[2], telling: columns[3], values }
+    }
+
+    fn expected(&self, number: u32) -> &str {
+        self.values.get(&number).map_or("panic", String::as_str)
+    }
+
+    /// What it gives, over a memory or without one.
+    fn outcome(&self, memory: Option<&mut Memory>) -> String {
+        quietly(|| call(self.name, memory)).unwrap_or_else(|| "panic".to_owned())
+    }
 }
 
 fn rows() -> Vec<Row> {
-    let text = read_to_string(var("TABLE").unwrap()).unwrap();
-    let lines = text.lines().filter(|line| !line.starts_with('#'));
-    lines
-        .map(|line| {
-            let columns: Vec<_> = line.split('|').map(|column| column.trim().to_owned()).collect();
-            let pairs = columns[4].split(' ').map(|pair| pair.split_once('=').unwrap());
-            Row {
-                name: columns[0].clone(),
-                places: columns[1].split(' ').map(str::to_owned).collect(),
-                computing: columns[2].clone(),
-                telling: columns[3].clone(),
-                values: pairs.map(|(code, value)| (code.to_owned(), value.to_owned())).collect(),
-            }
-        })
-        .collect()
+    include_str!(env!("TABLE")).lines().filter(|line| !line.starts_with('#')).map(Row::of).collect()
 }
 
 /// The rows of calls that compute.
 fn computing() -> Vec<Row> {
     rows().into_iter().filter(|row| !row.computing.is_empty()).collect()
-}
-
-impl Row {
-    /// What the call gives for a number, in the words of the table, or the name of an error, or `panic`.
-    fn expected(&self, number: u32) -> String {
-        let header = header();
-        let (code, _) = match header.iter().find(|(name, of)| **of == number && !is_setting(name)) {
-            Some(found) => found,
-            None => return "panic".to_owned(),
-        };
-        match self.values.get(code) {
-            Some(value) => value.clone(),
-            None if number < 64 || ["STOPPED", "OLD_PROCESSOR"].contains(&code.as_str()) => camel(code),
-            None => "panic".to_owned(),
-        }
-    }
-
-    /// What it gives, over a memory or without one.
-    fn outcome(&self, memory: Option<&mut Memory>) -> String {
-        quietly(|| call(&self.name, memory)).unwrap_or_else(|| "panic".to_owned())
-    }
-}
-
-/// Whether a name is that of a variant or a version.
-fn is_setting(name: &str) -> bool {
-    ["D", "I", "ID", "VERSION_10", "VERSION_13"].contains(&name)
 }
 
 /// `OutOfMemory` for `OUT_OF_MEMORY`.
@@ -143,66 +128,43 @@ const CONFIG: Config<'_> = Config {
     version: Version::Version13,
 };
 const LIMITS: Limits = Limits { lanes: 12, mem_cost: 10, time_cost: 11, work: 13 };
-const STORED: Stored = Stored {
-    hash_length: 5,
-    lanes: 4,
-    mem_cost: 64,
-    salt_length: 6,
-    time_cost: 3,
-    variant: Variant::Argon2id,
-    version: Version::Version13,
-};
 const TEXT: &str = "$argon2id$x";
 const WORD: &[u8] = b"word";
 const SALT: &[u8] = b"somesalt";
 
-/// The word of the table for a value that is the right one, or the name of an error.
-fn named<T: PartialEq>(outcome: Result<T, Error>, right: T, word: &str) -> String {
-    match outcome {
-        Ok(value) if value == right => word.to_owned(),
-        Ok(_) => "another value".to_owned(),
-        Err(error) => format!("{error:?}"),
-    }
-}
-
-fn verdict(outcome: Result<bool, Error>) -> String {
-    outcome.map_or_else(|error| format!("{error:?}"), |same| same.to_string())
-}
-
-fn bounded(outcome: Result<bool, Unverified>) -> String {
-    match outcome {
+/// The word of the table for a value, or the name of an error.
+fn said<T: PartialEq>(outcome: Result<T, impl Into<Unverified>>, words: &[(T, &str)]) -> String {
+    match outcome.map_err(Into::into) {
+        Ok(value) => {
+            words.iter().find(|word| word.0 == value).map_or("another value", |word| word.1).to_owned()
+        }
         Err(Unverified::TooCostly) => "costly".to_owned(),
-        Err(Unverified::Refused(error)) => verdict(Err(error)),
-        Ok(same) => verdict(Ok(same)),
+        Err(Unverified::Refused(error)) => format!("{error:?}"),
     }
 }
 
 fn call(name: &str, memory: Option<&mut Memory>) -> String {
-    let (tag, text) = (vec![b'x'; 5], "x".repeat(12));
-    let (key, data) = (CONFIG.secret, CONFIG.ad);
+    let Config { hash_length, lanes, mem_cost, time_cost, variant, version, .. } = CONFIG;
+    let stored = Stored { hash_length, lanes, mem_cost, salt_length: 6, time_cost, variant, version };
+    let (tag, text, key, data) = ([(vec![b'x'; 5], "tag")], [("x".repeat(12), "text")], b"key", b"data");
+    let is = [(true, "true"), (false, "false")];
     match (name, memory) {
-        ("hash_raw", None) => named(argon2::hash_raw(WORD, SALT, &CONFIG), tag, "tag"),
-        ("hash_raw", Some(memory)) => named(argon2::hash_raw_in(memory, WORD, SALT, &CONFIG), tag, "tag"),
-        ("hash_encoded", None) => named(argon2::hash_encoded(WORD, SALT, &CONFIG), text, "text"),
-        ("hash_encoded", Some(memory)) => {
-            named(argon2::hash_encoded_in(memory, WORD, SALT, &CONFIG), text, "text")
-        }
-        ("verify_raw", None) => verdict(argon2::verify_raw(WORD, SALT, b"hash", &CONFIG)),
-        ("verify_raw", Some(memory)) => verdict(argon2::verify_raw_in(memory, WORD, SALT, b"hash", &CONFIG)),
-        ("verify_encoded_alone", None) => verdict(argon2::verify_encoded(TEXT, WORD)),
-        ("verify_encoded_alone", Some(memory)) => {
-            verdict(argon2::verify_encoded_in(memory, TEXT, WORD, &[], &[]))
-        }
-        ("verify_encoded", None) => verdict(argon2::verify_encoded_ext(TEXT, WORD, key, data)),
-        ("verify_encoded", Some(memory)) => verdict(argon2::verify_encoded_in(memory, TEXT, WORD, key, data)),
-        ("verify_encoded_within", None) => {
-            bounded(argon2::verify_encoded_within(TEXT, WORD, key, data, &LIMITS))
-        }
+        ("hash_raw", None) => said(hash_raw(WORD, SALT, &CONFIG), &tag),
+        ("hash_raw", Some(memory)) => said(hash_raw_in(memory, WORD, SALT, &CONFIG), &tag),
+        ("hash_encoded", None) => said(hash_encoded(WORD, SALT, &CONFIG), &text),
+        ("hash_encoded", Some(memory)) => said(hash_encoded_in(memory, WORD, SALT, &CONFIG), &text),
+        ("verify_raw", None) => said(verify_raw(WORD, SALT, b"hash", &CONFIG), &is),
+        ("verify_raw", Some(memory)) => said(verify_raw_in(memory, WORD, SALT, b"hash", &CONFIG), &is),
+        ("verify_encoded_alone", None) => said(verify_encoded(TEXT, WORD), &is),
+        ("verify_encoded_alone", Some(memory)) => said(verify_encoded_in(memory, TEXT, WORD, &[], &[]), &is),
+        ("verify_encoded", None) => said(verify_encoded_ext(TEXT, WORD, key, data), &is),
+        ("verify_encoded", Some(memory)) => said(verify_encoded_in(memory, TEXT, WORD, key, data), &is),
+        ("verify_encoded_within", None) => said(verify_encoded_within(TEXT, WORD, key, data, &LIMITS), &is),
         ("verify_encoded_within", Some(memory)) => {
-            bounded(argon2::verify_encoded_within_in(memory, TEXT, WORD, key, data, &LIMITS))
+            said(verify_encoded_within_in(memory, TEXT, WORD, key, data, &LIMITS), &is)
         }
-        ("needs_rehash", _) => verdict(argon2::needs_rehash(TEXT, &CONFIG)),
-        ("read", _) => named(argon2::read(TEXT), STORED, "stored"),
+        ("needs_rehash", _) => said(needs_rehash(TEXT, &CONFIG), &is),
+        ("read", _) => said(read(TEXT), &[(stored, "stored")]),
         _ => panic!("there is no call {name}"),
     }
 }
@@ -214,9 +176,9 @@ fn each_number_is_answered() {
             row.places.iter().flat_map(|place| numbers().map(move |number| (place, number)))
         {
             set(place, number);
-            let expected = row.expected(number);
-            assert_eq!(row.outcome(None), expected, "{} {place} {number}", row.name);
-            assert_eq!(row.outcome(Some(&mut Memory::new())), expected, "{} {place} {number}", row.name);
+            for memory in [None, Some(&mut Memory::new())] {
+                assert_eq!(row.outcome(memory), row.expected(number), "{} {place} {number}", row.name);
+            }
         }
     }
     assert_eq!(rows().len(), 8);
@@ -240,8 +202,8 @@ fn arguments_are_in_their_places() {
     for row in rows() {
         for (memory, length) in [(None, -1), (Some(&mut Memory::new()), 0)] {
             row.outcome(memory);
-            let found = (passed(COMPUTING), unsafe { memory_len_of_the_last() });
-            assert!(row.computing.is_empty() || found == (row.computing.clone(), length), "{found:?}");
+            let found = (&*passed(COMPUTING), unsafe { memory_len_of_the_last() });
+            assert!(row.computing.is_empty() || found == (row.computing, length), "{found:?}");
             assert!(row.telling.is_empty() || passed(TELLING) == row.telling, "{}", row.name);
             assert!(!row.name.starts_with("hash") || passed(JUDGING) == "check 2 19 64 3 4 5 4 8 3 4");
         }
@@ -272,16 +234,17 @@ fn memories_grow_where_they_are_too_small() {
     }
 }
 
-/// A memory has nothing where the library refuses one, and the call is out of memory.
+/// A memory has nothing where the library refuses one, and the call is out of memory; the next call asks anew.
 fn memories_may_be_denied() {
     set("then", header()["OUT_OF_MEMORY"]);
     for (row, number) in computing().iter().flat_map(|row| numbers().skip(1).map(move |number| (row, number)))
     {
-        unsafe { set_shortage(number) };
         let mut memory = Memory::new();
-        assert_eq!((row.outcome(Some(&mut memory)), memory.size()), ("OutOfMemory".to_owned(), 0));
+        for (number, size) in [(number, 0), (0, 64 << 10)] {
+            unsafe { set_shortage(number) };
+            assert_eq!((&*row.outcome(Some(&mut memory)), memory.size()), ("OutOfMemory", size));
+        }
     }
-    unsafe { set_shortage(0) };
 }
 
 /// What the calls of a run are passed, which are given each piece in its place.
@@ -302,7 +265,7 @@ fn calls_of_a_run(run: &mut Run<'_>) -> Vec<String> {
 fn calls_report_progress() {
     let to_the_last = || unsafe { progress_result_of_the_last() };
     set("then", 0);
-    let expected: Vec<_> = computing().into_iter().map(|row| row.computing).collect();
+    let expected: Vec<_> = computing().into_iter().map(|row| row.computing.to_owned()).collect();
     for row in computing() {
         row.outcome(None);
         assert_eq!(to_the_last(), -1);
@@ -326,28 +289,21 @@ fn calls_report_progress() {
 /// Each call asks for as many threads as its settings say, and leaves those for a string to the library.
 fn are_as_many_threads_as_the_mode_says() {
     set("then", 0);
-    let used = || unsafe { threads_of_the_last() };
     for row in computing() {
         let expected = if row.name.starts_with("verify_encoded") { u32::MAX } else { 3 };
-        row.outcome(None);
-        assert_eq!(used(), expected);
-        row.outcome(Some(&mut Memory::new()));
-        assert_eq!(used(), expected);
+        for memory in [None, Some(&mut Memory::new())] {
+            row.outcome(memory);
+            assert_eq!(unsafe { threads_of_the_last() }, expected);
+        }
     }
-    let modes = [
+    for (thread_mode, lanes, expected) in [
         (ThreadMode::Sequential, 4, 1),
         (ThreadMode::Parallel, 40, 40),
         (ThreadMode::AtMost(3), 4, 3),
         (ThreadMode::AtMost(3), 2, 2),
-    ];
-    for (thread_mode, lanes, expected) in modes {
-        let (config, mut memory) = (Config { thread_mode, lanes, ..CONFIG }, Memory::new());
-        argon2::hash_raw(WORD, SALT, &config).unwrap();
-        assert_eq!(used(), expected);
-        argon2::hash_encoded_in(&mut memory, WORD, SALT, &config).unwrap();
-        assert_eq!(used(), expected);
-        argon2::verify_raw_in(&mut memory, WORD, SALT, b"hash", &config).unwrap();
-        assert_eq!(used(), expected);
+    ] {
+        hash_raw(WORD, SALT, &Config { thread_mode, lanes, ..CONFIG }).unwrap();
+        assert_eq!(unsafe { threads_of_the_last() }, expected);
     }
 }
 

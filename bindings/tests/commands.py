@@ -1,7 +1,9 @@
 """What the tests of the shell's commands share."""
 import contextlib
+import ctypes
 import itertools
 import os
+import pathlib
 import subprocess
 import tempfile
 
@@ -9,8 +11,9 @@ import pytest
 import running
 from running import TOP as ROOT
 
-PROGRAM = str(running.built() / "x86-64-v2/argon2_program")
-TOOL = str(running.built() / "x86-64-v2/argon2_tool")
+PROGRAM = str(running.built() / running.PROVED[0] / "argon2_program")
+TOOL = str(running.built() / running.PROVED[0] / "argon2_tool")
+LIBRARY = running.built() / running.MACHINE / f"libproved_argon2.so.{running.VERSION}"
 # What runs the program through the script around it, as `each_command` sets it.
 COMMAND = []
 SMALL = "argon2id 19 1 8 1 16 seq".split()
@@ -39,14 +42,26 @@ def piped(words, stdin=b"", command=None, **more):
 
 @contextlib.contextmanager
 def clock(*milliseconds):
-    """An environment in which `tune` measures these times, one after another."""
-    with tempfile.NamedTemporaryFile("w") as lines:
-        for number, took in zip(itertools.count(1_700_000_000), milliseconds):
-            lines.write(f"{number}000000000\n{number}{took:03}000000\n")
-        lines.flush()
-        path = f"{ROOT}/bindings/tests/clock:{os.environ['PATH']}"
-        yield {**os.environ, "PATH": path, "CLOCK": lines.name}
+    """An environment in which `tune` measures these times, one after another: each call of `date` says a line more."""
+    with tempfile.TemporaryDirectory() as folder:
+        lines, date = pathlib.Path(folder, "lines"), pathlib.Path(folder, "date")
+        lines.write_text("".join(f"{number}000000000\n{number}{took:03}000000\n" for number, took in zip(
+            itertools.count(1_700_000_000), milliseconds)))
+        date.write_text(f"#!/bin/sh\nhead -n 1 '{lines}'\nsed -i 1d '{lines}'\n")
+        date.chmod(0o755)
+        yield {**os.environ, "PATH": f"{folder}:{os.environ['PATH']}"}
 
 
 def verifies(text, password):
     return piped(["verify", text.strip()], password, command=[PROGRAM])[0] == 0
+
+
+class Settings(ctypes.Structure):
+    _fields_ = [(name, ctypes.c_uint32) for name in "variant version mem_cost time_cost lanes hash_length".split()]
+
+
+def preset(name):
+    """Settings that the library recommends."""
+    call = getattr(ctypes.CDLL(str(LIBRARY)), f"proved_argon2_{name}")
+    call.argtypes, call.restype = [], Settings
+    return call()

@@ -6,12 +6,18 @@ import re
 import shlex
 import shutil
 import subprocess
+import sys
 
 import pytest
 
 TOP = pathlib.Path(__file__).resolve().parents[2]
 MACHINE = os.uname().machine
 CC = os.environ.get("CC", "cc")
+sys.path.append(str(TOP / "build"))
+from machines import machines  # noqa: E402
+
+# The builds of this machine, the oldest first, and those of them that the toolchain makes.
+BUILDS, PROVED = machines()[MACHINE].builds, machines()[MACHINE].proved
 VERSION = (TOP / "VERSION").read_text().strip()
 # Debian's crates in place of a registry, since cargo looks for what is optional too.
 CRATES_OF_DEBIAN = """[source.crates-io]
@@ -84,7 +90,3 @@ def has_node():
     words = ["node", "-e", "process.getBuiltinModule('fs')"]
     is_there = shutil.which("node") and subprocess.run(words, capture_output=True).returncode == 0
     return pytest.mark.skipif(not is_there, reason="there is no Node of 20.19 or later")
-
-
-def with_feature(name):
-    return f'argon2 = {{ package = "proved-argon2", path = "{TOP}/bindings/rust", features = ["{name}"] }}\n'

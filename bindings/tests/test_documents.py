@@ -1,10 +1,12 @@
 """The lines of the pages do what they say: those with which they begin, of docs/USE.md for PHP, and docs/examples,
-under more logins at once than they have places for. Each place of the version has that of VERSION."""
+under more logins at once than they have places for. Each place of the version has that of VERSION. The manual pages and
+the help have what the header, the library and the program have; a script writes their errors and limits."""
 import os
 import re
 import shutil
 
 import pytest
+from commands import COSTLY, STORED, TOOL, clock, piped, preset
 from running import CC, MACHINE, TOP, VERSION, first_lines, flags_of, needs, project, run, start
 
 MAJOR, MINOR, PATCH = map(int, VERSION.split("."))
@@ -67,13 +69,11 @@ def test_the_row_of_python_works_where_python_takes_no_packages_outside_of_an_en
         "PYTHONPATH": "/usr/lib/python3/dist-packages"})
 
 
-def test_the_lines_for_the_shell_run(installed, tmp_path):
+def test_the_lines_for_the_shell_run(installed):
     """By a clock on which each measurement of `tune` takes 150 milliseconds."""
-    numbers = range(1700000000000000000, 1700000015000000001, 150000000)
-    (tmp_path / "clock").write_text("".join(f"{number}\n" for number in numbers))
-    path = f"{TOP}/bindings/tests/clock:{installed}/bin:{os.environ['PATH']}"
-    said = run("sh", "-c", first_lines("SHELL.md"),
-               env={"PATH": path, "CLOCK": tmp_path / "clock", "password": "secret"})
+    with clock(*[150] * 50) as environment:
+        path = f"{installed}/bin:{environment['PATH']}"
+        said = run("sh", "-c", first_lines("SHELL.md"), env={**environment, "PATH": path, "password": "secret"})
     assert re.match(r"true\nfalse\nargon2id 19 \d+ 65536 1 32 seq\n", said), said
 
 
@@ -108,3 +108,116 @@ def test_the_service_in_python(installed):
     serves("python3", "-B", SERVICE / "service.py", env={
         "PEPPER": "pepper", "PYTHONPATH": f"{TOP}/bindings/python/src:{EXAMPLES}",
         "PROVED_ARGON2_LIBRARY": installed / "lib/libproved_argon2.so.1"})
+
+
+# ---- the manual pages and the help
+
+HEADERS = [(TOP / f"crates/argon2_c/include/proved_argon2{name}.h").read_text()
+           for name in ("", "_password", "_jobs", "_threads")]
+HELP = (TOP / "bindings/shell/help.txt").read_text()
+MAN, INCLUDED = TOP / "bindings/man", sorted((TOP / "crates/argon2_c/include").glob("*.h"))
+PAGES = {1: (MAN / "proved-argon2.1.in").read_text(),
+         3: run("awk", "-f", MAN / "headers.awk", *INCLUDED, MAN / "proved_argon2.3.in")}
+
+
+def plain(roff):
+    """The words of a page, without its marks."""
+    lines = [re.sub(r"^\.(?:[A-Za-z]{1,2}\b ?|\\\".*)", "", line) for line in roff.splitlines()]
+    return re.sub(r"\\f[A-Z]|\"", "", "\n".join(lines)).replace("\\-", "-").replace("\\", "")
+
+
+def part(section, title):
+    """A part of a page."""
+    return re.search(rf'^\.SH "?{title}"?\n(.*?)(?=^\.SH )', PAGES[section], re.M | re.S)[1]
+
+
+def joined(code):
+    """A piece of C without comments, and with no blank but between two words."""
+    code = re.sub(r"/\*.*?\*/", "", code, flags=re.S)
+    return re.sub(r"\s*([^\w\s])\s*", r"\1", re.sub(r"\s+", " ", code)).strip()
+
+
+def declared():
+    """What the header declares that a program uses, without directives and attributes."""
+    code = re.sub(r"^\s*#.*\n", "", re.sub(r"\\\n", "", "".join(HEADERS)), flags=re.M)
+    return re.sub(r"PROVED_ARGON2_CHECKED\b", "", code).replace('extern "C" {', "")
+
+
+def prototypes(code):
+    """The functions that a piece of C declares, by their names."""
+    found = re.findall(r"(?:^|[;}])((?:const char\*|[a-z]\w* )(proved_argon2_\w+)\([^)]*\))(?=[;{])", joined(code))
+    return {name: text for text, name in found}
+
+
+def types(code):
+    """The types that a piece of C defines, by their names."""
+    found = re.findall(r"typedef (struct \w+\{[^}]*\}(\w+)|int (\w+)\([^;]*\));", joined(code))
+    return {one or other: text for text, one, other in found}
+
+
+def test_the_manual_has_the_functions_the_types_and_the_numbers_of_the_header():
+    synopsis = plain(part(3, "SYNOPSIS")).replace("#include <proved_argon2.h>", "")
+    described = re.findall(r"\bproved_argon2_[a-z0-9_]+(?=\()", plain(part(3, "DESCRIPTION")).replace(" (", "("))
+    assert len(prototypes(synopsis)) >= 40 and prototypes(synopsis) == prototypes(declared())
+    assert {*described} == prototypes(declared()).keys()
+    assert len(types(declared())) >= 8 and types(plain(part(3, "TYPES"))) == types(declared())
+    value = plain(part(3, "RETURN VALUE"))
+    for name, number in re.findall(r"\b(PROVED_ARGON2_[A-Z_]+)\s+\((\d+)\)", value):
+        assert re.search(rf"^ *{name} = {number}\b", HEADERS[0], re.M), (name, number)
+    assert re.findall(r"\((\d+)\)", value)[:2] == ["0", "64"]
+
+
+@pytest.mark.parametrize("status, words, password, output, meaning, other", [
+    (0, ["verify", STORED], b"password", b"true\n", "true", "false"),
+    (1, ["verify", STORED], b"Password", b"false\n", "false", "true"),
+    (2, ["verify", "$argon2id$"], b"password", b"", "error", "true"),
+    (3, ["verify"], b"password", b"", "usage error", "true"),
+    (4, ["check", "-"], b"", b"", "input or output", "true"),
+    (5, ["check", COSTLY], b"password", b"", "above the limits", "true")])
+def test_each_page_gives_each_status_its_meaning(installed, status, words, password, output, meaning, other):
+    assert piped(words, password, command=[installed / "bin/proved-argon2"])[:2] == (status, output)
+    of_help = re.search(r"^Exit status: (.*)", HELP, re.M | re.S)[1].replace("\n", " ")
+    for table in (re.findall(r"^\.TP\n\.B (\d+)\n(.*?)(?=^\.TP|\Z)", part(1, "EXIT STATUS"), re.M | re.S),
+                  re.findall(r"(\d+) ([^;.]*)", of_help),
+                  re.findall(r"^\| (\d+) \| (.*) \|$", (TOP / "docs/SHELL.md").read_text(), re.M)):
+        meanings = {int(number): text.lower() for number, text in table}
+        assert sorted(meanings)[:6] == [0, 1, 2, 3, 4, 5]
+        assert meaning in meanings[status] and other not in meanings[status], meanings[status]
+
+
+def test_the_manual_and_the_help_have_the_same_forms():
+    found = re.sub(r"\[ ?(\w+) ?\]", r"[\1]", plain(part(1, "SYNOPSIS")).replace("\n", " "))
+    documented = {" ".join(form.split()) for form in re.split(r"\s*proved-argon2 |\s*SETTINGS are the", found)}
+    helped = re.findall(r"^  NAME ((?:new|check|tune|hash|verify|rehash)\b.*[A-Z].*)$", HELP, re.M)
+    assert {form.split()[0] for form in helped} == {"new", "check", "tune", "hash", "verify", "rehash"}
+    assert {" ".join(form.replace("'TEXT'", "TEXT").split()) for form in helped} <= documented
+
+
+def test_the_script_does_what_the_manual_says_alone():
+    said = {word: piped([word], command=[TOOL])[2] for word in ("new", "check", "tune", "hash", "verify", "rehash")}
+    (unknown,) = [word for word, text in said.items() if b"there is no command" in text]
+    assert f"It measures for {unknown} itself, and passes all other commands on" in " ".join(
+        plain(part(1, "DESCRIPTION")).split())
+
+
+def test_each_page_names_the_settings_that_the_library_recommends():
+    of = preset("owasp2")
+    variant = ("argon2d", "argon2i", "argon2id")[of.variant]
+    right = f"{variant} {of.version} {of.time_cost} {of.mem_cost} {of.lanes} {of.hash_length} seq"
+    named = {page: {*re.findall(r"argon2id \d+ \d+ \d+ \d+ \d+ seq", plain((TOP / page).read_text()))} for page in (
+        "bindings/shell/help.txt", "bindings/man/proved-argon2.1.in", "bindings/shell/commands.sh", "README.md",
+        "docs/SHELL.md")}
+    # (README need not name any, and SHELL.md names others beside them)
+    assert right in named.pop("docs/SHELL.md") and named.pop("README.md") <= {right}
+    assert all(settings == {right} for settings in named.values()), named
+
+
+@pytest.mark.parametrize("text", [HELP, plain(PAGES[1])], ids=["help", "manual"])
+def test_the_words_of_settings_are_in_the_order_of_the_pages(text):
+    order = re.search(r"VARIANT VERSION [A-Z ]+ MODE", text)[0].split()
+    for meaning in ("T passes", "M memory in KiB", "P lanes", "LEN length of the tag in bytes"):
+        word, _, words = meaning.partition(" ")
+        assert re.search(rf"^ *{word}\s[^\n]*{words}|^{word}\n[^\n]*{words}", text, re.I | re.M), meaning
+    values = dict(zip("VARIANT VERSION T M P LEN MODE".split(), "argon2d 16 3 64 2 24 seq".split()))
+    said = piped(["hash", *(values[word] for word in order), "somesalt"], b"password", command=[TOOL])[1].decode()
+    assert re.search(r"^\$argon2d\$(v=16\$)?m=64,t=3,p=2\$[^$]*\$[^$]{32}$", said, re.M), said

@@ -1,52 +1,34 @@
 """What ./install puts into a folder, and whether programs in C build and run by it."""
+import os
 import re
 import shutil
 
 import pytest
-from running import CC, MACHINE, TOP, VERSION, flags_of, needs, refuses, run, start
+from running import BUILDS, CC, MACHINE, PROVED, TOP, VERSION, flags_of, needs, refuses, run, start
 
 LIBRARY = "libproved_argon2.so"
 EXAMPLE = TOP / "crates/argon2_c/c/example.c"
 HEADERS = sorted((TOP / "crates/argon2_c/include").glob("*.h"))
-BUILDS = "x86-64-v2", "x86-64-v3", "x86-64-v4"
 # The functions of the headers: a line of its own begins each.
 CALLS = sorted(re.findall(
     r"^(?:void |uint32_t |uint64_t |const char \*|proved_argon2_(?:settings|limits) )(proved_argon2_[a-z0-9_]*)\(",
     "".join(header.read_text() for header in HEADERS), re.M))
-INSTALLED = f"""bin/proved-argon2
-lib/cmake/proved-argon2/proved-argon2-config-version.cmake
-lib/cmake/proved-argon2/proved-argon2-config.cmake
-lib/libproved_argon2.a
-lib/{LIBRARY}
-lib/{LIBRARY}.{VERSION.split(".")[0]}
-lib/{LIBRARY}.{VERSION}
-lib/pkgconfig/proved_argon2.pc
-lib/proved-libargon2/bin/argon2
-lib/proved-libargon2/include/argon2.h
-lib/proved-libargon2/libargon2.a
-lib/proved-libargon2/libargon2.so
-lib/proved-libargon2/libargon2.so.1
-lib/proved-libargon2/pkgconfig/libargon2.pc
-libexec/proved-argon2/commands.sh
-libexec/proved-argon2/help.txt
-libexec/proved-argon2/x86-64-v2/argon2_tool
-libexec/proved-argon2/x86-64-v3/argon2_tool
-share/bash-completion/completions/proved-argon2
-share/doc/proved-argon2/LICENSE
-share/doc/proved-argon2/NOTICE
-share/doc/proved-argon2/README.md
-share/doc/proved-argon2/SECURITY.md
-share/doc/proved-argon2/docs/C.md
-share/doc/proved-argon2/docs/CLAIMS.md
-share/doc/proved-argon2/docs/LIBARGON2.md
-share/doc/proved-argon2/docs/SHELL.md
-share/doc/proved-argon2/docs/USE.md
-share/man/man1/proved-argon2.1
-share/man/man3/proved_argon2.3
-share/proved-argon2/installed
-share/proved-argon2/uninstall""".splitlines()
-EXPECTED = {*INSTALLED, *(f"include/{header.name}" for header in HEADERS),
-            *(f"share/man/man3/{call}.3" for call in CALLS)}
+INSTALLED = {
+    "bin": "proved-argon2",
+    "lib": f"libproved_argon2.a {LIBRARY} {LIBRARY}.{VERSION.split('.')[0]} {LIBRARY}.{VERSION}",
+    "lib/cmake/proved-argon2": "proved-argon2-config-version.cmake proved-argon2-config.cmake",
+    "lib/pkgconfig": "proved_argon2.pc",
+    "lib/proved-libargon2": "bin/argon2 include/argon2.h libargon2.a libargon2.so libargon2.so.1",
+    "lib/proved-libargon2/pkgconfig": "libargon2.pc",
+    "libexec/proved-argon2": " ".join(("commands.sh help.txt", *(f"{build}/argon2_tool" for build in PROVED))),
+    "share/bash-completion/completions": "proved-argon2",
+    "share/doc/proved-argon2": "LICENSE NOTICE README.md SECURITY.md",
+    "share/doc/proved-argon2/docs": "C.md CLAIMS.md LIBARGON2.md SHELL.md USE.md",
+    "share/man": "man1/proved-argon2.1 man3/proved_argon2.3",
+    "share/proved-argon2": "installed uninstall",
+}
+EXPECTED = {*(f"{folder}/{name}" for folder, names in INSTALLED.items() for name in names.split()),
+            *(f"include/{header.name}" for header in HEADERS), *(f"share/man/man3/{call}.3" for call in CALLS)}
 
 
 def files_in(folder):
@@ -67,9 +49,11 @@ def test_it_puts_these_files_and_no_others(installed):
     assert len(CALLS) > 40 and files_in(installed) == EXPECTED
 
 
-def test_pkg_config_knows_the_version(installed):
-    said = run("pkg-config", "--modversion", "proved_argon2", env={"PKG_CONFIG_PATH": installed / "lib/pkgconfig"})
-    assert said == f"{VERSION}\n"
+def test_pkg_config_knows_the_version_and_the_address(installed):
+    said = run("pkg-config", "--print-provides", "proved_argon2", env={"PKG_CONFIG_PATH": installed / "lib/pkgconfig"})
+    address = re.search("^Address: (.*)", (TOP / "PROJECT").read_text(), re.M)[1]
+    assert said == f"proved_argon2 = {VERSION}\n"
+    assert f"URL: {address}\n" in (installed / "lib/pkgconfig/proved_argon2.pc").read_text()
 
 
 def configure(installed, folder, version):
@@ -110,50 +94,21 @@ def test_each_build_computes_the_example_and_the_outside_vectors(installed, exam
     run("/usr/bin/python3", "-B", "-m", "pytest", "-q", "bindings/python/tests/test_vectors.py", env=named)
 
 
-def test_the_example_runs_by_no_build_but_the_one_that_is_asked_for(installed, examples):
-    for example in ("shared", "static"):
-        named = {"PROVED_ARGON2_CPU": "x86-64-v1", "LD_LIBRARY_PATH": installed / "lib"}
-        done = start(examples / example, env=named)
-        assert done.returncode != 0 and "\nFAILED: the tag " in f"\n{done.stdout}", done
-
-
-@needs("valgrind")
-def test_valgrind_finds_nothing(installed, examples):
-    run("valgrind", "--quiet", "--error-exitcode=9", "--leak-check=full", examples / "shared",
-        env={"LD_LIBRARY_PATH": installed / "lib"})
-
-
-def test_the_shared_object_exports_what_the_headers_declare(installed):
-    said = run("nm", "-D", "--defined-only", installed / f"lib/{LIBRARY}.1")
+def test_the_shared_object_exports_what_the_headers_declare_and_is_bound_at_once_and_read_only_then(installed):
+    said, segments, entries = (run(*words, installed / f"lib/{LIBRARY}.1")
+                               for words in (("nm", "-D", "--defined-only"), ("readelf", "-lW"), ("readelf", "-dW")))
     assert sorted(re.findall(r" T (.*)@@PROVED_ARGON2_1$", said, re.M)) == CALLS
+    assert re.search(r"GNU_STACK.* RW ", segments) and "GNU_RELRO" in segments and re.search("FLAGS_1.*NOW", entries)
 
 
-def test_the_names_of_the_static_archive_begin_with_those_of_the_library(installed):
-    said = run("nm", "-g", "--defined-only", installed / "lib/libproved_argon2.a")
-    names = re.findall(r" [TBDR] (\w+)", said)
-    assert "proved_argon2_hash_raw" in names
-    assert not [name for name in names if not re.match(r"proved_(argon2|driver|x86_64_v.)_", name)]
-
-
-def test_the_shared_object_asks_for_no_executable_stack_and_is_bound_at_once_and_read_only_then(installed):
-    segments, entries = (run("readelf", word, installed / f"lib/{LIBRARY}.1") for word in ("-lW", "-dW"))
-    assert re.search(r"GNU_STACK.* RW ", segments) and "GNU_RELRO" in segments
-    assert re.search("FLAGS_1.*NOW", entries)
-
-
-def registers_of(file):
-    """Which registers of 256 and 512 bits the code of a file has."""
-    return {*re.findall(r"%([yz]mm)\d", run("objdump", "-d", file))}
-
-
-def test_registers_are_in_the_builds_for_their_processors_alone(built, installed):
+def test_registers_of_256_and_512_bits_are_in_the_builds_for_their_processors_alone(built, installed):
     programs = installed / "libexec/proved-argon2"
     for file, expected in (
-        (built / "x86-64-v2/libargon2_c.a", set()), (programs / "x86-64-v2/argon2_tool", set()),
-        (built / "x86-64-v3/libargon2_c.a", {"ymm"}), (programs / "x86-64-v3/argon2_tool", {"ymm"}),
+        *((file, registers) for build, registers in zip(PROVED, (set(), {"ymm"}), strict=True)
+          for file in (built / build / "libargon2_c.a", programs / build / "argon2_tool")),
         (installed / f"lib/{LIBRARY}.1", {"ymm", "zmm"}), (installed / "lib/libproved_argon2.a", {"ymm", "zmm"}),
     ):
-        assert registers_of(file) == expected, file
+        assert {*re.findall(r"%([yz]mm)\d", run("objdump", "-d", file))} == expected, file
 
 
 def test_the_loader_is_asked_for_no_processor_and_to_run_nothing(installed, examples):
@@ -173,38 +128,18 @@ def test_the_program_runs_also_by_a_link(installed, tmp_path):
 
 
 def test_installing_once_more_puts_new_files_in_the_places_of_those_that_are_open(installed):
-    files = [installed / name for name in ("bin/proved-argon2", f"lib/{LIBRARY}.{VERSION}")]
-    opened = [open(file, "rb") for file in files]
-    before = [file.stat().st_ino for file in files]
-    run("./install", installed)
-    after = [file.stat().st_ino for file in files]
-    for file in opened:
-        file.close()
-    assert before[0] != after[0] and before[1] != after[1]
+    with open(installed / "bin/proved-argon2", "rb") as script, open(installed / f"lib/{LIBRARY}.1", "rb") as library:
+        run("./install", installed)
+        for file in (script, library):
+            assert not os.path.samestat(os.fstat(file.fileno()), os.stat(file.name))
 
 
 @needs("groff")
-@pytest.mark.parametrize("page", ["man1/proved-argon2.1", "man3/proved_argon2.3"])
-def test_the_manual_is_sound(installed, page):
-    done = start("groff", "-man", "-Tutf8", "-ww", installed / "share/man" / page)
+@pytest.mark.parametrize("page", ["man1/proved-argon2.1", *(f"man3/{call}.3" for call in (*CALLS, "proved_argon2"))])
+def test_the_manual_is_sound_and_there_by_the_name_of_each_call(installed, page):
+    done = start("groff", "-s", "-man", "-Tascii", "-P-cbou", "-ww", page, cwd=installed / "share/man")
     assert done.stderr == "" and VERSION in done.stdout, done.stderr
-
-
-@needs("groff")
-def test_the_manual_is_there_by_the_name_of_each_call(installed):
-    for call in CALLS:
-        words = "groff", "-s", "-man", "-Tascii", "-P-cbou", f"man3/{call}.3"
-        assert f"{call}(" in run(*words, cwd=installed / "share/man")
-
-
-@needs("groff")
-def test_the_manual_has_the_words_of_the_help(installed):
-    said = run(installed / "bin/proved-argon2", "--help")
-    page = run("groff", "-man", "-Tascii", "-P-cbou", installed / "share/man/man1/proved-argon2.1")
-    words = "new check tune hash verify rehash VARIANT VERSION T M P LEN MODE SALT TEXT".split()
-    words.append("argon2id 19 2 19456 1 32 seq")
-    assert [word for word in words if word not in said or word not in page] == []
-    assert "--help" in page and "--version" in page
+    assert page[5:-2] not in CALLS or f"{page[5:-2]}(" in done.stdout
 
 
 def of_arm(archive):
@@ -222,7 +157,7 @@ def test_what_cannot_be_linked_is_named(built, tmp_path, change, why, compiler):
     """Over what is proved, with something else in the place of one."""
     for build in BUILDS:
         shutil.copytree(built / build, tmp_path / build)
-    archive = tmp_path / "x86-64-v3/libargon2_c.a"
+    archive = tmp_path / PROVED[-1] / "libargon2_c.a"
     archive.write_bytes(change(archive.read_bytes()))
     if why == "none of the library":
         run(CC, "-c", "-x", "c", "/dev/null", "-o", tmp_path / "argon2_c.o")

@@ -1,6 +1,5 @@
 """The package for npm: its own tests in Node, also in that of another release of Debian, and beside other
 implementations."""
-import json
 import re
 import shutil
 import sys
@@ -8,14 +7,14 @@ import tarfile
 from pathlib import Path
 
 import pytest
-from running import CC, MACHINE, TOP, first_lines, has_node, needs, run, start
+from running import CC, TOP, first_lines, has_node, needs, run, start
 
 HEADERS, SOURCES = TOP / "crates/argon2_c/include", TOP / "bindings/javascript"
 NODE_API = Path("/usr/include/node/node_api.h")
 pytestmark = [has_node(), pytest.mark.timeout(2400)]
 # Those of what both engines do, and those of the package alone.
-BOTH = "vectors", "errors", "inputs", "updating", "services", "property", "secrets"
-OWN = *BOTH, "native", "constants", "running", "flat"
+BOTH = "vectors", "errors", "inputs", "services", "secrets", "line"
+OWN = *BOTH, "native", "running", "flat"
 WEBASSEMBLY = {"PROVED_ARGON2_NATIVE": 0}
 DEBIAN = "sid"
 # Node of the system in a folder, which sees the tests and these sources: SYSTEM SITE SOURCES WORD..
@@ -42,27 +41,13 @@ def judge(site, named, names, *node):
     run(*words, *(f"{name}.test.mjs" for name in names), cwd=site, env=named)
 
 
-@pytest.fixture(scope="module")
-def others(built, installed, tmp_path_factory):
-    """What verifies our strings and makes strings for us: programs, as JSON."""
-    made, script = tmp_path_factory.mktemp("others") / "others", SOURCES / "tests/others.py"
-    run(CC, "-O1", "-Wall", "-Wextra", "-Werror", "-I", HEADERS, SOURCES / "tests/others.c",
-        built / MACHINE / "libproved_argon2.a", "-o", made, "-pthread")
-    library = f"PROVED_ARGON2_LIBRARY={installed}/lib/libproved_argon2.so.1"
-    ours = "env", f"PYTHONPATH={TOP}/bindings/python/src", library, sys.executable, str(script), "proved_argon2"
-    programs = {"C": [str(made)], "Python": ours}
-    if not start(sys.executable, "-c", "import argon2").returncode:
-        programs["argon2-cffi"] = [sys.executable, str(script), "argon2"]
-    return {"OTHERS": json.dumps(programs)}
-
-
 @pytest.mark.parametrize("engine, names", [({}, OWN), (WEBASSEMBLY, BOTH)], ids=["the addon", "WebAssembly"])
 def test_its_own_tests_pass(site, named, engine, names):
     judge(site, {**named, **engine}, names)
 
 
-def test_strings_of_other_implementations_bundlers_and_policies(site, named, others):
-    judge(site, {**named, **others}, ["others", "bundlers"])
+def test_bundlers_and_policies(site, named):
+    judge(site, named, ["bundlers"])
 
 
 @pytest.fixture(scope="module")
@@ -112,8 +97,7 @@ def test_the_addon_declares_what_node_does():
 @needs("tsc")
 @pytest.mark.parametrize("words", ["--module nodenext --moduleResolution nodenext types.mts",
                                    "--module es2022 --moduleResolution node types.mts",
-                                   "--lib es2022 --module nodenext --moduleResolution nodenext bare.cts",
-                                   "--lib es2022 --module es2022 --moduleResolution node single.ts"])
+                                   "--lib es2022 --module nodenext --moduleResolution nodenext bare.cts"])
 def test_the_types_hold(site, words):
     """By both rules by which compilers look for the types of a package, also of CommonJS, and without a page's types or
     Node's."""

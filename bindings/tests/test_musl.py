@@ -16,10 +16,7 @@ OF_CORE = """
 #![no_std]
 #![no_main]
 extern "C" {
-    fn proved_argon2_verify_encoded(
-        text: *const u8, text_len: usize, pwd: *const u8, pwd_len: usize,
-        secret: *const u8, secret_len: usize, ad: *const u8, ad_len: usize,
-    ) -> u32;
+    fn proved_argon2_password_verify(text: *const u8, pwd: *const u8, pwd_len: usize) -> u32;
     fn abort() -> !;
 }
 #[panic_handler]
@@ -28,11 +25,8 @@ fn panic(_: &core::panic::PanicInfo) -> ! {
 }
 #[no_mangle]
 extern "C" fn main() -> i32 {
-    let text = b"$argon2id$v=19$m=256,t=2,p=1$c29tZXNhbHQ$nf65EOgLrQMR/uIPnA4rEsF5h7TKyQwu9U1bMCHGi/4";
-    let none = text.as_ptr();
-    let verify = |pwd: &[u8]| unsafe {
-        proved_argon2_verify_encoded(text.as_ptr(), text.len(), pwd.as_ptr(), pwd.len(), none, 0, none, 0)
-    };
+    let text = b"$argon2id$v=19$m=256,t=2,p=1$c29tZXNhbHQ$nf65EOgLrQMR/uIPnA4rEsF5h7TKyQwu9U1bMCHGi/4\\0";
+    let verify = |pwd: &[u8]| unsafe { proved_argon2_password_verify(text.as_ptr(), pwd.as_ptr(), pwd.len()) };
     (verify(b"password") != 0 || verify(b"Password") != 64) as i32
 }
 """
@@ -113,7 +107,7 @@ def with_std(cargo, folder, work, flags, *words):
 def test_crate_passes_its_tests(cargo, tmp_path):
     """Among them are the outside vectors by threads."""
     shown = with_std(cargo, BINDINGS / 'rust', tmp_path, [], 'test', '--tests', '--no-fail-fast')
-    assert len(re.findall(r'^test .* \.\.\. ok$', shown, re.M)) >= 44
+    assert len(re.findall(r'^test .* \.\.\. ok$', shown, re.M)) >= 30
     program = re.search(r'Running tests.vectors\.rs \((.*)\)$', shown, re.M)[1]
     assert 'INTERP' not in run('readelf', '-lW', program) and ' __libc_malloc_impl' in run('nm', program)
 
@@ -128,13 +122,15 @@ def test_crate_clears_what_it_keeps(cargo, tmp_path):
 
 @needs('cargo')
 def test_crate_finds_its_archive(tmp_path):
-    """(as ./package puts it there, and for a target with musl)"""
-    folder, build = tmp_path / 'lib/x86_64', tmp_path / 'build'
-    folder.mkdir(parents=True)
-    shutil.copy(ARCHIVE, folder)
-    of = dict(CARGO_MANIFEST_DIR=str(tmp_path), CARGO_CFG_TARGET_OS='linux', CARGO_CFG_TARGET_ENV='musl',
-              CARGO_CFG_TARGET_POINTER_WIDTH='64', CARGO_CFG_TARGET_ENDIAN='little')
+    """(as ./package puts it there, for a target with musl, and for ARM64)"""
+    build, of = tmp_path / 'build', dict(
+        CARGO_MANIFEST_DIR=str(tmp_path), CARGO_CFG_TARGET_OS='linux', CARGO_CFG_TARGET_ENV='musl',
+        CARGO_CFG_TARGET_POINTER_WIDTH='64', CARGO_CFG_TARGET_ENDIAN='little')
     run('rustc', '--edition', '2021', BINDINGS / 'rust/build.rs', '-o', build, env=of)
-    assert f'link-search=native={folder}\n' in run(build, env={**of, 'CARGO_CFG_TARGET_ARCH': 'x86_64'})
+    for machine, libc in (('x86_64', 'musl'), ('aarch64', 'gnu')):
+        (tmp_path / 'lib' / machine).mkdir(parents=True)
+        shutil.copy(ARCHIVE, tmp_path / 'lib' / machine)
+        named = {**of, 'CARGO_CFG_TARGET_ARCH': machine, 'CARGO_CFG_TARGET_ENV': libc}
+        assert f'link-search=native={tmp_path}/lib/{machine}\n' in run(build, env=named)
     refuses(1, 'the crate has no archive for riscv64gc-unknown-linux-musl', build,
             env={**of, 'CARGO_CFG_TARGET_ARCH': 'riscv64', 'TARGET': 'riscv64gc-unknown-linux-musl'})

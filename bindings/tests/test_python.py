@@ -28,6 +28,17 @@ for call in (hash_secret, hash_secret_raw):
     assert refusal(b"salt", 8, 0xffffffff, call) == "Salt is too short"
     assert refusal(b"somesalt", 8, 0xffffffff, call) == "Out of memory"
     assert refusal(b"somesalt", 0xffffffff, 32, call) == "Out of memory\""""
+# How many pieces of a tag a call that verifies leaves, how many are found that were filled in, and where.
+REGISTERS = """import ctypes, sys
+from proved_argon2 import _library
+from proved_argon2.low_level import Type, hash_secret, hash_secret_raw
+looker, password, size = ctypes.CDLL(sys.argv[1]), b"password", ctypes.c_size_t
+looker.looked_at.restype = ctypes.c_char_p
+inputs = password, b"somesaltsomesalt", 1, 64, 1, 32, Type.ID
+text, tag = hash_secret(*inputs), hash_secret_raw(*inputs)
+call = ctypes.cast(_library._library.proved_argon2_verify_encoded, ctypes.c_void_p)
+left = looker.pieces_left(call, text, password, size(len(password)), tag, size(len(tag)))
+print(left, looker.pieces_filled(tag[:16]), looker.looked_at().decode())"""
 # Each call of the page has the arguments of the package, in their order and with their defaults.
 ARGUMENTS = """import inspect, pathlib, re
 import proved_argon2
@@ -107,22 +118,20 @@ def test_each_number_that_the_library_answers(with_library, tmp_path):
 
 
 def test_a_call_leaves_no_tag_in_the_vector_registers(with_library, tmp_path):
-    """It says which registers the processor has."""
+    """Two pieces are found where one register is filled in."""
     looker = compile_shared("registers.c", tmp_path / "registers.so")
-    print(run(PYTHON, HERE / "registers.py", looker, env=with_library))
+    assert re.match(r"0 2 \w", run(PYTHON, "-c", REGISTERS, looker, env=with_library))
 
 
 @pytest.mark.skipif(not has("hypothesis"), reason="there is no hypothesis")
 def test_the_tests_of_argon2_cffi_pass_but_for_those_that_are_named(with_library, tmp_path):
-    """Unchanged, of the newest source that Debian has. Each that fails is named with what it differs by."""
+    """Unchanged, of the newest source that Debian has. argon2_cffi.py names each that fails."""
     if not fetch("fetch_source", "python-argon2", tmp_path):
         pytest.skip("their source cannot be had")
     path = f"{HERE}:{with_library['PYTHONPATH']}"
-    words = "-p", "argon2_cffi", "-p", "no:cacheprovider", "-rf", "tests"
-    said = start(*PYTEST, *words, cwd=tmp_path, env={**with_library, "PYTHONPATH": path}).stdout
-    named = re.findall(r"^(\S+) #", (HERE / "argon2_cffi.txt").read_text(), re.M)
-    assert sorted(re.findall(r"^FAILED tests.(\S*)", said, re.M)) == sorted(named)
-    assert re.search(r"^\d+ failed, 62 passed in ", said, re.M), said[-2000:]
+    words = "-p", "argon2_cffi", "-p", "no:cacheprovider", "tests"
+    said = run(*PYTEST, *words, cwd=tmp_path, env={**with_library, "PYTHONPATH": path})
+    assert re.search(r"^62 passed, 16 xfailed in ", said, re.M), said[-2000:]
 
 
 @by_pip

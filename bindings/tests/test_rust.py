@@ -6,23 +6,14 @@ import resource
 import shutil
 
 import pytest
-from running import CC, MACHINE, TOP, built as built_part, needs, project, refuses, run, start, with_feature
+from running import CC, MACHINE, TOP, built as built_part, needs, project, refuses, run, start
 
 CRATE, HERE = TOP / "bindings/rust", TOP / "bindings/tests"
+REGISTRY = pathlib.Path("/usr/share/cargo/registry")
 PAGE = (TOP / "docs/RUST.md").read_text()
 pytestmark = [needs("cargo"), pytest.mark.timeout(2400)]
 RUN = "cargo", "run", "--offline", "--quiet"
 WRAPPED = " ".join(f"-Clink-arg=-Wl,--wrap=proved_argon2_memory_{name}" for name in ("new", "free"))
-# The lines of `hex` that rust-argon2's tests use.
-HEX = """pub trait ToHex {
-    fn encode_hex<T: From<String>>(&self) -> T;
-}
-impl ToHex for Vec<u8> {
-    fn encode_hex<T: From<String>>(&self) -> T {
-        self.iter().map(|byte| format!("{byte:02x}")).collect::<String>().into()
-    }
-}
-"""
 SERDE = """use serde::de::{value::StrDeserializer, Deserialize, IntoDeserializer};
 fn main() {
     fn is_writable<T: serde::Serialize>() {}
@@ -89,6 +80,11 @@ fn main() -> Result<(), Box<dyn std::error::Error>> {
 """
 
 
+def with_crate(*features):
+    """The line of a manifest that takes the crate."""
+    return f'argon2 = {{ package = "proved-argon2", path = "{CRATE}", features = {[*features]} }}\n'
+
+
 @pytest.fixture(scope="module")
 def cargo(built, cargo):
     """The variables for a program whose crate finds the library by the one that names its folder."""
@@ -108,53 +104,44 @@ def test_each_number_that_the_library_answers(cargo, tmp_path):
                                "HEADER": TOP / "crates/argon2_c/include/proved_argon2.h"})
 
 
-@pytest.mark.parametrize("name, flags, more", [
-    ("memory", WRAPPED, {}), ("traits", "", {"dependencies": with_feature("password-hash")}),
-])
-def test_the_memory_that_is_kept_and_the_traits_of_password_hash(cargo, tmp_path, name, flags, more):
-    """The linker gives the first program the calls for a memory. The other is a service over RustCrypto's argon2 with
-    Debian's crate of its traits, of which the manifest alone names another package."""
-    folder = project(tmp_path / name, (HERE / f"{name}.rs").read_text(), **more)
+# The crates of a program, which are Debian's, and flags of the compiler. Of the first the linker wraps the calls for a
+# memory; the next is a service over RustCrypto's argon2, of which the manifest alone names another package.
+PROGRAMS = {
+    "memory": (with_crate(), WRAPPED),
+    "traits": (with_crate("password-hash"), ""),
+    "serde": (with_crate("serde") + 'serde = "1"', ""),
+    "page": (with_crate(), ""),
+    "tokio": (with_crate() + 'tokio = { version = "1", features = ["rt-multi-thread", "macros", "time"] }', ""),
+}
+
+
+def needs_crate(name):
+    """Skips a test where a crate of Debian is not there."""
+    if not [*REGISTRY.glob(f"{name}-[0-9]*")]:
+        pytest.skip(f"there is no librust-{name}-dev")
+
+
+@pytest.mark.parametrize("name", PROGRAMS)
+def test_a_program_ends_well(cargo, tmp_path, name):
+    if name == "tokio":
+        needs_crate(name)
+    crates, flags = PROGRAMS[name]
+    page = [TELLS % lines for lines in re.findall(r"^```rust\n(.*?)^```", PAGE, re.M | re.S) if "Run::new" in lines]
+    main = {"serde": SERDE, "page": page[0]}.get(name) or (HERE / f"{name}.rs").read_text()
+    folder = project(tmp_path / f"of_{name}", main, crates)
     run(*RUN, cwd=folder, env={**cargo, "RUSTFLAGS": f"{os.environ.get('RUSTFLAGS', '')} {flags}"})
 
 
 def test_the_tests_of_rust_argon2_pass(cargo, tmp_path):
     """Of Debian's package, unchanged."""
-    words = "-qq", "-o", "APT::Sandbox::User=root", "download", "librust-rust-argon2-dev"
-    if start("apt-get", *words, cwd=tmp_path).returncode:
-        pytest.skip("there is no librust-rust-argon2-dev")
-    run("dpkg", "-x", *tmp_path.glob("*.deb"), tmp_path / "files")
-    project(tmp_path / "hex", HEX, "", "lib.rs")
-    folder = project(tmp_path / "theirs", "", f'{with_feature("crossbeam-utils")}hex = {{ path = "../hex" }}', "lib.rs",
+    needs_crate("rust-argon2")
+    folder = project(tmp_path / "theirs", "", f'{with_crate("crossbeam-utils")}hex = "0.4"', "lib.rs",
                      '[features]\ndefault = ["crossbeam-utils"]\ncrossbeam-utils = []\n')
-    (found,) = tmp_path.glob("files/usr/share/cargo/registry/rust-argon2-*/tests/integration_test.rs")
+    (found,) = REGISTRY.glob("rust-argon2-*/tests/integration_test.rs")
     shutil.copytree(found.parent, folder / "tests")
     words = "--offline", "--release", "--test", "integration_test", "--", "--test-threads", "2"
     said = run("cargo", "test", *words, cwd=folder, env=cargo)
     assert "test result: ok. 65 passed; 0 failed; 0 ignored" in said
-
-
-def test_a_line_bounds_calls_in_tokio(cargo, tmp_path):
-    """With Debian's tokio."""
-    if not [*pathlib.Path("/usr/share/cargo/registry").glob("tokio-1.*")]:
-        pytest.skip("there is no librust-tokio-dev")
-    crates = (f'argon2 = {{ package = "proved-argon2", path = "{CRATE}" }}\n'
-              'tokio = { version = "1", features = ["rt-multi-thread", "macros", "time"] }\n')
-    run(*RUN, cwd=project(tmp_path / "tokio_line", (HERE / "tokio.rs").read_text(), crates), env=cargo)
-
-
-def test_errors_are_written_and_read_by_serde(cargo, tmp_path):
-    """With Debian's serde, as rust-argon2's are."""
-    run(*RUN, cwd=project(tmp_path / "with_serde", SERDE, f'{with_feature("serde")}serde = "1"'), env=cargo)
-
-
-def test_the_page_s_lines_of_a_run_tell_how_far_it_is(cargo, tmp_path):
-    (lines,) = [lines for lines in re.findall(r"^```rust\n(.*?)^```", PAGE, re.M | re.S) if "Run::new" in lines]
-    run(*RUN, cwd=project(tmp_path / "tells", TELLS % lines), env=cargo)
-
-
-def test_the_calls_of_the_library_are_declared_as_in_its_headers():
-    run("bindings/rust/declare.py")
 
 
 def test_the_page_has_the_arguments_of_the_calls():

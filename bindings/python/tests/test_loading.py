@@ -1,12 +1,11 @@
-"""What an import takes, and which shared object it loads."""
+"""What an import takes, which shared object it loads, and what it says where there is none."""
 import os
 import subprocess
 import sys
-import unittest
 from pathlib import Path
-from unittest import mock
 
 import proved_argon2
+import pytest
 from proved_argon2 import _library
 
 MOST_MILLISECONDS = 25
@@ -21,52 +20,52 @@ def fresh(program):
     return subprocess.run(words, capture_output=True, text=True, timeout=60, check=True).stdout
 
 
-class Import(unittest.TestCase):
-    def test_an_import_takes_25_milliseconds(self):
-        program = "import time\nbegun = time.process_time()\nimport proved_argon2\nprint(time.process_time() - begun)"
-        least = 1.0
-        for _ in range(TRIES):
-            least = min(least, float(fresh(program)))
-            if least * 1000 <= MOST_MILLISECONDS:
-                return
-        self.fail(f"{least * 1000:.1f} milliseconds of processor time")
-
-    def test_an_import_loads_none_of_the_slow_modules(self):
-        loaded = fresh("before = {*sys.modules}\nimport proved_argon2\nprint(*sys.modules.keys() - before)").split()
-        self.assertIn("ctypes", loaded)
-        slow = {"ctypes.util", "dataclasses", "inspect", "pathlib", "re", "subprocess", "typing"}
-        self.assertEqual(slow.intersection(loaded), set())
+def test_an_import_takes_25_milliseconds():
+    program = "import time\nbegun = time.process_time()\nimport proved_argon2\nprint(time.process_time() - begun)"
+    assert any(float(fresh(program)) * 1000 <= MOST_MILLISECONDS for _ in range(TRIES))
 
 
-class Objects(unittest.TestCase):
-    """Where the shared object is looked for."""
-
-    def files(self, folder="/site/proved_argon2", has_libs=False):
-        with mock.patch.dict(os.environ), mock.patch("sys.prefix", "/prefix"), mock.patch.object(
-            _library, "__file__", f"{folder}/_library.py"
-        ), mock.patch("os.path.isdir", lambda _: has_libs):
-            os.environ.pop(_library.VARIABLE, None)
-            return [*_library._files()]
-
-    def test_it_is_where_the_loader_looks_or_beside_this_python(self):
-        self.assertEqual(self.files(), [_library.SONAME, f"/prefix/lib/{_library.SONAME}"])
-
-    def test_of_a_wheel_it_is_first(self):
-        self.assertEqual(self.files(has_libs=True)[0], f"/site/proved_argon2/libs/{_library.SONAME}")
-
-    def test_a_build_beside_the_sources_is_not_taken_unasked(self):
-        found = self.files(folder="/it/bindings/python/src/proved_argon2")
-        self.assertEqual(found, [_library.SONAME, f"/prefix/lib/{_library.SONAME}"])
-
-    def test_an_older_processor_is_refused_by_name(self):
-        program = ("import os\nos.environ['PROVED_ARGON2_CPU'] = 'none'\n"
-                   "try:\n    import proved_argon2\nexcept ImportError as error:\n    print(error)")
-        self.assertIn("has no build for a processor as old as this one", fresh(program))
+def test_an_import_loads_none_of_the_slow_modules():
+    loaded = fresh("before = {*sys.modules}\nimport proved_argon2\nprint(*sys.modules.keys() - before)").split()
+    slow = {"ctypes.util", "dataclasses", "inspect", "pathlib", "re", "subprocess", "typing"}
+    assert "ctypes" in loaded and slow.isdisjoint(loaded)
 
 
-class ErrorNumbers(unittest.TestCase):
-    def test_a_call_leaves_the_error_number_of_ctypes(self):
-        said = fresh("""
+@pytest.mark.parametrize("folder, has_libs, expected", [
+    ("/site/proved_argon2", False, [_library.SONAME, f"/prefix/lib/{_library.SONAME}"]),
+    ("/site/proved_argon2", True, [
+        f"/site/proved_argon2/libs/{_library.SONAME}", _library.SONAME, f"/prefix/lib/{_library.SONAME}"]),
+    # (a build beside the sources is not taken unasked)
+    ("/it/bindings/python/src/proved_argon2", False, [_library.SONAME, f"/prefix/lib/{_library.SONAME}"]),
+])
+def test_it_is_in_the_wheel_or_where_the_loader_looks_or_beside_this_python(monkeypatch, folder, has_libs, expected):
+    monkeypatch.delenv(_library.VARIABLE, raising=False)
+    monkeypatch.setattr(sys, "prefix", "/prefix")
+    monkeypatch.setattr(_library, "__file__", f"{folder}/_library.py")
+    monkeypatch.setattr(os.path, "isdir", lambda _: has_libs)
+    assert [*_library._files()] == expected
+
+
+def test_an_older_processor_is_refused_by_name():
+    program = ("import os\nos.environ['PROVED_ARGON2_CPU'] = 'none'\n"
+               "try:\n    import proved_argon2\nexcept ImportError as error:\n    print(error)")
+    assert "has no build for a processor as old as this one" in fresh(program)
+
+
+@pytest.mark.parametrize("system, words", [
+    ("linux", "run ./install in the repository"),
+    ("darwin", "built for Linux, and not for darwin; compile the library as C"),
+    ("win32", "built for Linux, and not for win32; compile the library as C"),
+])
+def test_the_error_names_the_system_and_what_there_is(monkeypatch, system, words):
+    monkeypatch.setattr(sys, "platform", system)
+    monkeypatch.setenv(_library.VARIABLE, "/nowhere/libproved_argon2")
+    with pytest.raises(ImportError, match=f"cannot be loaded: .*{words}.*, or name the file in {_library.VARIABLE}"):
+        _library._load()
+
+
+def test_a_call_leaves_the_error_number_of_ctypes():
+    said = fresh("""
 import ctypes, resource
 from proved_argon2 import PasswordHasher
 from proved_argon2.exceptions import HashingError
@@ -77,4 +76,4 @@ try:
 except HashingError as error:
     print(error, ctypes.get_errno())
 """)
-        self.assertEqual(said, "Out of memory 7\n")
+    assert said == "Out of memory 7\n"

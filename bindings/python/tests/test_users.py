@@ -1,27 +1,34 @@
-"""Programs that use argon2-cffi, with this package in its place: Django, and passlib with its own tests. They are
-Debian's python3-django and python3-passlib, and each runs in a process of its own."""
-import importlib.util
+"""Programs that use argon2-cffi, with this package in its place: Django, and passlib with its own tests; and a store of
+other hashes that moves to Argon2 login by login, by the lines of docs/USE.md and docs/examples/from_scrypt.py. They
+are Debian's python3-django, python3-passlib and python3-pwdlib, and each runs in a process of its own."""
+import hashlib
+import re
+import runpy
 import subprocess
 import sys
-import unittest
+import textwrap
+from importlib.util import find_spec
+from pathlib import Path
 
-# Makes `import argon2` and `from argon2.low_level import ..` be this package.
-IN_PLACE = """
-import sys
-import proved_argon2
-sys.modules["argon2"] = proved_argon2
-for name in ("exceptions", "low_level", "profiles"):
-    sys.modules["argon2." + name] = getattr(proved_argon2, name)
-"""
+import pytest
+from proved_argon2 import PasswordHasher
+from proved_argon2.exceptions import InvalidHashError
 
+DOCS = Path(__file__).resolve().parents[3] / "docs"
+SMALL = {"time_cost": 1, "memory_cost": 64, "parallelism": 1}
+# The lines of docs/PYTHON.md that put this package in argon2-cffi's place.
+IN_PLACE = textwrap.dedent(re.search(
+    r"^    import sys, proved_argon2\n(?:    .*\n)+", (DOCS / "PYTHON.md").read_text("utf-8"), re.M)[0])
 DJANGO = """
+import sys
 from unittest import mock
 from django.conf import settings
 settings.configure(PASSWORD_HASHERS=[
     "__main__.Proved", "django.contrib.auth.hashers.PBKDF2PasswordHasher", "__main__.Argon2WithMoreMemory",
 ])
 from django.contrib.auth.hashers import (
-    Argon2PasswordHasher, check_password, get_hasher, identify_hasher, is_password_usable, make_password,
+    Argon2PasswordHasher, PBKDF2PasswordHasher, check_password, get_hasher, identify_hasher, is_password_usable,
+    make_password,
 )
 
 class Proved(Argon2PasswordHasher):
@@ -34,32 +41,33 @@ class Argon2WithMoreMemory(Proved):
 """
 
 
-def is_there(module):
-    return importlib.util.find_spec(module) is not None
+def needs(*modules):
+    return pytest.mark.skipif(not all(map(find_spec, modules)), reason=f"there is no {' or '.join(modules)}")
+
+
+def lines(title):
+    """The lines of code under a title of the page."""
+    page = (DOCS / "USE.md").read_text("utf-8")
+    return re.search(rf"^### {title}.*?^```python\n(.*?)^```", page, re.M | re.S)[1]
 
 
 def run(*pieces):
-    return subprocess.run([sys.executable, "-c", "\n".join(pieces)], capture_output=True, text=True, timeout=300)
+    """What a program says that has to succeed."""
+    words = [sys.executable, "-W", "ignore", "-c", "\n".join(pieces)]
+    done = subprocess.run(words, capture_output=True, text=True, timeout=600)
+    assert done.returncode == 0, done.stderr
+    return done.stdout
 
 
-@unittest.skipUnless(is_there("django"), "python3-django is not installed")
-class Django(unittest.TestCase):
-    def holds(self, piece):
-        done = run(DJANGO, piece)
-        self.assertEqual(done.returncode, 0, done.stderr)
-
-    def test_django_lets_in_the_right_password_and_no_other(self):
-        self.holds("""
+@needs("django")
+@pytest.mark.parametrize("piece", ["""
 for password in ("l\\xe8tmein", "", " ", "a" * 4096):
     text = make_password(password, hasher="argon2")
     assert text.startswith("argon2$argon2id$v=19$m=512,t=2,p=2$"), text
     assert is_password_usable(text) and identify_hasher(text).algorithm == "argon2"
     assert check_password(password, text) is True
     assert check_password(password + "z", text) is False
-""")
-
-    def test_django_keeps_a_text_of_today_s_settings_and_renews_others(self):
-        self.holds("""
+""", """
 hasher = get_hasher("argon2")
 text = make_password("secret", hasher="argon2")
 assert not hasher.must_update(text)
@@ -72,10 +80,7 @@ for name, value in (("time_cost", 3), ("memory_cost", 1024), ("parallelism", 1))
         assert not check_password("wrong", text, setter) and not setter.called, name
         assert check_password("secret", text, setter), name
         setter.assert_called_once_with("secret")
-""")
-
-    def test_django_reads_texts_of_other_settings_and_of_argon2i(self):
-        self.holds("""
+""", """
 for rest, password in (
     ("argon2i$v=19$m=256,t=2,p=1$c29tZXNhbHQ$iekCn0Y3spW+sCcFanM2xBT63UP2sghkUoHLIUpWRS8", "password"),
     ("argon2i$m=256,t=2,p=1$c29tZXNhbHQ$/U3YPXYsSb3q9XxHvc0MLxur+GP960kN9j7emXX8zwY", "password"),
@@ -84,11 +89,14 @@ for rest, password in (
     assert check_password("x" + password, "argon2$" + rest) is False
     assert get_hasher("argon2").must_update("argon2$" + rest)
     assert get_hasher("argon2").safe_summary("argon2$" + rest)
-""")
+"""], ids=["right and wrong passwords", "settings of today and others", "texts of argon2i"])
+def test_django_works_with_it(piece):
+    run(DJANGO, piece)
 
-    @unittest.skipUnless(is_there("argon2"), "python3-argon2 is not installed")
-    def test_django_reads_what_it_writes_with_argon2_cffi(self):
-        self.holds("""
+
+@needs("django", "argon2")
+def test_django_reads_what_it_writes_with_argon2_cffi():
+    run(DJANGO, """
 theirs = type("Theirs", (Proved,), {"library": "argon2"})()
 ours = get_hasher("argon2")
 for writer, reader in ((theirs, ours), (ours, theirs)):
@@ -98,10 +106,25 @@ for writer, reader in ((theirs, ours), (ours, theirs)):
 """)
 
 
-@unittest.skipUnless(is_there("passlib"), "python3-passlib is not installed")
-class Passlib(unittest.TestCase):
-    def test_passlib_s_own_tests_pass(self):
-        done = run(IN_PLACE, """
+@needs("django")
+def test_django_renews_what_another_hasher_made():
+    run("from django.conf import settings\nsettings.configure()", lines("Django"), """
+import sys
+settings.PASSWORD_HASHERS = PASSWORD_HASHERS
+from django.contrib.auth.hashers import PBKDF2PasswordHasher, check_password, make_password
+old, renewed = PBKDF2PasswordHasher().encode("password", "somesalt", 10), []
+assert not check_password("Password", old, lambda _: renewed.append(1)) and not renewed
+assert check_password("password", old, renewed.append) and renewed == ["password"]
+stored = make_password("password")
+assert stored.startswith("argon2$argon2id$") and check_password("password", stored, renewed.append)
+assert renewed == ["password"] and not check_password("Password", stored)
+assert sys.modules["proved_argon2"] and "argon2" not in sys.modules
+""")
+
+
+@needs("passlib")
+def test_passlib_s_own_tests_pass():
+    run(IN_PLACE, """
 import unittest, warnings
 warnings.simplefilter("ignore")
 tests = unittest.defaultTestLoader.loadTestsFromName("passlib.tests.test_handlers_argon2")
@@ -113,14 +136,58 @@ assert handler._argon2_cffi is proved_argon2
 assert result.testsRun - len(result.skipped) >= 40, result
 assert result.wasSuccessful()
 """)
-        self.assertEqual(done.returncode, 0, done.stderr)
 
-    def test_passlib_reads_what_it_writes_with_argon2_cffi(self):
-        template = 'argon2.using(rounds=2, memory_cost=64, parallelism=2, type="{0}")'
-        for variant in ("I", "D", "ID"):
-            hasher = template.format(variant)
-            ours = run(IN_PLACE, f"from passlib.hash import argon2; print({hasher}.hash('password'))").stdout.strip()
-            self.assertTrue(ours.startswith(f"$argon2{variant.lower()}$v=19$m=64,t=2,p=2$"), ours)
-            for place in (IN_PLACE, ""):
-                done = run(place, f"from passlib.hash import argon2; print(argon2.verify('password', {ours!r}))")
-                self.assertEqual(done.stdout, "True\n", done.stderr)
+
+@needs("passlib", "argon2")
+@pytest.mark.parametrize("variant", ["I", "D", "ID"])
+def test_passlib_reads_what_it_writes_with_argon2_cffi(variant):
+    hasher = ("from passlib.hash import argon2\n"
+              f'it = argon2.using(rounds=2, memory_cost=64, parallelism=2, type="{variant}")')
+    ours = run(IN_PLACE, hasher, "print(it.hash('password'))").strip()
+    assert ours.startswith(f"$argon2{variant.lower()}$v=19$m=64,t=2,p=2$")
+    for place in (IN_PLACE, ""):
+        assert run(place, hasher, f"print(it.verify('password', {ours!r}))") == "True\n"
+
+
+@pytest.mark.parametrize("name, made", [
+    pytest.param("pwdlib", "from pwdlib.hashers.bcrypt import BcryptHasher\nstored = BcryptHasher(4).hash('password')",
+                 marks=needs("pwdlib", "bcrypt")),
+    pytest.param("passlib", "from passlib.hash import pbkdf2_sha256\n"
+                 "stored = pbkdf2_sha256.using(rounds=10).hash('password')", marks=needs("passlib")),
+])
+def test_another_library_renews_what_another_scheme_made(name, made):
+    run(IN_PLACE, f"""
+{made}
+password = "password"
+{lines(name)}
+assert matches and renewed.startswith("$argon2id$"), renewed
+assert context.verify_and_update("password", renewed) == (True, None)
+assert context.verify_and_update("Password", renewed) == (False, None)
+assert context.verify_and_update("Password", stored) == (False, None)
+assert proved_argon2.PasswordHasher().verify(renewed, "password")
+""", """
+old = proved_argon2.PasswordHasher(time_cost=1, memory_cost=64, parallelism=1).hash("password")
+assert context.verify_and_update("password", old)[1].startswith("$argon2id$v=19$m=65536,")
+costly = proved_argon2.PasswordHasher(time_cost=11, memory_cost=64, parallelism=1)
+assert costly.verify(costly.hash("password"), "password") and not context.verify("password", costly.hash("password"))
+""" if name == "pwdlib" else "")
+
+
+def test_a_login_of_one_s_own_moves_to_ours_and_to_the_settings_of_today():
+    log_in = runpy.run_path(str(DOCS / "examples/from_scrypt.py"))["log_in"]
+    tag = hashlib.scrypt(b"password", salt=b"somesalt", n=16384, r=8, p=1, dklen=32)
+    old = f"scrypt:{b'somesalt'.hex()}:{tag.hex()}"
+    assert log_in(old, "Password") == (False, old)
+    for stored in (old, PasswordHasher(**SMALL).hash("password")):
+        matches, renewed = log_in(stored, "password")
+        assert matches and renewed != stored and renewed.startswith("$argon2id$")
+        assert log_in(renewed, "password") == (True, renewed)
+        assert log_in(renewed, "Password") == (False, renewed)
+
+
+def test_a_hash_of_another_scheme_or_in_braces_is_an_error():
+    stored = PasswordHasher(**SMALL).hash("password")
+    for other in ("$2b$04$" + 53 * "a", "{argon2}" + stored):
+        with pytest.raises(InvalidHashError):
+            PasswordHasher().verify(other, "password")
+    assert PasswordHasher().verify(("{argon2}" + stored).removeprefix("{argon2}"), "password")

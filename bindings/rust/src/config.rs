@@ -1,4 +1,4 @@
-use crate::{ThreadMode, Variant, Version};
+use crate::{Variant, Version};
 use std::fmt;
 
 /// The settings of a hash.
@@ -48,6 +48,33 @@ pub struct Config<'a> {
 
     /// The version.
     pub version: Version,
+}
+
+/// How many threads compute the lanes of a hash. The tag does not depend on it.
+#[derive(Clone, Copy, Debug, Default, Eq, PartialEq)]
+pub enum ThreadMode {
+    /// In the caller's thread.
+    #[default]
+    Sequential,
+
+    /// As many threads as lanes, of which one is the caller's.
+    Parallel,
+
+    /// At most this many threads, and no more than there are lanes. With 0 or 1 the caller's thread computes one lane
+    /// after another.
+    AtMost(u32),
+}
+
+impl ThreadMode {
+    /// The mode for a number of threads: [`ThreadMode::Parallel`] where it is more than 1.
+    #[must_use]
+    pub fn from_threads(threads: u32) -> ThreadMode {
+        if threads > 1 {
+            ThreadMode::Parallel
+        } else {
+            ThreadMode::Sequential
+        }
+    }
 }
 
 /// The presets are of one lane; RFC 9106 takes four with its own.
@@ -105,20 +132,16 @@ impl<'a> Config<'a> {
     /// Whether the caller's thread computes all lanes.
     #[must_use]
     pub fn uses_sequential(&self) -> bool {
-        match self.thread_mode {
-            ThreadMode::Sequential => true,
-            ThreadMode::Parallel => self.lanes == 1,
-            ThreadMode::AtMost(most) => most <= 1 || self.lanes == 1,
-        }
+        self.workers() == 1
     }
 
     /// How many threads compute the lanes, of which one is the caller's.
     #[must_use]
     pub fn workers(&self) -> u32 {
         match self.thread_mode {
-            _ if self.uses_sequential() => 1,
+            ThreadMode::Sequential | ThreadMode::AtMost(0 | 1) => 1,
+            ThreadMode::Parallel => self.lanes,
             ThreadMode::AtMost(most) => self.lanes.min(most),
-            _ => self.lanes,
         }
     }
 
@@ -165,8 +188,8 @@ impl Default for Config<'_> {
 
 #[cfg(test)]
 mod tests {
-    use super::{Config, ThreadMode};
-    use crate::{face, Variant, Version};
+    use super::Config;
+    use crate::face::{recommended, Settings};
 
     #[test]
     fn the_presets_are_those_that_the_library_recommends() {
@@ -181,20 +204,11 @@ mod tests {
             Config::rfc9106_low_mem(),
             // end
         ];
-        for (preset, settings) in presets.into_iter().zip(face::recommended()) {
-            let config = Config {
-                ad: &[],
-                hash_length: settings.hash_length,
-                lanes: settings.lanes,
-                mem_cost: settings.mem_cost,
-                secret: &[],
-                thread_mode: ThreadMode::Sequential,
-                time_cost: settings.time_cost,
-                variant: Variant::from_u32(settings.variant).unwrap(),
-                version: Version::from_u32(settings.version).unwrap(),
-            };
-            assert_eq!(preset, config);
-        }
+        assert_eq!(presets.iter().map(Settings::of).collect::<Vec<_>>(), recommended());
+        let all = presets.into_iter().chain([Config::original(), Config::default()]);
+        assert!(all
+            .into_iter()
+            .all(|preset| preset.uses_sequential() && preset.secret.len() + preset.ad.len() == 0));
         assert_eq!(Config::default(), Config::owasp2());
     }
 }

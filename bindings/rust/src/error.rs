@@ -1,163 +1,109 @@
-use crate::face::{OLD_PROCESSOR, STOPPED};
 use std::fmt;
 
-/// Why a call failed.
-#[derive(Clone, Debug, PartialEq)]
-#[cfg_attr(feature = "serde", derive(serde::Serialize, serde::Deserialize))]
-#[cfg_attr(feature = "serde", serde(rename_all = "snake_case"))]
-pub enum Error {
+/// What a call returns that can fail.
+pub type Result<T> = std::result::Result<T, Error>;
+
+/// The type of the errors: each with its number in the library, and its text.
+macro_rules! errors {
+    ($($(#[$documented:meta])* $name:ident = $number:literal, $text:literal;)*) => {
+        /// Why a call failed.
+        #[derive(Clone, Debug, PartialEq)]
+        #[cfg_attr(feature = "serde", derive(serde::Serialize, serde::Deserialize))]
+        #[cfg_attr(feature = "serde", serde(rename_all = "snake_case"))]
+        pub enum Error {
+            $($(#[$documented])* $name,)*
+        }
+
+        impl Error {
+            /// The error of a number. It panics if that has none, which the library never returns.
+            pub(crate) fn of_number(number: u32) -> Error {
+                match number {
+                    $($number => Error::$name,)*
+                    _ => panic!("the library returned {number}, which is no error"),
+                }
+            }
+        }
+
+        impl fmt::Display for Error {
+            fn fmt(&self, f: &mut fmt::Formatter<'_>) -> fmt::Result {
+                f.write_str(match self { $(Error::$name => $text,)* })
+            }
+        }
+    };
+}
+
+errors! {
     /// The hash is shorter than 4 bytes.
-    OutputTooShort,
+    OutputTooShort = 1, "Output is too short";
 
     /// The hash is longer than 2^32 - 1 bytes.
-    OutputTooLong,
+    OutputTooLong = 2, "Output is too long";
 
     /// Never returned: no password is too short.
-    PwdTooShort,
+    PwdTooShort = 3, "Password is too short";
 
     /// The password is longer than 2^32 - 1 bytes.
-    PwdTooLong,
+    PwdTooLong = 4, "Password is too long";
 
     /// The salt is shorter than 8 bytes.
-    SaltTooShort,
+    SaltTooShort = 5, "Salt is too short";
 
     /// The salt is longer than 2^32 - 1 bytes.
-    SaltTooLong,
+    SaltTooLong = 6, "Salt is too long";
 
     /// Never returned: no associated data is too short.
-    AdTooShort,
+    AdTooShort = 7, "Associated data is too short";
 
     /// The associated data is longer than 2^32 - 1 bytes.
-    AdTooLong,
+    AdTooLong = 8, "Associated data is too long";
 
     /// Never returned: no secret is too short.
-    SecretTooShort,
+    SecretTooShort = 9, "Secret is too short";
 
     /// The secret is longer than 2^32 - 1 bytes.
-    SecretTooLong,
+    SecretTooLong = 10, "Secret is too long";
 
     /// There is no pass.
-    TimeTooSmall,
+    TimeTooSmall = 11, "Time cost is too small";
 
     /// Never returned: no number of passes is too large.
-    TimeTooLarge,
+    TimeTooLarge = 12, "Time cost is too large";
 
     /// There are less than 8 KiB for each lane.
-    MemoryTooLittle,
+    MemoryTooLittle = 13, "Memory cost is too small";
 
     /// Never returned: no memory is too much.
-    MemoryTooMuch,
+    MemoryTooMuch = 14, "Memory cost is too large";
 
     /// There is no lane.
-    LanesTooFew,
+    LanesTooFew = 15, "Too few lanes";
 
     /// There are more than 2^24 - 1 lanes.
-    LanesTooMany,
+    LanesTooMany = 16, "Too many lanes";
 
     /// No variant has this number.
-    IncorrectType,
+    IncorrectType = 17, "There is no such type of Argon2";
 
     /// No version has this number.
-    IncorrectVersion,
+    IncorrectVersion = 18, "There is no such version of Argon2";
 
     /// The string decodes to no hash.
-    DecodingFail,
+    DecodingFail = 19, "Decoding failed";
 
     /// An allocation failed.
-    OutOfMemory,
+    OutOfMemory = 20, "Out of memory";
 
     /// Never returned here: if the system denies a thread, others do its work.
-    WorkerRefused,
+    WorkerRefused = 21, "A worker was refused";
 
     /// A [`Run`](crate::Run) was stopped.
-    Stopped,
+    Stopped = 130, "The call was stopped";
 
     /// The library has no build for a processor as old as this one.
-    OldProcessor,
+    OldProcessor = 131, "The processor is too old";
 
     /// The system had no random bytes for a salt.
-    NoRandomBytes,
-}
-
-impl Error {
-    /// The errors in the order of their numbers, which begin with 1.
-    const NUMBERED: [Error; 21] = [
-        // errors, by .ci/pages/presets
-        Error::OutputTooShort,
-        Error::OutputTooLong,
-        Error::PwdTooShort,
-        Error::PwdTooLong,
-        Error::SaltTooShort,
-        Error::SaltTooLong,
-        Error::AdTooShort,
-        Error::AdTooLong,
-        Error::SecretTooShort,
-        Error::SecretTooLong,
-        Error::TimeTooSmall,
-        Error::TimeTooLarge,
-        Error::MemoryTooLittle,
-        Error::MemoryTooMuch,
-        Error::LanesTooFew,
-        Error::LanesTooMany,
-        Error::IncorrectType,
-        Error::IncorrectVersion,
-        Error::DecodingFail,
-        Error::OutOfMemory,
-        Error::WorkerRefused,
-        // end
-    ];
-
-    /// The error of a number.
-    ///
-    /// # Panics
-    ///
-    /// If the library returns a number that no error has, which it never does.
-    pub(crate) fn of_number(number: u32) -> Error {
-        let place = usize::try_from(number).ok().and_then(|number| number.checked_sub(1));
-        match (number, place.and_then(|place| Error::NUMBERED.get(place))) {
-            (STOPPED, _) => Error::Stopped,
-            (OLD_PROCESSOR, _) => Error::OldProcessor,
-            (_, Some(error)) => error.clone(),
-            (_, None) => panic!("the library returned {number}, which is no error"),
-        }
-    }
-
-    fn text(&self) -> &'static str {
-        match self {
-            // words, by .ci/pages/presets
-            Error::OutputTooShort => "Output is too short",
-            Error::OutputTooLong => "Output is too long",
-            Error::PwdTooShort => "Password is too short",
-            Error::PwdTooLong => "Password is too long",
-            Error::SaltTooShort => "Salt is too short",
-            Error::SaltTooLong => "Salt is too long",
-            Error::AdTooShort => "Associated data is too short",
-            Error::AdTooLong => "Associated data is too long",
-            Error::SecretTooShort => "Secret is too short",
-            Error::SecretTooLong => "Secret is too long",
-            Error::TimeTooSmall => "Time cost is too small",
-            Error::TimeTooLarge => "Time cost is too large",
-            Error::MemoryTooLittle => "Memory cost is too small",
-            Error::MemoryTooMuch => "Memory cost is too large",
-            Error::LanesTooFew => "Too few lanes",
-            Error::LanesTooMany => "Too many lanes",
-            Error::IncorrectType => "There is no such type of Argon2",
-            Error::IncorrectVersion => "There is no such version of Argon2",
-            Error::DecodingFail => "Decoding failed",
-            Error::OutOfMemory => "Out of memory",
-            Error::WorkerRefused => "A worker was refused",
-            // end
-            Error::Stopped => "The call was stopped",
-            Error::OldProcessor => "The processor is too old",
-            Error::NoRandomBytes => "There are no random bytes",
-        }
-    }
-}
-
-impl fmt::Display for Error {
-    fn fmt(&self, f: &mut fmt::Formatter<'_>) -> fmt::Result {
-        f.write_str(self.text())
-    }
+    NoRandomBytes = 129, "There are no random bytes";
 }
 
 impl std::error::Error for Error {}
@@ -165,17 +111,14 @@ impl std::error::Error for Error {}
 #[cfg(test)]
 mod tests {
     use super::Error;
-    use crate::face;
+    use crate::face::message;
 
     #[test]
-    fn each_number_and_text_is_the_library_s() {
-        for (number, error) in (1..).zip(&Error::NUMBERED) {
-            assert_eq!(Error::of_number(number), *error);
-            assert_eq!(face::message(number), error.to_string());
+    fn each_text_is_the_library_s() {
+        for number in (1..=21).chain([129, 131]) {
+            assert_eq!(message(number), Error::of_number(number).to_string());
         }
-        assert_eq!(face::message(22), "There is no error of this number");
-        // (the header's own words)
-        assert_eq!(Error::of_number(face::OLD_PROCESSOR).to_string(), "The processor is too old");
+        assert_eq!(message(22), "There is no error of this number");
     }
 
     #[test]

@@ -3,21 +3,20 @@
 //! The library is passed a pointer and a length of each slice. It reads what is passed as `*const`, writes
 //! what is passed as `*mut` within its length, and keeps no pointer. A slice's pointer is never null.
 
-mod buffer;
 mod calls;
-mod progress;
 mod salt;
 
-pub use buffer::Buffer;
-pub use progress::Progress;
 pub use salt::new_salt;
 
 use crate::{Config, Limits as LimitsOfCrate};
 use calls::*;
+use std::any::Any;
 use std::ffi::c_void;
 use std::mem::size_of;
+use std::ops::ControlFlow;
 use std::os::raw::c_int;
-use std::ptr::{null, null_mut};
+use std::panic::{catch_unwind, resume_unwind, AssertUnwindSafe};
+use std::ptr::{null, null_mut, NonNull};
 
 /// Done, or a match.
 pub const OK: u32 = 0;
@@ -34,15 +33,12 @@ pub const NEEDS_REHASH: u32 = 68;
 /// The encoded hash is above the limits.
 pub const TOO_COSTLY: u32 = 69;
 
-/// The progress callback stopped the call.
-pub const STOPPED: u32 = 130;
-
-/// There is no build for a processor as old as this one.
-pub const OLD_PROCESSOR: u32 = 131;
+/// As many threads as the library has for an encoded hash.
+const ALL_THREADS: u32 = u32::MAX;
 
 /// `proved_argon2_settings` of the header.
 #[repr(C)]
-#[derive(Default)]
+#[derive(Debug, Default, PartialEq)]
 pub struct Settings {
     // settings, by .ci/pages/presets
     pub variant: u32,
@@ -97,9 +93,6 @@ pub struct Extras<'call, 'a> {
     pub progress: Option<&'call mut Progress<'a>>,
 }
 
-/// As many threads as the library has for an encoded hash.
-const ALL_THREADS: u32 = u32::MAX;
-
 impl Options {
     /// The fields that C leaves out of an initializer.
     const NONE: Options = Options {
@@ -121,13 +114,13 @@ impl Options {
     /// them.
     fn by(threads: u32, extras: Extras<'_, '_>) -> Options {
         let (memory, memory_len) =
-            extras.buffer.map_or((null_mut(), 0), |buffer| (buffer.address(), buffer.length()));
+            extras.buffer.map_or((null_mut(), 0), |buffer| (buffer.address, buffer.length));
         Options {
             size: size_of::<Options>(),
             threads,
             memory,
             memory_len,
-            tell: extras.progress.as_ref().map(|_| progress::report as _),
+            tell: extras.progress.as_ref().map(|_| report as _),
             arg: extras.progress.map_or(null_mut(), |progress| (progress as *mut Progress<'_>).cast()),
             ..Options::NONE
         }
@@ -136,117 +129,169 @@ impl Options {
 
 impl Settings {
     pub fn of(config: &Config<'_>) -> Settings {
-        Settings {
-            variant: config.variant.as_u32(),
-            version: config.version.as_u32(),
-            mem_cost: config.mem_cost,
-            time_cost: config.time_cost,
-            lanes: config.lanes,
-            hash_length: config.hash_length,
+        let Config { mem_cost, time_cost, lanes, hash_length, .. } = *config;
+        let (variant, version) = (config.variant.as_u32(), config.version.as_u32());
+        Settings { variant, version, mem_cost, time_cost, lanes, hash_length }
+    }
+}
+
+/// A memory that the library allocated, or none. Its contents are never looked at here: each call
+/// clears what it used.
+pub struct Buffer {
+    /// Some address if the length is 0: a call without one would allocate memory of its own.
+    address: *mut c_void,
+    length: usize,
+}
+
+// SAFETY: nobody else has the address, and the library binds no memory to a thread.
+unsafe impl Send for Buffer {}
+
+// SAFETY: what is shared can only be asked for its length.
+unsafe impl Sync for Buffer {}
+
+impl Buffer {
+    /// A memory that fits calls with these settings, or none if it is denied.
+    pub fn of(settings: &Settings) -> Buffer {
+        let (mut address, mut length) = (null_mut(), 0);
+        // SAFETY: the settings are read, and what is written to is this function's own.
+        let number = unsafe { proved_argon2_memory_new(settings, &mut address, &mut length) };
+        if number == OK {
+            Buffer { address, length }
+        } else {
+            Buffer::default()
+        }
+    }
+
+    pub fn length(&self) -> usize {
+        self.length
+    }
+}
+
+impl Default for Buffer {
+    fn default() -> Buffer {
+        Buffer { address: NonNull::<u64>::dangling().as_ptr().cast(), length: 0 }
+    }
+}
+
+impl Drop for Buffer {
+    fn drop(&mut self) {
+        if self.length > 0 {
+            // SAFETY: the library allocated it, with this length, and it is freed once.
+            unsafe { proved_argon2_memory_free(self.address, self.length) }
         }
     }
 }
 
+/// The progress callback of a call: it is passed how many slices of all are filled, and returns whether the call goes
+/// on. A panic in it stops the call, and goes on once the call has returned: none passes through C.
+pub struct Progress<'a> {
+    callback: Box<dyn FnMut(u64, u64) -> ControlFlow<()> + 'a>,
+    panic: Option<Box<dyn Any + Send>>,
+}
+
+impl<'a> Progress<'a> {
+    pub fn new(callback: impl FnMut(u64, u64) -> ControlFlow<()> + 'a) -> Progress<'a> {
+        Progress { callback: Box::new(callback), panic: None }
+    }
+
+    /// Resumes the panic, if one has stopped the call.
+    pub fn resume_panic(&mut self) {
+        if let Some(panic) = self.panic.take() {
+            resume_unwind(panic);
+        }
+    }
+}
+
+/// `proved_argon2_tell` of the header.
+extern "C" fn report(arg: *mut c_void, done: u64, all: u64) -> c_int {
+    // SAFETY: `Options::by` passes this with its argument, which is borrowed for the call alone.
+    // The library calls it in the caller's thread, and never twice at once.
+    let progress = unsafe { &mut *arg.cast::<Progress<'_>>() };
+    match catch_unwind(AssertUnwindSafe(|| (progress.callback)(done, all))) {
+        Ok(flow) => flow.is_break().into(),
+        Err(panic) => {
+            progress.panic = Some(panic);
+            1
+        }
+    }
+}
+
+/// A call of the library with options: of each of these slices a pointer and a length are passed, and then the rest.
+macro_rules! call {
+    ($name:ident, $options:expr, [$($bytes:expr),*] $(, $rest:expr)*) => {{
+        let options = $options;
+        // SAFETY: each pointer and length are those of a slice, what is written to is borrowed for this call alone, and
+        // what the options point to outlives it, as do the settings. Threads that it starts end before it returns.
+        unsafe { $name(&options, $($bytes.as_ptr(), $bytes.len(),)* $($rest,)*) }
+    }};
+}
+
 /// Whether a hash with these settings is made of such inputs: of them the lengths alone are passed.
 pub fn check(pwd: &[u8], salt: &[u8], config: &Config<'_>) -> u32 {
-    let settings = Settings::of(config);
     let [pwd, salt, secret, ad] = [pwd, salt, config.secret, config.ad].map(|bytes| bytes.len() as u64);
     // SAFETY: the settings are read, and nothing is written.
-    unsafe { proved_argon2_check(&settings, pwd, salt, secret, ad) }
+    unsafe { proved_argon2_check(&Settings::of(config), pwd, salt, secret, ad) }
 }
 
 /// Writes the tag to `out`, which has `config.hash_length` bytes.
-#[rustfmt::skip]
 pub fn hash_raw(pwd: &[u8], salt: &[u8], config: &Config<'_>, extras: Extras<'_, '_>, out: &mut [u8]) -> u32 {
-    let settings = Settings::of(config);
-    let options = Options::by(config.workers(), extras);
-    // SAFETY: each pointer and length are those of a slice, and `out` is borrowed for this call alone. Threads that
-    // the call starts end before it returns.
-    unsafe {
-        proved_argon2_hash_raw_with(
-            &options,
-            pwd.as_ptr(), pwd.len(),
-            salt.as_ptr(), salt.len(),
-            config.secret.as_ptr(), config.secret.len(),
-            config.ad.as_ptr(), config.ad.len(),
-            &settings,
-            out.as_mut_ptr(), out.len(),
-        )
-    }
+    let (options, settings) = (Options::by(config.workers(), extras), Settings::of(config));
+    let (to, length) = (out.as_mut_ptr(), out.len());
+    call!(proved_argon2_hash_raw_with, options, [pwd, salt, config.secret, config.ad], &settings, to, length)
 }
 
-/// Writes the encoded hash and then zeros to `text`, which has more bytes than the encoded hash.
-#[rustfmt::skip]
-pub fn hash_encoded(pwd: &[u8], salt: &[u8], config: &Config<'_>, extras: Extras<'_, '_>, text: &mut [u8]) -> u32 {
-    let settings = Settings::of(config);
-    let options = Options::by(config.workers(), extras);
-    // SAFETY: each pointer and length are those of a slice, and `text` is borrowed for this call alone. Threads that
-    // the call starts end before it returns.
-    unsafe {
-        proved_argon2_hash_encoded_with(
-            &options,
-            pwd.as_ptr(), pwd.len(),
-            salt.as_ptr(), salt.len(),
-            config.secret.as_ptr(), config.secret.len(),
-            config.ad.as_ptr(), config.ad.len(),
-            &settings,
-            text.as_mut_ptr(), text.len(),
-        )
-    }
+/// Writes the encoded hash and then zeros to `out`, which has more bytes than the encoded hash.
+pub fn hash_encoded(
+    pwd: &[u8],
+    salt: &[u8],
+    config: &Config<'_>,
+    extras: Extras<'_, '_>,
+    out: &mut [u8],
+) -> u32 {
+    let (options, settings) = (Options::by(config.workers(), extras), Settings::of(config));
+    let (to, length) = (out.as_mut_ptr(), out.len());
+    call!(
+        proved_argon2_hash_encoded_with,
+        options,
+        [pwd, salt, config.secret, config.ad],
+        &settings,
+        to,
+        length
+    )
 }
 
 /// Compares a hash with the tag of its length.
-#[rustfmt::skip]
 pub fn verify_raw(pwd: &[u8], salt: &[u8], hash: &[u8], config: &Config<'_>, extras: Extras<'_, '_>) -> u32 {
-    let settings = Settings::of(config);
-    let options = Options::by(config.workers(), extras);
-    // SAFETY: each pointer and length are those of a slice, and nothing is written. Threads that the call starts end
-    // before it returns.
-    unsafe {
-        proved_argon2_verify_raw_with(
-            &options,
-            pwd.as_ptr(), pwd.len(),
-            salt.as_ptr(), salt.len(),
-            config.secret.as_ptr(), config.secret.len(),
-            config.ad.as_ptr(), config.ad.len(),
-            &settings,
-            hash.as_ptr(), hash.len(),
-        )
-    }
+    let (options, settings) = (Options::by(config.workers(), extras), Settings::of(config));
+    let (with, length) = (hash.as_ptr(), hash.len());
+    call!(
+        proved_argon2_verify_raw_with,
+        options,
+        [pwd, salt, config.secret, config.ad],
+        &settings,
+        with,
+        length
+    )
 }
 
-/// Verifies a password against an encoded hash.
-pub fn verify_encoded(text: &str, pwd: &[u8], secret: &[u8], ad: &[u8], extras: Extras<'_, '_>) -> u32 {
-    verify_with(&Options::by(ALL_THREADS, extras), text, pwd, secret, ad)
-}
-
-/// Verifies a password against an encoded hash that is within the limits.
-pub fn verify_encoded_within(
+/// Verifies a password against an encoded hash, if that is within the limits.
+pub fn verify_encoded(
     text: &str,
     pwd: &[u8],
     secret: &[u8],
     ad: &[u8],
-    limits: &LimitsOfCrate,
+    limits: Option<&LimitsOfCrate>,
     extras: Extras<'_, '_>,
 ) -> u32 {
-    let LimitsOfCrate { lanes, mem_cost, time_cost, work } = *limits;
-    let limits = Limits { mem_cost, time_cost, lanes, work };
-    verify_with(&Options { limits: &limits, ..Options::by(ALL_THREADS, extras) }, text, pwd, secret, ad)
-}
-
-#[rustfmt::skip]
-fn verify_with(options: &Options, text: &str, pwd: &[u8], secret: &[u8], ad: &[u8]) -> u32 {
-    // SAFETY: each pointer and length are those of a slice, the limits outlive the call, and nothing is written.
-    // Threads that the call starts end before it returns.
-    unsafe {
-        proved_argon2_verify_encoded_with(
-            options,
-            text.as_ptr(), text.len(),
-            pwd.as_ptr(), pwd.len(),
-            secret.as_ptr(), secret.len(),
-            ad.as_ptr(), ad.len(),
-        )
-    }
+    let limits = limits.map(|&LimitsOfCrate { lanes, mem_cost, time_cost, work }| Limits {
+        mem_cost,
+        time_cost,
+        lanes,
+        work,
+    });
+    let limits = limits.as_ref().map_or(null(), |limits| limits as *const Limits);
+    let options = Options { limits, ..Options::by(ALL_THREADS, extras) };
+    call!(proved_argon2_verify_encoded_with, options, [text, pwd, secret, ad])
 }
 
 /// The library's default limits.
@@ -271,16 +316,14 @@ pub fn memory_len(settings: &Settings) -> u64 {
 
 /// Compares the settings of an encoded hash with others.
 pub fn needs_rehash(text: &str, config: &Config<'_>) -> u32 {
-    let settings = Settings::of(config);
     // SAFETY: the pointer and the length are those of a slice, and nothing is written.
-    unsafe { proved_argon2_needs_rehash(text.as_ptr(), text.len(), &settings) }
+    unsafe { proved_argon2_needs_rehash(text.as_ptr(), text.len(), &Settings::of(config)) }
 }
 
 /// The length of an encoded hash for a salt of this length.
 pub fn encoded_len(config: &Config<'_>, salt_len: u32) -> u64 {
-    let settings = Settings::of(config);
     // SAFETY: the settings are read, and nothing is written.
-    unsafe { proved_argon2_encoded_len(&settings, salt_len) }
+    unsafe { proved_argon2_encoded_len(&Settings::of(config), salt_len) }
 }
 
 /// The message of an error's number.
@@ -289,13 +332,6 @@ pub fn message(number: u32) -> String {
     // SAFETY: the call gives a constant of the library, which a zero ends.
     let text = unsafe { std::ffi::CStr::from_ptr(proved_argon2_message(number).cast()) };
     text.to_string_lossy().into_owned()
-}
-
-/// The version of the library: 1,000,000 times the major one, 1,000 times the minor one and the patch.
-#[cfg(test)]
-fn library_version() -> u32 {
-    // SAFETY: the call takes nothing.
-    unsafe { proved_argon2_library_version() }
 }
 
 /// The settings that the library recommends.
@@ -321,8 +357,9 @@ pub fn recommended() -> Vec<Settings> {
 mod tests {
     #[test]
     fn the_library_has_the_version_of_this_crate() {
-        let version = env!("CARGO_PKG_VERSION");
-        let numbers: Vec<u32> = version.split('.').map(|number| number.parse().unwrap()).collect();
-        assert_eq!(super::library_version(), numbers[0] * 1_000_000 + numbers[1] * 1_000 + numbers[2]);
+        // SAFETY: the call takes nothing.
+        let number = unsafe { super::proved_argon2_library_version() };
+        let version = format!("{}.{}.{}", number / 1_000_000, number / 1_000 % 1_000, number % 1_000);
+        assert_eq!(version, env!("CARGO_PKG_VERSION"));
     }
 }

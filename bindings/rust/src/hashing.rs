@@ -1,5 +1,5 @@
-use crate::face::{self, OK};
-use crate::{Config, Error, Memory, Result, Run, ThreadMode, Variant, Version};
+use crate::face;
+use crate::{Config, Error, Memory, Result, Run, Variant};
 
 /// The length in bytes of an encoded hash.
 ///
@@ -19,17 +19,8 @@ pub fn encoded_len(
     salt_len: u32,
     hash_len: u32,
 ) -> u64 {
-    let config = Config {
-        ad: &[],
-        hash_length: hash_len,
-        lanes: parallelism,
-        mem_cost,
-        secret: &[],
-        thread_mode: ThreadMode::Sequential,
-        time_cost,
-        variant,
-        version: Version::Version13,
-    };
+    let (hash_length, lanes) = (hash_len, parallelism);
+    let config = Config { hash_length, lanes, mem_cost, time_cost, variant, ..Config::default() };
     face::encoded_len(&config, salt_len)
 }
 
@@ -60,17 +51,6 @@ pub fn hash_encoded(pwd: &[u8], salt: &[u8], config: &Config<'_>) -> Result<Stri
 /// # Errors
 ///
 /// As [`hash_encoded`].
-///
-/// # Examples
-///
-/// ```
-/// use proved_argon2::{self as argon2, Config, Memory};
-///
-/// let mut memory = Memory::new();
-/// let text = argon2::hash_encoded_in(&mut memory, b"password", b"somesalt", &Config::default())?;
-/// assert_eq!(text, argon2::hash_encoded(b"password", b"somesalt", &Config::default())?);
-/// # Ok::<(), argon2::Error>(())
-/// ```
 pub fn hash_encoded_in(memory: &mut Memory, pwd: &[u8], salt: &[u8], config: &Config<'_>) -> Result<String> {
     Run::new().over(memory).hash_encoded(pwd, salt, config)
 }
@@ -105,66 +85,68 @@ pub fn hash_raw(pwd: &[u8], salt: &[u8], config: &Config<'_>) -> Result<Vec<u8>>
 /// # Errors
 ///
 /// As [`hash_raw`].
-///
-/// # Examples
-///
-/// ```
-/// use proved_argon2::{self as argon2, Config, Memory};
-///
-/// let mut memory = Memory::new();
-/// let first = argon2::hash_raw_in(&mut memory, b"password", b"somesalt", &Config::owasp5())?;
-/// let again = argon2::hash_raw_in(&mut memory, b"password", b"somesalt", &Config::owasp5())?;
-/// assert_eq!(first, again);
-/// # Ok::<(), argon2::Error>(())
-/// ```
 pub fn hash_raw_in(memory: &mut Memory, pwd: &[u8], salt: &[u8], config: &Config<'_>) -> Result<Vec<u8>> {
     Run::new().over(memory).hash_raw(pwd, salt, config)
 }
 
-/// The encoded hash that a call writes to a buffer, if the settings are accepted.
-pub(crate) fn text_by(
-    pwd: &[u8],
-    salt: &[u8],
-    config: &Config<'_>,
-    call: impl FnOnce(&mut [u8]) -> u32,
-) -> Result<String> {
-    require_done(face::check(pwd, salt, config))?;
-    let salt_len = u32::try_from(salt.len()).map_err(|_| Error::SaltTooLong)?;
-    let length = usize::try_from(face::encoded_len(config, salt_len)).map_err(|_| Error::OutOfMemory)?;
-    let mut text = zeros(length + 1)?;
-    require_done(call(&mut text))?;
-    text.truncate(length);
-    Ok(String::from_utf8(text).expect("a text is ASCII"))
+/// Hashes a password to an encoded hash (PHC string) with the default settings and a new salt of 16
+/// random bytes of the system.
+///
+/// # Errors
+///
+/// As [`hash_password_with`].
+///
+/// # Examples
+///
+/// ```
+/// use proved_argon2 as argon2;
+///
+/// let text = argon2::hash_password(b"correct horse")?;
+/// assert!(argon2::verify_password(&text, b"correct horse")?);
+/// assert!(!argon2::verify_password(&text, b"wrong horse")?);
+/// # Ok::<(), Box<dyn std::error::Error>>(())
+/// ```
+pub fn hash_password(pwd: &[u8]) -> Result<String> {
+    hash_password_with(pwd, &Config::default())
 }
 
-/// The tag that a call writes to a buffer, if the settings are accepted.
-pub(crate) fn tag_by(
-    pwd: &[u8],
-    salt: &[u8],
-    config: &Config<'_>,
-    call: impl FnOnce(&mut [u8]) -> u32,
-) -> Result<Vec<u8>> {
-    require_done(face::check(pwd, salt, config))?;
-    let length = usize::try_from(config.hash_length).map_err(|_| Error::OutOfMemory)?;
-    let mut tag = zeros(length)?;
-    require_done(call(&mut tag))?;
-    Ok(tag)
+/// Hashes a password as [`hash_password`] does, with these settings, this secret and this associated
+/// data.
+///
+/// # Errors
+///
+/// [`Error::NoRandomBytes`]; otherwise as [`hash_encoded`].
+///
+/// # Examples
+///
+/// ```
+/// use proved_argon2::{self as argon2, Config};
+///
+/// let config = Config { secret: b"pepper", ..Config::owasp1() };
+/// let text = argon2::hash_password_with(b"correct horse", &config)?;
+/// assert!(argon2::verify_encoded_ext(&text, b"correct horse", b"pepper", &[])?);
+/// # Ok::<(), argon2::Error>(())
+/// ```
+pub fn hash_password_with(pwd: &[u8], config: &Config<'_>) -> Result<String> {
+    hash_encoded(pwd, &face::new_salt().ok_or(Error::NoRandomBytes)?, config)
 }
 
-/// Whether a call is done, or the settings are accepted: these are checked first, so that no memory is allocated if
-/// they are rejected.
-pub(crate) fn require_done(number: u32) -> Result<()> {
-    if number == OK {
-        Ok(())
-    } else {
-        Err(Error::of_number(number))
+#[cfg(test)]
+mod tests {
+    use crate::{hash_password, hash_password_with, needs_rehash, read, verify_password, Config, Unverified};
+
+    #[test]
+    fn a_hash_has_the_default_settings_and_a_salt_of_its_own() {
+        let texts = [hash_password(b"password").unwrap(), hash_password(b"password").unwrap()];
+        assert_ne!(texts[0], texts[1]);
+        for text in &texts {
+            assert_eq!(needs_rehash(text, &Config::default()), Ok(false));
+            assert_eq!(read(text).unwrap().salt_length, 16);
+            assert_eq!(verify_password(text, b"password"), Ok(true));
+            assert_eq!(verify_password(text, b"Password"), Ok(false));
+        }
+        let costly = Config { time_cost: 11, mem_cost: 8, ..Config::default() };
+        let text = hash_password_with(b"password", &costly).unwrap();
+        assert_eq!(verify_password(&text, b"password"), Err(Unverified::TooCostly));
     }
-}
-
-/// So many zeros, where there is memory.
-fn zeros(length: usize) -> Result<Vec<u8>> {
-    let mut bytes = Vec::new();
-    bytes.try_reserve_exact(length).map_err(|_| Error::OutOfMemory)?;
-    bytes.resize(length, 0);
-    Ok(bytes)
 }

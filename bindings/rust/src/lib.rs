@@ -60,40 +60,33 @@ mod hashing;
 mod limits;
 mod line;
 mod memory;
-mod password;
-mod result;
 mod run;
 mod service;
-mod stored;
-mod thread_mode;
 #[cfg(feature = "password-hash")]
 mod traits;
 mod tuning;
 mod variant;
 mod verifying;
-mod version;
 
-pub use config::Config;
-pub use error::Error;
-pub use hashing::{encoded_len, hash_encoded, hash_encoded_in, hash_raw, hash_raw_in};
-pub use limits::{verify_encoded_within, verify_encoded_within_in, Limits, Unverified};
+pub use config::{Config, ThreadMode};
+pub use error::{Error, Result};
+pub use hashing::{
+    encoded_len, hash_encoded, hash_encoded_in, hash_password, hash_password_with, hash_raw, hash_raw_in,
+};
+pub use limits::{Limits, Unverified};
 pub use line::{Busy, Enter, Line, Place};
 pub use memory::Memory;
-pub use password::{hash_password, hash_password_with, verify_password};
-#[cfg(feature = "password-hash")]
-pub use password_hash;
-pub use result::Result;
 pub use run::Run;
 pub use service::{verify_and_update, Peppers};
-pub use stored::{read, Stored};
-pub use thread_mode::ThreadMode;
-#[cfg(feature = "password-hash")]
-pub use traits::{Argon2, Params};
 pub use tuning::{tune, Tuning};
-pub use variant::Variant;
-#[cfg(feature = "password-hash")]
-pub use variant::Variant as Algorithm;
+pub use variant::{Variant, Version};
 pub use verifying::{
-    needs_rehash, verify_encoded, verify_encoded_ext, verify_encoded_in, verify_raw, verify_raw_in,
+    needs_rehash, read, verify_encoded, verify_encoded_ext, verify_encoded_in, verify_encoded_within,
+    verify_encoded_within_in, verify_password, verify_raw, verify_raw_in, Stored,
 };
-pub use version::Version;
+#[cfg(feature = "password-hash")]
+pub use {
+    password_hash,
+    traits::{Argon2, Params},
+    variant::Variant as Algorithm,
+};

@@ -1,9 +1,8 @@
-use crate::face;
-use crate::{Config, Error, Memory, Run};
-use std::{error, fmt, result};
+use crate::{face, Config, Error};
+use std::{error, fmt};
 
 /// The highest memory, passes and lanes that an encoded hash may name, and the highest product of
-/// memory and passes, for [`verify_encoded_within`].
+/// memory and passes, for [`verify_encoded_within`](crate::verify_encoded_within).
 #[derive(Clone, Copy, Debug, Eq, PartialEq)]
 pub struct Limits {
     /// The lanes.
@@ -35,24 +34,22 @@ impl Limits {
     /// ```
     #[must_use]
     pub fn at_least(config: &Config<'_>) -> Limits {
-        let Limits { lanes, mem_cost, time_cost, work } = Limits::default();
+        Limits::default().raised_to(config)
+    }
+
+    fn raised_to(self, config: &Config<'_>) -> Limits {
         Limits {
-            lanes: lanes.max(config.lanes),
-            mem_cost: mem_cost.max(config.mem_cost),
-            time_cost: time_cost.max(config.time_cost),
-            work: work.max(u64::from(config.mem_cost) * u64::from(config.time_cost)),
+            lanes: self.lanes.max(config.lanes),
+            mem_cost: self.mem_cost.max(config.mem_cost),
+            time_cost: self.time_cost.max(config.time_cost),
+            work: self.work.max(u64::from(config.mem_cost) * u64::from(config.time_cost)),
         }
     }
-}
 
-#[cfg(feature = "password-hash")]
-impl Limits {
     /// Whether settings are within.
-    pub(crate) fn allow(&self, config: &Config<'_>) -> bool {
-        config.lanes <= self.lanes
-            && config.mem_cost <= self.mem_cost
-            && config.time_cost <= self.time_cost
-            && u64::from(config.mem_cost) * u64::from(config.time_cost) <= self.work
+    #[cfg(feature = "password-hash")]
+    pub(crate) fn allow(self, config: &Config<'_>) -> bool {
+        self.raised_to(config) == self
     }
 }
 
@@ -100,79 +97,15 @@ impl From<Error> for Unverified {
     }
 }
 
-/// Verifies a password against an encoded hash, with this secret and this associated data, if the
-/// hash is within the limits.
-///
-/// # Errors
-///
-/// [`Unverified::Refused`] with [`Error::DecodingFail`] for a string that decodes to no hash. Then
-/// [`Unverified::TooCostly`] for a hash above a limit of memory, passes, lanes, or memory times
-/// passes, before any memory is allocated. Otherwise [`Unverified::Refused`] with the error of
-/// [`verify_encoded_ext`](crate::verify_encoded_ext).
-///
-/// # Examples
-///
-/// ```
-/// use proved_argon2::{self as argon2, Limits, Unverified};
-///
-/// let text = "$argon2i$v=19$m=4096,t=3,p=1$c29tZXNhbHQ$iWh06vD8Fy27wf9npn6FXWiCX4K6pW6Ue1Bnzz07Z8A";
-/// assert!(argon2::verify_encoded_within(text, b"password", &[], &[], &Limits::default())?);
-/// assert!(!argon2::verify_encoded_within(text, b"Password", &[], &[], &Limits::default())?);
-/// let limits = Limits { mem_cost: 4095, ..Limits::default() };
-/// let answer = argon2::verify_encoded_within(text, b"password", &[], &[], &limits);
-/// assert_eq!(answer, Err(Unverified::TooCostly));
-/// # Ok::<(), Unverified>(())
-/// ```
-pub fn verify_encoded_within(
-    encoded: &str,
-    pwd: &[u8],
-    secret: &[u8],
-    ad: &[u8],
-    limits: &Limits,
-) -> result::Result<bool, Unverified> {
-    Run::new().verify_encoded_within(encoded, pwd, secret, ad, limits)
-}
-
-/// Verifies as [`verify_encoded_within`] does, in a reusable buffer.
-///
-/// # Errors
-///
-/// As [`verify_encoded_within`]. A hash above the limits leaves the buffer unchanged.
-///
-/// # Examples
-///
-/// ```
-/// use proved_argon2::{self as argon2, Limits, Memory, Unverified};
-///
-/// let mut memory = Memory::new();
-/// let text = "$argon2i$v=19$m=4096,t=3,p=1$c29tZXNhbHQ$iWh06vD8Fy27wf9npn6FXWiCX4K6pW6Ue1Bnzz07Z8A";
-/// assert!(argon2::verify_encoded_within_in(&mut memory, text, b"password", &[], &[], &Limits::default())?);
-/// # Ok::<(), Unverified>(())
-/// ```
-pub fn verify_encoded_within_in(
-    memory: &mut Memory,
-    encoded: &str,
-    pwd: &[u8],
-    secret: &[u8],
-    ad: &[u8],
-    limits: &Limits,
-) -> result::Result<bool, Unverified> {
-    Run::new().over(memory).verify_encoded_within(encoded, pwd, secret, ad, limits)
-}
-
 #[cfg(test)]
 mod tests {
     use super::{Limits, Unverified};
-    use crate::face::{self, TOO_COSTLY};
+    use crate::face::{message, TOO_COSTLY};
 
     #[test]
-    fn the_default_allows_both_recommendations() {
+    fn the_default_allows_both_recommendations_and_the_text_is_the_library_s() {
         let limits = Limits { lanes: 16, mem_cost: 2_097_152, time_cost: 10, work: 4_194_304 };
         assert_eq!(Limits::default(), limits);
-    }
-
-    #[test]
-    fn the_text_is_the_library_s() {
-        assert_eq!(face::message(TOO_COSTLY), Unverified::TooCostly.to_string());
+        assert_eq!(Unverified::TooCostly.to_string(), message(TOO_COSTLY));
     }
 }

@@ -1,12 +1,12 @@
 use crate::face::{self, Extras, Progress, Settings, MISMATCH, OK, TOO_COSTLY};
-use crate::hashing::{tag_by, text_by};
 use crate::{Config, Error, Limits, Memory, Result, Unverified};
 use std::ops::ControlFlow;
 use std::{fmt, result};
 
 /// How calls run: in a reusable buffer, and with a progress callback, which can stop them.
 ///
-/// Each call returns what the crate's call of the same name does.
+/// Each call returns what the crate's call of the same name does ([`verify_encoded_ext`](crate::verify_encoded_ext) for
+/// [`Run::verify_encoded`]), or [`Error::Stopped`], which calls with limits return in [`Unverified::Refused`].
 ///
 /// # Examples
 ///
@@ -30,6 +30,10 @@ pub struct Run<'a> {
     progress: Option<Progress<'a>>,
 }
 
+/// A call that writes what it computes.
+type Writing = fn(&[u8], &[u8], &Config<'_>, Extras<'_, '_>, &mut [u8]) -> u32;
+
+#[allow(clippy::missing_errors_doc)] // `Run` says it for all
 impl<'a> Run<'a> {
     /// As the calls of the crate: each call allocates its memory, and there is no progress
     /// callback.
@@ -53,52 +57,31 @@ impl<'a> Run<'a> {
     }
 
     /// As [`hash_raw`](crate::hash_raw).
-    ///
-    /// # Errors
-    ///
-    /// As there, and [`Error::Stopped`].
     pub fn hash_raw(&mut self, pwd: &[u8], salt: &[u8], config: &Config<'_>) -> Result<Vec<u8>> {
-        tag_by(pwd, salt, config, |tag| {
-            self.call(|| Settings::of(config), |extras| face::hash_raw(pwd, salt, config, extras, tag))
-        })
+        self.hash(pwd, salt, config, config.hash_length.into(), face::hash_raw)
     }
 
     /// As [`hash_encoded`](crate::hash_encoded).
-    ///
-    /// # Errors
-    ///
-    /// As there, and [`Error::Stopped`].
     pub fn hash_encoded(&mut self, pwd: &[u8], salt: &[u8], config: &Config<'_>) -> Result<String> {
-        text_by(pwd, salt, config, |text| {
-            self.call(|| Settings::of(config), |extras| face::hash_encoded(pwd, salt, config, extras, text))
-        })
+        let salt_len = u32::try_from(salt.len()).unwrap_or(u32::MAX); // (a longer one is rejected)
+        let size = face::encoded_len(config, salt_len) + 1;
+        let mut text = self.hash(pwd, salt, config, size, face::hash_encoded)?;
+        text.pop();
+        Ok(String::from_utf8(text).expect("a text is ASCII"))
     }
 
     /// As [`verify_raw`](crate::verify_raw).
-    ///
-    /// # Errors
-    ///
-    /// As there, and [`Error::Stopped`].
     pub fn verify_raw(&mut self, pwd: &[u8], salt: &[u8], hash: &[u8], config: &Config<'_>) -> Result<bool> {
         let settings = || Settings { hash_length: u32::MAX, ..Settings::of(config) };
         verdict(self.call(settings, |extras| face::verify_raw(pwd, salt, hash, config, extras)))
     }
 
     /// As [`verify_encoded_ext`](crate::verify_encoded_ext).
-    ///
-    /// # Errors
-    ///
-    /// As there, and [`Error::Stopped`].
     pub fn verify_encoded(&mut self, encoded: &str, pwd: &[u8], secret: &[u8], ad: &[u8]) -> Result<bool> {
-        let settings = || face::read(encoded).1.settings;
-        verdict(self.call(settings, |extras| face::verify_encoded(encoded, pwd, secret, ad, extras)))
+        verdict(self.verify(encoded, pwd, secret, ad, None))
     }
 
     /// As [`verify_encoded_within`](crate::verify_encoded_within).
-    ///
-    /// # Errors
-    ///
-    /// As there, and [`Unverified::Refused`] with [`Error::Stopped`].
     pub fn verify_encoded_within(
         &mut self,
         encoded: &str,
@@ -107,13 +90,40 @@ impl<'a> Run<'a> {
         ad: &[u8],
         limits: &Limits,
     ) -> result::Result<bool, Unverified> {
-        let settings = || face::read(encoded).1.settings;
-        let number = self
-            .call(settings, |extras| face::verify_encoded_within(encoded, pwd, secret, ad, limits, extras));
-        if number == TOO_COSTLY {
-            return Err(Unverified::TooCostly);
+        match self.verify(encoded, pwd, secret, ad, Some(limits)) {
+            TOO_COSTLY => Err(Unverified::TooCostly),
+            number => Ok(verdict(number)?),
         }
-        Ok(verdict(number)?)
+    }
+
+    /// The bytes that a call writes, so many. The settings are checked before memory is allocated for them.
+    fn hash(
+        &mut self,
+        pwd: &[u8],
+        salt: &[u8],
+        config: &Config<'_>,
+        length: u64,
+        call: Writing,
+    ) -> Result<Vec<u8>> {
+        require_done(face::check(pwd, salt, config))?;
+        let (length, mut out) = (usize::try_from(length).map_err(|_| Error::OutOfMemory)?, Vec::new());
+        out.try_reserve_exact(length).map_err(|_| Error::OutOfMemory)?;
+        out.resize(length, 0);
+        require_done(self.call(|| Settings::of(config), |extras| call(pwd, salt, config, extras, &mut out)))?;
+        Ok(out)
+    }
+
+    /// Verifies with limits or without.
+    fn verify(
+        &mut self,
+        encoded: &str,
+        pwd: &[u8],
+        secret: &[u8],
+        ad: &[u8],
+        limits: Option<&Limits>,
+    ) -> u32 {
+        let settings = || face::read(encoded).1.settings;
+        self.call(settings, |extras| face::verify_encoded(encoded, pwd, secret, ad, limits, extras))
     }
 
     /// What a call returns that is passed the buffer and the callback. The settings are computed
@@ -145,8 +155,15 @@ impl fmt::Debug for Run<'_> {
 /// Whether a verifying call returned a match; any number but a verdict is an error.
 fn verdict(number: u32) -> Result<bool> {
     match number {
-        OK => Ok(true),
         MISMATCH => Ok(false),
+        number => require_done(number).map(|()| true),
+    }
+}
+
+/// The error of a call, unless it is done.
+pub(crate) fn require_done(number: u32) -> Result<()> {
+    match number {
+        OK => Ok(()),
         number => Err(Error::of_number(number)),
     }
 }

@@ -127,61 +127,52 @@ impl<'a> Peppers<'a> {
 mod tests {
     use super::{verify_and_update, Peppers};
     use crate::{hash_password_with, needs_rehash, verify_encoded_ext};
-    use crate::{Config, Error, Run, ThreadMode, Unverified, Variant, Version};
+    use crate::{Config, Error, Run, Unverified};
     use std::ops::ControlFlow;
 
-    const SMALL: Config<'static> = Config {
-        ad: &[],
-        hash_length: 32,
-        lanes: 1,
-        mem_cost: 64,
-        secret: &[],
-        thread_mode: ThreadMode::Sequential,
-        time_cost: 1,
-        variant: Variant::Argon2id,
-        version: Version::Version13,
-    };
+    fn small() -> Config<'static> {
+        Config { mem_cost: 64, time_cost: 1, ..Config::default() }
+    }
 
     #[test]
     fn a_hash_of_other_settings_is_renewed_for_the_right_password_alone() {
-        let other = Config { time_cost: 2, ..SMALL };
+        let other = Config { time_cost: 2, ..small() };
         let stored = hash_password_with(b"password", &other).unwrap();
         assert_eq!(verify_and_update(&stored, b"password", &other), Ok((true, None)));
-        assert_eq!(verify_and_update(&stored, b"Password", &SMALL), Ok((false, None)));
-        let (is_match, new) = verify_and_update(&stored, b"password", &SMALL).unwrap();
-        assert!(is_match && needs_rehash(new.as_ref().unwrap(), &SMALL) == Ok(false));
+        assert_eq!(verify_and_update(&stored, b"Password", &small()), Ok((false, None)));
+        let (is_match, new) = verify_and_update(&stored, b"password", &small()).unwrap();
+        assert!(is_match && needs_rehash(new.as_ref().unwrap(), &small()) == Ok(false));
         assert_eq!(verify_encoded_ext(&new.unwrap(), b"password", &[], &[]), Ok(true));
     }
 
     #[test]
     fn a_new_hash_that_fails_makes_no_password_wrong() {
-        let stored = hash_password_with(b"password", &SMALL).unwrap();
-        let rejected = Config { time_cost: 0, ..SMALL };
+        let stored = hash_password_with(b"password", &small()).unwrap();
+        let rejected = Config { time_cost: 0, ..small() };
         assert_eq!(verify_and_update(&stored, b"password", &rejected), Ok((true, None)));
         assert_eq!(
-            verify_and_update("x", b"password", &SMALL),
+            verify_and_update("x", b"password", &small()),
             Err(Unverified::Refused(Error::DecodingFail))
         );
         let costly = stored.replace("m=64", "m=4294967295");
-        assert_eq!(verify_and_update(&costly, b"password", &SMALL), Err(Unverified::TooCostly));
+        assert_eq!(verify_and_update(&costly, b"password", &small()), Err(Unverified::TooCostly));
     }
 
     #[test]
     fn a_run_reports_both_and_stops_either() {
-        let stored = hash_password_with(b"password", &Config { time_cost: 2, ..SMALL }).unwrap();
+        let stored = hash_password_with(b"password", &Config { time_cost: 2, ..small() }).unwrap();
         let by = |pwd: &[u8], most: u32| {
-            let mut left = most;
-            let answer = Run::new()
-                .telling(|_, _| {
-                    left = left.saturating_sub(1);
-                    if left > 0 {
-                        ControlFlow::Continue(())
-                    } else {
-                        ControlFlow::Break(())
-                    }
-                })
-                .verify_and_update(&stored, pwd, &SMALL);
-            (answer, most - left)
+            let mut slices = 0;
+            let tell = |_, _| {
+                slices += 1;
+                if slices < most {
+                    ControlFlow::Continue(())
+                } else {
+                    ControlFlow::Break(())
+                }
+            };
+            let answer = Run::new().telling(tell).verify_and_update(&stored, pwd, &small());
+            (answer, slices)
         };
         let (answer, slices) = by(b"password", 100);
         assert!(matches!(answer, Ok((true, Some(_)))) && slices == 12);
@@ -194,9 +185,9 @@ mod tests {
     fn a_pepper_rotates() {
         let keys: [(&str, &[u8]); 2] = [("2026", b"new"), ("2025", b"old")];
         let (both, newest) =
-            (Peppers { keys: &keys, config: SMALL }, Peppers { keys: &keys[..1], config: SMALL });
+            (Peppers { keys: &keys, config: small() }, Peppers { keys: &keys[..1], config: small() });
         for (key_id, secret) in [(None, &b""[..]), (Some("2025"), b"old")] {
-            let stored = hash_password_with(b"password", &Config { secret, ..SMALL }).unwrap();
+            let stored = hash_password_with(b"password", &Config { secret, ..small() }).unwrap();
             assert_eq!(both.verify_and_update(key_id, &stored, b"Password"), Ok((false, None)));
             let (is_match, update) = both.verify_and_update(key_id, &stored, b"password").unwrap();
             let (new_id, new) = update.unwrap();
@@ -211,6 +202,6 @@ mod tests {
         );
         let unknown = Err(Unverified::Refused(Error::SecretTooShort));
         assert_eq!(newest.verify_and_update(Some("2025"), &stored, b"password"), unknown);
-        assert_eq!(Peppers { keys: &[], config: SMALL }.hash(b"password"), Err(Error::SecretTooShort));
+        assert_eq!(Peppers { keys: &[], config: small() }.hash(b"password"), Err(Error::SecretTooShort));
     }
 }

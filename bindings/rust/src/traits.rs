@@ -1,6 +1,7 @@
 //! The traits of the crate `password-hash`, for programs that use RustCrypto's `argon2`.
 
-use crate::{face, hashing, Config, Error, Limits, Variant, Version};
+use crate::run::require_done;
+use crate::{face, Config, Error, Limits, Variant, Version};
 use password_hash::{
     Decimal, Encoding, Error as HashError, Ident, Output, ParamsString, PasswordHash, PasswordHasher, Result,
     Salt,
@@ -45,7 +46,7 @@ impl Params {
         let length = output_len.map_or(Ok(default.hash_length), u32::try_from);
         let hash_length = length.map_err(|_| Error::OutputTooLong)?;
         let costs = Costs { mem_cost: m_cost, time_cost: t_cost, lanes: p_cost, hash_length };
-        hashing::require_done(face::check(&[], &[0; 8], &costs.put_in(&default)))?;
+        require_done(face::check(&[], &[0; 8], &costs.put_in(&default)))?;
         Ok(Params(Some(costs)))
     }
 
@@ -154,7 +155,7 @@ impl<'key> Argon2<'key> {
         params: Params,
     ) -> crate::Result<Argon2<'key>> {
         let config = Config { secret, ..Argon2::new(algorithm, version, params).config };
-        hashing::require_done(face::check(&[], &[0; 8], &config))?;
+        require_done(face::check(&[], &[0; 8], &config))?;
         Ok(config.into())
     }
 

@@ -1,5 +1,7 @@
 use crate::face::{self, NEEDS_REHASH, OK};
-use crate::{Config, Error, Memory, Result, Run};
+use crate::run::require_done;
+use crate::{Config, Error, Limits, Memory, Result, Run, Unverified, Variant, Version};
+use std::result;
 
 /// Verifies a password against an encoded hash, without a secret or associated data, and without
 /// limits.
@@ -46,25 +48,12 @@ pub fn verify_encoded_ext(encoded: &str, pwd: &[u8], secret: &[u8], ad: &[u8]) -
 
 /// Verifies as [`verify_encoded_ext`] does, in a reusable buffer.
 ///
-/// The encoded hash names how much memory that is: use
-/// [`verify_encoded_within_in`](crate::verify_encoded_within_in) for one that others may have
+/// The encoded hash names how much memory that is: use [`verify_encoded_within_in`] for one that others may have
 /// written.
 ///
 /// # Errors
 ///
 /// As [`verify_encoded_ext`].
-///
-/// # Examples
-///
-/// ```
-/// use proved_argon2::{self as argon2, Memory};
-///
-/// let mut memory = Memory::new();
-/// let text = "$argon2i$v=19$m=4096,t=3,p=1$c29tZXNhbHQ$OlcSvlN20Lz43sK3jhCJ9K04oejhiY0AmI+ck6nuETo";
-/// assert!(argon2::verify_encoded_in(&mut memory, text, b"password", b"secret", b"ad")?);
-/// assert!(!argon2::verify_encoded_in(&mut memory, text, b"password", &[], &[])?);
-/// # Ok::<(), argon2::Error>(())
-/// ```
 pub fn verify_encoded_in(
     memory: &mut Memory,
     encoded: &str,
@@ -73,6 +62,65 @@ pub fn verify_encoded_in(
     ad: &[u8],
 ) -> Result<bool> {
     Run::new().over(memory).verify_encoded(encoded, pwd, secret, ad)
+}
+
+/// Verifies a password against an encoded hash, with this secret and this associated data, if the
+/// hash is within the limits.
+///
+/// # Errors
+///
+/// [`Unverified::Refused`] with [`Error::DecodingFail`] for a string that decodes to no hash. Then
+/// [`Unverified::TooCostly`] for a hash above a limit of memory, passes, lanes, or memory times
+/// passes, before any memory is allocated. Otherwise [`Unverified::Refused`] with the error of
+/// [`verify_encoded_ext`](crate::verify_encoded_ext).
+///
+/// # Examples
+///
+/// ```
+/// use proved_argon2::{self as argon2, Limits, Unverified};
+///
+/// let text = "$argon2i$v=19$m=4096,t=3,p=1$c29tZXNhbHQ$iWh06vD8Fy27wf9npn6FXWiCX4K6pW6Ue1Bnzz07Z8A";
+/// assert!(argon2::verify_encoded_within(text, b"password", &[], &[], &Limits::default())?);
+/// assert!(!argon2::verify_encoded_within(text, b"Password", &[], &[], &Limits::default())?);
+/// let limits = Limits { mem_cost: 4095, ..Limits::default() };
+/// let answer = argon2::verify_encoded_within(text, b"password", &[], &[], &limits);
+/// assert_eq!(answer, Err(Unverified::TooCostly));
+/// # Ok::<(), Unverified>(())
+/// ```
+pub fn verify_encoded_within(
+    encoded: &str,
+    pwd: &[u8],
+    secret: &[u8],
+    ad: &[u8],
+    limits: &Limits,
+) -> result::Result<bool, Unverified> {
+    Run::new().verify_encoded_within(encoded, pwd, secret, ad, limits)
+}
+
+/// Verifies as [`verify_encoded_within`] does, in a reusable buffer.
+///
+/// # Errors
+///
+/// As [`verify_encoded_within`]. A hash above the limits leaves the buffer unchanged.
+pub fn verify_encoded_within_in(
+    memory: &mut Memory,
+    encoded: &str,
+    pwd: &[u8],
+    secret: &[u8],
+    ad: &[u8],
+    limits: &Limits,
+) -> result::Result<bool, Unverified> {
+    Run::new().over(memory).verify_encoded_within(encoded, pwd, secret, ad, limits)
+}
+
+/// Verifies a password against an encoded hash that is within the default limits, without a secret
+/// and associated data.
+///
+/// # Errors
+///
+/// As [`verify_encoded_within`].
+pub fn verify_password(encoded: &str, pwd: &[u8]) -> result::Result<bool, Unverified> {
+    verify_encoded_within(encoded, pwd, &[], &[], &Limits::default())
 }
 
 /// Verifies a password against a raw hash (tag). `config.hash_length` is ignored.
@@ -99,17 +147,6 @@ pub fn verify_raw(pwd: &[u8], salt: &[u8], hash: &[u8], config: &Config<'_>) -> 
 /// # Errors
 ///
 /// As [`verify_raw`].
-///
-/// # Examples
-///
-/// ```
-/// use proved_argon2::{self as argon2, Config, Memory};
-///
-/// let mut memory = Memory::new();
-/// let hash = argon2::hash_raw_in(&mut memory, b"password", b"somesalt", &Config::owasp5())?;
-/// assert!(argon2::verify_raw_in(&mut memory, b"password", b"somesalt", &hash, &Config::owasp5())?);
-/// # Ok::<(), argon2::Error>(())
-/// ```
 pub fn verify_raw_in(
     memory: &mut Memory,
     pwd: &[u8],
@@ -145,4 +182,64 @@ pub fn needs_rehash(encoded: &str, config: &Config<'_>) -> Result<bool> {
         NEEDS_REHASH => Ok(true),
         number => Err(Error::of_number(number)),
     }
+}
+
+/// What an encoded hash decodes to: its settings, and the lengths of its salt and its hash in
+/// bytes.
+#[derive(Clone, Copy, Debug, Eq, PartialEq)]
+pub struct Stored {
+    /// The length of the hash in bytes; 2^32 - 1 for a longer one.
+    pub hash_length: u32,
+
+    /// The lanes.
+    pub lanes: u32,
+
+    /// The memory in KiB.
+    pub mem_cost: u32,
+
+    /// The length of the salt in bytes; 2^32 - 1 for a longer one.
+    pub salt_length: u32,
+
+    /// The passes over the memory.
+    pub time_cost: u32,
+
+    /// The variant.
+    pub variant: Variant,
+
+    /// The version, 0x10 if the encoded hash names none.
+    pub version: Version,
+}
+
+/// Decodes an encoded hash. Nothing is verified, and settings that no hash is made with are decoded
+/// too.
+///
+/// To verify a hash that others may have written, use [`verify_encoded_within`].
+///
+/// # Errors
+///
+/// [`Error::DecodingFail`] for a string that decodes to no hash, or [`Error::OutOfMemory`].
+///
+/// # Examples
+///
+/// ```
+/// use proved_argon2::{self as argon2, Variant};
+///
+/// let stored = argon2::read("$argon2i$v=19$m=4096,t=3,p=1$c29tZXNhbHQ$iWh06vD8Fy27wf9npn6FXWiCX4K6pW6Ue1Bnzz07Z8A")?;
+/// assert_eq!((stored.variant, stored.mem_cost, stored.time_cost), (Variant::Argon2i, 4096, 3));
+/// assert_eq!((stored.lanes, stored.salt_length, stored.hash_length), (1, 8, 32));
+/// # Ok::<(), argon2::Error>(())
+/// ```
+pub fn read(encoded: &str) -> Result<Stored> {
+    let (number, stored) = face::read(encoded);
+    require_done(number)?;
+    let settings = stored.settings;
+    Ok(Stored {
+        hash_length: settings.hash_length,
+        lanes: settings.lanes,
+        mem_cost: settings.mem_cost,
+        salt_length: stored.salt_length,
+        time_cost: settings.time_cost,
+        variant: Variant::from_u32(settings.variant)?,
+        version: Version::from_u32(settings.version)?,
+    })
 }

@@ -11,7 +11,6 @@
 #include <stdio.h>
 #include <string.h>
 #include <sys/random.h>
-#include <sys/resource.h>
 #include <sys/syscall.h>
 #include <time.h>
 #include <unistd.h>
@@ -102,10 +101,16 @@ static void *log_in_often(void *arg)
     return NULL;
 }
 
+/* (getrusage counts the memory of the process that began this one) */
 static long peak_kib(void)
 {
-    struct rusage usage;
-    return getrusage(RUSAGE_SELF, &usage) == 0 ? usage.ru_maxrss : 0;
+    long kib = 0;
+    char line[128];
+    FILE *const status = fopen("/proc/self/status", "r");
+    while (status != NULL && kib == 0 && fgets(line, sizeof line, status) != NULL)
+        sscanf(line, "VmHWM: %ld", &kib);
+    if (status != NULL) fclose(status);
+    return kib;
 }
 
 int main(void)
@@ -128,6 +133,6 @@ int main(void)
     const long grown = peak_kib() - before, most = PLACES * (long)proved_argon2_owasp2().mem_cost + SLACK_KIB;
     printf("%d match, %d differ, %d busy, %d errors; %d wrong; %ld KiB of %ld\n", seen[MATCHES], seen[DIFFERS],
         seen[BUSY], seen[ERROR], wrong, grown, most);
-    return !(seen[MATCHES] && seen[DIFFERS] && seen[BUSY] && seen[ERROR] && !wrong && grown <= most && is_bounded()
-        && keeps_the_old_hash());
+    return !(seen[MATCHES] && seen[DIFFERS] && seen[BUSY] && seen[ERROR] && !wrong && grown > 0 && grown <= most
+        && is_bounded() && keeps_the_old_hash());
 }

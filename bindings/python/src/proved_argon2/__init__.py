@@ -12,10 +12,6 @@ argon2-cffi.
 memory in KiB, lengths in bytes, and the time in passes.
 """
 from . import exceptions, low_level, profiles
-from ._async import AsyncPasswordHasher
-from ._legacy import hash_password, hash_password_raw, verify_password
-from ._limits import DEFAULT_LIMITS, Limits
-from ._parameters import Parameters, extract_parameters
 from ._password_hasher import (
     DEFAULT_HASH_LENGTH,
     DEFAULT_MEMORY_COST,
@@ -23,9 +19,13 @@ from ._password_hasher import (
     DEFAULT_RANDOM_SALT_LENGTH,
     DEFAULT_TIME_COST,
     PasswordHasher,
+    extract_parameters,
+    hash_password,
+    hash_password_raw,
+    verify_password,
 )
-from ._peppers import PepperedHasher
-from ._tuning import Tuning, tune
+from ._service import AsyncPasswordHasher, PepperedHasher, Tuning, tune
+from ._settings import DEFAULT_LIMITS, Limits, Parameters
 from .low_level import Type
 
 __version__ = "1.0.0"

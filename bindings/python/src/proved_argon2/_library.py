@@ -3,14 +3,13 @@ import ctypes
 import os
 import sys
 
-from ._telling import Telling, runs_handlers
-
 TYPE_CHECKING = False
 if TYPE_CHECKING:
-    from typing import Any, Callable, Iterator, List, Optional, Tuple, Type, Union
+    from typing import Any, Callable, Dict, Generator, Iterator, List, Optional, Sequence, Tuple, Type, Union
 
     from ._memory import Memory, Pages
-    from ._telling import Progress
+
+    Progress = Callable[[int, int], object]
 
 SONAME = "libproved_argon2.so.1"
 VARIABLE = "PROVED_ARGON2_LIBRARY"
@@ -104,51 +103,42 @@ def _files() -> "Iterator[str]":
 # The types of what each call takes, and of what it returns.
 _BYTES: "List[Any]" = [ctypes.c_char_p, ctypes.c_size_t]
 _SETTINGS: "List[Any]" = [ctypes.POINTER(Settings)]
-_OPTIONS: "List[Any]" = [ctypes.POINTER(Options)]
-_CALLS: "Tuple[Tuple[str, List[Any], Any], ...]" = (
-    ("hash_raw_with", _OPTIONS + 4 * _BYTES + _SETTINGS + _BYTES, ctypes.c_uint32),
-    ("hash_encoded_with", _OPTIONS + 4 * _BYTES + _SETTINGS + _BYTES, ctypes.c_uint32),
-    ("verify_encoded_with", _OPTIONS + 4 * _BYTES, ctypes.c_uint32),
-    ("default_limits", [], NumberLimits),
-    ("read", [*_BYTES, ctypes.POINTER(Stored)], ctypes.c_uint32),
-    ("encoded_len", [*_SETTINGS, ctypes.c_uint32], ctypes.c_uint64),
-    ("memory_len", _SETTINGS, ctypes.c_uint64),
-    ("memory_new", [*_SETTINGS, ctypes.POINTER(ctypes.c_void_p), ctypes.POINTER(ctypes.c_size_t)], ctypes.c_uint32),
-    ("memory_free", [ctypes.c_void_p, ctypes.c_size_t], None),
-    ("message", [ctypes.c_uint32], ctypes.c_char_p),
-    ("check", [*_SETTINGS, *4 * [ctypes.c_uint64]], ctypes.c_uint32),
-    ("library_version", [], ctypes.c_uint32),
-)
-
-
-def _bound(file: str) -> ctypes.CDLL:
-    """The shared object in a file, with the types of its calls."""
-    library = ctypes.CDLL(file)
-    for name, arguments, result in _CALLS:
-        call = getattr(library, f"proved_argon2_{name}")
-        call.argtypes, call.restype = arguments, result
-    return library
+_HASHING: "List[Any]" = [ctypes.POINTER(Options), *4 * _BYTES, *_SETTINGS, *_BYTES]
+_CALLS: "Dict[str, Tuple[List[Any], Any]]" = {
+    "hash_raw_with": (_HASHING, ctypes.c_uint32),
+    "hash_encoded_with": (_HASHING, ctypes.c_uint32),
+    "verify_encoded_with": ([ctypes.POINTER(Options), *4 * _BYTES], ctypes.c_uint32),
+    "default_limits": ([], NumberLimits),
+    "read": ([*_BYTES, ctypes.POINTER(Stored)], ctypes.c_uint32),
+    "encoded_len": ([*_SETTINGS, ctypes.c_uint32], ctypes.c_uint64),
+    "memory_len": (_SETTINGS, ctypes.c_uint64),
+    "memory_new": ([*_SETTINGS, ctypes.POINTER(ctypes.c_void_p), ctypes.POINTER(ctypes.c_size_t)], ctypes.c_uint32),
+    "memory_free": ([ctypes.c_void_p, ctypes.c_size_t], None),
+    "message": ([ctypes.c_uint32], ctypes.c_char_p),
+    "check": ([*_SETTINGS, *4 * [ctypes.c_uint64]], ctypes.c_uint32),
+    "library_version": ([], ctypes.c_uint32),
+}
 
 
 def _load() -> ctypes.CDLL:
+    """The shared object, with the types of its calls."""
     reasons = []
     for file in _files():
         try:
-            library = _bound(file)
+            library = ctypes.CDLL(file)
+            for name, types in _CALLS.items():
+                call = getattr(library, f"proved_argon2_{name}")
+                call.argtypes, call.restype = types
         except (OSError, AttributeError) as error:
             reasons.append(str(error))
             continue
         if library.proved_argon2_library_version() == 0:
             raise ImportError(f"{file} has no build for a processor as old as this one")
         return library
-    raise ImportError(f"{SONAME} cannot be loaded: {_advice()}, or name the file in {VARIABLE} ({'; '.join(reasons)})")
-
-
-def _advice() -> str:
-    """What makes a shared object for this system."""
-    if sys.platform == "linux":
-        return "run ./install in the repository of proved-argon2, which needs the GNU C library 2.34 or newer"
-    return f"it is built for Linux, and not for {sys.platform}; compile the library as C (docs/INSTALL.md)"
+    advice = "run ./install in the repository of proved-argon2, which needs the GNU C library 2.34 or newer"
+    if sys.platform != "linux":
+        advice = f"it is built for Linux, and not for {sys.platform}; compile the library as C (docs/INSTALL.md)"
+    raise ImportError(f"{SONAME} cannot be loaded: {advice}, or name the file in {VARIABLE} ({'; '.join(reasons)})")
 
 
 _library = _load()
@@ -167,7 +157,7 @@ def _length(piece: bytes) -> int:
     return bytes.__len__(piece)
 
 
-def _slices(*pieces: bytes) -> "List[Union[bytes, int]]":
+def _slices(pieces: "Sequence[bytes]") -> "List[Union[bytes, int]]":
     """Each piece and its length. An empty piece has an address too."""
     arguments: "List[Union[bytes, int]]" = []
     for piece in pieces:
@@ -188,6 +178,52 @@ def _buffer(length: int) -> "ctypes.Array[ctypes.c_char]":
         raise Refused(OUT_OF_MEMORY) from None
 
 
+class Telling:
+    """The progress callback of a call, if there is anything to call: `progress`, and handlers of signals. What they
+    raise stops the call, and is raised out of `with`.
+
+    The callback resumes a generator, since handlers run when that is resumed, which is within its `try`. In a function
+    they would run before its first line, and what they raise would be lost.
+    """
+
+    def __init__(self, progress: "Optional[Progress]", slices: int) -> None:
+        self._raised: "List[BaseException]" = []
+        self._is_entered = False
+        generator = self._answers(progress, slices)
+        next(generator)
+        self.send = generator.send
+
+    def _answers(self, progress: "Optional[Progress]", slices: int) -> "Generator[int, object, None]":
+        """Yields whether to stop, once for each slice that is filled, and once before."""
+        try:
+            yield 0
+            for done in range(1, slices + 1):
+                if progress is not None:
+                    progress(done, slices)
+                yield 0
+        except BaseException as error:
+            if not self._is_entered:  # the generator is closed
+                raise
+            self._raised.append(error)
+        while True:
+            yield 1
+
+    def __enter__(self) -> "Telling":
+        self._is_entered = True
+        return self
+
+    def __exit__(self, *_: object) -> None:
+        self._is_entered = False
+        if self._raised:
+            raise self._raised.pop()
+
+
+def _runs_handlers() -> bool:
+    """Whether handlers of signals run in this thread: Python runs them in the main one alone."""
+    threading = sys.modules.get("threading")
+    return threading is None or threading.get_ident() == threading.main_thread().ident
+
+
 def _options(
     threads: int, limits: "Optional[NumberLimits]", pages: "Optional[Pages]", telling: "Optional[Telling]"
 ) -> Options:
@@ -203,113 +239,73 @@ def _options(
 
 
 def _compute(
-    call: "Callable[[Options], Any]",
-    threads: int,
+    call: "Callable[[Options], int]",
     settings: Settings,
     memory: "Optional[Memory]",
     progress: "Optional[Progress]",
     limits: "Optional[NumberLimits]" = None,
 ) -> None:
-    """Make a call in the pages of a memory, or in its own, with a progress callback if there is one."""
-    if progress is None and not runs_handlers():
-        _require(_over_memory(lambda pages: call(_options(threads, limits, pages, None)), settings, memory))
+    """Make a call of a thread a lane, in the pages of a memory or in its own. A call that finds the pages too small is
+    repeated in pages that fit its settings: only then are they known to be accepted.
+    """
+
+    def over_memory(telling: "Optional[Telling]") -> int:
+        if memory is None:
+            return call(_options(settings.lanes, limits, None, telling))
+        with memory.pages_for_call() as pages:
+            number = call(_options(settings.lanes, limits, pages, telling))
+            if number == OUT_OF_MEMORY and pages.grow(settings):
+                number = call(_options(settings.lanes, limits, pages, telling))
+        return number
+
+    if progress is None and not _runs_handlers():
+        _require(over_memory(None))
         return
     with Telling(progress, 4 * settings.time_cost) as telling:
-        number = _over_memory(lambda pages: call(_options(threads, limits, pages, telling)), settings, memory)
+        number = over_memory(telling)
     _require(number)
 
 
-def _over_memory(call: "Callable[[Optional[Pages]], Any]", settings: Settings, memory: "Optional[Memory]") -> int:
-    """What a call returns. A call that finds the pages of a memory too small is repeated in pages that fit its
-    settings: only then are they known to be accepted.
-    """
-    number: int
-    if memory is None:
-        number = call(None)
-        return number
-    with memory.pages_for_call() as pages:
-        number = call(pages)
-        if number == OUT_OF_MEMORY and pages.grow(settings):
-            number = call(pages)
-    return number
-
-
-def hash_raw(
-    pwd: bytes,
-    salt: bytes,
-    secret: bytes,
-    ad: bytes,
+def hash_pieces(
+    is_encoded: bool,
+    pieces: "Sequence[bytes]",
     settings: Settings,
-    memory: "Optional[Memory]" = None,
-    progress: "Optional[Progress]" = None,
+    memory: "Optional[Memory]",
+    progress: "Optional[Progress]",
 ) -> bytes:
-    """The tag, computed by a thread a lane. The settings are checked first, before any memory is allocated."""
-    arguments = [*_slices(pwd, salt, secret, ad), settings]
-    _require(_library.proved_argon2_check(settings, *map(_length, (pwd, salt, secret, ad))))
-    tag = _buffer(settings.hash_length)
-    _compute(
-        lambda options: _library.proved_argon2_hash_raw_with(options, *arguments, tag, len(tag)),
-        settings.lanes,
-        settings,
-        memory,
-        progress,
-    )
-    return tag.raw
-
-
-def hash_encoded(
-    pwd: bytes,
-    salt: bytes,
-    secret: bytes,
-    ad: bytes,
-    settings: Settings,
-    memory: "Optional[Memory]" = None,
-    progress: "Optional[Progress]" = None,
-) -> bytes:
-    """The encoded hash, computed by a thread a lane. The settings are checked first, before any memory is
-    allocated.
+    """The tag, or the encoded hash, of password, salt, secret and associated data. The settings are checked first,
+    before any memory is allocated.
     """
-    arguments = [*_slices(pwd, salt, secret, ad), settings]
-    _require(_library.proved_argon2_check(settings, *map(_length, (pwd, salt, secret, ad))))
-    text = _buffer(_library.proved_argon2_encoded_len(settings, _length(salt)) + 1)
-    _compute(
-        lambda options: _library.proved_argon2_hash_encoded_with(options, *arguments, text, len(text)),
-        settings.lanes,
-        settings,
-        memory,
-        progress,
-    )
-    return text.value
+    arguments = [*_slices(pieces), settings]
+    _require(_library.proved_argon2_check(settings, *map(_length, pieces)))
+    if is_encoded:
+        call = _library.proved_argon2_hash_encoded_with
+        out = _buffer(_library.proved_argon2_encoded_len(settings, _length(pieces[1])) + 1)
+    else:
+        call = _library.proved_argon2_hash_raw_with
+        out = _buffer(settings.hash_length)
+    _compute(lambda options: int(call(options, *arguments, out, len(out))), settings, memory, progress)
+    return out.value if is_encoded else out.raw
 
 
-def verify_encoded(
-    text: bytes,
+def verify_pieces(
+    pieces: "Sequence[bytes]",
     settings: Settings,
-    pwd: bytes,
-    secret: bytes,
-    ad: bytes,
-    limits: "Optional[NumberLimits]" = None,
-    memory: "Optional[Memory]" = None,
-    progress: "Optional[Progress]" = None,
+    limits: "Optional[NumberLimits]",
+    memory: "Optional[Memory]",
+    progress: "Optional[Progress]",
 ) -> None:
-    """Return if the encoded hash of these settings matches the password and is within the limits, and otherwise raise
-    `Refused`. It is computed by a thread a lane, up to the library's own maximum.
+    """Return if the encoded hash, of these settings, matches password, secret and associated data and is within the
+    limits, and otherwise raise `Refused`. By the library's own maximum it takes fewer threads than lanes.
     """
-    arguments = _slices(text, pwd, secret, ad)
-    _compute(
-        lambda options: _library.proved_argon2_verify_encoded_with(options, *arguments),
-        settings.lanes,
-        settings,
-        memory,
-        progress,
-        limits,
-    )
+    arguments = _slices(pieces)
+    call = _library.proved_argon2_verify_encoded_with
+    _compute(lambda options: int(call(options, *arguments)), settings, memory, progress, limits)
 
 
 def memory_len(settings: Settings) -> int:
     """The bytes that a call with these settings needs for its blocks."""
-    length: int = _library.proved_argon2_memory_len(settings)
-    return length
+    return int(_library.proved_argon2_memory_len(settings))
 
 
 def memory_new(settings: Settings) -> "Tuple[int, int]":
@@ -339,11 +335,4 @@ def read(text: bytes) -> Stored:
 
 def message(number: int) -> str:
     """The message of an error's number, which has 32 bits."""
-    text: bytes = _library.proved_argon2_message(number)
-    return text.decode("ascii")
-
-
-def version() -> "Tuple[int, int, int]":
-    """The version of the shared object."""
-    number = _library.proved_argon2_library_version()
-    return number // 1_000_000, number // 1_000 % 1_000, number % 1_000
+    return str(_library.proved_argon2_message(number), "ascii")

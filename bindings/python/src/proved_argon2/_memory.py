@@ -2,12 +2,13 @@
 import ctypes
 import time
 from collections import deque
+from contextlib import contextmanager
 
 from ._library import Refused, Settings, memory_free, memory_len, memory_new
 
 TYPE_CHECKING = False
 if TYPE_CHECKING:
-    from typing import Callable, Deque, Tuple, Type
+    from typing import Callable, Deque, Iterator, Tuple, Type
 
 # So many seconds is a buffer kept that no call uses.
 IDLE_SECONDS = 60
@@ -64,30 +65,19 @@ class Memory:
     def __reduce__(self) -> "Tuple[Type[Memory], Tuple[()]]":
         return Memory, ()
 
-    def pages_for_call(self) -> "_CallPages":
+    @contextmanager
+    def pages_for_call(self) -> "Iterator[Pages]":
         """For `with`: pages that no other call uses meanwhile."""
-        return _CallPages(self._free)
-
-
-class _CallPages:
-    """Pages that are taken from the free ones, and put back."""
-
-    __slots__ = ("_free", "_pages")
-
-    def __init__(self, free: "Deque[Pages]") -> None:
-        self._free = free
-
-    def __enter__(self) -> Pages:
         try:
-            self._pages = self._free.pop()
+            pages = self._free.pop()
         except IndexError:
-            self._pages = Pages()
-        return self._pages
-
-    def __exit__(self, *_: object) -> None:
-        self._pages.used = time.monotonic()
-        self._free.append(self._pages)
-        self._give_back_idle(self._pages.used - IDLE_SECONDS)
+            pages = Pages()
+        try:
+            yield pages
+        finally:
+            pages.used = time.monotonic()
+            self._free.append(pages)
+            self._give_back_idle(pages.used - IDLE_SECONDS)
 
     def _give_back_idle(self, since: float) -> None:
         """Free what no call has used since then: it is at the left. Other threads take from the right meanwhile."""

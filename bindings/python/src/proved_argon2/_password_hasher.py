@@ -1,19 +1,29 @@
-"""Passwords as encoded hashes, to be stored."""
+"""Passwords as encoded hashes, to be stored; and the calls that argon2-cffi had before `PasswordHasher`, each of which
+warns that it is deprecated, as there."""
 import os
+import warnings
 
 from ._library import Refused, Settings, read, require_number
-from ._limits import DEFAULT_LIMITS, Limits, default_limits_of
 from ._memory import Memory
-from ._parameters import Parameters, extract_parameters
+from ._settings import DEFAULT_LIMITS, Limits, Parameters, default_limits_of
 from .exceptions import HashingError, InvalidHashError, VerificationError, VerifyMismatchError
-from .low_level import ARGON2_VERSION, Type, hash_secret, numbers_of, reading_error, verify_of_settings
+from .low_level import (
+    ARGON2_VERSION,
+    Type,
+    hash_secret,
+    hash_secret_raw,
+    numbers_of,
+    reading_error,
+    verify_of_settings,
+    verify_secret,
+)
 from .profiles import RFC_9106_LOW_MEMORY
 
 TYPE_CHECKING = False
 if TYPE_CHECKING:
-    from typing import Any, Dict, Literal, Optional, Tuple, Union
+    from typing import Any, Literal, Optional, Tuple, Union
 
-    from ._telling import Progress
+    from ._library import Progress
 
 DEFAULT_RANDOM_SALT_LENGTH = RFC_9106_LOW_MEMORY.salt_len
 DEFAULT_HASH_LENGTH = RFC_9106_LOW_MEMORY.hash_len
@@ -24,7 +34,25 @@ DEFAULT_PARALLELISM = RFC_9106_LOW_MEMORY.parallelism
 _BEGINNINGS = (b"$argon2i$", b"$argon2d$", b"$argon2id")
 
 
-def _require_types(settings: "Dict[str, Tuple[Any, Any]]") -> None:
+def extract_parameters(hash: "Union[str, bytes]") -> Parameters:
+    """Decode the settings of an encoded hash, and verify nothing.
+
+    Raises `InvalidHashError` if the string decodes to no hash, and `MemoryError` if there is no memory to decode it. An
+    encoded hash that names no version has version 16, which is 0x10.
+    """
+    text = hash.encode("utf-8", "surrogatepass") if isinstance(hash, str) else hash
+    try:
+        stored = read(text)
+    except Refused as refused:
+        raise reading_error(refused) from None
+    settings = stored.settings
+    return Parameters(
+        Type(settings.variant), settings.version, stored.salt_length, settings.hash_length, settings.time_cost,
+        settings.mem_cost, settings.lanes,
+    )
+
+
+def _require_types(**settings: "Tuple[Any, Any]") -> None:
     """Name all settings of another type than theirs. A bool is no number."""
     wrong = [
         f"'{name}' must be {kind.__name__}, not {value.__class__.__name__}"
@@ -66,26 +94,12 @@ class PasswordHasher:
         keep_memory: bool = False,
         secret: bytes = b"",
     ) -> None:
-        _require_types({
-            "time_cost": (time_cost, int),
-            "memory_cost": (memory_cost, int),
-            "parallelism": (parallelism, int),
-            "hash_len": (hash_len, int),
-            "salt_len": (salt_len, int),
-            "encoding": (encoding, str),
-            "type": (type, Type),
-            "keep_memory": (keep_memory, bool),
-            "secret": (secret, bytes),
-        })
-        self._parameters = Parameters(
-            type=type,
-            version=ARGON2_VERSION,
-            salt_len=salt_len,
-            hash_len=hash_len,
-            time_cost=time_cost,
-            memory_cost=memory_cost,
-            parallelism=parallelism,
+        _require_types(
+            time_cost=(time_cost, int), memory_cost=(memory_cost, int), parallelism=(parallelism, int),
+            hash_len=(hash_len, int), salt_len=(salt_len, int), encoding=(encoding, str), type=(type, Type),
+            keep_memory=(keep_memory, bool), secret=(secret, bytes),
         )
+        self._parameters = Parameters(type, ARGON2_VERSION, salt_len, hash_len, time_cost, memory_cost, parallelism)
         self.encoding = encoding
         is_default = limits is DEFAULT_LIMITS
         self.limits = default_limits_of(memory_cost, time_cost, parallelism) if is_default else limits
@@ -103,15 +117,8 @@ class PasswordHasher:
     ) -> "PasswordHasher":
         """A hasher with these settings. Its version is `ARGON2_VERSION`, whatever theirs is."""
         return cls(
-            time_cost=params.time_cost,
-            memory_cost=params.memory_cost,
-            parallelism=params.parallelism,
-            hash_len=params.hash_len,
-            salt_len=params.salt_len,
-            type=params.type,
-            limits=limits,
-            keep_memory=keep_memory,
-            secret=secret,
+            params.time_cost, params.memory_cost, params.parallelism, params.hash_len, params.salt_len,
+            type=params.type, limits=limits, keep_memory=keep_memory, secret=secret,
         )
 
     @property
@@ -180,15 +187,8 @@ class PasswordHasher:
         if salt is None:
             require_number("salt_len", self.salt_len, HashingError)
         return hash_secret(
-            secret=self._password_bytes(password),
-            salt=os.urandom(self.salt_len) if salt is None else salt,
-            time_cost=self.time_cost,
-            memory_cost=self.memory_cost,
-            parallelism=self.parallelism,
-            hash_len=self.hash_len,
-            type=self.type,
-            key=self._secret,
-            memory=self._memory,
+            self._password_bytes(password), os.urandom(self.salt_len) if salt is None else salt, self.time_cost,
+            self.memory_cost, self.parallelism, self.hash_len, self.type, key=self._secret, memory=self._memory,
             progress=progress,
         ).decode("ascii")
 
@@ -204,7 +204,7 @@ class PasswordHasher:
         """
         text, secret = self._text_bytes(hash), self._password_bytes(password)
         settings, limits = self._settings_of(text), numbers_of(self.limits)
-        return verify_of_settings(text, settings, secret, self._secret, b"", limits, self._memory, progress)
+        return verify_of_settings(settings, (text, secret, self._secret, b""), limits, self._memory, progress)
 
     def verify_and_update(
         self,
@@ -265,3 +265,46 @@ class PasswordHasher:
             return hash.encode("ascii")
         except UnicodeEncodeError:
             raise InvalidHashError("a hash is ASCII") from None
+
+
+def _warn(name: str) -> None:
+    """Warn in the words of argon2-cffi, by which programs choose the warnings that they ignore."""
+    warnings.warn(f"argon2.{name} is deprecated, use argon2.PasswordHasher instead", DeprecationWarning, stacklevel=3)
+
+
+def _salt_or_random(salt: "Optional[bytes]") -> bytes:
+    return os.urandom(DEFAULT_RANDOM_SALT_LENGTH) if salt is None else salt
+
+
+def hash_password(
+    password: bytes,
+    salt: "Optional[bytes]" = None,
+    time_cost: int = DEFAULT_TIME_COST,
+    memory_cost: int = DEFAULT_MEMORY_COST,
+    parallelism: int = DEFAULT_PARALLELISM,
+    hash_len: int = DEFAULT_HASH_LENGTH,
+    type: Type = Type.I,
+) -> bytes:
+    """Deprecated. Call `low_level.hash_secret` with defaults, Argon2i, and a random salt if none is passed."""
+    _warn("hash_password")
+    return hash_secret(password, _salt_or_random(salt), time_cost, memory_cost, parallelism, hash_len, type)
+
+
+def hash_password_raw(
+    password: bytes,
+    salt: "Optional[bytes]" = None,
+    time_cost: int = DEFAULT_TIME_COST,
+    memory_cost: int = DEFAULT_MEMORY_COST,
+    parallelism: int = DEFAULT_PARALLELISM,
+    hash_len: int = DEFAULT_HASH_LENGTH,
+    type: Type = Type.I,
+) -> bytes:
+    """Deprecated. Call `low_level.hash_secret_raw` with defaults, Argon2i, and a random salt if none is passed."""
+    _warn("hash_password_raw")
+    return hash_secret_raw(password, _salt_or_random(salt), time_cost, memory_cost, parallelism, hash_len, type)
+
+
+def verify_password(hash: bytes, password: bytes, type: Type = Type.I) -> "Literal[True]":
+    """Deprecated. Call `low_level.verify_secret`, with Argon2i if no variant is named."""
+    _warn("verify_password")
+    return verify_secret(hash, password, type)

@@ -21,15 +21,14 @@ from ._library import (
     NumberLimits,
     Refused,
     Settings,
-    hash_encoded,
-    hash_raw,
+    hash_pieces,
     message,
     read,
     require_number,
-    verify_encoded,
+    verify_pieces,
 )
-from ._limits import Limits
 from ._memory import Memory
+from ._settings import Limits
 from .exceptions import (
     Argon2Error,
     HashingError,
@@ -41,9 +40,9 @@ from .exceptions import (
 
 TYPE_CHECKING = False
 if TYPE_CHECKING:
-    from typing import Literal, Optional
+    from typing import Literal, Optional, Sequence
 
-    from ._telling import Progress
+    from ._library import Progress
 
 ARGON2_VERSION = 19
 """The version of RFC 9106, 0x13."""
@@ -73,17 +72,6 @@ class Type(Enum):
     """References are drawn from no block in the first half of the first pass. The one to choose."""
 
 
-def _settings(
-    time_cost: int, memory_cost: int, parallelism: int, hash_len: int, type: Type, version: int
-) -> Settings:
-    """The settings, if each is a number of 32 bits."""
-    names = ("version", "memory_cost", "time_cost", "parallelism", "hash_len")
-    numbers = (version, memory_cost, time_cost, parallelism, hash_len)
-    for name, number in zip(names, numbers):
-        require_number(name, number, HashingError)
-    return Settings(Type(type).value, *numbers)
-
-
 def _require_bytes(**pieces: bytes) -> None:
     for name, piece in pieces.items():
         if not isinstance(piece, bytes):
@@ -110,11 +98,8 @@ def hash_secret(
     Raises `HashingError` if the settings are rejected or memory cannot be allocated.
     """
     _require_bytes(secret=secret, salt=salt, key=key, associated_data=associated_data)
-    settings = _settings(time_cost, memory_cost, parallelism, hash_len, type, version)
-    try:
-        return hash_encoded(secret, salt, key, associated_data, settings, memory, progress)
-    except Refused as refused:
-        raise HashingError(str(refused)) from None
+    numbers = (version, memory_cost, time_cost, parallelism, hash_len)
+    return _hash(True, (secret, salt, key, associated_data), numbers, type, memory, progress)
 
 
 def hash_secret_raw(
@@ -137,9 +122,23 @@ def hash_secret_raw(
     Raises `HashingError` if the settings are rejected or memory cannot be allocated.
     """
     _require_bytes(secret=secret, salt=salt, key=key, associated_data=associated_data)
-    settings = _settings(time_cost, memory_cost, parallelism, hash_len, type, version)
+    numbers = (version, memory_cost, time_cost, parallelism, hash_len)
+    return _hash(False, (secret, salt, key, associated_data), numbers, type, memory, progress)
+
+
+def _hash(
+    is_encoded: bool,
+    pieces: "Sequence[bytes]",
+    numbers: "Sequence[int]",
+    type: Type,
+    memory: "Optional[Memory]",
+    progress: "Optional[Progress]",
+) -> bytes:
+    """Hash with settings, if each is a number of 32 bits."""
+    for name, number in zip(("version", "memory_cost", "time_cost", "parallelism", "hash_len"), numbers):
+        require_number(name, number, HashingError)
     try:
-        return hash_raw(secret, salt, key, associated_data, settings, memory, progress)
+        return hash_pieces(is_encoded, pieces, Settings(Type(type).value, *numbers), memory, progress)
     except Refused as refused:
         raise HashingError(str(refused)) from None
 
@@ -169,22 +168,19 @@ def verify_secret(
             raise Refused(DECODING_FAIL)
     except Refused as refused:
         raise VerificationError(str(refused)) from None
-    return verify_of_settings(hash, settings, secret, key, associated_data, numbers, memory, progress)
+    return verify_of_settings(settings, (hash, secret, key, associated_data), numbers, memory, progress)
 
 
 def verify_of_settings(
-    hash: bytes,
     settings: Settings,
-    secret: bytes,
-    key: bytes,
-    associated_data: bytes,
+    pieces: "Sequence[bytes]",
     limits: "Optional[NumberLimits]",
     memory: "Optional[Memory]",
     progress: "Optional[Progress]",
 ) -> "Literal[True]":
     """`verify_secret` of an encoded hash that was read: of these settings."""
     try:
-        verify_encoded(hash, settings, secret, key, associated_data, limits, memory, progress)
+        verify_pieces(pieces, settings, limits, memory, progress)
     except Refused as refused:
         errors = {MISMATCH: VerifyMismatchError, TOO_COSTLY: TooCostlyError}
         raise errors.get(refused.number, VerificationError)(str(refused)) from None
@@ -197,7 +193,7 @@ def numbers_of(limits: "Optional[Limits]") -> "Optional[NumberLimits]":
         return None
     if not isinstance(limits, Limits):
         raise TypeError(f"'limits' must be Limits, not {limits.__class__.__name__}")
-    return NumberLimits(limits.memory_cost, limits.time_cost, limits.parallelism, limits.work)
+    return NumberLimits(*limits._values())
 
 
 def error_to_str(error: int) -> str:

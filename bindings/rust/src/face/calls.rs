@@ -4,54 +4,35 @@ use super::{Limits, Options, Settings, Stored};
 use std::ffi::c_void;
 
 #[allow(dead_code)] // some are called by tests alone
+#[rustfmt::skip] // as the headers are laid out
 extern "C" {
     pub fn proved_argon2_check(
-        settings: *const Settings,
-        pwd_len: u64,
-        salt_len: u64,
-        secret_len: u64,
-        ad_len: u64,
-    ) -> u32;
+        settings: *const Settings, pwd_len: u64, salt_len: u64, secret_len: u64, ad_len: u64) -> u32;
     pub fn proved_argon2_default_limits() -> Limits;
     pub fn proved_argon2_encoded_len(settings: *const Settings, salt_len: u32) -> u64;
     pub fn proved_argon2_hash_encoded_with(
         options: *const Options,
-        pwd: *const u8,
-        pwd_len: usize,
-        salt: *const u8,
-        salt_len: usize,
-        secret: *const u8,
-        secret_len: usize,
-        ad: *const u8,
-        ad_len: usize,
+        pwd: *const u8, pwd_len: usize,
+        salt: *const u8, salt_len: usize,
+        secret: *const u8, secret_len: usize,
+        ad: *const u8, ad_len: usize,
         settings: *const Settings,
-        text: *mut u8,
-        text_len: usize,
-    ) -> u32;
+        text: *mut u8, text_len: usize) -> u32;
     pub fn proved_argon2_hash_raw_with(
         options: *const Options,
-        pwd: *const u8,
-        pwd_len: usize,
-        salt: *const u8,
-        salt_len: usize,
-        secret: *const u8,
-        secret_len: usize,
-        ad: *const u8,
-        ad_len: usize,
+        pwd: *const u8, pwd_len: usize,
+        salt: *const u8, salt_len: usize,
+        secret: *const u8, secret_len: usize,
+        ad: *const u8, ad_len: usize,
         settings: *const Settings,
-        out: *mut u8,
-        out_len: usize,
-    ) -> u32;
+        out: *mut u8, out_len: usize) -> u32;
     pub fn proved_argon2_library_version() -> u32;
     pub fn proved_argon2_memory_free(memory: *mut c_void, memory_len: usize);
     pub fn proved_argon2_memory_len(settings: *const Settings) -> u64;
-    pub fn proved_argon2_memory_new(
-        settings: *const Settings,
-        memory: *mut *mut c_void,
-        memory_len: *mut usize,
-    ) -> u32;
+    pub fn proved_argon2_memory_new(settings: *const Settings, memory: *mut *mut c_void, memory_len: *mut usize) -> u32;
     pub fn proved_argon2_message(number: u32) -> *const u8;
-    pub fn proved_argon2_needs_rehash(text: *const u8, text_len: usize, settings: *const Settings) -> u32;
+    pub fn proved_argon2_needs_rehash(
+        text: *const u8, text_len: usize, settings: *const Settings) -> u32;
     pub fn proved_argon2_owasp1() -> Settings;
     pub fn proved_argon2_owasp2() -> Settings;
     pub fn proved_argon2_owasp3() -> Settings;
@@ -62,27 +43,16 @@ extern "C" {
     pub fn proved_argon2_rfc9106_low_mem() -> Settings;
     pub fn proved_argon2_verify_encoded_with(
         options: *const Options,
-        text: *const u8,
-        text_len: usize,
-        pwd: *const u8,
-        pwd_len: usize,
-        secret: *const u8,
-        secret_len: usize,
-        ad: *const u8,
-        ad_len: usize,
-    ) -> u32;
+        text: *const u8, text_len: usize,
+        pwd: *const u8, pwd_len: usize,
+        secret: *const u8, secret_len: usize,
+        ad: *const u8, ad_len: usize) -> u32;
     pub fn proved_argon2_verify_raw_with(
         options: *const Options,
-        pwd: *const u8,
-        pwd_len: usize,
-        salt: *const u8,
-        salt_len: usize,
-        secret: *const u8,
-        secret_len: usize,
-        ad: *const u8,
-        ad_len: usize,
+        pwd: *const u8, pwd_len: usize,
+        salt: *const u8, salt_len: usize,
+        secret: *const u8, secret_len: usize,
+        ad: *const u8, ad_len: usize,
         settings: *const Settings,
-        hash: *const u8,
-        hash_len: usize,
-    ) -> u32;
+        hash: *const u8, hash_len: usize) -> u32;
 }
