@@ -6,16 +6,15 @@ import math
 import re
 import textwrap
 from html import escape
-from pathlib import Path
+
+from times import PEERS
 
 WIDTH, MARGIN, LINE, HEIGHT = 480, 16, 18, 260
 # How many letters a line has at most: of a caption, and in bold.
 LETTERS, BOLD_LETTERS = 62, 52
-TABLE = [[cell.strip() for cell in line.split('|')]
-         for line in Path(__file__).with_name('peers.txt').read_text(encoding='utf-8').splitlines() if line[0] != '#']
-LABELS = {name: label for name, label, *_ in TABLE}
+LABELS = {peer.name: peer.label for peer in PEERS}
 # The colour and the dashes of a series, in the order in which they are drawn.
-STYLES = {name: style.partition(' ')[::2] for name, _, style, *_ in TABLE if style}
+STYLES = {peer.name: peer.style.partition(' ')[::2] for peer in PEERS if peer.style}
 SHEET = '''text { font: 14px system-ui, sans-serif; fill: #6e7781 }
 .title { font-size: 16px; font-weight: 600 }
 .own { font-weight: 600 }

@@ -1,7 +1,7 @@
 #!/usr/bin/env python3
 """Times whole hashes of our library beside its peers, in one process, by turns:
 
-    bench/times.py FOLDER SECONDS table|plots [NAME]    one implementation of peers.txt, or all but OpenSSL
+    bench/times.py FOLDER SECONDS table|plots [NAME]    one implementation, or all but OpenSSL
     bench/times.py FOLDER                               prints what each is
 
 Each round runs every implementation once, so that a slow moment of the machine falls on all of them. Each tag is
@@ -17,12 +17,10 @@ import struct
 import subprocess
 import sys
 import time
-from collections import Counter
 from ctypes import addressof, c_size_t, c_uint32, c_uint64, c_void_p, create_string_buffer
 from functools import partial
 from pathlib import Path
-
-from plots import TABLE
+from typing import NamedTuple
 
 PASSWORD, SALT = create_string_buffer(b'password', 8), create_string_buffer(b'somesaltsomesalt', 16)
 TAG_LENGTH, HUGE_PAGE, ARGON2ID, VERSION = 32, 2 << 20, 2, 0x13
@@ -99,7 +97,32 @@ def openssl(library, cost, tag):
     return run
 
 
-MAKERS = {make.__name__: make for make in (ours, reusing, upstream, libsodium, crate, openssl)}
+class Peer(NamedTuple):
+    name: str  # in figures.txt
+    label: str  # on pages
+    style: str  # the colour and the dashes of its line, if it is drawn
+    library: str  # of the machine, or made by bench/run
+    call: object
+    what: str = ''  # it is, where {PACKAGE} is that of Debian here, and {newer PACKAGE} that of Debian 13
+
+
+PEERS = (
+    Peer('v4', 'this library, AVX-512', '#0072b2', 'v4.so', ours),
+    Peer('v3', 'this library, AVX2', '#56b4e9', 'v3.so', ours),
+    Peer('v2', 'this library, no AVX2', '#56b4e9 7 4', 'v2.so', ours),
+    Peer('reusing', 'this library, reusable buffer', '', 'reusing.so', reusing),
+    Peer('libsodium', 'libsodium', '#d55e00', 'libsodium.so.23', libsodium,
+         "Debian's {libsodium23}, which chooses its code by the processor; one lane only"),
+    Peer('reference-native', 'C reference, native', '#009e73', 'reference-native.so', upstream,
+         'the C reference of 20190702, its vector form opt.c, by gcc {gcc} -O3 -march=native'),
+    Peer('reference-v3', 'C reference, AVX2', '', 'reference-v3.so', upstream,
+         'the C reference of 20190702, opt.c, by gcc {gcc} -O3 -march=x86-64-v3'),
+    Peer('libargon2', 'libargon2', '#cc79a7', 'libargon2.so.1', upstream,
+         "Debian's {libargon2-1}: the C reference, its form without vectors"),
+    Peer('rust-argon2', 'rust-argon2 3.0.0', '', 'rust-argon2.so', crate, 'cargo build --release, {rustc}'),
+    Peer('rustcrypto', 'RustCrypto argon2', '', 'rustcrypto.so', crate,
+         "RustCrypto's argon2, Debian's {newer librust-argon2-dev}, cargo build --release, {rustc}; one thread only"),
+    Peer('openssl', 'OpenSSL', '', 'libcrypto.so.3', openssl, "Debian's {newer libssl3t64}, in a process of its own"))
 
 
 def load(path):
@@ -138,9 +161,9 @@ def time_round(hashes, spent):
 
 
 def measure(folder, seconds, run, only=''):
-    loaded = {name: (library, MAKERS[make]) for name, _, _, file, make, *_ in TABLE
-              if make and (name == only or make == 'ours' or not only and make != 'openssl')
-              and (library := load(folder / file))}
+    loaded = {peer.name: (library, peer.call) for peer in PEERS
+              if (peer.name == only or peer.call is ours or not only and peer.call is not openssl)
+              and (library := load(folder / peer.library))}
     for cost in RUNS[run]:
         hashes = prepare(loaded, cost)
         spent = {name: [] for name in hashes if only in ('', name)}
@@ -152,15 +175,6 @@ def measure(folder, seconds, run, only=''):
         print('({}, {}, {}) x {}'.format(*cost), *times, sep='\t', flush=True)
 
 
-def multiplications(path, functions):
-    """How many vector multiplications of 32 bits a library has, by the width of their registers. The compression has
-    one in each step, so a library with none computes it word by word."""
-    functions_of = subprocess.check_output(['objdump', '-d', '--no-show-raw-insn', path], text=True).split('\n\n')
-    widths = Counter(width for text in functions_of if re.search(functions, text.split('\n', 1)[0])
-                     for width in re.findall('pmuludq.*%([xyz])mm', text))
-    return ', '.join(str(widths[width]) for width in 'xyz') if widths else 'none'
-
-
 def version(asked, newer):
     """Of a tool, or a package: `newer PACKAGE` is one of Debian 13, which is in a folder."""
     tools = {'gcc': 'gcc -dumpfullversion', 'rustc': 'rustc --version'}
@@ -170,14 +184,11 @@ def version(asked, newer):
 
 
 def describe(folder):
-    """A line for each that is there. (OpenSSL's Argon2 has no names in its library)"""
-    for name, _, _, file, _, functions, what in TABLE:
-        path = folder / ('newer/usr/lib/x86_64-linux-gnu' if name == 'openssl' else '') / file
-        if what and (path.exists() or load(path)):
-            maps = Path('/proc/self/maps').read_text(encoding='utf-8')
-            found = path if path.exists() else re.search(rf'/\S*{re.escape(file)}\S*', maps)[0]
-            count = multiplications(found, functions) if functions else 'not counted'
-            print('peer', name, re.sub('{(.*?)}', lambda asked: version(asked[1], folder / 'newer'), what), count,
+    """A line for each peer that is there."""
+    for peer in PEERS:
+        path = folder / ('newer/usr/lib/x86_64-linux-gnu' if peer.call is openssl else '') / peer.library
+        if peer.what and (path.exists() or load(path)):
+            print('peer', peer.name, re.sub('{(.*?)}', lambda asked: version(asked[1], folder / 'newer'), peer.what),
                   sep='\t')
 
 

@@ -9,9 +9,7 @@ import subprocess
 from pathlib import Path
 
 import pytest
-from shared import TOP
-from shared.ahead import ahead
-from shared.tables import blocks, rows
+from shared import TOP, ahead, blocks, rows
 
 HERE = Path(__file__).resolve().parent
 DRIVER = (TOP / 'bindings/c/proved_argon2_driver.c').read_text(encoding='utf-8')

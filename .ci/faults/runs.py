@@ -1,16 +1,21 @@
-"""Runs the programs and the tests that the proofs leave in crates/*/out, over faults.c, and says what came of a run."""
+"""Runs copies of the programs and the tests that the proofs leave in crates/*/out, over faults.c, and says what came of
+a run."""
 
 import ctypes
 import functools
 import os
 import random
 import re
+import shutil
 import subprocess
+import tempfile
 from collections import Counter
 from concurrent.futures import ThreadPoolExecutor
+from pathlib import Path
 from typing import NamedTuple
 
 from shared import TOP
+from shared.toolchain import build_preloaded
 from toolchain import is_current
 
 PASSWORD = b'password'
@@ -23,6 +28,19 @@ VALUE, NO_MEMORY, NO_WORKER = 'value', 'Out of memory\n', 'A worker was refused\
 VARIANTS, VERSIONS = ('argon2d', 'argon2i', 'argon2id'), (16, 19)
 PEER = ctypes.CDLL('libargon2.so.1')
 SEED = os.environ.get('SEED') or str(random.randrange(1 << 32))
+# What is built here, and copies that a build beside these tests does not replace.
+FOLDER = tempfile.TemporaryDirectory()
+os.chmod(FOLDER.name, 0o711)  # (for users who are not root)
+FAULTS = build_preloaded('faults/faults', FOLDER.name)
+
+
+@functools.cache
+def copy_of(name, suffix=''):
+    """A copy of the binary of a crate that the proofs left, of these sources."""
+    crate = name.removesuffix('_tests')
+    binary = TOP / f'crates/{crate}/out/{name}{suffix}'
+    assert is_current(crate, binary, says_why=True), f'{binary.name} is of other sources'
+    return Path(shutil.copy(binary, FOLDER.name))
 
 
 class Came:
@@ -30,35 +48,34 @@ class Came:
     the KiB that were resident at most, or 0, and what was seen meanwhile."""
 
     def __init__(self, status, output, errors, seen):
-        said = (errors or b'').decode(errors='replace').splitlines(keepends=True)
-        self.status, self.output, self.seen = status, (output or b'').decode(errors='replace'), seen
+        said = errors.decode(errors='replace').splitlines(keepends=True)
+        self.status, self.output, self.seen = status, output.decode(errors='replace'), seen
         self.notes = [line.split()[0] for line in said if NOTE.fullmatch(line)]
         self.met, self.errors = Counter(self.notes), ''.join(line for line in said if not NOTE.fullmatch(line))
         self.peak = next((int(line.split()[1]) for line in said if line.startswith('VmHWM:')), 0)
 
-    def end(self, status, output, errors=''):
+    def end(self, status, output):
         """`VALUE` if it came to this, a refusal, or what else it came to."""
-        if (self.status, self.output, self.errors) == (status, output, errors):
+        if (self.status, self.output, self.errors) == (status, output, ''):
             return VALUE
         is_refused = (self.status, self.output) == (2, '') and self.errors in (NO_MEMORY, NO_WORKER)
         return self.errors if is_refused else f'status {self.status}, {self.output!r:.500}, {self.errors!r:.4000}'
 
 
-def run(words, library='', before=None, meanwhile=lambda process: None, input_bytes=PASSWORD, how=None, **variables):
-    """Runs a command with the password on its standard input, and stops it where it hangs. `before` is called with the
-    process while it waits for its input, or else `meanwhile` beside it; `how` is for subprocess, and the variables are
-    for faults.c."""
-    variables = {name: str(value) for name, value in variables.items()}
-    how = {**dict.fromkeys(('stdin', 'stdout', 'stderr'), subprocess.PIPE), **(how or {}),
-           'env': {**os.environ, 'LD_PRELOAD': str(library), **variables}}
-    with subprocess.Popen(words, **how) as process, ThreadPoolExecutor(1) as beside:
-        seen = before(process) if before else beside.submit(meanwhile, process)
+def run(words, is_over_faults=True, meanwhile=lambda process: None, input_bytes=PASSWORD, how=None, **variables):
+    """Runs a command with the password on its standard input, and stops it where it hangs. `meanwhile` is called with
+    the process beside it; `how` is for subprocess, and the variables are for faults.c."""
+    own = {'LD_PRELOAD': FAULTS} if is_over_faults else {}
+    env = {**os.environ, **own, **{name: str(value) for name, value in variables.items()}}
+    pipes = dict.fromkeys(('stdin', 'stdout', 'stderr'), subprocess.PIPE)
+    with subprocess.Popen(words, env=env, **pipes, **(how or {})) as process, ThreadPoolExecutor(1) as beside:
+        seen = beside.submit(meanwhile, process)
         try:
             said = process.communicate(input_bytes, timeout=SECONDS)
         except subprocess.TimeoutExpired:
             process.kill()
             said = process.communicate()
-        return Came(process.returncode, *said, seen if before else seen.result())
+        return Came(process.returncode, *said, seen.result())
 
 
 class Hash(NamedTuple):
@@ -71,6 +88,7 @@ class Hash(NamedTuple):
     length: int
     most: int = None
     salt: bytes = b'some-salt'
+    password: bytes = PASSWORD
 
     def settings(self):
         mode = 'par' if self.most is None else f'max{self.most}' if self.most else 'seq'
@@ -89,7 +107,7 @@ class Hash(NamedTuple):
         """What is written, by libargon2."""
         room = 2 * (self.length + len(self.salt)) + 200
         tag, text = ctypes.create_string_buffer(self.length), ctypes.create_string_buffer(room)
-        arguments = [argument for data in (PASSWORD, self.salt, tag, text)
+        arguments = [argument for data in (self.password, self.salt, tag, text)
                      for argument in (data, ctypes.c_size_t(len(data)))]
         kind = VARIANTS.index(self.variant), self.version
         code = PEER.argon2_hash(self.passes, self.memory, self.lanes, *arguments, *kind)
@@ -97,10 +115,3 @@ class Hash(NamedTuple):
 
     def text(self):
         return self.output().split()[-1]
-
-
-def left(name, suffix=''):
-    """The binary of a crate that the proofs left, of these sources."""
-    binary = TOP / f'crates/{name.removesuffix("_tests")}/out/{name}{suffix}'
-    assert is_current(binary.parents[1].name, binary, says_why=True), f'{binary.name} is of other sources'
-    return binary

@@ -9,11 +9,10 @@ import os
 import random
 import signal
 import time
-from collections import Counter
 from concurrent.futures import ThreadPoolExecutor
 
 import pytest
-from runs import NO_MEMORY, NO_WORKER, PROCESSORS, SECONDS, SEED, TRIES, VALUE, VARIANTS, VERSIONS, Hash, run
+from runs import NO_MEMORY, NO_WORKER, PROCESSORS, SECONDS, SEED, TRIES, VALUE, VARIANTS, VERSIONS, Hash, copy_of, run
 
 AT_ONCE = 8 * len(PROCESSORS)
 RUNS, MOST_LATE, MOST_MOMENT = 75, 1000, 0.003  # of each kind; microseconds, and seconds
@@ -37,8 +36,7 @@ def late(draw, _):
 
 def one_processor(draw, _):
     own = {draw.choice(PROCESSORS)}
-    return {'how': {'preexec_fn': lambda: os.sched_setaffinity(0, own)},
-            'before': lambda process: os.sched_getaffinity(process.pid) == own}
+    return {'how': {'preexec_fn': lambda: os.sched_setaffinity(0, own)}}
 
 
 def stop(process):
@@ -57,25 +55,21 @@ def stop(process):
     return max(threads, default=0)
 
 
-# Each kind: of a hundred runs how many have to meet what goes wrong, how it is seen that one did, and what that is. A
-# start or request is drawn among more than there may be, and a stop may find that the workers have just ended.
+# Each kind: what goes wrong; in a run that met it how often a note is there, or what else is seen; and of a hundred
+# runs how many have to. A start or request is drawn among more than there may be, and a stop may find that the workers
+# have just ended.
 KINDS = {
-    'plain': (100, ['start'], lambda draw, settings: {}),
-    'memory': (50, ['refused'], lambda draw, settings: {'REFUSE_REQUEST': draw.randint(1, 120)}),
-    'starts': (50, ['refused'], lambda draw, settings: refused_start(draw, settings, TRIES)),
-    'tries': (50, ['refused'], lambda draw, settings: refused_start(draw, settings, draw.randint(1, TRIES - 1))),
-    'late': (100, ['late'], late),
-    'stopped': (50, ['stopped'], lambda draw, settings: {'meanwhile': stop}),
-    'one processor': (100, ['moved'], one_processor),
-    'late on one processor': (100, ['moved', 'late'], lambda *how: {**late(*how), **one_processor(*how)}),
+    'plain': (lambda *_: {}, lambda came, starts: came.met['start'] == starts, 100),
+    'memory': (lambda draw, _: {'REFUSE_REQUEST': draw.randint(1, 120)}, lambda came, _: came.met['refused'], 50),
+    'starts': (lambda *how: refused_start(*how, TRIES), lambda came, _: came.met['refused'], 50),
+    'tries': (lambda draw, settings: refused_start(draw, settings, draw.randint(1, TRIES - 1)),
+              lambda came, _: came.met['refused'], 50),
+    'late': (late, lambda came, starts: came.met['late'] == starts, 100),
+    'stopped': (lambda *_: {'meanwhile': stop}, lambda came, _: came.seen > 1, 50),
+    'one processor': (one_processor, lambda came, starts: came.met['start'] == starts, 100),
+    'late on one processor': (lambda *how: {**late(*how), **one_processor(*how)},
+                              lambda came, starts: came.met['late'] == starts, 100),
 }
-
-
-def has_met(came, starts):
-    """What a run is seen to have met."""
-    met, seen = came.met, came.seen or 0
-    return {'start': met['start'] == starts, 'late': met['late'] == starts, 'refused': met['refused'] > 0,
-            'moved': seen is True, 'stopped': seen > 1}
 
 
 def expected_end(kind, came):
@@ -87,25 +81,20 @@ def expected_end(kind, came):
     return NO_WORKER if came.met['refused'] == TRIES else VALUE
 
 
-def attempt(number, kind, program, library):
-    """One run of a kind: what came of it, whether that is right, and whether it met what was to go wrong."""
-    draw, (_, seen_by, injury) = random.Random(f'{SEED} {kind} {number}'), KINDS[kind]
+def attempt(number, kind, program):
+    """One run of a kind: what came of it that is wrong, or None, and whether it met what was to go wrong."""
+    draw, (injury, has_met, _) = random.Random(f'{SEED} {kind} {number}'), KINDS[kind]
     settings = drawn(draw, kind)
-    came = run([program, *settings.words()], library, **injury(draw, settings))
-    end = came.end(0, settings.output())
-    if kind == 'plain' and end == VALUE:
-        end = run([program, 'verify', settings.text()]).end(0, 'true\n')
-    met = has_met(came, settings.starts())
-    return end, end == expected_end(kind, came), all(met[what] for what in seen_by)
+    came = run([program, *settings.words()], **injury(draw, settings))
+    end, expected = came.end(0, settings.output()), expected_end(kind, came)
+    return None if end == expected else f'{settings}: {end} in place of {expected}', has_met(came, settings.starts())
 
 
 @pytest.mark.timeout(3600)
 @pytest.mark.parametrize('kind', KINDS)
-def test_each_run_ends_well(copy_of, program, library, kind):
-    programs = program, copy_of('argon2_program', '.by-rattle')
+def test_each_run_ends_well(kind):
+    programs = [copy_of('argon2_program', suffix) for suffix in ('', '.by-rattle')]
     with ThreadPoolExecutor(AT_ONCE) as pool:
-        came = [*pool.map(lambda number: attempt(number, kind, programs[number % 2], library), range(RUNS))]
-    ends, met = Counter(end for end, *_ in came), sum(is_met for *_, is_met in came)
-    print(f'{dict(ends)}; {met} of {RUNS} met it')
-    wrong = {number: end for number, (end, is_right, _) in enumerate(came) if not is_right}
-    assert not wrong and 100 * met >= KINDS[kind][0] * RUNS
+        faults, met = zip(*pool.map(lambda number: attempt(number, kind, programs[number % 2]), range(RUNS)))
+    assert not [*filter(None, faults)], f'seed {SEED}'
+    assert 100 * sum(map(bool, met)) >= KINDS[kind][2] * RUNS, f'seed {SEED}'

@@ -1,33 +1,29 @@
 """Refuses each request for memory and each start of a worker in turn, over the tests and the programs that the proofs
 leave. A start is refused in all of its tries, and then in all but the last, which has to come out as if nothing had
-been refused. labels.py says of each how many workers it is to start and what holds of its requests. A label without a
-sweep fails, and so does a sweep without a label.
+been refused. A label without a sweep fails, and so does a sweep without a label.
 """
 
-import contextlib
 import re
-from itertools import accumulate
+from itertools import accumulate, product
 
 import pytest
-from labels import LABELS
-from runs import NO_MEMORY, NO_WORKER, PROCESSORS, TRIES, VALUE, Hash, left, run
-from shared import TOP
-from shared.ahead import ahead
+from runs import NO_MEMORY, NO_WORKER, PROCESSORS, TRIES, VALUE, Hash, copy_of, run
+from shared import TOP, ahead
 
 AT_ONCE = 4 * len(PROCESSORS)  # a start that is refused sleeps between its tries
 IN_TURN = '_refused_in_turn'  # ends the names of tests that are swept
 ONE, TWO, MANY, MORE = (Hash('argon2i', 19, 2, 256, lanes, 32) for lanes in (1, 2, 16, 20))
-TRUE, FALSE = (0, 'true\n'), (1, 'false\n')
+TRUE, FALSE = (0, 'true\n', ''), (1, 'false\n', '')
 # Runs of the program and of its tool: the label, what they are to come to, and the words.
 RUNS = (
-    ('program_hash_by_workers', (0, TWO.output()), TWO.words()),
-    ('program_hash_in_one_thread', (0, ONE.output()), ONE._replace(most=0).words()),
+    ('program_hash_by_workers', (0, TWO.output(), ''), TWO.words()),
+    ('program_hash_in_one_thread', (0, ONE.output(), ''), ONE._replace(most=0).words()),
     ('program_verify', TRUE, ['verify', MANY.text()]),
     ('program_verify_in_one_thread', TRUE, ['verify', ONE.text()]),
     ('program_verify_of_another', FALSE, ['verify', ONE.text().replace('v=19', 'v=16')]),
     ('program_rehash', TRUE, ['rehash', *ONE._replace(passes=3).settings()[:-1], ONE.text()]),
     ('program_no_rehash', FALSE, ['rehash', *ONE.settings()[:-1], ONE.text()]),
-    ('tool_new', (0, ONE.output()), ['new', *ONE.settings(), ONE.salt.hex()]),
+    ('tool_new', (0, ONE.output(), ''), ['new', *ONE.settings(), ONE.salt.hex()]),
     ('tool_check', TRUE, ['check', MANY.text()]),
     ('tool_check_of_no_text',
      (2, '', 'Decoding failed\nan encoded hash begins with $argon2, and needs single quotes\n'),
@@ -39,23 +35,86 @@ RUNS = (
 )
 
 
+def labels_of(patterns):
+    """The labels that patterns mean: `a_{b,c}` is `a_b` and `a_c`."""
+    for pattern in patterns.split(' '):
+        parts = re.split(r'\{(.*?)\}', pattern)
+        yield from map(''.join, product(*(part.split(',') if at % 2 else [part] for at, part in enumerate(parts))))
+
+
+# Labels, each of such a run or of a test without its `_refused_in_turn`. Then how many workers it is to start: 4 slices
+# * passes * workers, of which there are no more than lanes. Then what holds of its own number of requests for memory,
+# of how many it has held at most, and of the numbers of others by their labels.
+LABELS = {label: holds for patterns, *holds in (
+    # Hashing, by the inputs of RFC 9106: 3 passes in 4 lanes. A slice by workers asks for its board.
+    ('hash_raw_by_workers_argon2{d,i,id}', 4 * 3 * 4, 'own == hash_raw_by_workers_argon2d >= finalize + 48 + 12'),
+    ('hash_raw_by_two_workers_argon2{d,i,id}', 4 * 3 * 2,
+     'own == hash_raw_by_two_workers_argon2d >= finalize + 24 + 12'),
+    ('hash_raw_by_forty_workers', 4 * 1 * 40, 'own >= finalize + 160 + 4'),
+    ('hash_encoded_by_workers', 4 * 3 * 4, 'own == hash_raw_by_workers_argon2d + encode_string'),
+    ('hash_encoded_by_two_workers', 4 * 3 * 2, 'own == hash_raw_by_two_workers_argon2d + encode_string'),
+    ('hash_encoded_{in_one_thread,sequential}', 0, 'own == finalize + encode_string'),
+    ('hash_raw_{in_one_thread,sequential}_argon2{d,i,id} verify_raw_{in_one_thread,sequential}', 0, 'own == finalize'),
+    # The matrix. A fill in one thread asks for nothing, and the tag is one request.
+    ('memory_new', 0, 'own > 0'),
+    ('memory_new_and_filled_argon2{d,i,id} fill_memory_blocks_in_one_thread', 0, 'own == memory_new'),
+    ('fill_memory_blocks_by_workers', 4 * 3 * 4, 'own == hash_raw_by_workers_argon2d - 1'),
+    ('fill_memory_blocks_by_two_workers', 4 * 3 * 2, 'own == hash_raw_by_two_workers_argon2d - 1'),
+    ('finalize', 0, 'own == memory_new + 1'),
+    ('board_new', 0, 'own > memory_new'),
+    ('fill_slice', 4, 'own >= board_new + 4'),
+    # Verifying. A stored text is verified by 16 workers at most.
+    ('verify_raw_by_workers', 4 * 3 * 4, 'own == hash_raw_by_workers_argon2d'),
+    ('verify_raw_by_two_workers', 4 * 3 * 2, 'own == hash_raw_by_two_workers_argon2d'),
+    ('verify_encoded{,_of_another_password}', 4 * 2 * 16, 'own == verify_encoded'),
+    ('verify_encoded_ext_of_20_lanes', 4 * 2 * 16, 'own > 0'),
+    ('verify_encoded_{ext,within}', 4 * 3 * 4, 'own == hash_raw_by_workers_argon2d + decode_string'),
+    ('verify_encoded_{sequential,within_sequential}', 0, 'own == finalize + decode_string'),
+    # Twice over one memory. The second call asks for all but the memory. One of another shape is freed first, and then
+    # held beside a tag; the room for all of it, a request of each memory, is given back at once.
+    ('{hash,verify}_raw_in_twice', 2 * 4 * 3 * 4, 'own == 2 * verify_raw_by_workers - memory_new'),
+    ('{hash,verify}_raw_in_sequential_twice', 0, 'own == finalize + 1'),
+    ('hash_encoded_in_twice', 2 * 4 * 3 * 4, 'own == 2 * hash_encoded_by_workers - memory_new'),
+    ('hash_encoded_in_sequential_twice', 0, 'own == 2 * hash_encoded_sequential - memory_new'),
+    ('verify_encoded_in_twice', 2 * 4 * 3 * 4, 'own == 2 * verify_encoded_ext - memory_new'),
+    ('verify_encoded_in_sequential_twice', 0, 'own == 2 * verify_encoded_sequential - memory_new'),
+    ('hash_raw_in_another_shape', 0, 'own == finalize + memory_new and held == memory_new'),
+    # Texts, each of which is one request, and so are a salt and a hash: a buffer that grows would leave copies of them.
+    # And what is refused before anything is asked for.
+    ('encode_string', 0, 'own == 1'),
+    ('decode_string', 0, 'own == 2'),
+    ('needs_{rehash,no_rehash}', 0, 'own == decode_string'),
+    ('head_faults a_text_within_limits_is_judged a_costly_text_of_any_length_allocates_nothing '
+     '{hashing,verifying_a_tag,verifying_an_empty_tag}_allocates_nothing '
+     '{an_unspelled,a_refused,a_costly}_text_allocates_nothing', 0, 'own == 0'),
+    # Runs of the program, of 2 passes. What is no text and what is above the limits ask for as much, and start nothing.
+    ('program_hash_by_workers', 4 * 2 * 2, 'own > program_hash_in_one_thread + 16'),
+    ('program_{hash_in_one_thread,verify_in_one_thread,verify_of_another,rehash}', 0, 'own > 0'),
+    ('program_no_rehash', 0, 'own == program_rehash'),
+    ('tool_new', 0, 'own == program_hash_in_one_thread + 1'),
+    ('{program_verify,tool_check}', 4 * 2 * 16, 'own == program_verify'),
+    ('tool_check_of_{no_text,20_lanes}', 0, 'own == tool_check_of_no_text > 0'),
+) for label in labels_of(patterns)}
+
+
 @pytest.fixture(scope='module')
-def sweeps(copy_of):
+def sweeps():
     """Each sweep's label, its command, and what that is to come to, where it is no test."""
     files = (path for path in TOP.glob('crates/*/src/**/*.rt') if '#[test]' in path.read_text(encoding='utf-8'))
-    binaries = [left(f'{crate}_tests') for crate in sorted({path.relative_to(TOP).parts[1] for path in files})]
+    binaries = [copy_of(f'{crate}_tests') for crate in sorted({path.relative_to(TOP).parts[1] for path in files})]
     names = [(binary, name) for binary in binaries
              for name in re.findall(rf'^(.*{IN_TURN}): test$', run([binary, '--list']).output, re.M)]
-    programs = {name: copy_of(f'argon2_{name}') for name in ('program', 'tool')}
     return [*((name.rpartition('::')[2].removesuffix(IN_TURN), [binary, name], None) for binary, name in names),
-            *((label, [programs[label.partition('_')[0]], *words], end) for label, end, words in RUNS)]
+            *((label, [copy_of(f'argon2_{label.partition("_")[0]}'), *words], end) for label, end, words in RUNS)]
 
 
 def end_of(came, expected):
     """What a run came to. A test, of which nothing is wanted, says it by its first line."""
+    if expected:
+        return VALUE if (came.status, came.output, came.errors) == expected else came.end(*expected[:2])
     said = came.output.partition('\n')[0]
     said = {'OutOfMemory': NO_MEMORY, 'WorkerRefused': NO_WORKER}.get(said, said)
-    return came.end(*expected) if expected else said if came.status == 0 else f'{said}, {came.end(0, "")}'
+    return said if came.status == 0 else f'{said}, {came.end(0, "")}'
 
 
 def denials(variable, ends):
@@ -66,47 +125,28 @@ def denials(variable, ends):
             yield {variable: number, 'REFUSE_TRIES': TRIES - 1}, VALUE
 
 
-def sweep(library, words, expected):
+def sweep(words, expected):
     """Refuses each request in turn, and each start: how many there were of each, how many requests were held at most,
-    and what is wrong, or None. A request right before a start is the start's own, and no other is to come out as a
-    refused worker. What was granted is to be freed; what the C library frees of a thread's is beside it."""
-    def fault(how, end):
-        came, end = run(words, library, **how), (end, how.get('REFUSE_TRIES', 0))
-        found = end_of(came, expected), came.met['refused']
-        return None if found == end else f'{how}: it came to {found} in place of {end}'
-
-    first = run(words, library, REFUSE_REQUEST=0)
+    and what is wrong. A request right before a start is the start's own, and no other is to come out as a refused
+    worker. What was granted is to be freed; what the C library frees of a thread's is beside it."""
+    first = run(words, REFUSE_REQUEST=0)
     notes = ' '.join(note for note in first.notes
                      if note in ('request', 'start')).replace('request start', 'start').split()
     requests, starts = [NO_WORKER if note == 'start' else NO_MEMORY for note in notes], first.met['start']
     held = max(accumulate({'request': 1, 'freed': -1}.get(note, 0) for note in first.notes), default=0)
-    every = [({}, VALUE), *denials('REFUSE_REQUEST', requests), *denials('REFUSE_START', [NO_WORKER] * starts)]
-    unfreed = first.met['request'] - first.met['freed']
-    faults = (failure for how in every if (failure := fault(*how)))
-    return len(requests), starts, held, f'{unfreed} blocks are not freed' if unfreed > 0 else next(faults, None)
-
-
-class Counts:
-    """How many requests a sweep made and held at most, and how many others made, by their labels."""
-
-    def __init__(self, came, own, held):
-        self.came, self.own, self.held = came, own, held
-
-    def __getattr__(self, label):
-        return self.came(label)[0]
+    faults = ['blocks are not freed'] if first.met['request'] > first.met['freed'] else []
+    for how, end in [({}, VALUE), *denials('REFUSE_REQUEST', requests), *denials('REFUSE_START', [NO_WORKER] * starts)]:
+        came = run(words, **how)
+        found = end_of(came, expected), came.met['refused']
+        if found != (end, how.get('REFUSE_TRIES', 0)):
+            faults.append(f'{how}: it came to {found} in place of {end}')
+    return len(requests), starts, held, faults
 
 
 @pytest.fixture(scope='module')
-def came(request, library, sweeps):
+def came(request, sweeps):
     commands = {label: how for label, *how in sweeps}
-    yield from ahead(request, 'label', lambda label: sweep(library, *commands[label]), AT_ONCE)
-
-
-def judge(label, came, starts, holds):
-    requests, started, held, fault = came(label)
-    assert not fault
-    assert started == starts, f'{started} workers were started in place of {starts}'
-    assert holds(Counts(came, requests, held)), f'it does not hold of {requests} requests, {held} held at once'
+    yield from ahead(request, 'label', lambda label: sweep(*commands[label]), AT_ONCE)
 
 
 def test_each_sweep_has_a_label(sweeps):
@@ -116,18 +156,9 @@ def test_each_sweep_has_a_label(sweeps):
 @pytest.mark.timeout(3600)
 @pytest.mark.parametrize('label', LABELS)
 def test_refused_in_turn(came, label):
-    judge(label, came, *LABELS[label])
-
-
-@pytest.mark.parametrize('own, starts, holds, fault', (
-    ((3, 4, 2, None), 4, lambda of: of.own == of.well == 3 > of.held, ''),
-    ((3, 3, 3, None), 4, lambda of: True, '3 workers were started in place of 4'),
-    ((3, 1, 3, None), 0, lambda of: True, '1 workers were started'),
-    ((4, 0, 4, None), 0, lambda of: of.own == of.well, 'of 4 requests'),
-    ((5, 0, 4, None), 0, lambda of: of.held == of.well, '4 held at once'),
-    ((4, 0, 4, None), 0, lambda of: of.own == of.nothing, 'nothing'),
-    ((3, 0, 3, 'its sweep died'), 0, lambda of: True, 'its sweep died')))
-def test_how_a_sweep_is_judged(own, starts, holds, fault):
-    numbers = {'own': own, 'well': (3, 4, 2, None)}
-    with pytest.raises((AssertionError, KeyError), match=fault) if fault else contextlib.nullcontext():
-        judge('own', numbers.__getitem__, starts, holds)
+    starts, holds = LABELS[label]
+    requests, started, held, faults = came(label)
+    assert not faults
+    assert started == starts
+    others = {name: came(name)[0] for name in {*re.findall(r'[a-z]\w+', holds)} & {*LABELS}}
+    assert eval(holds, {**others, 'own': requests, 'held': held}), f'of {requests} requests, {held} held at once'

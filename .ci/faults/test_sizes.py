@@ -13,7 +13,7 @@ from itertools import accumulate
 from pathlib import Path
 
 import pytest
-from runs import PASSWORD, SEED, SLICES, VALUE, VARIANTS, VERSIONS, Hash, run
+from runs import PASSWORD, SEED, SLICES, VALUE, VARIANTS, VERSIONS, Hash, copy_of, run
 
 # Where argon2_vectors is asked for `all` modes, it makes Rattle's calls in so many, and then that of one thread.
 MODES = 7
@@ -63,11 +63,12 @@ def blocks(settings):
     return (SLICES * length * settings.passes - 2 + drawing * slices) * settings.lanes
 
 
-def compressed_by(program, *words, input_bytes=PASSWORD):
+def compressed_by(name, *words, input_bytes=PASSWORD):
     """What a program writes, and how many blocks it compresses, by callgrind."""
+    program = copy_of(name)
     profile = program.with_suffix('.profile')
     callgrind = ['valgrind', '--quiet', '--tool=callgrind', '--compress-strings=no', f'--callgrind-out-file={profile}']
-    came = run([*callgrind, program, *words], input_bytes=input_bytes)
+    came = run([*callgrind, program, *words], False, input_bytes=input_bytes)
     calls = re.findall(rf'^cfn={COMPRESSION}\ncalls=(\d+)', profile.read_text(encoding='utf-8'), re.M)
     return came.output, sum(map(int, calls))
 
@@ -82,30 +83,29 @@ def growths(settings):
 
 
 @pytest.mark.parametrize('settings', HASHES, ids=named)
-def test_what_a_hash_takes(program, library, settings):
+def test_what_a_hash_takes(settings):
     """What it writes, starts, and asks for as with less memory; and that its text is verified."""
-    both = settings._replace(memory=8 * settings.lanes), settings
-    least, came = (run([program, *of.words()], library, REFUSE_REQUEST=0) for of in both)
-    fewest, requests = (run.met['request'] and run.met['request'] - growths(of) for of, run in zip(both, (least, came)))
-    verified = run([program, 'verify', settings.text()], library)
+    program, least = copy_of('argon2_program'), settings._replace(memory=8 * settings.lanes)
+    came, other = (run([program, *of.words()], REFUSE_REQUEST=0) for of in (settings, least))
+    verified = run([program, 'verify', settings.text()])
     assert came.end(0, settings.output()) == VALUE
     assert came.met['start'] == settings.starts()
-    assert requests == fewest > 0
+    assert came.met['request'] - growths(settings) == other.met['request'] - growths(least) > 0
     assert verified.end(0, 'true\n') == VALUE
     assert verified.met['start'] == settings._replace(most=MOST_FOR_A_TEXT).starts()
 
 
 @pytest.mark.parametrize(
     'settings', [*(one for one in HASHES if one.memory * one.passes <= MOST_COUNTED), *LARGE], ids=named)
-def test_blocks_that_are_compressed(program, settings):
-    assert compressed_by(program, *settings.words()) == (settings.output(), blocks(settings))
+def test_blocks_that_are_compressed(settings):
+    assert compressed_by('argon2_program', *settings.words()) == (settings.output(), blocks(settings))
 
 
 @pytest.mark.parametrize('settings', OF_MODES, ids=named)
-def test_blocks_in_each_mode(copy_of, settings):
+def test_blocks_in_each_mode(settings):
     """The same of Rattle's calls in each mode, and in one thread."""
     tag, text = settings.output().split()
     inputs = f"{' '.join(map(str, settings[:6]))} all '{PASSWORD.decode()} '{settings.salt.decode()} - -"
     lines = f'hash_raw {inputs}\nhash_encoded {inputs}\nverify_raw {inputs} {tag}\n'
     expected = f'{tag}\n{text}\ntrue\n', 3 * (MODES + 1) * blocks(settings)
-    assert compressed_by(copy_of('argon2_vectors'), input_bytes=lines.encode()) == expected
+    assert compressed_by('argon2_vectors', input_bytes=lines.encode()) == expected

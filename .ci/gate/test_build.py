@@ -46,8 +46,9 @@ def release(tmp_path_factory):
 def test_a_released_file_is_the_one_of_the_list(release, change, status):
     top, program = release
     (top / 'release/x86_64/argon2').write_bytes(change(program))
-    ran = run(top / 'build/released')
-    assert ran.returncode == status, ran.stdout
+    for words in ((), ('x86_64',), ('x86_64/argon2',)):
+        ran = run(top / 'build/released', *words)
+        assert ran.returncode == status, ran.stdout
 
 
 @pytest.mark.parametrize('at', range(len(KITS)))

@@ -18,11 +18,11 @@ RUNS = {
                          '1 passed, 1 failed, 0 skipped'),
     'what others need fails': ('judge(one EARLY MAKES built COMMAND false)\njudge(two COMMAND true)',
                                '0 passed, 2 failed, 0 skipped'),
-    'a module of pytest has no test': ('judge_file(test_none.py QUICK)', '0 passed, 1 failed, 0 skipped'),
-    'a table of tests is empty': ('judge_file(test_empty.py QUICK)', '0 passed, 1 failed, 0 skipped'),
-    'one of its tests is skipped': ('judge_file(test_lacks.py QUICK)', '1 passed, 0 failed, 0 skipped'),
-    'it lacks a program that is there': ('judge_file(test_lacks_sh.py QUICK)', '0 passed, 1 failed, 0 skipped'),
-    'it is skipped for another reason': ('judge_file(test_idle.py QUICK)', '0 passed, 1 failed, 0 skipped'),
+    'a module of pytest has no test': ('judge(test_none.py QUICK)', '0 passed, 1 failed, 0 skipped'),
+    'a table of tests is empty': ('judge(test_empty.py QUICK)', '0 passed, 1 failed, 0 skipped'),
+    'one of its tests is skipped': ('judge(test_lacks.py QUICK)', '1 passed, 0 failed, 0 skipped'),
+    'it lacks a program that is there': ('judge(test_lacks_sh.py QUICK)', '0 passed, 1 failed, 0 skipped'),
+    'it is skipped for another reason': ('judge(test_idle.py QUICK)', '0 passed, 1 failed, 0 skipped'),
 }
 MODULES = {
     'none': '',
@@ -37,7 +37,7 @@ def tree(tmp_path):
     """A repository of CI alone, where nothing has to be installed or taken away."""
     (tmp_path / '.ci/gate').mkdir(parents=True)
     (tmp_path / 'build').mkdir()
-    for file in ('.ci/run', '.ci/gate/closing', 'pytest.ini'):
+    for file in ('.ci/run', '.ci/gate/closing', 'setup.cfg'):
         shutil.copy(TOP / file, tmp_path / file)
     for file in ('build/clean', '.ci/gate/packages'):
         (tmp_path / file).write_text('#!/bin/sh\n', encoding='utf-8')

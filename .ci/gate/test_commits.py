@@ -1,29 +1,19 @@
-"""Commits since the history began to explain itself: the subject is an imperative of at most 72 characters, the body
-says why, and nothing is merged. One that takes away more checks than it adds, as the lines that make them, or rows out
-of docs/promises-open.txt, says `Fewer checks: WHY`."""
+"""Commits: the subject is an imperative of at most 72 characters, the body says why, and nothing is merged. One that
+takes away more checks than it adds, as the lines that make them, or rows out of docs/promises-open.txt, says
+`Fewer checks: WHY`. Those before BEGUN were judged when they landed."""
 
 import re
 
 import pytest
 from shared import run
 
-BEGUN, COUNTED, OPEN = '22fb25a', '824d755', 'docs/promises-open.txt'
+BEGUN, OPEN = '9eef5786', 'docs/promises-open.txt'
 # A line that makes a check, in what a commit takes away or adds: of pytest, of C, of Node, or of CTest.
 CHECK = r'^{} *(?:(?:async )?def test_|assert\b|check\w*\(|test\(|judge\w*\(|in_c\(|test_of\w*\(|planted\()'
 PLACES = '.ci', 'bindings', 'crates/argon2_c'
-# With a longer subject, or one that is no imperative, unseen: history is not written anew.
-LANDED = ('de10e61', 'bd1d9d9', '05fec70', '1b04bfe', 'a7951e7')
-# With fewer checks, unsaid: a packing without its own checks, and tables in the place of lines.
-FEWER = ('2ecff0f', 'f1cb36d')
 # A verb that is an imperative, in a short subject; and words that only look like other forms of one.
 SUBJECT = re.compile(r'(?=.{1,72}$)(?:(?:fix|features?|figures?):? )?'
                      r'(?!(?!(?:bring|embed|need|feed|focus)\b)\w+(?:ing|ed|[^s]s) )\S+ \S', re.I)
-
-
-def commits_since(begun):
-    """The commits behind one; where the history is cut off before it, those that are there."""
-    is_whole = run('git', 'cat-file', '-t', begun).stdout == 'commit\n'
-    return run('git', 'rev-list', 'HEAD', *[f'^{begun}'] * is_whole).stdout.split()
 
 
 def is_well(parents, subject, body):
@@ -40,12 +30,12 @@ def has_fewer(commit):
 
 @pytest.mark.skipif(run('git', 'rev-parse', 'HEAD').returncode, reason='this is no repository of git with commits')
 def test_each_commit_says_what_and_why():
-    commits = [run('git', 'log', '-1', '--format=%h%n%P%n%s%n%b', commit).stdout.split('\n', 3)
-               for commit in commits_since(BEGUN)]
-    assert commits and not [name for name, parents, *message in commits
-                            if not name.startswith(LANDED) and not is_well(parents.split(), *message)]
-    assert not [commit for commit in commits_since(COUNTED) if not commit.startswith(FEWER) and has_fewer(commit)
-                and 'Fewer checks: ' not in run('git', 'log', '-1', '--format=%b', commit).stdout]
+    # (where the history is cut off before the first, those that are there)
+    before = [f'^{BEGUN}~'] * (run('git', 'cat-file', '-t', f'{BEGUN}~').stdout == 'commit\n')
+    for commit in run('git', 'rev-list', 'HEAD', *before).stdout.split():
+        parents, subject, body = run('git', 'log', '-1', '--format=%P%n%s%n%b', commit).stdout.split('\n', 2)
+        assert is_well(parents.split(), subject, body), f'{commit} {subject}'
+        assert not has_fewer(commit) or 'Fewer checks: ' in body, f'{commit} {subject}'
 
 
 @pytest.mark.parametrize('parents, subject, body', [

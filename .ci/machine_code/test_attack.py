@@ -18,6 +18,7 @@ from pathlib import Path
 import forged
 import pytest
 from linked import Missing
+from machines import machines
 from shared import TOP
 from terms import BITS, Fault, forget
 from validated import FLAGS, FUNCTIONS, builds_of, code_of, faults_of
@@ -36,7 +37,7 @@ FORGERIES = (
     ('x86_64/libproved_argon2.so.1.0.0', forged.lead_sections_to_a_copy, 'a section of code is not what is mapped'),
     ('x86_64/libproved_argon2.a', forged.hide_a_member, 'its table of symbols leads to what is no member'),
     ('x86_64/argon2', forged.redirect_a_call, 'fill_words .* instructions call it'),
-    ('x86-64-v3/libargon2_c.a', forged.add_a_decoy, 'something else multiplies as they do'),
+    (f'{machines()["x86_64"].proved[-1]}/libargon2_c.a', forged.add_a_decoy, 'something else multiplies as they do'),
     ('wasm32/proved_argon2.wasm', forged.call_a_copy, 'fill_words .* instructions call it'))
 
 

@@ -1,21 +1,18 @@
-"""What the generators of this folder share: where they write, and how they read and write it."""
+"""What the generators and the tests of this folder share: how they read and write files, and a copy to do so in."""
 
 import os
-import re
+import shutil
 import sys
+import textwrap
 from pathlib import Path
 
 sys.path.insert(0, str(Path(__file__).resolve().parents[1]))
-from shared import TOP, run  # noqa: E402
+from shared import TOP, lines, run  # noqa: E402
 from parts import filled, marked  # noqa: E402
 
 os.environ['PATH'] += ':/opt/rattle/bin'
 
-# The pages with parts that are written, or whose code is compared: a page is renamed here, and in presets.txt.
-FIRST, HOW_TO_CHANGE = 'README.md', 'CONTRIBUTING.md'
-CLAIMS, DEFINITIONS, DIFFERENCES, INSTALL, PYTHON, USE = (f'docs/{name}.md' for name in (
-    'CLAIMS', 'DEFINITIONS', 'DIFFERENCES', 'INSTALL', 'PYTHON', 'USE'))
-REPORTS = 'docs/reports.txt'
+FIRST, HOW_TO_CHANGE, PROMISES, REPORTS = 'README.md', 'CONTRIBUTING.md', 'docs/promises.txt', 'docs/reports.txt'
 
 
 class Fault(Exception):
@@ -35,16 +32,16 @@ def write(file, text):
     (TOP / file).write_text(text, encoding='utf-8')
 
 
-def fill(file, name, lines, by):
-    """Writes the part of a file that stands between the marks `NAME, by .ci/pages/BY` and `end`."""
+def fill(file, name, part, by):
+    """Writes the lines between the marks `NAME, by .ci/pages/BY` and `end` of a file."""
     text, script = read(file), f'.ci/pages/{by}'
     need(marked(text, name, script), f'{file} has no part {name}, by {script}')
-    write(file, filled(text, name, script, '\n'.join(lines)))
+    write(file, filled(text, name, script, '\n'.join(part)))
 
 
 def rows(file, fields=0):
     """The lines of a table, as what stands between ` | `: so many fields, or all."""
-    return [line.split(' | ', fields - 1) for line in read(file).splitlines() if line and line[0] != '#']
+    return [line.split(' | ', fields - 1) for line in lines(TOP / file)]
 
 
 def files(*patterns):
@@ -64,9 +61,38 @@ def link(name, path):
 
 def row(*cells):
     """A row of a page's table."""
-    return f'| {" | ".join(map(str, cells))} |'.replace('|  |', '| |')
+    return f'| {" | ".join(map(str, cells))} |'
 
 
-def put_in(values, form):
-    """A form of a table with values in the place of its marks, as `<name>`."""
-    return re.sub(r'<(\w+)>', lambda mark: values.get(mark[1], mark[0]), form.replace('\\n', '\n'))
+def wrapped(text, indent=''):
+    return textwrap.fill(text, 120, subsequent_indent=indent, break_on_hyphens=False, break_long_words=False)
+
+
+class Copy:
+    """A copy of the repository, with what is not ignored and what build/all has left; git knows its files as they are
+    here."""
+
+    def __init__(self, folder):
+        self.top = folder / 'copy'
+        for file in files():
+            (self.top / file).parent.mkdir(parents=True, exist_ok=True)
+            shutil.copy2(TOP / file, self.top / file)
+        self.run('git', 'init', '-q')
+        self.run('git', 'add', '-A')
+        (self.top / 'bindings/out').symlink_to(TOP / 'bindings/out')
+
+    def run(self, *words):
+        came = run(*words, cwd=self.top)
+        assert came.returncode == 0, came.stdout
+        return came.stdout
+
+    def change(self, file, old, new):
+        """Puts another text in the place of one, or makes a file."""
+        text = (self.top / file).read_text(encoding='utf-8') if old else ''
+        assert not old or text.count(old) == 1, f'{file} has {old} {text.count(old)} times'
+        (self.top / file).write_text(text.replace(old, new) if old else new, encoding='utf-8')
+
+    def assert_is_current(self):
+        """What scripts write is as they write it."""
+        self.run('.ci/pages/write')
+        self.run('git', '--no-pager', 'diff', '--exit-code')

@@ -1,55 +1,114 @@
-"""docs/DEFINITIONS.md's lists: the files of every definition that the clauses of the calls rest on, for each of four
-doors: the calls for C without the steps of a hash and with them, the root calls of Rattle, and the program.
+"""docs/DEFINITIONS.md's lists: the files of definitions on which the clauses of the calls rest, for each of four doors:
+the root calls of Rattle, those for C without the steps of a hash and with them, and the program.
 
-It ends where a name cannot be followed, and where the definitions of the root calls are others than those in the files
-of the standard, or one has no comment. That a definition changed is seen by verdicts.txt, a contract by what is quoted
-here or its hash.
+A clause rests on the files of the names that it has, and a file on those from which it imports. It ends at an import
+that is not understood, or of a name that is not defined there, and where the root calls rest on others than the files
+of the folders Standard. That a definition changed is seen by verdicts.txt, a contract by what is quoted or its hash.
 """
 
+import functools
 import hashlib
 import re
-import textwrap
-from collections import Counter
+from collections import defaultdict
 
-from common import DEFINITIONS, TOP, fill, link, need, quoted, read, row
-from meanings import CODE, MODEL, Meanings, file_of, imports_of, views_of
-from shared.sources import CLAUSE, Sources
+from common import TOP, fill, link, need, quoted, read, row, wrapped
+from shared.sources import CLAUSE, Sources, crates
 
-# Where the definitions of the root calls stand, in the order in which to read them.
-# Argon2 is in the first two, what an `_in` call leaves in a memory in the others.
-STANDARD_CRATES = ['argon2_blocks', 'argon2_standard', 'argon2_memory', 'argon2']
-# The files of the definitions that C's calls have beside these, in the order in which to read them: of the calls that
-# make a hash at once, and of those of one step; and the tables of the code. Then the calls of one step of a hash, which
-# the driver makes where it has threads or a callback, with the theorem that joins them.
-FILES_OF_C = ['Settings', 'ErrorNumbers', 'Answers', 'Buffer', 'CallerBlocks', 'Jobs', 'Reading', 'Checks', 'Limits',
-              'Recommended']
-FILES_OF_STEPS, TABLES_OF_C = ['Steps', 'Runs'], ['ErrorTable']
+PAGE = 'docs/DEFINITIONS.md'
+# The calls of one step of a hash, which the driver makes where it has threads or a callback, with the theorem that
+# joins them; and the calls whose contracts the page prints: the others have places.
 STEPS = ['proved_argon2_job_begin', 'proved_argon2_job_fill', 'proved_argon2_job_finish', 'proved_argon2_job_verify',
          'any_order_of_steps']
-# The calls whose contracts the page prints; the others have places.
-PRINTED = 'hash_raw', 'verify_encoded_within'
-PRINTED_FOR_C = 'proved_argon2_hash_over', 'proved_argon2_verify_over'
-# The standard of a section that names none.
-STANDARD = 'RFC 9106'
-SECTION = re.compile(r'\s*\(((?:RFC \d+, )?\d[\d.]*(?:(?:,| and| to|; RFC \d+,) [\w. ]+)*)\)')
-# An import by which a file passes on what another one defines, so that it could be cited from both.
-PASSED_ON = re.compile(r'^ *(?:\w+ )*pub (?:\w+ )*use .*', re.M)
+PRINTED = ['hash_raw', 'verify_encoded_within', 'proved_argon2_hash_over', 'proved_argon2_verify_over']
+CODE = {path: read(path) for path in sorted(TOP.glob('crates/*/src/**/*.rt'))}
+# An import of definitions, and how one begins; a definition; and one below no comment.
+BEGIN = r'^ *(?:ghost use|use(?= \w+\.)) '
+IMPORT = re.compile(BEGIN + r'((?:\w+\.)*\w+)(?:\.\{([^}]*)\}| as \w+) ?(?:;|$)', re.M)
+DEFINED = r'^(?:abbrev |unfoldable )?pub (?!mod |use )(?:record |data )?([^\s({:]+)'
+BARE = re.compile(r'^(?!--(?! end$| ----)).*\n' + DEFINED, re.M)
+DECLARED = re.compile(r'^ *(?:pub(?:\([a-z]+\))? )?(?:struct|type) (\w+)\b([^;{]*(?:;|\{.*?^\}))', re.M | re.S)
+MODEL = re.compile(r'^impl(?:<[^>]*>)? Model for (\w+)[^{]*\{\n.*?^\}', re.M | re.S)
+
+
+def path_of(module):
+    """The file `Rattle.CRATE.specs.NAME`."""
+    return TOP.joinpath('crates', *module.split('.')[1:]).with_suffix('.antt')
+
+
+@functools.cache
+def definitions_of(module):
+    need(path_of(module).is_file(), f'{module} is no file')
+    return re.findall(DEFINED, read(path_of(module)), re.M)
+
+
+@functools.cache
+def imports_of(text):
+    """What a text imports of ours: by a name there the file that defines it, and the types of the code."""
+    found, files, types = IMPORT.findall(text), {}, set()
+    need(len(found) == len(re.findall(BEGIN, text, re.M)), f'an import is not understood: {text[:300]}')
+    for module, names in found:
+        _, crate, *place = module.removesuffix('.TheVariants').split('.')
+        if not module.startswith('Rattle.') or crate not in crates() or 'TheConstants' in place:
+            continue
+        if 'declared' in place:
+            types.add(place[-1])
+            continue
+        need(names, f'{module}: a whole module')
+        for name, *other in (part.strip().split(' as ') for part in names.split(',') if part.strip()):
+            need(name in definitions_of(module), f'{module}.{name} is no definition')
+            files[other[0] if other else name] = module
+    return files, types
+
+
+def reached_from(text, imports):
+    """The files of the names that a text has, with those from which they import; and the types of all of these."""
+    words, (files, own_types) = {*re.findall(r'[^\s(){}\[\],;.@]+', text)}, imports_of(imports)
+    met, types = set(), own_types & words
+    waiting = {file for name, file in files.items() if words.issuperset(filter(None, name.split('◌')))}
+    while waiting:
+        met |= waiting
+        found = [imports_of(read(path_of(file))) for file in waiting]
+        types |= {name for _, names in found for name in names}
+        waiting = {file for inner, _ in found for file in inner.values()} - met
+    return met, types
+
+
+def views_of(names):
+    """The views of these types, and of those that they hold: by name the file and the text of `impl Model`."""
+    views = {view[1]: (path, view[0]) for path, text in CODE.items() for view in MODEL.finditer(text)}
+    held = defaultdict(set)
+    for name, fields in (pair for text in CODE.values() for pair in DECLARED.findall(text)):
+        held[name].update(re.findall(r'\w+', re.sub('//.*', '', fields)))
+    met, waiting = set(), {*names}
+    while waiting:
+        met |= waiting
+        waiting = {inner for name in waiting for inner in held.get(name, ())} - met
+    return {name: views[name] for name in sorted(met & views.keys())}
 
 
 class Door:
-    """One way in: its calls, and what their clauses rest on."""
+    """One way in: its calls, and the files on which their clauses, and the views of the types there, rest."""
 
-    def __init__(self, name, calls):
-        self.name, self.calls, meanings = name, calls, Meanings()
-        found = meanings.closure((clauses_of(call), imports_of(call.module.text)) for call in calls)
-        self.own, self.kit = ([definition for definition in found if definition.is_ours == is_ours]
-                              for is_ours in (True, False))
-        types = sorted(name for crate, name in meanings.types if crate in CODE)
-        self.views = views_of({word for call in calls for word in re.findall(r'\w+', contract_of(call))}.union(types))
-        below = meanings.closure((view.text, view.imports) for view in self.views)
-        self.below = [definition for definition in below if definition.is_ours and definition not in self.own]
-        self.counts = row(name, *map(len, (calls, self.own, self.views + self.below, self.kit, types)))
-        need(self.own, f'no clause of {name} is found')
+    def __init__(self, calls):
+        found = [reached_from(clauses_of(call), call.module.text) for call in calls]
+        words = re.findall(r'\w+', '\n'.join(map(contract_of, calls)))
+        self.calls, self.own = calls, {file for files, _ in found for file in files}
+        self.views = views_of({*words, *(name for _, types in found for name in types)})
+        self.files = self.own.union(*(reached_from(text, CODE[path])[0] for path, text in self.views.values()))
+        need(self.own, f'no clause of {[call.name for call in calls]} is found')
+
+
+def order_of(module):
+    """Crates in the order of crates.txt, and files in that of the file above them."""
+    _, crate, *above, name = module.split('.')
+    text = read(f'crates/{crate}/{"/".join(above if above[1:] else (*above, "Lib"))}.antt')
+    return crates().index(crate), above, text.index(f'pub mod {name}\n')
+
+
+def line_of(module):
+    _, crate, _, *parts = module.split('.')
+    place = '/'.join(parts)
+    return f'- [{place}.antt](../crates/{crate}/specs/{place}.antt): {len(definitions_of(module))}'
 
 
 def contract_of(call):
@@ -62,135 +121,55 @@ def clauses_of(call):
     return re.search(rf'(?:{CLAUSE.pattern}.*)?\Z', contract_of(call), re.M | re.S)[0]
 
 
-def quoted_calls(calls, names, form):
-    """The contracts of the printed calls, and the places of the others, with a hash of their text."""
-    printed, others = ([call for call in calls if (call.name in names) == is_printed] for is_printed in (True, False))
-    need(len(printed) == len(names), f'there is no call of one of these names: {names}')
-    return ['```rust', *map(form, printed), '```', '', *places_of(others, 'More contracts')]
-
-
-def places_of(calls, what):
-    """The files of calls, each with their names but for those of the same contract, and a hash of their contracts."""
-    files = {}
+def contracts(calls):
+    """The contracts of the printed calls, and the files of the others, with a hash of their text. One with
+    `_sequential` has that of the call without it."""
+    printed, places = [call for call in calls if call.name in PRINTED], defaultdict(list)
     for call in calls:
-        if '_sequential' not in call.name:
-            files.setdefault(call.module.file, []).append(call.name)
-    return [f'{what}, in the code (hash `{hash_of(map(contract_of, calls))}`):', '',
-            *(wrapped(f'- {link(path.name, path)}: {quoted(names)}', '  ') for path, names in files.items())]
-
-
-def clauses_for_c(call):
-    return f'{call.name}\n{clauses_of(call)}'
-
-
-def check_header(calls):
-    """The header has the parameters of the calls for C."""
-    headers = '\n'.join(read(path) for path in sorted(TOP.glob('crates/argon2_c/include/*.h')))
-    for call in calls:
-        # (the message's is a buffer of the generated C, which returns the text)
-        prototype = re.search(rf'\b{call.name}\(([^)]*)\)', headers)
-        lost = [name for name in re.findall(r'(\w+): ', contract_of(call).partition('->')[0])
-                if call.name != 'proved_argon2_message' and not (prototype and re.search(rf'\b{name}\b', prototype[1]))]
-        need(not lost, f'the prototype of {call.name} lacks {lost}')
+        if call not in printed and '_sequential' not in call.name:
+            places[call.module.file].append(call.name)
+    return [*['```rust', *map(contract_of, printed), '```', ''] * bool(printed),
+            f'Contracts in the code (hash `{hash_of(contract_of(call) for call in calls)}`):', '',
+            *(wrapped(f'- {link(path.name, path)}: {quoted(names)}', '  ') for path, names in places.items())]
 
 
 def hash_of(texts):
     return hashlib.sha256(''.join(texts).encode()).hexdigest()[:8]
 
 
-def places_of_views(doors):
-    found = {view.name: view.text for door in doors for view in door.views}
-    places = ', '.join(link(view[1], path) for path in sorted(TOP.glob('crates/*/src/**/*.rt'))
-                       for view in MODEL.finditer(read(path)) if view[1] in found)
-    return wrapped(f'In the code (hash `{hash_of(found[name] for name in sorted(found))}`): {places}.')
+def doors():
+    """Each in the order in which its files are listed."""
+    functions = Sources().functions
+    free = [call for call in functions if call.path and not call.owner]
+    for_c = [call for call in functions if call.crate == 'argon2_c'
+             and ('extern "C"' in contract_of(call) or call.name in STEPS)]
+    return {'Rattle': Door([call for call in free if re.fullmatch(r'argon2::\w+', call.path)]),
+            'C, in one call': Door([call for call in for_c if call.name not in STEPS]), 'C, with steps': Door(for_c),
+            'the program': Door([call for call in free if re.fullmatch(r'argon2_(commands|tool)::\w+', call.path)])}
 
 
-def wrapped(text, indent=''):
-    return textwrap.fill(text, 120, subsequent_indent=indent, break_on_hyphens=False, break_long_words=False)
-
-
-def calls_of(functions):
-    """The calls of each door."""
-    free = [f for f in functions if f.path and not f.owner]
-    for_c = [f for f in functions if f.crate == 'argon2_c' and ('extern "C"' in contract_of(f) or f.name in STEPS)]
-    return {'C, in one call': [f for f in for_c if f.name not in STEPS], 'C, with steps': for_c,
-            'Rattle': [f for f in free if re.fullmatch(r'argon2::\w+', f.path)],
-            'the program': [f for f in free if re.fullmatch(r'argon2_(commands|tool)::\w+', f.path)]}
-
-
-def files_of_standard():
-    """The files of the standard, in the order in which to read them."""
-    return [file_of(f'Rattle.{crate}.specs.Standard.{name}') for crate in STANDARD_CRATES
-            for name in re.findall(r'^pub mod (\w+)', read(f'crates/{crate}/specs/Standard.antt'), re.M)]
-
-
-def check(root, one_call):
-    """The definitions of the root calls are those of the standard's files, each has a comment, each file of C is named,
-    no call for C in one call rests on a definition of the steps, and no file passes on what another one defines."""
-    of_c = {path.stem for path in (TOP / 'crates/argon2_c/specs').glob('*.antt')} - {'Lib', 'Heads'}
-    in_standard = {definition for file in files_of_standard() for definition in file.definitions.values()}
-    steps = tuple(f'argon2_c.specs.{name}' for name in FILES_OF_STEPS)
-    passed_on = [str(path) for path in TOP.glob('crates/*/specs/**/*.antt') if PASSED_ON.search(read(path))]
-    for fault, found in (
-            ('files of argon2_c/specs that no list here names', of_c ^ {*FILES_OF_C, *FILES_OF_STEPS, *TABLES_OF_C}),
-            ('definitions of the steps on which a call for C in one call rests',
-             [f'{one.module}.{one.name}' for one in one_call.own if one.module.endswith(steps)]),
-            ('definitions below the root calls in no file of the standard, or of one and below none',
-             [f'{one.module}.{one.name}' for one in in_standard.symmetric_difference(root.own)]),
-            ('definitions without a comment', [f'{one.module}.{one.name}' for one in root.own if not one.comment]),
-            ('files of specs/ that pass on what another one defines', passed_on)):
-        need(not found, f'{fault}: {found}')
-
-
-def place_of(module):
-    _, crate, _, *parts = module.split('.')
-    place = '/'.join(parts)
-    return f'[{place}.antt](../crates/{crate}/specs/{place}.antt)'
-
-
-def line_of(file):
-    """How many definitions a file has, from which to which section of its standard they go, and other standards."""
-    own, sections, others = file.standard or STANDARD, [], []
-    for found in filter(None, (SECTION.search(definition.comment) for definition in file.definitions.values())):
-        of_own = re.match(rf'(?:{own}, )?(\d[\d.]*)', found[1])
-        (sections if of_own else others).append(of_own[1] if of_own else found[1])
-    sections.sort(key=lambda section: [*map(int, section.split('.'))])
-    span = ' to '.join(dict.fromkeys(sections[:1] + sections[-1:]))
-    named = [span if own == STANDARD else f'{own}, {span}'] * bool(span) + [*dict.fromkeys(others)]
-    return wrapped(f'- {place_of(file.module)}: {len(file.definitions)}' + f' ({"; ".join(named)})' * bool(named), '  ')
-
-
-def elsewhere(doors, listed):
-    """For each door, the files that have no line, and how many definitions of theirs its calls and views rest on, but
-    for the files of the doors before it."""
-    seen = {*listed}
-    for door in doors:
-        counts = Counter(one.module for one in door.own + door.below if one.module not in seen)
-        seen |= counts.keys()
-        if counts:
-            yield wrapped(f'- {door.name}: ' + ', '.join(f'{place_of(module)} {counts[module]}'
-                                                         for module in sorted(counts)), '  ')
-
-
-def files_of_c(names):
-    return [file_of(f'Rattle.argon2_c.specs.{name}') for name in names]
+def check(root):
+    """The clauses of the root calls rest on the files of the folders Standard, where each definition has a comment."""
+    standard = {'.'.join(('Rattle', *path.relative_to(TOP / 'crates').with_suffix('').parts))
+                for path in TOP.glob('crates/*/specs/Standard/*.antt')}
+    others = sorted(standard ^ root.own)
+    bare = [f'{file}.{name}' for file in standard for name in BARE.findall(read(path_of(file)))]
+    need(not others, f'files below the root calls in no folder Standard, or there and below none: {others}')
+    need(not bare, f'definitions without a comment: {bare}')
 
 
 def write_all():
-    doors = [Door(*pair) for pair in calls_of(Sources().functions).items()]
-    one_call, c, rattle, _ = doors
-    check(rattle, one_call)
-    check_header(c.calls)
-    standard, of_c, of_steps = files_of_standard(), files_of_c(FILES_OF_C + TABLES_OF_C), files_of_c(FILES_OF_STEPS)
-    heads = "| Called from | Calls | Definitions | Views, and what they rest on | The toolchain's definitions | Types |"
-    for name, lines in {
-            'counts': [heads, '|---' * 6 + '|', *(door.counts for door in doors)],
-            'clauses for C': quoted_calls(one_call.calls, PRINTED_FOR_C, clauses_for_c),
-            'definitions for C': map(line_of, of_c),
-            'definitions of the steps': map(line_of, of_steps),
-            'clauses of the steps': places_of([call for call in c.calls if call not in one_call.calls], 'Contracts'),
-            'clauses': quoted_calls(rattle.calls, PRINTED, contract_of),
-            'definitions': map(line_of, standard),
-            'definitions elsewhere': elsewhere(doors, [file.module for file in standard + of_c + of_steps]),
-            'views': [places_of_views(doors)]}.items():
-        fill(DEFINITIONS, name, lines, 'definitions')
+    known, seen, done = doors(), set(), []
+    check(known['Rattle'])
+    counts = [row(name, len(door.calls), sum(len(definitions_of(file)) for file in door.files), len(door.views))
+              for name, door in known.items()]
+    heads = [row('Called from', 'Calls', 'Definitions', 'Views'), '|---' * 4 + '|']
+    fill(PAGE, 'counts', heads + counts, 'definitions')
+    for name, door in known.items():
+        fill(PAGE, f'contracts of {name}', contracts([call for call in door.calls if call not in done]), 'definitions')
+        fill(PAGE, f'definitions of {name}', map(line_of, sorted(door.files - seen, key=order_of)), 'definitions')
+        done, seen = done + door.calls, seen | door.files
+    views = {view: found for door in known.values() for view, found in door.views.items()}
+    places = ', '.join(link(view, path) for view, (path, _) in sorted(views.items()))
+    hashed = hash_of(text for _, (_, text) in sorted(views.items()))
+    fill(PAGE, 'views', [wrapped(f'In the code (hash `{hashed}`): {places}.')], 'definitions')

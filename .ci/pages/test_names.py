@@ -6,8 +6,7 @@
   in the file to which it is a link.
 
 A page that is named is a link, but in code and in what is packed without the other pages. No page and no comment of
-specs/ has a word in the place of which CONTRIBUTING.md says another. All pages have at most WORDS words. No paragraph
-has a time, a percentage or a ratio that no script writes, but for FIGURES, so that figures are of one run.
+specs/ has a word in the place of which CONTRIBUTING.md says another. All pages have at most WORDS words.
 """
 
 import os
@@ -17,14 +16,13 @@ from functools import cache
 from pathlib import Path
 
 import pytest
-from common import HOW_TO_CHANGE, TOP, files, read, run
+from common import HOW_TO_CHANGE, PROMISES, TOP, files, read, run
 
 WORDS = 22_000
 ENDINGS = {'.rt', '.antt', '.md', '.txt', '.py', '.rs', '.c', '.h', '.sh', '.edit', '.svg', '.toml', '.in'}
 FILES = files()
-PAGES = [file for file in FILES if file.endswith('.md')]
-# Lists whose words are those of pages, by hand.
-LISTS = ['docs/promises.txt', 'docs/promises-open.txt']
+# The pages, and lists whose words are those of pages, by hand.
+PAGES = [*(file for file in FILES if file.endswith('.md')), PROMISES, 'docs/promises-open.txt']
 PATHS = {f'/{path}' for file in FILES for path in (file, *map(str, Path(file).parents))}
 # What is named and lies elsewhere: in upstream's source, in rust-argon2, in the toolchain, or where it is installed.
 ELSEWHERE = re.compile(r'[/~$]|.*(?:/out/|NAME|CRATE)|(?:rattle/logic|Denote/|Prog/|antt/)|(?:opt\.c|ref\.c|'
@@ -38,22 +36,20 @@ WORD_IN_HELP = r'(?:\brt |\||\b\d:|#     \./argon2 |"){}(?![\w-])'
 # A link with its words, its path and its heading; a page's name; and the pages that are packed without the others.
 LINK = re.compile(r'\[([^\]]*)\]\((?!\w+:)([^)\s#]*)#?([^)\s]*)\)')
 PAGE, PACKED = re.compile(r'(?<![\w/.])(?:docs/)?[A-Z][A-Z0-9]*\.md'), re.compile(r'bindings/\w+/README\.md')
-# Figures, and those by hand: what was measured once for a decision, and what is a limit, an argument or a mutant's.
-NUMBER, RATIO, AND = r'(?<![\w.,+-])\d[\d,]*(?:\.\d+)?', r'(?<![\w.])(?:0\.\d+|\d\.\d\d+)', r'\s(?:and|to|or)\s'
-UNIT = r'(?:ns|µs|us|ms|s|min|h|(?:nano|micro|milli)?seconds?|minutes?|hours?|%|percent|times|instructions)(?!\w)'
-FIGURE = re.compile(rf'{NUMBER}(?:{AND}{NUMBER})?\s?{UNIT}|{RATIO}(?:\sof\b|{AND}{RATIO}(?!\.?\d))')
-FIGURES = {'docs/DECISIONS.md': '.*', 'docs/JAVASCRIPT.md': '5 seconds', 'docs/USE.md': '250 ms',
-           'docs/promises-open.txt': '(99 or 101|100) times'}
-WRITTEN = re.compile(r'^<!-- [^\n]*, by [^\n]* -->$.*?^<!-- end -->', re.M | re.S)
 # Names, links, paths and code, which have public words; and the words on the right of the table of CONTRIBUTING.md.
 NAMED = re.compile(r'`[^`]*`|\]\([^)]*\)|\S*(?:[_/]|::|\.\w)\S*')
 SAID_OTHERWISE = re.compile(r'^\| [^|]* \| [^|]* \| (?!Not)(\w[^|]*) \|$', re.M)
 
 
+def text_of(file):
+    """What a file has, or nothing where there is none."""
+    return (TOP / file).read_bytes().decode('utf-8', 'replace') if (TOP / file).is_file() else ''
+
+
 @cache
 def everything():
-    return '\n'.join((TOP / file).read_bytes().decode('utf-8', 'replace') for file in FILES
-                     if not file.endswith('.md') and not file.startswith('docs/') and file != '.ci/pages/test_names.py')
+    return '\n'.join(text_of(file) for file in FILES if not file.endswith('.md') and not file.startswith('docs/')
+                     and file != '.ci/pages/test_names.py')
 
 
 @cache
@@ -63,9 +59,9 @@ def words():
 
 @cache
 def help_of(command):
-    """What tells of the words of a command; None for `rt` where it is not there."""
+    """What tells of the words of a command; nothing for `rt` where it is not there."""
     if command == 'rt':
-        return run('rt', 'help').stdout if shutil.which('rt') else None
+        return run('rt', 'help').stdout if shutil.which('rt') else ''
     program = read('bindings/shell/commands.sh') + read('crates/argon2_commands/src/command.rt')
     return program + read('argon2') if command == './argon2' else program
 
@@ -78,13 +74,8 @@ def avoided():
     return re.compile(rf'\b(?:{"|".join(forms)})s?\b', re.I)
 
 
-@cache
-def headings_of(page):
-    """The headings of a page, or the lines of another file, as links have them."""
-    if not page.endswith('.md'):
-        return {f'L{number}' for number, _ in enumerate(read(page).splitlines(), 1)}
-    return {re.sub(r'[^\w -]', '', heading.lower()).replace(' ', '-')
-            for heading in re.findall(r'^#+ (.*)$', read(page), re.M)}
+def words_avoided_in(text):
+    return avoided().findall(NAMED.sub('', text))
 
 
 def beside(page, path):
@@ -104,6 +95,10 @@ def has_path(name, page):
             or not is_below and plain in everything())
 
 
+def is_name(word):
+    return re.fullmatch(r'\w+(::\w+)*', word) and re.search(r'[a-z]_|::', word)
+
+
 def has_name(word):
     """Whether each part of a name is a word of the sources, or stands in one where it begins or ends with `_`."""
     is_piece = word.startswith('_') or word.endswith('_')
@@ -115,26 +110,21 @@ def lost_of(first, *others):
     if first in ('rt', './argon2', 'argon2', 'proved-argon2'):
         is_known = not others or not help_of(first) or not re.fullmatch('-*[a-z][a-z-]*', others[0])
         return '' if is_known or re.search(WORD_IN_HELP.format(others[0]), help_of(first)) else f'{first} {others[0]}'
-    text = (TOP / first).read_bytes().decode('utf-8', 'replace') if (TOP / first).is_file() else ''
-    lost = [word for word in others if re.fullmatch('--[a-z-]+', word) and word not in text]
-    return ' '.join([first, *lost]) if lost or not text else ''
-
-
-def code_at(to, heading):
-    """A file, or the line of it that a link names."""
-    code = read(to) if (TOP / to).is_file() else ''
-    return ''.join(code.splitlines()[int(heading[1:]) - 1:int(heading[1:])]) if heading[:1] == 'L' else code
+    lost = [word for word in others if re.fullmatch('--[a-z-]+', word) and word not in text_of(first)]
+    return ' '.join([first, *lost]) if lost or not text_of(first) else ''
 
 
 def faults_of_links(page, text):
-    """The headings that are not there, the names that are not in the files or lines to which they are links, and the
-    pages that are named without a link."""
+    """The headings that are not there, the names that are not in the files to which they are links, and the pages that
+    are named without a link."""
     for name, path, heading in LINK.findall(text):
         to = beside(page, path)
-        if heading and (TOP / to).is_file() and heading not in headings_of(to):
+        there = text_of(to)
+        headings = re.sub(r'[^\w\n -]', '', '\n'.join(re.findall('^#+ (.*)$', there, re.M)).lower()).replace(' ', '-')
+        if heading and there and heading not in headings.split('\n'):
             yield f'{to}#{heading}'
         if re.fullmatch(r'`\w+`', name) and to.endswith(('.rt', '.antt')) and not re.search(
-                rf'\b(?:proved_argon2_)?{name.strip("`")}\b', code_at(to, heading)):
+                rf'\b(?:proved_argon2_)?{name.strip("`")}\b', there):
             yield f'{name} in {to}'
     yield from (f'link to {name}' for name in PAGE.findall(re.sub(r'\[[^\]]*\]\([^)]*\)|`[^`]*`', '', text)))
 
@@ -143,48 +133,36 @@ def faults(page, text, is_code):
     """What a paragraph or a line of code names that is not there, and its words that are avoided."""
     quoted = [' '.join(quote.split()) for quote in re.findall(r'`([^`]+)`', text)]
     paths = {*NAMED_PATH.findall(text), *(path for _, path, _ in LINK.findall(text) if path), *filter(is_path, quoted)}
-    lost = [path for path in paths if not has_path(path, page)]
+    yield from (path for path in paths if not has_path(path, page))
     parts = (part.strip() for one in ([text] if is_code else quoted) for part in re.split(r'&&|[|;()]|sudo ', one))
-    lost += [lost_of(*part.split()) for part in parts if COMMAND.match(part) and (is_code or ' ' in part)]
-    lost += [word for word in quoted if re.fullmatch(r'\w+(::\w+)*', word)
-             and re.search(r'[a-z]_|::', word) and not has_name(word)]
+    yield from filter(None, (lost_of(*part.split()) for part in parts
+                             if COMMAND.match(part) and (is_code or ' ' in part)))
+    yield from (word for word in quoted if is_name(word) and not has_name(word))
     if not is_code and not PACKED.fullmatch(page):
-        lost += faults_of_links(page, text)
+        yield from faults_of_links(page, text)
     if not is_code and page != HOW_TO_CHANGE:
-        lost += [f'other word for {word}' for word in avoided().findall(NAMED.sub('', text))]
-    return [f'there is no {name}' for name in lost if name]
-
-
-def figures_of(page, text):
-    """Those by hand, in paragraphs, that FIGURES does not have."""
-    by_hand = ' '.join(block[0] for block in BLOCK.finditer(WRITTEN.sub('', text)) if not (block[2] or block[3]))
-    found = {' '.join(figure[0].split()) for figure in FIGURE.finditer(by_hand)}
-    return [('', f'no script writes {figure}') for figure in found if not re.fullmatch(FIGURES.get(page, ''), figure)]
+        yield from (f'other word for {word}' for word in words_avoided_in(text))
 
 
 def faults_of(page, text):
     """Those of the paragraphs of a page, and of the lines of its code for a shell. Other code is left out."""
-    yield from figures_of(page, text)
     for block in BLOCK.finditer(text):
         code = block[3] or (block[2] if block[1] == 'sh' else None)
         for part in code.splitlines() if code else [block[0]] * (block[2] is None):
             yield from ((part, fault) for fault in faults(page, part, code is not None))
 
 
-@pytest.mark.parametrize('page', [*PAGES, *LISTS])
+@pytest.mark.parametrize('page', PAGES)
 def test_what_a_page_names_is_there(page):
     assert not [*faults_of(page, read(page))]
 
 
 @pytest.mark.parametrize('text', [
-    'in [a page](NOTHING.md)', '[it](docs/USE.md#nothing)', '[it](VERSION#L2)', 'see docs/C.md',
+    'in [a page](NOTHING.md)', '[it](docs/USE.md#nothing)', 'see docs/C.md',
     '`it`, of LIBARGON2.md', '[it](USE.md), and\n(USE.md)', 'run `.ci/pages/nothing`', 'a row of `nothing.txt`',
     'it is `crates/argon2/src/nothing.rt`', 'the folder `argon2_text/specs/Nothing`', '    .ci/pages/write --nothing',
     '    ./argon2 nothing', 'a `hash_of_nothing`', 'a `Config::nothing_of`',
-    '[`blake2b`](crates/argon2/src/hashing.rt)', '[`hash_over`](crates/argon2_c/src/lib.rt#L56)',
-    'the Refusals of a call', 'it spells\na value',
-    'it took 17 ms', 'it took 12 s', '0.45 of its time', '1.03 microseconds', '3 to 10 %', '4,250 instructions',
-    'in 0.88 to 0.91', '35.1 minutes', '3.3 times as long',
+    '[`blake2b`](crates/argon2/src/hashing.rt)', 'the Refusals of a call', 'it spells\na value',
     *['    rt nothing NAME'] * bool(shutil.which('rt'))])
 def test_a_wrong_text_is_found(text):
     assert [*faults_of('README.md', text)]
@@ -192,8 +170,7 @@ def test_a_wrong_text_is_found(text):
 
 def test_definitions_have_the_words_of_the_pages():
     comments = {file: '\n'.join(re.findall(r'^ *-- (.*)$', read(file), re.M)) for file in files('crates/*/specs/**')}
-    assert comments and not [(file, avoided().findall(NAMED.sub('', text))) for file, text in comments.items()
-                             if avoided().search(NAMED.sub('', text))]
+    assert comments and not [file for file, text in comments.items() if words_avoided_in(text)]
 
 
 def test_all_pages_can_be_read():

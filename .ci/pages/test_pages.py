@@ -5,20 +5,21 @@ import shutil
 from pathlib import Path
 
 import pytest
-from common import CLAIMS, DIFFERENCES, FIRST, INSTALL, PYTHON, REPORTS, TOP, USE, files, read, rows, run
+from common import FIRST, PROMISES, REPORTS, TOP, Copy, files, read, rows, run
 from shared.sources import Sources, edits
 
 # A phone's pixels, and those of the smallest letter there.
 PHONE, LEAST = 400, 10.8
 BLOCK = re.compile(r'^```(rust|antt)\n(.*?)^```$', re.M | re.S)
+PROMISED = {'argon2_blocks', 'argon2_standard', 'argon2_memory', 'argon2_fill', 'argon2_text', 'argon2',
+            'argon2_commands', 'argon2_tool', 'argon2_c'}
 
 
-def test_what_is_written_is_current(copy):
-    copy.run('.ci/pages/write')
-    copy.run('git', '--no-pager', 'diff', '--exit-code')
+def test_what_is_written_is_current(tmp_path):
+    Copy(tmp_path).assert_is_current()
 
 
-@pytest.mark.parametrize('page', [DIFFERENCES, USE])
+@pytest.mark.parametrize('page', ['docs/DIFFERENCES.md', 'docs/USE.md'])
 def test_pieces_of_rattle_are_in_the_examples(page):
     examples = ''.join(map(read, files('crates/argon2_examples/src/*.rt', 'crates/argon2_examples/specs/*.antt')))
     pieces = [piece for _, piece in BLOCK.findall(read(page))]
@@ -39,7 +40,7 @@ def test_what_is_quoted_of_the_logic_stands_there(needs):
         assert ''.join(text.split()) in ''.join((logic / file).read_text(encoding='utf-8').split())
 
 
-@pytest.mark.parametrize('page', [FIRST, INSTALL, PYTHON])
+@pytest.mark.parametrize('page', [FIRST, 'docs/INSTALL.md', 'docs/PYTHON.md'])
 def test_the_oldest_c_library_is_the_newest_that_release_asks_for(page):
     asked = {int(version) for file in TOP.glob('release/*/*')
              for version in re.findall(rb'\0GLIBC_2\.(\d+)\0', file.read_bytes())}
@@ -48,7 +49,7 @@ def test_the_oldest_c_library_is_the_newest_that_release_asks_for(page):
 
 
 def test_pages_name_the_same_versions_of_the_toolchain():
-    assert run('build/kits').stdout and run('build/kits').stdout == run('build/kits', CLAIMS).stdout
+    assert run('build/kits').stdout and run('build/kits').stdout == run('build/kits', 'docs/CLAIMS.md').stdout
 
 
 def test_no_tag_while_there_are_placeholders():
@@ -69,26 +70,42 @@ def test_each_mutant_fits_and_names_what_it_breaks():
                           if edit.fault or edit.is_equal == bool(edit.goals) or (edit.crate, edit.name) not in wrong]
 
 
+def test_each_public_call_has_a_promise_and_what_shows_it():
+    sources, lines = Sources(), [line for line in rows(PROMISES) if len(line) > 1]
+    calls = {function.path for function in sources.functions if function.path and function.crate in PROMISED}
+    derived = {f'{what} for {"::".join(path)}' for at, path in sources.places.items() if at[:-1] in sources.modules
+               for what in sources.modules[at[:-1]].types.get(at[-1], '').split(', ')}
+    promises = {path: promise for path, promise, *_ in lines}
+    assert len(promises) == len(lines) and not calls - promises.keys() and not promises.keys() - calls - derived
+    shared = {promise[3:] for promise in promises.values() if promise.startswith('as ')}
+    assert shared and not [path for path in shared if promises.get(path, 'as ').startswith('as ')]
+    asked = {line.split(' ')[0] for line in read('crates/argon2_vectors/stdin').splitlines()}
+    programs = {path.name for path in TOP.glob('crates/argon2_c/c/*.c')}
+    shown = {name for _, _, *names in lines for name in ' '.join(names).split()}
+    assert shown and not shown - {*sources.tests, *asked, *programs}
+
+
 def test_each_open_promise_has_its_tests():
     opened = rows('docs/promises-open.txt')
     assert len(opened) > 40 and not [row for row in opened if len(row) != 2 or not all(row)]
 
 
-def test_callers_are_told_to_clear_what_calls_cannot():
-    """What calls take as `const`, and what the proved ones write."""
-    header, jobs = (read(f'crates/argon2_c/include/proved_argon2{part}.h') for part in ('', '_jobs'))
+def test_callers_are_told_to_clear_what_the_proved_calls_write():
+    jobs = read('crates/argon2_c/include/proved_argon2_jobs.h')
     written = {*re.findall(r'(?<!const )(?:proved_argon2_\w+|uint8_t) \*(job|blocks|tag)\b', jobs)}
-    stated = dict(re.findall(r'^\| (C.*?) \|.* \| (.*) \|$', read('SECURITY.md'), re.M))
-    assert {'pwd', 'secret'} <= {*re.findall(r'const uint8_t \*(\w+)', header)} and len(written) == 3
-    assert all(word in stated['C, Rust, Python'] for word in ('the password', 'what else you pass'))
-    assert all(word in stated['C, the proved calls made directly'] for word in ('also', *written))
+    stated, = re.findall(r'^\| C, the proved calls made directly \|.* \| (.*) \|$', read('SECURITY.md'), re.M)
+    assert len(written) == 3 and all(word in stated for word in ('also', *written))
 
 
 def test_the_table_for_c_has_each_call_and_the_definitions_that_its_clause_names():
-    """`none` stands where no proved call is. What several calls give together is in the clauses of one theorem."""
+    """`none` stands where no proved call is. What several calls give together is in the clauses of one theorem. The
+    headers have each parameter, but of the message, which is a buffer of C."""
     headers, code = (''.join(map(read, files(f'crates/argon2_c/{part}'))) for part in ('include/*.h', 'src/*.rt'))
     declared = {*re.findall(r'^(?!typedef| \*).*\bproved_argon2_(\w+)\(', headers, re.M)}
     clauses = dict(re.findall(r'^pub (?:extern "C" )?fn (?:proved_argon2_)?(\w+)(\(.*?)^\{', code, re.M | re.S))
+    parameters = dict(re.findall(r'\bproved_argon2_(\w+)\(([^)]*)\)', headers))
+    for name in declared & clauses.keys() - {'message'}:
+        assert {*re.findall(r'(\w+): ', clauses[name].partition('->')[0])} <= {*re.findall(r'\w+', parameters[name])}
     table, told = re.findall(r'^\| (.*[`*\]].*?) \| .* \| (none|\[.*) \|.*\|$', read('docs/C.md'), re.M), set()
     for calls, cited in table:
         names, links = re.findall(r'`(\w+)`', calls), re.findall(r'\[`(\w+)`\]', cited)

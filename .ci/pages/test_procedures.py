@@ -1,8 +1,10 @@
-"""Whether the procedures of CONTRIBUTING.md end well: in a copy of the repository the edits by hand of one after the
-other are made, each before `.ci/pages/write`, and then all checks of pages and sources are run, without exception."""
+"""Whether what pages tell to do ends well: the procedures of CONTRIBUTING.md, and over what is built the commands of
+the first page and what is written of the prover's reports."""
+
+import re
 
 import pytest
-from common import FIRST, HOW_TO_CHANGE, run
+from common import FIRST, HOW_TO_CHANGE, Copy, read, run
 
 PRESET = '''    /// libsodium's {0} settings: Argon2id, {2} MiB, {3} passes.
     pub fn {0}() -> Config<'a>
@@ -45,27 +47,30 @@ PROCEDURES = {
          '#[test]\nfn one_is_one() {\n    assert!(1 == 1);\n}\n\n#[test]\nfn encode_string')],
     'a test in Python': [
         ('.ci/pages/test_example.py', None, '"""Whether one is one."""\n\n\ndef test_one():\n    assert True\n'),
-        ('.ci/CMakeLists.txt', 'judge_file(.ci/gate/test_build.py QUICK)',
-         'judge_file(.ci/gate/test_build.py QUICK)\njudge_file(.ci/pages/test_example.py QUICK)')],
+        ('.ci/CMakeLists.txt', 'judge(.ci/gate/test_closing.py EARLY)',
+         'judge(.ci/gate/test_closing.py EARLY)\njudge(.ci/pages/test_example.py QUICK)')],
     'a page': [('docs/EXAMPLE.md', None, '# An example\n\n[Using it](USE.md) has more.\n'),
                (FIRST, '- How do I change it? ', '- What is an example? [An example](docs/EXAMPLE.md)\n'
                 '- How do I change it? ')],
     'a build for a processor': [('build/machines.txt', 'x86-64: x86-64-v2 ', 'x86-64: x86-64-v1 x86-64-v2 ')],
 }
-CHECKS = ('gcc -std=c99 -I crates/argon2_c/include -fsyntax-only crates/argon2_c/c/types.c', 'cmake -S .ci -B out/ci',
-          'ctest --test-dir out/ci --label-regex quick --tests-regex .ci/pages --no-tests=error --output-on-failure '
-          '--parallel 3')
+STEPS = ('.ci/pages/write', 'gcc -std=c99 -I crates/argon2_c/include -fsyntax-only crates/argon2_c/c/results.c',
+         'cmake -S .ci -B out/ci',
+         'ctest --test-dir out/ci --label-regex quick --tests-regex .ci/pages --no-tests=error --output-on-failure -j3')
 
 
-@pytest.mark.timeout(3600)
+@pytest.fixture
+def copy(tmp_path):
+    return Copy(tmp_path)
+
+
 def test_the_procedures_end_well(copy):
-    for procedure in PROCEDURES.values():
-        for file, old, new in procedure:
-            copy.change(file, old, new)
-            assert file.rpartition('/')[2] in (copy.top / HOW_TO_CHANGE).read_text() or old is None
-        copy.run('.ci/pages/write')
-    for check in CHECKS:
-        copy.run(*check.split())
+    """In a copy the edits by hand of all are made, and then all checks of pages and sources run, without exception."""
+    for file, old, new in (edit for edits in PROCEDURES.values() for edit in edits):
+        copy.change(file, old, new)
+        assert file.rpartition('/')[2] in (copy.top / HOW_TO_CHANGE).read_text() or old is None
+    for step in STEPS:
+        copy.run(*step.split())
 
 
 def test_who_publishes_is_written_everywhere(copy):
@@ -83,3 +88,18 @@ def test_what_a_place_by_hand_lacks_is_named(copy, change, place):
     copy.change(*change)
     with pytest.raises(AssertionError, match=place):
         copy.run('.ci/pages/write')
+
+
+def test_what_is_written_of_the_reports_is_current(built, copy):
+    assert 'not built' not in copy.run('.ci/pages/write')
+    copy.assert_is_current()
+
+
+def test_the_commands_of_the_first_page_run(built):
+    """The last command that answers verifies the password; CI, which this is, is only looked for."""
+    commands = re.findall('^    (.*)$', re.sub('^```.*?^```', '', read(FIRST), flags=re.M | re.S), re.M)
+    # (the first call of all says where the program was proved)
+    run('./argon2', 'rehash', 'argon2i', '19', '2', '256', '1', '32', '')
+    text = re.sub(r'^\.ci/run$', 'test -x .ci/run', '\n'.join(commands), flags=re.M)
+    came = run('bash', '-euo', 'pipefail', '-c', text)
+    assert len(commands) >= 4 and (came.returncode, came.stdout.strip()) == (0, 'true')

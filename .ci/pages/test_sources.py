@@ -16,7 +16,6 @@ LANGUAGES = {
     'C': (r'\.[ch]', '//!$^', 'clang-format --dry-run -Werror --ferror-limit=0'),
     'Rattle': (r'crates/.*/(src|specs|proofs)/.*\.(rt|antt)', '//!$^', 'rattle fmt --check'),
 }
-MADE = 'bindings/c/proved_argon2_table.c'  # as bindings/c/table.py lays it out
 NO_USE = re.compile(r'//.*|^ *(?:pub|ghost) use [^;]*;|^ *(?:pub(?:\([a-z]+\))? )?mod \w+;', re.M)
 HEAD = r'(?:\b(crate|super|self)(?=::)|^ *use (?!crate|super|self)(\w+))'
 PATH = re.compile(HEAD + r'((?:::\w+)*)(?:::\{([^}]*)\})?', re.M)
@@ -35,7 +34,7 @@ def first_line(name):
 @pytest.mark.parametrize('language', LANGUAGES)
 def test_files_are_laid_out(language, needs):
     end, begin, judge = LANGUAGES[language]
-    own = [name for name in files() if not name.startswith('release/') and name != MADE
+    own = [name for name in files() if not name.startswith('release/')
            and (re.fullmatch(f'.*{end}', name) or re.match(begin, first_line(name)))]
     long = [f'{name}:{number}' for name in own for number, line in enumerate(read(name).splitlines(), 1)
             if len(line) > LONGEST and language != 'Rattle']
@@ -45,21 +44,18 @@ def test_files_are_laid_out(language, needs):
     assert came.returncode == 0, came.stdout
 
 
-def paths_in(text, module):
-    """The paths that a file names, from the crate's root on: one without a head may be of a module in this one."""
-    heads = {'crate': (), 'super': module[:-1], 'self': module, '': module}
-    for head, used, inside, names in PATH.findall(text):
-        base = (*heads[head], *filter(None, [used, *inside.split('::')]))
-        yield from ((*base, *re.findall(r'\w+', name.partition(' as ')[0])) for name in names.split(','))
-
-
 def cycle_of(modules):
-    """The files of a cycle, each of which uses the one before it by what its code names; or nothing."""
-    used = {module: {next((path[:cut] for cut in range(len(path), -1, -1) if path[:cut] in modules), ())
-                     for path in paths_in(NO_USE.sub('', text), module)} - {module}
-            for module, text in modules.items()}
+    """The files of a cycle, each of which uses the one before it by the paths that its code names; or nothing. No use
+    are ghost imports, the declaration of a module, and names that a file passes on (`pub use`)."""
+    uses = {}
+    for module, text in modules.items():
+        heads = {'crate': (), 'super': module[:-1], 'self': module, '': module}
+        named = ((*heads[head], *re.findall(r'\w+', used + inside), *re.findall(r'\w+', name)[:1])
+                 for head, used, inside, names in PATH.findall(NO_USE.sub('', text)) for name in names.split(','))
+        uses[module] = {next(path[:cut] for cut in range(len(path), -1, -1) if path[:cut] in modules or not cut)
+                        for path in named} - {module}
     try:
-        graphlib.TopologicalSorter(used).prepare()
+        graphlib.TopologicalSorter(uses).prepare()
     except graphlib.CycleError as found:
         return found.args[1]
     return []
@@ -67,8 +63,7 @@ def cycle_of(modules):
 
 @pytest.mark.parametrize('crate', sorted({*crates()} - OF_TESTS))
 def test_no_files_of_a_crate_use_each_other(crate):
-    """A reader who follows what a file uses comes to an end. No use are ghost imports, the declaration of a module, and
-    names that a file passes on (`pub use`)."""
+    """A reader who follows what a file uses comes to an end."""
     modules = {module.path[1:]: module.text for module in Sources().modules.values()
                if module.file and not module.is_test and module.path[0] == crate}
     assert modules and not cycle_of(modules)
@@ -97,7 +92,7 @@ def test_lemma_files_begin_with_what_they_are_about():
 
 def test_nothing_outside_of_ci_names_it():
     """But pages, which tell of it, and the marks of parts that its scripts write."""
-    outside = [name for name in files() if not re.match(r'\.ci/|docs/|release/|pytest\.ini|.*\.md$', name)]
+    outside = [name for name in files() if not re.match(r'\.ci/|docs/|release/|setup\.cfg|.*\.md$', name)]
     named = [f'{name}: {line}' for name in outside for line in (TOP / name).read_bytes().decode(
         errors='replace').splitlines() if OF_CI.search(line)]
     assert len(outside) > 500 and not named

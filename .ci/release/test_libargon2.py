@@ -8,32 +8,26 @@ import secrets
 import shutil
 
 import pytest
-from shared import TOP, exports, run, said
+from shared import TOP, exports, ready, run, said
 
-HERE, FACE, BUILT = TOP / 'bindings/libargon2', TOP / 'crates/argon2_c', TOP / 'bindings/out/x86_64'
+HERE, FACE, BUILT = TOP / 'bindings/libargon2', TOP / 'crates/argon2_c', ready('x86_64') / 'x86_64'
 TESTS, THEIRS, ARCHIVE = HERE / 'tests', '/usr/lib/x86_64-linux-gnu/libargon2.so.1', BUILT / 'libproved_argon2.a'
 SEED, CALLS, SANITIZED = int(os.environ.get('SEED', secrets.randbits(32))), 25000, 5000
 CC = *'gcc -std=gnu11 -O1 -Wall -Wextra -Werror -I'.split(), HERE, '-I', FACE / 'include', '-I', TOP / 'bindings/c'
 SANITIZE = *'-g -fsanitize=address,undefined -fno-sanitize-recover'.split(),
 HEADERS = 'gcc -std=c99 -x c', 'g++ -std=c++98 -x c++', 'clang -std=c17 -x c -Weverything'
-KINDS = 'threads', 'memory', 'callbacks'
-# A program that links the archive, and the library's own beside it; and one that says what an older processor gets,
-# which is a code that libargon2 does not have.
+KINDS = 'threads', 'memory'
+# A program that links the archive, and the library's own beside it, and says what an older processor gets, which is a
+# code that libargon2 does not have.
 BOTH = """#include <argon2.h>
 #include <proved_argon2.h>
-int main(void)
-{
-    FLAG_clear_internal_memory = 1;
-    return argon2_encodedlen(1, 8, 1, 8, 4, Argon2_id) == 0 || proved_argon2_library_version() == 0;
-}
-"""
-OLDER = """#include <argon2.h>
 #include <stdio.h>
 int main(void)
 {
     char text[200];
     int made = argon2id_hash_encoded(1, 64, 1, "pw", 2, "somesalt", 8, 32, text, 200);
     int read = argon2id_verify("$argon2id$v=19$m=64,t=1,p=1$c29tZXNhbHQ$AAAAAAAA", "pw", 2);
+    FLAG_clear_internal_memory = proved_argon2_library_version() != 0;
     return printf("%d %d %s", made, read, argon2_error_message(made)) < 0;
 }
 """
@@ -41,27 +35,21 @@ FAULTS = re.findall(r'^(?!#)(.*)\nold: (.*)\nnew: (.*)$', (TESTS / 'faults.txt')
 assert len(FAULTS) == 18
 
 
-@pytest.fixture(scope='module', autouse=True)
-def linked():
-    said('build/all')
-
-
 @pytest.fixture(scope='module')
-def work(linked, tmp_path_factory):
+def work(tmp_path_factory):
     """A folder with the tests, and lib, for LD_LIBRARY_PATH."""
     folder = tmp_path_factory.mktemp('libargon2')
-    (folder / 'lib').mkdir()
-    for name in ('libargon2.so.1', 'argon2'):
-        shutil.copy(BUILT / name, folder / 'lib')
+    shutil.copytree(BUILT, folder / 'lib')
     (folder / 'lib/libargon2.so').symlink_to('libargon2.so.1')
-    link = '-L', folder / 'lib', '-largon2'
-    fuzz = TESTS / 'fuzz.c', TESTS / 'calls.c', '-ldl'
-    said(*CC, TESTS / 'vectors.c', *link, '-o', folder / 'vectors')
-    said(*CC, TESTS / 'starved.c', *link, '-ldl', '-o', folder / 'starved')
-    said(*CC, *fuzz, '-o', folder / 'fuzz')
-    said(*CC, *SANITIZE, *fuzz, '-o', folder / 'fuzz.sanitized')
-    said(*CC, '-I', FACE / 'c', TESTS / 'secrets.c', ARCHIVE, *link, '-pthread', '-Wl,-z,lazy', '-o',
-         folder / 'secrets')
+    link, fuzz = ('-L', folder / 'lib', '-largon2'), (TESTS / 'fuzz.c', '-ldl')
+    wrapped = re.findall(r'__wrap_(\w+)\(.*;', (FACE / 'c/system.h').read_text(encoding='utf-8'))
+    for name, *words in (
+        ('vectors', '-I', FACE / 'c', TESTS / 'vectors.c', *link), ('starved', TESTS / 'starved.c', *link, '-ldl'),
+        ('fuzz', *fuzz), ('fuzz.sanitized', *SANITIZE, *fuzz),
+        ('secrets', '-I', FACE / 'c', TESTS / 'secrets.c', ARCHIVE, *link, '-pthread', '-Wl,-z,lazy',
+         *(f'-Wl,--wrap={name}' for name in wrapped)),
+    ):
+        said(*CC, *words, '-o', folder / name)
     return folder
 
 
@@ -99,26 +87,27 @@ def test_compiles_the_header(compiler):
          input='#include "argon2.h"\n')
 
 
-def built_of(text, folder):
-    (folder / 'program.c').write_text(text, encoding='utf-8')
-    said(*CC, folder / 'program.c', BUILT / 'libargon2.a', ARCHIVE, '-o', folder / 'program')
-    return folder / 'program'
-
-
-def test_links_both_archives(tmp_path):
-    said(built_of(BOTH, tmp_path))
-
-
-def test_names_an_older_processor(tmp_path):
-    program = built_of(OLDER, tmp_path)
-    assert said(program) == '0 -35 OK'
-    assert said('env', 'PROVED_ARGON2_CPU=none', program) == '-131 -131 The processor is too old'
+def test_links_both_archives_and_names_an_older_processor(tmp_path):
+    (tmp_path / 'program.c').write_text(BOTH, encoding='utf-8')
+    said(*CC, tmp_path / 'program.c', BUILT / 'libargon2.a', ARCHIVE, '-o', tmp_path / 'program')
+    assert said(tmp_path / 'program') == '0 -35 OK'
+    assert said('env', 'PROVED_ARGON2_CPU=none', tmp_path / 'program') == '-131 -131 The processor is too old'
 
 
 # ---- what it returns
 
-def test_vectors(work):
-    said(*over(work / 'lib', work / 'vectors'))
+# The vectors of libargon2; what calls leave of H0 and a tag; at most 16 threads for an encoded hash; processes to which
+# something is denied; and drawn calls beside Debian's.
+@pytest.mark.parametrize('words', [
+    ('vectors',), ('secrets',), ('starved', 'texts', 0), *(('starved', kind, at) for kind in KINDS for at in range(20)),
+    *(('fuzz', SEED + at, CALLS, THEIRS, BUILT / 'libargon2.so.1') for at in range(4))],
+    ids=lambda words: ' '.join(map(str, words[:3])))
+def test_program(work, words):
+    said(*over(work / 'lib', work / words[0], *words[1:]))
+
+
+def test_vectors_of_debian(work):
+    said(work / 'vectors')
 
 
 def fetched(kind, release, package, folder):
@@ -150,28 +139,9 @@ def test_own_tests_of_argon2_cffi(work, tmp_path):
                'no:cacheprovider', '--ignore', 'tests/test_packaging.py', 'tests'), cwd=source)
 
 
-@pytest.mark.parametrize('at', range(4))
-def test_drawn_calls(work, at):
-    said(work / 'fuzz', SEED + at, CALLS, THEIRS, work / 'lib/libargon2.so.1')
-
-
 def test_drawn_calls_with_sanitizers(work):
     interface(HERE / 'libargon2.c', work / 'sanitized.so', *SANITIZE)
     said(work / 'fuzz.sanitized', SEED + 4, SANITIZED, THEIRS, work / 'sanitized.so')
-
-
-@pytest.mark.parametrize('kind', KINDS)
-def test_twenty_processes_are_denied(work, kind):
-    for number in range(20):
-        said(*over(work / 'lib', work / 'starved', kind, number))
-
-
-def test_starts_at_most_16_threads_for_an_encoded_hash(work):
-    said(*over(work / 'lib', work / 'starved', 'texts', 0))
-
-
-def test_leaves_neither_h0_nor_a_tag(work):
-    said(*over(work / 'lib', work / 'secrets'))
 
 
 def test_programs_of_debian(work):

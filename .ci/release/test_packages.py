@@ -1,20 +1,19 @@
 """Makes the packages, here and elsewhere as somebody else, and looks into each. Goes from each alone through the first
 lines of the pages (debian/tests), where neither the kit nor this repository can be seen, removes it, and looks for what
-is left."""
+is left. Installs in fresh systems of other years, and switches them to libargon2's place and back."""
 
 import fnmatch
+import os
 import re
 import shutil
 import tempfile
 from pathlib import Path
 
 import pytest
-
-from alone import copy_tree, in_namespace, needs_root, read, refuses, succeeds
-from shared import TOP, run
 from machines import machines
+from running import CRATES_OF_DEBIAN, VERSION, first_lines, project
+from shared import TOP, in_namespace, refuses, run, said
 
-VERSION = (TOP / 'VERSION').read_text(encoding='utf-8').strip()
 PROJECT = dict(re.findall(r'^(\w+): (.+)$', (TOP / 'PROJECT').read_text(encoding='utf-8'), re.M))
 DEBS = {  # what each asks for, and the page that it has beside those of all
     'libproved-argon2-1': ('libc6 (>= 2.34)', ''), 'proved-argon2': ('libc6 (>= 2.34)', 'docs/SHELL.md'),
@@ -37,13 +36,23 @@ UNPACKS = {'.deb': 'dpkg-deb -x {} {}', '.whl': 'unzip -q {} -d {}'}
 ENTRY = re.compile(r'^([-dl])([-rwxst]{9}) +(\S+) .*? (?:\./)?([^ ]+?)(?: -> .*)?$', re.M)
 PROGRAMS = re.compile(r'(^|/)(bin/(proved-)?argon2|argon2_tool|share/proved-argon2/uninstall)$')
 OF_ALL = ['README.md', 'SECURITY.md', 'docs/CLAIMS.md', 'docs/USE.md']
-pytestmark = [needs_root, pytest.mark.timeout(2400)]
+pytestmark = [pytest.mark.timeout(2400),
+              pytest.mark.skipif(os.geteuid() != 0, reason='that takes root, and namespaces')]
+
+
+def read(file):
+    return Path(file).read_text(encoding='utf-8')
+
+
+def copy_tree(folder):
+    """What a user has of the repository, without what was built."""
+    return shutil.copytree(TOP, folder, symlinks=True, ignore=shutil.ignore_patterns('out', 'target', '.git'))
 
 
 @pytest.fixture(scope='session')
 def packages(tmp_path_factory):
     folder = tmp_path_factory.mktemp('packages')
-    succeeds('bash', '-c', f'umask 0 && ./package {folder} && cd {folder} && sha256sum --quiet -c SHA256SUMS')
+    said('bash', '-c', f'umask 0 && ./package {folder} && cd {folder} && sha256sum --quiet -c SHA256SUMS')
     assert {file.name for file in folder.iterdir()} == {*NAMES, 'SHA256SUMS'} and len(NAMES) == 17
     return folder
 
@@ -54,7 +63,7 @@ def unpacked(packages, tmp_path_factory):
     folder = tmp_path_factory.mktemp('unpacked')
     for name in NAMES:
         (folder / name).mkdir()
-        succeeds(*UNPACKS.get(Path(name).suffix, 'tar -xf {} -C {}').format(packages / name, folder / name).split())
+        said(*UNPACKS.get(Path(name).suffix, 'tar -xf {} -C {}').format(packages / name, folder / name).split())
     return folder
 
 
@@ -70,17 +79,17 @@ def there():
 def test_elsewhere_by_somebody_else_they_are_the_same_bytes(packages, there):
     """In another folder, by another user with another umask, clock, zone and language, and one processor."""
     tree, home = copy_tree(there / 'tree'), there / 'home'
-    succeeds('bash', '-c', f'install -d -m 777 {home} && chmod -R a+rX {there}')
+    said('bash', '-c', f'install -d -m 777 {home} && chmod -R a+rX {there}')
     late = ['faketime', '-f', '+40d'] if shutil.which('faketime') else []
-    succeeds('bash', '-c', 'umask 077 && cd / && "$@"', 'bash', 'taskset', '-c', '0', 'setpriv', '--reuid=65534',
-             '--regid=65534', '--clear-groups', 'env', f'HOME={home}', f'TMPDIR={home}', 'TZ=Asia/Tokyo',
-             'LC_ALL=C.UTF-8', *late, tree / 'package', home / 'made')
+    said('bash', '-c', 'umask 077 && cd / && "$@"', 'bash', 'taskset', '-c', '0', 'setpriv', '--reuid=65534',
+         '--regid=65534', '--clear-groups', 'env', f'HOME={home}', f'TMPDIR={home}', 'TZ=Asia/Tokyo', 'LC_ALL=C.UTF-8',
+         *late, tree / 'package', home / 'made')
     assert read(home / 'made/SHA256SUMS') == read(packages / 'SHA256SUMS')
 
 
 def test_lintian_finds_nothing(packages, needs):
     needs('lintian')
-    succeeds('lintian', '--allow-root', '--fail-on', 'error,warning', *(packages / name for name in ASKS))
+    said('lintian', '--allow-root', '--fail-on', 'error,warning', *(packages / name for name in ASKS))
 
 
 def test_what_is_lacking_is_named_at_once(tmp_path):
@@ -97,28 +106,12 @@ def test_what_is_lacking_is_named_at_once(tmp_path):
 @pytest.mark.parametrize('name', NAMES)
 def test_all_is_of_root_and_has_its_mode(packages, name):
     """No archive has an entry for a folder that is not ours, which would change that of the system."""
-    found = ENTRY.findall(succeeds(*LISTS.get(Path(name).suffix, ['tar', '-tvf']), packages / name))
+    found = ENTRY.findall(said(*LISTS.get(Path(name).suffix, ['tar', '-tvf']), packages / name))
     wrong = [(mode, owner, path) for kind, mode, owner, path in found if owner not in ('root/root', '0/0', '2.0')
              or mode != ('rwxrwxrwx' if kind == 'l' else
                          'rwxr-xr-x' if kind == 'd' or PROGRAMS.search(path) else 'rw-r--r--')
              or name[-4:] != '.deb' and (path.startswith(('/', '..')) or kind == 'd' and 'proved-argon2' not in path)]
     assert len(found) > 10 and not wrong
-
-
-@pytest.mark.parametrize('is_link', [True, False])
-def test_the_tarball_keeps_what_is_the_systems(packages, tmp_path, is_link):
-    """Where /usr/local is a link, or its folders are a group's, it changes neither."""
-    local = tmp_path / ('opt/local' if is_link else 'usr/local')
-    lists = ['find', tmp_path, '-printf', '%y %m %u:%g %p %l\n']
-    succeeds('bash', '-c', f'mkdir -p {tmp_path}/usr {local}/{{bin,include,lib/pkgconfig,share/man/man1}} && '
-             f'chown -R root:staff {local} && find {local} -type d -exec chmod 2775 {{}} +')
-    if is_link:
-        (tmp_path / 'usr/local').symlink_to('../opt/local')
-    before = {*succeeds(*lists).splitlines()}
-    succeeds('bash', '-c', f'umask 077 && tar -C {tmp_path} -xzf {packages / TARBALLS[0]}')
-    assert before <= {*succeeds(*lists).splitlines()}
-    assert f'URL: {PROJECT["Address"]}\n' in read(local / 'lib/pkgconfig/proved_argon2.pc')
-    assert (local / 'bin/proved-argon2').exists() and (local / 'lib/libproved_argon2.so.1').exists()
 
 
 @pytest.mark.parametrize('machine', machines())
@@ -164,7 +157,7 @@ def test_the_copyright_tells_of_what_is_built(unpacked, name):
     links programs for x86-64 alone."""
     parts = re.findall(r'^Files: ((?:.+\n)+)', read(next((unpacked / name).glob('usr/share/doc/*/copyright'))), re.M)
     every = names_in(read(TOP / 'NOTICE'))
-    for file in succeeds('find', 'usr', '-type', 'f', cwd=unpacked / name).split():
+    for file in said('find', 'usr', '-type', 'f', cwd=unpacked / name).split():
         *_, part = (part for part in parts if any(fnmatch.fnmatch(file, form) for form in part.split('\n')[0].split()))
         is_code = not run('readelf', '-h', unpacked / name / file).returncode
         of_programs = set() if '/x86-64-v' in file else {'Ulrik Sverdrup', 'Rust Project Dev', 'rust-hex Dev'}
@@ -174,12 +167,13 @@ def test_the_copyright_tells_of_what_is_built(unpacked, name):
 
 @pytest.mark.parametrize('name', ASKS)
 def test_a_package_for_debian_asks_for_what_it_needs_alone(packages, unpacked, name):
-    fields = succeeds('dpkg-deb', '-f', packages / name, 'Maintainer', 'Homepage', 'Depends', 'Recommends', 'Suggests')
+    fields = said('dpkg-deb', '-f', packages / name, 'Architecture', 'Maintainer', 'Homepage', 'Depends', 'Recommends',
+                  'Suggests')
     assert sorted(fields.splitlines()) == [
-        f'Depends: {ASKS[name][0]}', f'Homepage: {PROJECT["Address"]}',
+        f'Architecture: {name[:-4].rpartition("_")[2]}', f'Depends: {ASKS[name][0]}', f'Homepage: {PROJECT["Address"]}',
         f'Maintainer: {PROJECT["Publisher"]} <{PROJECT["Contact"]}>']
-    said = run('find', unpacked / name / 'usr', '-type', 'f', '-exec', 'readelf', '-VW', '{}', '+').stdout
-    newest = max(([int(part) for part in found.split('.')] for found in re.findall(r'GLIBC_([\d.]+)', said)), default=0)
+    needed = run('find', unpacked / name / 'usr', '-type', 'f', '-exec', 'readelf', '-VW', '{}', '+').stdout
+    newest = max(([*map(int, found.split('.'))] for found in re.findall(r'GLIBC_([\d.]+)', needed)), default=0)
     assert newest == ([2, 34] if 'libc6 (' in ASKS[name][0] else 0)
 
 
@@ -245,17 +239,6 @@ FROM = {
         apt-get install -qq -y -o APT::Sandbox::User=root ./theirs/*.deb; [[ -z $(installed_of '*proved-libargon2*') ]]
         debian/tests/libargon2 libargon2-1; leaves_nothing''',
 }
-CARGO = f'''[package]
-name = "first"
-version = "0.0.0"
-edition = "2021"
-[workspace]
-[dependencies]
-argon2 = {{ package = "proved-argon2", path = "../proved-argon2-{VERSION}" }}
-[features]
-optional = ["argon2/serde", "argon2/password-hash"]
-'''
-DEBIANS = '[source.crates-io]\nreplace-with = "debian"\n[source.debian]\ndirectory = "/usr/share/cargo/registry"\n'
 
 
 @pytest.fixture(scope='session')
@@ -264,13 +247,12 @@ def with_pages(packages, tmp_path_factory):
     folder = shutil.copytree(packages, tmp_path_factory.mktemp('pages') / 'packages')
     for name in ('docs', 'debian', 'crates/argon2_c/c'):
         shutil.copytree(TOP / name, folder / name)
-    for file in ('rust/src/main.rs', 'rust/.cargo/config.toml', 'rust/Cargo.toml', 'theirs/partial'):
-        (folder / file).parent.mkdir(parents=True, exist_ok=True)
-    lines = re.search('^```rust\n(.*?)^```', read(TOP / 'docs/RUST.md'), re.M | re.S)[1]
-    (folder / 'rust/src/main.rs').write_text(
-        f'fn main() -> Result<(), Box<dyn std::error::Error>> {{\n{lines}\nOk(()) }}\n')
-    (folder / 'rust/.cargo/config.toml').write_text(DEBIANS)
-    (folder / 'rust/Cargo.toml').write_text(CARGO)
+    for name in ('rust/.cargo', 'theirs'):
+        (folder / name).mkdir(parents=True)
+    (folder / 'rust/.cargo/config.toml').write_text(CRATES_OF_DEBIAN)
+    project(folder / 'rust', f'fn main() -> Result<(), Box<dyn std::error::Error>> {{{first_lines("RUST.md")}Ok(()) }}',
+            f'argon2 = {{ package = "proved-argon2", path = "../proved-argon2-{VERSION}" }}',
+            more='[features]\noptional = ["argon2/serde", "argon2/password-hash"]\n')
     run('apt-get', '-qq', '-o', 'APT::Sandbox::User=root', 'download', 'libargon2-1', 'libargon2-dev',
         cwd=folder / 'theirs')
     return folder
@@ -281,4 +263,62 @@ def test_from_the_package_alone(with_pages, tmp_path, needs, name):
     needs(*NEEDS[name])
     if name == 'libargon2' and not any((with_pages / 'theirs').iterdir()):
         pytest.skip('there is no package of Debian for the way back')
-    succeeds(*in_namespace(ALONE, tmp_path, with_pages, TOP, BEFORE + FROM[name]))
+    said(*in_namespace(ALONE, tmp_path, with_pages, TOP, BEFORE + FROM[name]))
+
+
+# ---- fresh systems
+
+THERE = '''mount --rbind /dev "$1/dev" && mount -t proc proc "$1/proc"
+exec chroot "$1" env -i PATH=/usr/local/bin:/usr/sbin:/usr/bin:/sbin:/bin bash -Eeuo pipefail -c "$2"'''
+# Installs packages, or takes them back to Debian's; PHP then calls the library of PACKAGE, and OTHERS are there:
+# `swaps 'PACKAGES' PACKAGE OTHER..`. The development files stay with either library, and ours take their place if both
+# files are named.
+SWAPS = '''export DEBIAN_FRONTEND=noninteractive; cd /packages
+trap 'echo "status $?: $BASH_COMMAND" >&2' ERR
+installs() { apt-get install -qq -y "$@" >/dev/null; }
+swaps() {
+    installs $1
+    [[ $(php -r 'echo json_encode(password_verify("pw", password_hash("pw", PASSWORD_ARGON2ID)));') == true ]]
+    [[ $(dpkg -S "/usr/lib/$(uname -m)-linux-gnu/libargon2.so.1") == "$2"* ]]
+    for package in php-cli "${@:2}"; do
+        [[ $(dpkg-query -W -f '${Status}' "$package") == *' installed' ]]
+    done
+    [[ -z $(dpkg --audit) ]] && apt-get check -qq
+}
+ours=./proved-libargon2-1_*_amd64.deb development=./proved-libargon2-dev_*_amd64.deb
+'''
+THERE_AND_BACK = '''apt-get update -qq; swaps php-cli libargon2-1; swaps "$ours" proved-libargon2-1
+swaps libargon2-1 libargon2-1; swaps libargon2-dev libargon2-1 libargon2-dev
+swaps "$ours" proved-libargon2-1 libargon2-dev; swaps libargon2-1 libargon2-1 libargon2-dev
+if installs $development 2>/dev/null; then exit 1; fi
+swaps "$ours $development" proved-libargon2-1 proved-libargon2-dev
+swaps 'libargon2-1 libargon2-dev' libargon2-1 libargon2-dev; [[ -z $(dpkg-query -W 'proved-*' 2>/dev/null) ]]'''
+UPGRADE = '''swaps "$ours" proved-libargon2-1 libargon2-dev; former=$(dpkg-query -W -f '${Version}' libargon2-dev)
+sed -i s/bookworm/trixie/ /etc/apt/sources.list; apt-get update -qq; apt-get full-upgrade -qq -y >/dev/null
+grep -qx VERSION_CODENAME=trixie /etc/os-release; swaps php-cli proved-libargon2-1 libargon2-dev
+[[ $(dpkg-query -W -f '${Version}' libargon2-dev) != "$former" ]]; swaps libargon2-1 libargon2-1 libargon2-dev'''
+
+
+def make_system(release, folder):
+    """Debian 12's debootstrap knows Ubuntu's newer releases by an older name. Its mirror is beside that of Debian."""
+    mirror = said('bash', '-c', '. bindings/tests/fetching.bash; mirror_of ubuntu').strip()
+    of_ubuntu = [mirror, '/usr/share/debootstrap/scripts/gutsy']
+    made = run('debootstrap', '--variant=minbase', release, folder, *(of_ubuntu if release == 'noble' else []))
+    if made.returncode:
+        pytest.skip(f'{release} cannot be had: {made.stdout.splitlines()[-1:]}')
+    copy_tree(folder / 'tree')
+
+
+@pytest.mark.parametrize('release', ['bullseye', 'bookworm', 'trixie', 'noble'])
+def test_a_fresh_system(packages, tmp_path, needs, release):
+    """The first has an older C library, and the installation says so."""
+    needs('debootstrap')
+    make_system(release, tmp_path / 'system')
+    there = in_namespace(THERE, tmp_path / 'system')
+    if release == 'bullseye':
+        refuses(1, 'install: it needs the GNU C library 2.34 or newer, and here is 2.31: ', *there, '/tree/install')
+        assert not (tmp_path / 'system/usr/local/bin/proved-argon2').exists()
+        return
+    said(*there, '/tree/install && proved-argon2 --version && /tree/install --remove')
+    shutil.copytree(packages, tmp_path / 'system/packages')
+    said(*there, '\n'.join([SWAPS, THERE_AND_BACK, *[UPGRADE] * (release == 'bookworm')]))

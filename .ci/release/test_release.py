@@ -1,145 +1,199 @@
-"""Compares release/ with what is built here from these sources (build/release), plants forgeries, and verifies the
-vectors by the programs for each processor: the libraries, which have the same bytes as those that are built, are tested
-as these by other tests."""
+"""Compares release/ with what is built here from these sources (build/release), and verifies strings by its programs:
+the libraries, which have the same bytes as those that are built, are tested as these by other tests. In a copy of this
+repository, without the kit, hashes and installs as each processor takes it. What is changed, forged, of other sources
+or for another machine has to be refused by name, and nothing be installed."""
 
-import base64
 import hashlib
+import os
 import re
 import shutil
 import subprocess
+import time
 
 import pytest
-
-from shared import TOP, run
-from shared.toolchain import has_processor
 from machines import machines
+from running import VERSION
+from shared import TOP, in_namespace, refuses, run, said
+from shared.toolchain import has_processor
 
 pytestmark = pytest.mark.timeout(5400)
-RELEASE, VECTORS = TOP / 'release', TOP / 'bindings/vectors'
+needs_root = pytest.mark.skipif(os.geteuid() != 0, reason='that takes root, and namespaces')
+RELEASE = TOP / 'release'
 FILES = re.findall(r'(?m)^[0-9a-f]{64}  (.+)$', (RELEASE / 'MANIFEST').read_text(encoding='utf-8'))
+TOOL, ARCHIVE, SHARED = 'x86-64-v3/argon2_tool', 'x86_64/libproved_argon2.a', f'x86_64/libproved_argon2.so.{VERSION}'
+WORDS = 'hash argon2d 19 2 256 2 32 par somesalt'.split()
+TAG = '7b69c92d7c3889aad1281dbc8baefc12cc37c80f1c75e33ef2c2d40c28ebc573'  # libargon2's, of `password`
+NOTICE = 'proved and built elsewhere, from exactly these sources'
+HIDES = '[[ ! -d /opt/rattle ]] || mount -t tmpfs none /opt/rattle; ! PATH=$PATH:/opt/rattle/bin command -v rt; "$@"'
+CPUINFO = 'mount --bind "$1" /proc/cpuinfo; shift; exec "$@"'
+OLD, NEW = 'cx16 lahf_lm popcnt pni sse4_1 sse4_2 ssse3'.split(), 'avx avx2 bmi1 bmi2 f16c fma abm movbe'.split()
 
 
 # ---- what is compared
 
-def test_release_has_a_folder_for_each_machine_and_build():
+@pytest.fixture(scope='session')
+def compared():
+    """What is forged, and what is run, is what was built here."""
+    said('build/release')
+
+
+def test_release_is_what_is_built_here_and_has_each_machine_and_build(compared):
     builds = [build for machine in machines().values() for build in machine.builds]
     assert {name.partition('/')[0] for name in FILES} == {'windows-x86_64', 'wasm32', 'portable', *machines(), *builds}
 
 
-@pytest.fixture(scope='session')
-def compared():
-    """What is forged, and what is run, is what was built here."""
-    ran = run('build/release')
-    assert ran.returncode == 0, ran.stdout
+@pytest.mark.parametrize('cpu', machines()['x86_64'].proved)
+def test_the_program_verifies_the_outside_strings(compared, cpu):
+    if not has_processor(cpu):
+        pytest.skip('the processor is older')
+    for line in (TOP / 'bindings/vectors/texts.txt').read_text(encoding='utf-8').splitlines():
+        text, answer = line.split('\t')
+        came = run(RELEASE / cpu / 'argon2_program', 'verify', text, input='password').stdout
+        assert came == answer.removeprefix('ERR ') + '\n', text
 
 
-def test_release_is_what_is_built_here(compared):
-    """The comparison is that of the fixture."""
-
+# ---- without the kit
 
 @pytest.fixture
-def tree(compared, tmp_path):
-    """A copy of the repository, as git has it, with all that is built; marks are content, so it is current."""
+def copy(tmp_path):
+    """What a user has of the repository, as git has it, without what was built."""
     listed = run('git', 'ls-files', '-z', '--cached', '--others', '--exclude-standard').stdout.split('\0')
     for name in (name for name in listed if name and (TOP / name).exists()):
-        (tmp_path / name).parent.mkdir(parents=True, exist_ok=True)
-        shutil.copy2(TOP / name, tmp_path / name, follow_symlinks=False)
-    shutil.copytree(TOP / 'bindings/out', tmp_path / 'bindings/out', symlinks=True, dirs_exist_ok=True)
-    yield tmp_path
-    shutil.rmtree(tmp_path)
+        (tmp_path / 'copy' / name).parent.mkdir(parents=True, exist_ok=True)
+        shutil.copy2(TOP / name, tmp_path / 'copy' / name, follow_symlinks=False)
+    yield tmp_path / 'copy'
+    shutil.rmtree(tmp_path / 'copy')
 
 
-def forge_each_file(tree):
-    """Another last byte in each file, whose sum the list has."""
-    text = (tree / 'release/MANIFEST').read_text(encoding='utf-8')
-    for name in FILES:
-        content = (tree / 'release' / name).read_bytes()
-        forged = content[:-1] + bytes([content[-1] ^ 1])
-        (tree / 'release' / name).write_bytes(forged)
-        text = text.replace(*(hashlib.sha256(of).hexdigest() for of in (content, forged)))
-    (tree / 'release/MANIFEST').write_text(text, encoding='utf-8')
+def in_copy(copy, *words, **how):
+    return run(*in_namespace(HIDES, *words), cwd=copy, **how)
 
 
-def edit_list(pattern, other):
-    def edit(tree):
-        path = tree / 'release/MANIFEST'
-        text = path.read_text(encoding='utf-8')
-        path.write_text(re.sub(pattern, other, text, count=1, flags=re.M), encoding='utf-8')
-        assert path.read_text(encoding='utf-8') != text, pattern
-    return edit
+def on_processor(launcher, flags, tmp_path, *before):
+    """With what Linux says of a processor with these flags."""
+    (tmp_path / 'cpuinfo').write_text(f'processor\t: 0\nflags\t\t: fpu {" ".join(flags)}\n', encoding='utf-8')
+    return run(*in_namespace(CPUINFO, tmp_path / 'cpuinfo', *before, launcher, *WORDS), input='password')
 
 
-def add_a_file(tree):
-    shutil.copy(shutil.which('true'), tree / 'release/x86_64/more.so')
+@needs_root
+def test_launchers_take_the_build_for_the_processor(copy, tmp_path):
+    """At once, and say once whence it is. A stand-in of the newer one says so, with the user's tunables or ours; the
+    older runs where one thing lacks."""
+    began, prefix, newer = time.monotonic(), tmp_path / 'chosen', 'the newer one glibc.malloc.'
+    first, second = (in_copy(copy, './argon2', *WORDS, input='password').stdout for _ in range(2))
+    assert time.monotonic() - began < 4 and f'{TAG}\n' in first and second.startswith(f'{TAG}\n')
+    assert NOTICE in first and NOTICE not in second and NOTICE in in_copy(copy, './install', prefix).stdout
+    for file in (prefix / 'libexec/proved-argon2' / TOOL, copy / 'release' / TOOL):
+        file.write_text('#!/bin/sh\necho the newer one "$GLIBC_TUNABLES"\n', encoding='utf-8')
+    take_sum(copy, TOOL)
+    for launcher in (prefix / 'bin/proved-argon2', copy / 'argon2'):
+        assert TAG in on_processor(launcher, OLD, tmp_path).stdout
+        assert on_processor(launcher, OLD + NEW, tmp_path).stdout.endswith(f'{newer}hugetlb=1\n')
+        own = ['env', 'GLIBC_TUNABLES=glibc.malloc.check=0']
+        assert f'{newer}check=0\n' in on_processor(launcher, OLD + NEW, tmp_path, *own).stdout
+        for flag in OLD + NEW:
+            came = on_processor(launcher, [word for word in OLD + NEW if word != flag], tmp_path)
+            assert ('older than x86-64-v2' in came.stdout and came.returncode == 70) == (flag in OLD), flag
+            assert (TAG in came.stdout) == (flag in NEW), flag
+    assert in_copy(copy, './install', '--remove', prefix).returncode == 0 and not prefix.exists()
 
 
-def track_unseen(tree):
-    (tree / 'docs/link').symlink_to('figures')
-    (tree / 'docs/page.md').write_text('\u202e\n', encoding='utf-8')
-    (tree / 'build/.gitattributes').write_text('*.sh -diff\n', encoding='utf-8')
-    (tree / 'build/__pycache__').mkdir()
-    (tree / 'build/__pycache__/machines.pyc').write_bytes(bytes(9))
+# ---- what is refused
+
+def forge(*names, is_listed=False):
+    """Another last byte in files of release/, whose sums the list may have."""
+    def plant(copy):
+        for name in names:
+            content = (copy / 'release' / name).read_bytes()
+            (copy / 'release' / name).write_bytes(content[:-1] + bytes([content[-1] ^ 1]))
+            if is_listed:
+                take_sum(copy, name)
+    return plant
+
+
+def edit(file, pattern, other):
+    def plant(copy):
+        text = (copy / file).read_text(encoding='utf-8')
+        (copy / file).write_text(re.sub(pattern, other, text, count=1, flags=re.M), encoding='utf-8')
+        assert (copy / file).read_text(encoding='utf-8') != text
+    return plant
+
+
+def take_sum(copy, name):
+    """The list's sum of a file becomes that which it has."""
+    own = hashlib.sha256((copy / 'release' / name).read_bytes()).hexdigest()
+    edit('release/MANIFEST', f'^.*  {name}$', f'{own}  {name}')(copy)
+
+
+def add_a_file(copy):
+    shutil.copy(shutil.which('true'), copy / 'release/x86_64/more.so')
+
+
+def track_unseen(copy):
+    (copy / 'docs/link').symlink_to('figures')
+    (copy / 'docs/page.md').write_text('\u202e\n', encoding='utf-8')
+    (copy / 'build/.gitattributes').write_text('*.sh -diff\n', encoding='utf-8')
+    for name in ('build/__pycache__/machines.pyc', 'bindings/out/x86_64/made'):
+        (copy / name).parent.mkdir(parents=True, exist_ok=True)
+        (copy / name).write_bytes(bytes(9))
     for words in (['init', '-q'], ['add', '-f', 'docs', 'build', 'bindings/out/x86_64']):
-        subprocess.run(['git', *words], cwd=tree, check=True)
+        subprocess.run(['git', *words], cwd=copy, check=True)
 
 
-# What is planted into a copy; the command that has to find it; and how each line of it begins, or one line.
+COMPARE, CLEAN, INSTALL, PACKAGE, HASH = 'build/release', 'build/clean', './install', './package', './argon2'
+LIST, CHANGED = 'release/MANIFEST', 'is not the file that release/MANIFEST names'
+ARM64 = 'aarch64/libproved_argon2.a'
+# What is planted into a copy; the commands that have to find it; and what lines of theirs have.
 FORGERIES = {
-    'another byte in each file': (forge_each_file, 'build/release', [f'FAILED: release/{name} is' for name in FILES]),
-    'another list': (edit_list('^# version .*', '# version 9.9.9'), 'build/release',
-                     ['FAILED: release/MANIFEST is that']),
+    'another byte in each file': (forge(*FILES, is_listed=True), [COMPARE],
+                                  [f'FAILED: release/{name} is what' for name in FILES]),
+    'another list': (edit(LIST, '^# version .*', '# version 9.9.9'), [COMPARE], [f'FAILED: {LIST} is that']),
     'another compiler, which no package has': (
-        edit_list('^# package x86_64 .*', '# package x86_64 no-release gcc-1=0'), 'build/release',
+        edit(LIST, '^# package x86_64 .*', '# package x86_64 no-release gcc-1=0'), [COMPARE],
         ['FAILED: x86_64 is linked by the tools']),
-    'another toolchain': (edit_list('^# kit .*', '# kit another'), 'build/release', ['FAILED: its toolchain is']),
-    'a file that the list does not name': (add_a_file, 'build/release', ['FAILED: release/ has what it names']),
-    'the same before anything is built': (add_a_file, 'build/clean', ['build/clean: release/MANIFEST does not name']),
-    'what git may not track': (track_unseen, 'build/clean', [
+    'another toolchain': (edit(LIST, '^# kit .*', '# kit another'), [COMPARE], ['FAILED: its toolchain is']),
+    'a file that the list does not name': (add_a_file, [COMPARE], ['FAILED: release/ has what it names']),
+    'the same before anything is built': (add_a_file, [CLEAN], [f'build/clean: {LIST} does not name']),
+    'what git may not track': (track_unseen, [CLEAN], [
         'a link: docs/link', 'invisible characters: docs/page.md', 'no source: build/.gitattributes',
         'binary: build/current.sh', 'no source: build/__pycache__/machines.pyc', 'no source: bindings/out/x86_64']),
+    'another program': (forge(TOOL), [INSTALL, PACKAGE, HASH], [f'release/{TOOL} {CHANGED}']),
+    'another library': (forge(ARCHIVE), [INSTALL, PACKAGE], [f'release/{ARCHIVE} {CHANGED}']),
+    'another library for ARM64': (forge(ARM64), [PACKAGE], [f'release/{ARM64} {CHANGED}']),
+    'other sources': (edit('crates/argon2/src/lib.rt', r'\Z', '// more\n'), [INSTALL, PACKAGE, HASH],
+                      [f'{LIST} is of other sources of ']),
+    'another processor': (edit(LIST, f'  {TOOL}', '  x86-64-v9/argon2_tool'), [INSTALL, PACKAGE],
+                          [f'{LIST} does not name {TOOL}']),
+    'a list that lacks a file': (edit(LIST, f'^.*  {SHARED}\n', ''), [INSTALL, PACKAGE],
+                                 [f'{LIST} does not name {SHARED}']),
 }
 
 
 def test_the_list_of_forgeries_is_whole():
-    assert len(FORGERIES) == 7
+    assert len(FORGERIES) == 13
 
 
+@needs_root
 @pytest.mark.parametrize('name', FORGERIES)
-def test_a_forgery_is_found(tree, name):
-    plant, command, expected = FORGERIES[name]
-    plant(tree)
-    ran = run(tree / command, cwd=tree)
-    lost = [line for line in expected if not re.search(f'^{re.escape(line)}', ran.stdout, re.M)]
-    assert ran.returncode and expected and not lost, ran.stdout
+def test_a_forgery_is_found(copy, tmp_path, request, name):
+    """Where it is compared with what is built, which is current, since marks are content."""
+    plant, commands, expected = FORGERIES[name]
+    if COMPARE in commands:
+        request.getfixturevalue('compared')
+        shutil.copytree(TOP / 'bindings/out', copy / 'bindings/out', symlinks=True)
+    plant(copy)
+    for command in commands:
+        words = WORDS if command == HASH else [tmp_path / 'made/there'] * (command in (INSTALL, PACKAGE))
+        ran = run(copy / command, cwd=copy) if command == COMPARE else in_copy(copy, command, *words)
+        assert ran.returncode == (70 if command == HASH else 1) and expected
+        assert not [line for line in expected if line not in ran.stdout], ran.stdout
+        assert command != HASH or ran.stdout.count('\n') == 1
+    assert not (tmp_path / 'made').exists()
 
 
-# ---- what is run
-
-def answers():
-    """The outside vectors as a password, a string and the answer: each tag as it is, and with one of its bits changed;
-    and each string. Tags of a secret or associated data are left out: no word has them."""
-    def words(content):
-        return base64.b64encode(content).decode().rstrip('=')
-
-    for line in (VECTORS / 'raw.txt').read_text(encoding='utf-8').splitlines():
-        variant, version, passes, memory, lanes, _, pwd, salt, *others, tag = line.split(' ', 10)
-        if others == ['-', '-'] and not tag.startswith('ERR '):
-            pwd, salt, tag = (bytes.fromhex(digits.replace('-', '')) for digits in (pwd, salt, tag))
-            settings = f'${variant}$v={version}$m={memory},t={passes},p={lanes}${words(salt)}$'
-            yield pwd, settings + words(tag), 'true'
-            yield pwd, settings + words(tag[:-1] + bytes([tag[-1] ^ 1])), 'false'
-    for line in (VECTORS / 'texts.txt').read_text(encoding='utf-8').splitlines():
-        yield b'password', *line.split('\t')
-
-
-@pytest.mark.parametrize('cpu', machines()['x86_64'].proved)
-def test_the_program_verifies_the_vectors(compared, cpu):
-    if not has_processor(cpu):
-        pytest.skip('the processor is older')
-    expected, wrong = [*answers()], []
-    for pwd, text, answer in expected:
-        ran = subprocess.run([RELEASE / cpu / 'argon2_program', 'verify', text], input=pwd, capture_output=True,
-                             check=False)
-        said = ran.stdout.decode().strip() or f'ERR {ran.stderr.decode().strip()}'
-        wrong += [f'{text}: {said} in place of {answer}'] * (said != answer)
-    assert len(expected) > 400 and not wrong, '\n'.join(wrong[:9])
+@pytest.mark.parametrize('machine, text', [
+    ('riscv64', 'install: nothing is built for riscv64: nothing is installed'),
+    ('aarch64', 'this machine is x86_64, and no aarch64: nothing is installed')])
+def test_another_machine_is_refused(tmp_path, machine, text):
+    refuses(1, text, 'env', f'MACHINE={machine}', INSTALL, tmp_path / 'made')
+    assert not (tmp_path / 'made').exists()

@@ -8,25 +8,26 @@ import ctypes
 import random
 import struct
 from collections import namedtuple
-from pathlib import Path
 from typing import NamedTuple
 
 from shared import TOP
 
-HERE = Path(__file__).resolve().parent
-CALLS, VECTORS = HERE / 'calls.c', TOP / 'bindings/vectors'
-VARIANTS = ('argon2d', 'argon2i', 'argon2id')
-# The calls of calls.c, in its order.
-HASH_RAW, HASH_ENCODED, VERIFY_RAW, VERIFY_ENCODED, PASSWORD_HASH, PASSWORD_VERIFY, HASH_OVER, VERIFY_OVER = range(8)
+CALLS = TOP / '.ci/secrets/calls.c'
+VARIANTS, VERSIONS = ('argon2d', 'argon2i', 'argon2id'), (16, 19)
+# The calls of calls.c and its options, in its order.
+HASH_RAW, HASH_ENCODED, VERIFY_RAW, VERIFY_ENCODED = range(4)
+WITHIN, PASSWORD_HASH, PASSWORD_VERIFY, HASH_OVER, VERIFY_OVER = range(4, 9)
+OPTIONS = FRESH, THREADS, CALLER = range(3)
 OK, DECODING_FAIL, MISMATCH = 0, 19, 64
-# Which vectors are asked: those that write so many blocks at most, and one with more blocks than that in its memory;
-# and how much a verdict may cost, where each byte of a hash is changed alone.
-FEW_BLOCKS, MAPPED_BLOCKS, CHEAP = 640, 1024, 2048
+FEW_BLOCKS = 640  # that a vector writes which is asked in one thread
 # In how many blocks, and in how many in all passes, several lanes have threads in C (proved_argon2_driver.c).
 OF_THREADS, IN_ALL_PASSES = 2048, 4096
 OF_A_TEXT = 4  # reports: of two branches, at two readings (whether it is accepted, and its job)
-ASKED, ANSWERED = struct.Struct('<9I'), struct.Struct('<4I')
+CAPACITY = 4096
+ASKED, ANSWERED = struct.Struct('<9I' + f'I{CAPACITY}s' * 5), struct.Struct(f'<4I{CAPACITY}s{CAPACITY}s')
 PEER, SIZE = ctypes.CDLL('libargon2.so.1'), ctypes.c_size_t
+# What calls.c answers.
+Answer = namedtuple('Answer', 'reports calls_back code undefined out bits')
 
 
 class Vector(NamedTuple):
@@ -58,18 +59,13 @@ class Vector(NamedTuple):
         """How many blocks draw their reference from a block: in Argon2i none, else all but the first two of each lane,
         and in Argon2id only those behind the first two slices of the first pass (RFC 9106, 3.4)."""
         slices = self.lanes * (self.memory // (4 * self.lanes))
-        others = {'argon2d': 2 * self.lanes, 'argon2i': 4 * slices * self.passes, 'argon2id': 2 * slices}
-        return 4 * slices * self.passes - others[VARIANTS[self.variant]]
-
-
-# How many reports came of a call, whether its code was undefined, the code, what it wrote, and which bits of that are
-# undefined.
-Answer = namedtuple('Answer', 'reports is_hidden code out bits')
+        others = 2 * self.lanes, 4 * slices * self.passes, 2 * slices
+        return 4 * slices * self.passes - others[self.variant]
 
 
 class Question(NamedTuple):
     """A call of a vector; the code that has to come, and reports of branches; the hash or the text that is verified, or
-    has to be written, of which so much is open; and whether secrets are hidden at all."""
+    has to be written, of which so much is open; and the options."""
     call: int
     vector: Vector
     code: int = OK
@@ -77,29 +73,29 @@ class Question(NamedTuple):
     verified: bytes = b''
     written: bytes = b''
     open: int = 0
-    is_hiding: bool = True
+    options: int = FRESH
 
     def packed(self):
-        vector = self.vector
-        fields = vector.password, vector.salt, vector.secret, vector.data, self.verified
-        return ASKED.pack(self.call, self.is_hiding, min(self.open, len(self.verified)), vector.variant, vector.version,
-                          vector.memory, vector.passes, vector.lanes, vector.length) + b''.join(
-                              struct.pack('<I', len(field)) + field for field in fields)
+        variant, version, passes, memory, lanes, length, *fields, _ = self.vector
+        sized = (part for field in (*fields, self.verified) for part in (len(field), field))
+        return ASKED.pack(self.call, self.options, min(self.open, len(self.verified)), variant, version, memory,
+                          passes, lanes, length, *sized)
 
     def references(self):
-        return self.vector.references() if self.is_hiding else 0
+        return self.vector.references() if self.code != DECODING_FAIL else 0
 
     def is_right(self, came, reads):
         """A verdict is hidden, but not that a text is none. A tag is to its last bit, and each letter of a text's hash
         in some bit, and nothing else is. Each reference is read at so many places."""
-        is_hidden = self.is_hiding and self.verified != b'' and self.code != DECODING_FAIL
-        if came[:3] != (self.branches + reads * self.references(), is_hidden, self.code):
-            return False
-        text, bits = came.out.rstrip(b'\0') if self.call != HASH_RAW else came.out, came.bits
-        at, end = (self.open, len(text)) if self.is_hiding else (len(text), len(text))
-        are_hidden = all(bit == 255 if self.call == HASH_RAW else bit for bit in bits[at:end])
-        return are_hidden and not any(bits[:at] + bits[end:]) and (
-            is_accepted(text, self.vector.password) if self.call == PASSWORD_HASH else text == self.written)
+        is_read = self.code != DECODING_FAIL
+        expected = (self.branches + reads * self.references(), is_read and self.options == CALLER, self.code,
+                    is_read and self.verified != b'')
+        text = came.out.rstrip(b'\0') if self.call == PASSWORD_HASH else self.written
+        hidden, others = came.bits[self.open:len(text)], came.bits[:self.open] + came.bits[len(text):]
+        return (expected == (came.reports, came.calls_back > 0, came.code, came.undefined > 0)
+                and came.out == text.ljust(CAPACITY, b'\0') and not any(others)
+                and all(bits == 255 if self.call == HASH_RAW else bits for bits in hidden)
+                and (self.call != PASSWORD_HASH or is_accepted(text, self.vector.password)))
 
 
 def is_accepted(text, password):
@@ -109,11 +105,7 @@ def is_accepted(text, password):
 
 def answers(said):
     """What calls.c wrote."""
-    at = 0
-    while at + ANSWERED.size <= len(said):
-        reports, undefined, code, length = ANSWERED.unpack_from(said, at)
-        at += ANSWERED.size + 2 * length
-        yield Answer(reports, undefined > 0, code, said[at - 2 * length:at - length], said[at - length:at])
+    return [Answer(*parts) for parts in ANSWERED.iter_unpack(said)]
 
 
 def letters(data):
@@ -122,92 +114,80 @@ def letters(data):
 
 
 def with_byte(data, at, byte):
-    return data[:at] + bytes([byte]) + data[at + 1:]
+    return data[:at] + bytes([byte]) + data[at:][1:]
+
+
+# ---- the cases: of each vector some questions, the first two where that takes long
+
+def hashes(vector):
+    return [Question(HASH_RAW, vector, written=vector.tag)]
+
+
+def hashed_texts(vector):
+    return [Question(HASH_ENCODED, vector, written=vector.text(), open=len(vector.head()))]
+
+
+def wrong_tags(vector):
+    """Tags that differ in the first, the last and a drawn byte."""
+    places = 0, vector.length - 1, random.Random(vector.salt).randrange(vector.length)
+    return [with_byte(vector.tag, at, vector.tag[at] ^ 1 << at % 8) for at in places]
+
+
+def verdicts(vector):
+    wrong = [*wrong_tags(vector), bytes(byte ^ 255 for byte in vector.tag)]
+    return [Question(VERIFY_RAW, vector, MISMATCH if tag in wrong else OK, verified=tag)
+            for tag in (vector.tag, *wrong)]
+
+
+def stored(text):
+    """A text whose version is 16 as it is also stored, without the version."""
+    return text.replace(b'$v=16', b'')
+
+
+def verdicts_on_texts(vector, call=VERIFY_ENCODED):
+    """Also on texts in whose hash the first, the last but one or a drawn byte is no letter."""
+    at, text = len(stored(vector.head())), stored(vector.text())
+    ends = [(stored(vector._replace(tag=tag).text()), MISMATCH, OF_A_TEXT) for tag in wrong_tags(vector)]
+    places = at, len(text) - 2, random.Random(vector.salt).randrange(at, len(text) - 1)
+    ends += [(with_byte(text, place, byte), DECODING_FAIL, 2) for place in places for byte in b'$=']
+    return [Question(call, vector, code, branches, verified, open=at)
+            for verified, code, branches in [(text, OK, OF_A_TEXT), *ends]]
+
+
+def verdicts_within(vector):
+    return verdicts_on_texts(vector, WITHIN)
+
+
+def passwords(vector):
+    """A text that is written for a password alone, and a verdict on one of libargon2's."""
+    text = ctypes.create_string_buffer(128)
+    PEER.argon2id_hash_encoded(vector.passes, vector.memory, vector.lanes, vector.password, SIZE(len(vector.password)),
+                               vector.salt, SIZE(len(vector.salt)), SIZE(vector.length), text, SIZE(len(text)))
+    return [Question(PASSWORD_HASH, vector, open=len(vector.head())),
+            Question(PASSWORD_VERIFY, vector, verified=text.value, open=len(text.value))]
 
 
 # ---- vectors
+
+def vectors_of(variant, version):
+    """Those of a variant and a version that have a password or a secret, of lines `VARIANT VERSION T M P LEN PASSWORD
+    SALT SECRET DATA TAG`."""
+    rows = [line.split() for line in (TOP / 'bindings/vectors/raw.txt').read_text(encoding='utf-8').splitlines()]
+    return [Vector(VARIANTS.index(variant), *map(int, row[1:6]), *(bytes.fromhex(word.strip('-')) for word in row[6:]))
+            for row in rows if row[:2] == [variant, str(version)] and len(row) == 11 and (row[6], row[8]) != ('-', '-')]
+
 
 def has_threads(vector):
     """Whether the library starts threads for it, where it may."""
     return vector.lanes > 1 and vector.memory >= OF_THREADS and vector.blocks() >= IN_ALL_PASSES
 
 
-def vectors(variant, version):
-    """Those of a variant and a version that have a password or a secret, of lines `VARIANT VERSION T M P LEN PASSWORD
-    SALT SECRET DATA TAG`: those that write few blocks, and one over a memory that the library maps, if there is one by
-    threads."""
-    rows = [line.split() for line in (VECTORS / 'raw.txt').read_text(encoding='utf-8').splitlines()]
-    found = [Vector(VARIANTS.index(variant), *map(int, row[1:6]),
-                    *(bytes.fromhex(digits.strip('-')) for digits in row[6:]))
-             for row in rows if row[:2] == [variant, version] and len(row) == 11 and (row[6], row[8]) != ('-', '-')]
-    mapped = [vector for vector in found if vector.blocks() > FEW_BLOCKS and vector.memory > MAPPED_BLOCKS]
-    mapped = [*filter(has_threads, mapped), *mapped][:1]
-    return [vector for vector in found if vector.blocks() <= FEW_BLOCKS or vector in mapped]
-
-
-def texts(variant):
-    """The stored texts of a variant, each with its verdict on `password`."""
-    rows = [line.split() for line in (VECTORS / 'texts.txt').read_text(encoding='utf-8').splitlines()]
-    return [(text.encode(), OK if rest[0] == 'true' else MISMATCH) for text, *rest in filter(None, rows)
-            if text.lower().startswith(f'${variant}$') and rest[:1] in (['true'], ['false'])]
-
-
-# ---- the cases: of each vector some questions, of which the first two are asked where blocks are drawn from blocks
-
-def hash_raw(vector):
-    return [Question(HASH_RAW, vector, written=vector.tag, is_hiding=is_hiding) for is_hiding in (True, False)]
-
-
-def hash_text(vector):
-    return [Question(HASH_ENCODED, vector, written=vector.text(), open=len(vector.head()))]
-
-
-def wrong_hashes(vector, places):
-    return [with_byte(vector.tag, at, vector.tag[at] ^ 1 << at % 8) for at in places]
-
-
-def verify(vector):
-    """Of hashes that differ in the first, the last and a drawn byte, or in each where a verdict is cheap; in all; and
-    of drawn ones."""
-    draw = random.Random(vector.salt)
-    places = range(vector.length) if vector.length * vector.blocks() <= CHEAP else (
-        0, vector.length - 1, draw.randrange(vector.length))
-    wrong = [*wrong_hashes(vector, places), bytes(byte ^ 1 for byte in vector.tag), draw.randbytes(vector.length)]
-    return [Question(VERIFY_RAW, vector, MISMATCH if tag in wrong else OK, verified=tag)
-            for tag in (vector.tag, *wrong)]
-
-
-def verify_own_text(vector):
-    """Of texts of hashes that differ in the first, the last and a drawn byte, and of texts in whose hash a byte is no
-    letter: the first, the last but one and a drawn one."""
-    text, at, draw = vector.text(), len(vector.head()), random.Random(vector.salt)
-    ends, places = [(text, OK, OF_A_TEXT)], (at, len(text) - 2, draw.randrange(at, len(text) - 1))
-    for wrong in wrong_hashes(vector, (0, vector.length - 1, draw.randrange(vector.length))):
-        ends.append((vector._replace(tag=wrong).text(), MISMATCH, OF_A_TEXT))
-    ends += [(with_byte(text, place, byte), DECODING_FAIL, 2) for place in places for byte in b'$=']
-    return [Question(VERIFY_ENCODED, vector, code, branches, stored, open=at) for stored, code, branches in ends]
-
-
-def verify_text(text_and_code):
-    text, code = text_and_code
-    inputs = Vector(VARIANTS.index('argon2i'), 0, 0, 0, 1, 0, b'password')
-    return [Question(VERIFY_ENCODED, inputs, code, OF_A_TEXT, text, open=text.rindex(b'$') + 1)]
-
-
-def password(vector):
-    """A text that is written for a password alone, and verdicts on one of libargon2's."""
-    text = ctypes.create_string_buffer(128)
-    PEER.argon2id_hash_encoded(vector.passes, vector.memory, vector.lanes, vector.password, SIZE(len(vector.password)),
-                               vector.salt, SIZE(len(vector.salt)), SIZE(vector.length), text, SIZE(len(text)))
-    ends = (vector, OK), (vector._replace(password=vector.password[:-1]), MISMATCH)
-    return [Question(PASSWORD_HASH, vector, open=len(vector.head())),
-            *(Question(PASSWORD_VERIFY, one, code, verified=text.value, open=len(text.value)) for one, code in ends)]
-
-
-def asked(case, variant, version):
-    """The vectors of a case, each with its questions."""
-    if case == password:  # of the settings of password_hash (proved_argon2_owasp2)
-        vector = Vector(VARIANTS.index(variant), int(version), 2, 19456, 1, 32, b'a password', b'of sixteen bytes')
-        return [password(vector)]
-    found = texts(variant) if case == verify_text else vectors(variant, version)
-    return [case(vector)[:None if variant == 'argon2i' else 2] for vector in found]
+def asked(case, options, variant, version):
+    """The questions of a case, vector by vector: those that write few blocks, or that the library fills by threads."""
+    if case == passwords:  # (of the settings of password_hash, proved_argon2_owasp2)
+        found = [Vector(VARIANTS.index(variant), version, 2, 19456, 1, 32, b'a password', b'of sixteen bytes')]
+    else:
+        found = [vector for vector in vectors_of(variant, version)
+                 if (has_threads(vector) if options == THREADS else vector.blocks() <= FEW_BLOCKS)]
+    most = None if variant == 'argon2i' and options != THREADS else 2
+    return [[question._replace(options=options) for question in case(vector)[:most]] for vector in found]

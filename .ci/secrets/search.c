@@ -3,7 +3,6 @@
    returns, from which the program goes on, below the stack pointer and above it in the callers' frames. The file PLAN
    has the places of calls that are left out, those of returns, and the pieces. It says how often each is found: a row
    of `found`, the piece, and a number, on standard error. A Rattle program ends by _exit, which runs no destructor. */
-#include <dlfcn.h>
 #include <fcntl.h>
 #include <link.h>
 #include <malloc.h>
@@ -13,31 +12,30 @@
 #include <stdlib.h>
 #include <string.h>
 #include <sys/mman.h>
+#include <sys/syscall.h>
 #include <ucontext.h>
 #include <unistd.h>
 
-enum {
-    PIECE = 16,
-    MOST_PIECES = 512,
-    MOST_PLACES = 1024,
-    MOST_OF_MAPS = 1 << 20,
-    STACK_SIZE = 1 << 16,
-    BELOW = 1 << 15,
-    ABOVE = 1 << 16,
-    PAGE = 4096,
-    OF_A_CALL = 5
-};
-enum { NOTHING = 0x90, JUMP = 0xE9, RETURN = 0xC3, BREAKPOINT = 0xCC };
+enum { MOST_PIECES = 512, MOST_PLACES = 1024, MOST_OF_MAPS = 1 << 20, PAGE = 4096 };
+enum { STACK_SIZE = 1 << 16, BELOW = 1 << 15, ABOVE = 1 << 16 };
+enum { NOTHING = 0x90, JUMP = 0xE9, RETURN = 0xC3, BREAKPOINT = 0xCC, OF_A_CALL = 5 };
 enum { LEFT, FREED, IN_CALLERS, AT_STOPS };
 
+/* The C library's own. */
 extern void *const __libc_stack_end;
+extern __typeof__(free) __libc_free;
+
+/* What is sought, which words alone are compared with: a vector may be saved on the stack later. */
+typedef struct __attribute__((packed, may_alias)) {
+    uint64_t low, high;
+} piece;
 
 /* A stack to look from, and the plan, whose places end with 0: what is here is no memory of the program. */
 static struct {
     uint8_t stack[STACK_SIZE];
     struct {
         uint32_t dropped[MOST_PLACES], stops[MOST_PLACES];
-        uint8_t pieces[MOST_PIECES][PIECE];
+        piece pieces[MOST_PIECES];
     } plan;
 } own __attribute__((used, aligned(16)));
 static size_t count;
@@ -46,20 +44,12 @@ static unsigned found[(AT_STOPS + MOST_PLACES) * MOST_PIECES];
 static uint8_t begins[1 << 16]; /* whether a piece begins with two bytes, so that few places are compared */
 static char maps[MOST_OF_MAPS];
 
-/* Whether a piece begins here, byte by byte, so that it is copied nowhere. */
-static int is_piece(const uint8_t *at, const uint8_t *piece)
-{
-    size_t i = 0;
-    while (i < PIECE && at[i] == piece[i])
-        i += 1;
-    return i == PIECE;
-}
-
 static void look(const uint8_t *from, const uint8_t *to, size_t row)
 {
-    for (; from + PIECE <= to; from++) {
-        for (size_t i = 0; begins[from[0] | from[1] << 8] && i < count; i++)
-            if (is_piece(from, own.plan.pieces[i]))
+    for (; from + sizeof(piece) <= to; from++) {
+        const piece *const at = (const piece *)from, *const sought = own.plan.pieces;
+        for (size_t i = 0; begins[(uint16_t)at->low] && i < count; i++)
+            if (at->low == sought[i].low && at->high == sought[i].high)
                 __atomic_fetch_add(&found[row * MOST_PIECES + i], 1, __ATOMIC_RELAXED);
     }
 }
@@ -91,7 +81,7 @@ __attribute__((noreturn, used)) static void tell_and_exit(int status)
     dprintf(STDERR_FILENO, "sought %zu\n", count);
     for (size_t at = 0; at < sizeof found / sizeof *found; at++)
         if (found[at]) dprintf(STDERR_FILENO, "%zu %zu %u\n", at / MOST_PIECES, at % MOST_PIECES, found[at]);
-    ((__typeof__(_exit) *)dlsym(RTLD_NEXT, "_exit"))(status);
+    syscall(SYS_exit_group, status);
     __builtin_unreachable();
 }
 
@@ -114,10 +104,8 @@ static void stop(int signal, siginfo_t *information, void *context)
 
 void free(void *block)
 {
-    static __typeof__(free) *frees; /* (found once, since what looks for it uses the stack) */
-    if (!frees) frees = (__typeof__(free) *)dlsym(RTLD_NEXT, "free");
     if (block) look(block, (uint8_t *)block + malloc_usable_size(block), FREED);
-    frees(block);
+    __libc_free(block);
 }
 
 /* Writes bytes, and a first one, at each of some places. */
@@ -132,23 +120,16 @@ static void write_at(const uint32_t *places, int byte, size_t length, int is_cal
     }
 }
 
-/* The first that is told is the program. */
-static int keep_first(struct dl_phdr_info *information, size_t length, void *unused)
-{
-    program = (uint8_t *)information->dlpi_addr;
-    return length != 0 || unused;
-}
-
 __attribute__((constructor)) static void begin(void)
 {
     const stack_t stack = {.ss_sp = own.stack, .ss_size = STACK_SIZE};
     const struct sigaction at_breakpoint = {.sa_sigaction = stop, .sa_flags = SA_ONSTACK | SA_SIGINFO};
     const int file = open(getenv("PLAN"), O_RDONLY);
-    count = ((size_t)read(file, &own.plan, sizeof own.plan) - sizeof own.plan.dropped - sizeof own.plan.stops) / PIECE;
+    count = ((size_t)read(file, &own.plan, sizeof own.plan) - 2 * sizeof own.plan.stops) / sizeof(piece);
     close(file);
     for (size_t i = 0; i < count; i++)
-        begins[own.plan.pieces[i][0] | own.plan.pieces[i][1] << 8] = 1;
-    dl_iterate_phdr(keep_first, NULL);
+        begins[(uint16_t)own.plan.pieces[i].low] = 1;
+    program = (uint8_t *)_r_debug.r_map->l_addr; /* (the first is the program) */
     write_at(own.plan.dropped, NOTHING, OF_A_CALL, 1);
     write_at(own.plan.stops, BREAKPOINT, 1, 0);
     sigaltstack(&stack, NULL);

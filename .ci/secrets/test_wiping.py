@@ -23,14 +23,15 @@ from typing import NamedTuple
 import cases as of
 import pytest
 import rfc9106
-from cases import CALLS, HERE
+from cases import CALLS
+from machines import machines
 from plant_leak import FACE, compiled, library, run
 from shared import TOP
-from shared.tables import rows as rows_of
+from shared import rows as rows_of
 from shared.toolchain import build_preloaded
 from toolchain import is_current
 
-BUILDS = ('x86-64-v2', 'x86-64-v3')
+BUILDS = machines()['x86_64'].proved
 # How long a run may take, and the numbers of search.c: bytes of a piece, and places.
 SECONDS, PIECE, PLACES = 600, 16, 1024
 # What runs a program with some environment, where its stack is at the same place each time.
@@ -42,9 +43,6 @@ WIPES = re.compile(rf'.*<({"|".join(OVERWRITING)})(?=::<|>)[^+]*>$')
 COMPUTES = re.compile(
     r'\t(?:call|jmp) .*<argon2::(?:hashing|verifying)::(?:texts::)?\w+_in(?:_sequential)?(?:::<#[0-9a-f]+>)?>$')
 RELEASES = re.compile(r'\t(?:call|jmp) .*<argon2::ending::release>$')
-# The calls in a program's machine code that are over a caller's memory. A test that makes one twice has it there once,
-# or twice where the compiler puts what calls it twice into the test.
-OVER_CALLERS = {'argon2_tests': 15}
 # A function that leaves nothing where it returns: what it leaves for some lanes alone is missed nowhere else.
 CLEAN = 'argon2_fill::fill::write_first_block'
 # What calls are given and write, which is anywhere; and what they may leave below them where nothing clears that.
@@ -59,8 +57,6 @@ WRAPPED = 'malloc calloc aligned_alloc free mmap munmap madvise pthread_create p
 LINKED = (FACE / 'c/clearing.c', *(f'-Wl,--wrap={name}' for name in WRAPPED.split()), '-Wl,-z,lazy', '-largon2')
 # What is hashed: a password that fills the last block of what H0 is the hash of, with a salt of nine bytes.
 OURS = of.Vector(rfc9106.ID, 19, 2, 64, 4, 32, (b'the-password-that-is-sought,-' * 8)[:207], b'some-salt')
-OF_RFC = of.Vector(rfc9106.ID, 19, 3, 32, 4, 32, b'\1' * 32, b'\2' * 16, b'\3' * 8, b'\4' * 12)
-OF_16_LANES = of.Vector(rfc9106.ID, 19, 2, 256, 16, 32, b'password', b'somesalt')
 # With a tag of a chain; and with more lanes and longer tags, of which calls.c has room for one.
 OF_A_CHAIN, OF_9_LANES = OURS._replace(length=100), OURS._replace(memory=288, lanes=9, length=3000)
 OF_A_LONG_TAG = OF_9_LANES._replace(length=5000)
@@ -68,15 +64,11 @@ DROPPED = OF_9_LANES._replace(passes=1, length=32, password=b'password')
 # Of one lane, which starts no worker; and a string of it and of a hash of zeros.
 IN_ONE_LANE, OF_A_CHAIN_IN_ONE_LANE = OURS._replace(lanes=1), OF_A_CHAIN._replace(lanes=1)
 STRING = IN_ONE_LANE._replace(tag=bytes(32)).text().decode()
-# Tests of each root call that takes no memory of the caller's, and of each that keeps one, which it drops.
-TESTS, COUNT_OF_TESTS = re.compile(
-    r'^(\S*\b(?:(?:hash_raw|hash_encoded|verify_raw)_(?:by(?:_two)?_workers|in_one_thread|sequential)(?:_argon2id)?'
-    r'|verify_encoded(?:_ext|_within)?(?:_sequential)?|\w+_in(?:_sequential)?_twice)_refused_in_turn): test$', re.M), 25
 # Of each program, and of each function with what it calls: how many calls are missed, and how many are not.
 EXPECTED = defaultdict(dict)
-for programs, callee, place, missed, others, *why in rows_of(HERE / 'wipes.txt'):
+for programs, callee, place, missed, others, *why in rows_of(CALLS.parent / 'wipes.txt'):
     assert len(why) == (others != '0'), f'{place} has no reason, or needs none'
-    for name in programs.split(' '):
+    for name in BUILDS if programs == 'builds' else programs.split(' '):
         EXPECTED[name][callee, place] = int(missed), int(others)
 pool = ThreadPoolExecutor(os.cpu_count())
 
@@ -138,7 +130,7 @@ class Program:
 
     def __init__(self, name, path, preloaded):
         self.name, self.path, self.preloaded, self.sites, self.returns, function = name, path, preloaded, [], [], ''
-        self.unreleased = Counter()
+        self.computing, self.releasing = Counter(), Counter()
         for line in run('objdump', '-d', '--no-show-raw-insn', path).splitlines():
             if line.endswith('>:'):
                 function = re.sub(r'::<#[0-9a-f]+>', '', line[line.index('<') + 1:-2])
@@ -146,7 +138,8 @@ class Program:
                 function = re.sub(r'^proved_(?:x86_64_v\d)_', 'proved_argon2_', function)
             found = re.match(r' +([0-9a-f]+):\t(call|jmp|ret)', line)
             callee = found and WIPES.match(line)
-            self.unreleased[function] += bool(COMPUTES.search(line)) - bool(RELEASES.search(line))
+            self.computing[function] += bool(COMPUTES.search(line))
+            self.releasing[function] += bool(RELEASES.search(line))
             if callee and not function.startswith(OVERWRITING[:2]):
                 self.sites.append(Site(callee[1].split('::')[-1], function, int(found[1], 16)))
             elif found and found[2] == 'ret' and re.match(r'(proved_)?argon2(?!_blocks::blake2b::wipe)', function):
@@ -209,33 +202,17 @@ class Program:
         return failure
 
 
-def looks_at(expected, look):
-    """How many calls of each function are missed, and are not, in some looks, where those differ from the list."""
-    looks = []
-
-    def is_seen(place):
-        return expected.get(place) in [found.get(place) for found in looks]
-
-    while len(looks) < LOOKS and not (looks and all(map(is_seen, {*looks[0], *expected}))):
-        sites = look()
-        every, lacking = (Counter(site[:2] for site, is_missed in sites if is_missed or is_any)
-                          for is_any in (True, False))
-        looks.append({place: (lacking[place], count - lacking[place]) for place, count in every.items()})
-    return {place: ([found.get(place) for found in looks], expected.get(place))
-            for place in {*looks[0], *expected} if not is_seen(place)}
-
-
 # ---- the library for C: each proved call of a build
 
 def runs_of_library():
-    calls = [(memory, call) for memory in ('fresh', 'progress') for call in range(of.PASSWORD_HASH)]
-    over = ('fresh', of.HASH_OVER), ('fresh', of.VERIFY_OVER)
+    calls = [(options, call) for options in (of.FRESH, of.CALLER) for call in range(of.WITHIN)]
+    over = (of.FRESH, of.HASH_OVER), (of.FRESH, of.VERIFY_OVER)
     few = calls[of.HASH_RAW], calls[of.VERIFY_ENCODED]
     for vector, made in ((OURS, calls), (OF_A_CHAIN, calls), (OF_9_LANES, few)):
-        for memory, call in (*made, *over):
-            zeroed = vector._replace(tag=bytes(vector.length))
-            question = of.Question(call, vector, verified=zeroed.text() if call == of.VERIFY_ENCODED else zeroed.tag)
-            yield Run([memory], question.packed(), pieces(vector))
+        zeroed = vector._replace(tag=bytes(vector.length))
+        for options, call in (*made, *over):
+            verified = zeroed.text() if call == of.VERIFY_ENCODED else zeroed.tag
+            yield Run([], of.Question(call, vector, verified=verified, options=options).packed(), pieces(vector))
 
 
 def judge_library(program, runs):
@@ -257,7 +234,7 @@ def rows():
     hash, and others verify, which leave no tag, two of them with one lane, which starts none. And a memory is dropped.
     """
     password, salt, every = OURS.password.decode(), OURS.salt.decode(), (OURS, OF_A_CHAIN, OF_A_LONG_TAG)
-    sought = pieces(*every)
+    sought, others = pieces(*every), pieces(IN_ONE_LANE, OF_A_CHAIN_IN_ONE_LANE)
     for modes in (('seq',), ('par', 'max2')):
         inputs = [(vector.length,
                    f"argon2id 19 2 {vector.memory} {vector.lanes} {vector.length} {mode} '{password} '{salt} - -")
@@ -267,59 +244,38 @@ def rows():
         verdicts += [f"verify_encoded_ext '{password} - - {vector._replace(tag=bytes(vector.length)).text().decode()}\n"
                      for vector in (IN_ONE_LANE, OF_A_CHAIN_IN_ONE_LANE)]
         yield Run([], ''.join(hashing).encode(), sought, len(modes) > 1)
-        others = pieces(IN_ONE_LANE, OF_A_CHAIN_IN_ONE_LANE)
         yield Run([], ''.join(verdicts).encode(), sought + others, len(modes) > 1, 0, OF_CALLER[1:])
     words = f"argon2id 19 1 {DROPPED.memory} {DROPPED.lanes} {DROPPED.length} seq 'password '{salt} - -"
     yield Run([], f'fill_sequential {words}\n'.encode(), blocks_of(DROPPED))
 
 
-def runs_of_tests():
-    """The tests of calls in one thread free the blocks as they are, since to overwrite them takes time."""
-    names = TESTS.findall(run(program_of('argon2_tests'), '--list'))
-    assert len(names) == COUNT_OF_TESTS
-    for name in names:
-        vector = OF_16_LANES if name.endswith(':verify_encoded_refused_in_turn') else OF_RFC
-        keeps_memory, has_threads = '_twice_' in name, not re.search('sequential|one_thread', name)
-        blocks = blocks_of(vector) if keeps_memory or not has_threads else []
-        freed = [what for what, _ in blocks if not keeps_memory]
-        yield Run([name], b'', blocks + (not keeps_memory) * pieces(vector), has_threads, 0, (*OF_CALLER, *freed))
-
-
 def commands(hashing, salt, verifying):
     """What the programs of the command line do: one hashes, by bytes of a salt or by its digits, and verifies; in both
-    versions, since what fills the memory is not the same."""
+    versions, since what fills the memory is not the same. One thread frees the blocks as they are, since to overwrite
+    them takes time."""
     for mode, version in product(('seq', 'par', 'max2'), (16, 19)):
-        words = [hashing, *f'argon2id {version} 2 64 4 32 {mode}'.split(), salt]
-        yield Run(words, OURS.password, pieces(OURS._replace(version=version)), mode != 'seq')
+        words, vector = [hashing, *f'argon2id {version} 2 64 4 32 {mode}'.split(), salt], OURS._replace(version=version)
+        freed = blocks_of(vector) if mode == 'seq' else []
+        yield Run(words, OURS.password, pieces(vector) + freed, mode != 'seq', 0, (*OF_CALLER, *dict(freed)))
     yield Run([verifying, STRING], OURS.password, pieces(IN_ONE_LANE), status=1)
 
 
 # Of each program in Rattle, what it is run for.
-RATTLE = {'argon2_vectors': rows, 'argon2_tests': runs_of_tests,
-          'argon2_program': lambda: commands('hash', OURS.salt.decode(), 'verify'),
+RATTLE = {'argon2_vectors': rows, 'argon2_program': lambda: commands('hash', OURS.salt.decode(), 'verify'),
           'argon2_tool': lambda: commands('new', OURS.salt.hex(), 'check')}
-
-
-def program_of(crate):
-    return TOP / 'crates' / crate / 'out' / crate.replace('_tests', '_tests_tests')
 
 
 def judge_program(program, runs):
     """What a program leaves as it is: nothing but tags and what it was given, and what it frees. Each call that has a
     memory of its own calls `release`, which is counted: what follows such a call may overwrite what it alone leaves on
     the stack."""
-    unreleased, over_one = (+program.unreleased).total(), OVER_CALLERS.get(program.name, 0)
-    twice = sum('_twice_' in word for one_run in runs for word in one_run.words)
-    # (one more test has a memory, of another shape)
-    assert twice + (twice > 0) <= over_one <= 2 * twice + (twice > 0)
-    assert unreleased == over_one, 'calls without `release`'
+    assert +program.releasing and not program.computing - program.releasing
     found = Counter(dict(program.found(runs)))
     left = {(at, where, what): count for (at, where, what), count in found.items()
             if what not in runs[at].may_be_left and (where == 'left' or what == 'the tag')}
     assert not left and sum(found.values()) > 0
-    for at, one_run in enumerate(runs):
-        freed = [found[at, 'freed', what] for what in one_run.may_be_left if what not in OF_CALLER]
-        assert any(freed) or not freed, f'{one_run.words} does not free its blocks as they are'
+    freed = [(at, what) for at, one_run in enumerate(runs) for what in one_run.may_be_left if what not in OF_CALLER]
+    assert any(found[at, 'freed', what] for at, what in freed) or not freed
 
 
 # ---- all of them
@@ -330,8 +286,9 @@ def fixture_made(request, tmp_path_factory):
     name, folder = request.param, tmp_path_factory.mktemp('made')
     preloaded = Path(build_preloaded('secrets/search', folder))
     if name in RATTLE:
-        assert is_current(name, program_of(name), says_why=True), f'{name} is of other sources'
-        return Program(name, program_of(name), preloaded), [*RATTLE[name]()]
+        made = TOP / 'crates' / name / 'out' / name
+        assert is_current(name, made, says_why=True), f'{name} is of other sources'
+        return Program(name, made, preloaded), [*RATTLE[name]()]
     objects, words = library(folder / 'objects', name if name in BUILDS else ''), [CALLS] if name in BUILDS else LINKED
     program = Program(name, compiled(folder / name, *words, *objects.values()), preloaded)
     return program, [*runs_of_library()] if name in BUILDS else None
@@ -341,19 +298,26 @@ def test_each_program_is_listed():
     assert {*EXPECTED} == {*BUILDS, *RATTLE, 'driver'}
 
 
+@pytest.mark.parametrize('made', [name for name in EXPECTED if name != 'driver'], indirect=True, scope='module')
 def test_what_is_left(made):
     program, runs = made
-    if runs is None:
-        assert program.failure() is None
-    else:
-        (judge_program if program.name in RATTLE else judge_library)(program, runs)
+    (judge_program if program.name in RATTLE else judge_library)(program, runs)
 
 
 @pytest.mark.timeout(3600)
 def test_each_wipe_alone(made):
-    """The driver's are judged by what fails."""
+    """How many calls of each function are missed, and are not, is in one of some looks as the list says. The driver's
+    calls are judged by what fails."""
     program, runs = made
     sites = [site for site in program.sites if not site.callee.startswith('wipe')]
-    wrong = looks_at(EXPECTED[program.name], lambda: program.misses(runs) if runs is not None else
-                     [*zip(sites, pool.map(program.failure, sites))])
-    assert not wrong, '(missed, not missed) as found, and as in wipes.txt'
+    expected, wrong = EXPECTED[program.name], None
+    for _ in range(LOOKS):
+        found = Counter((*site[:2], bool(is_missed)) for site, is_missed in (
+            program.misses(runs) if runs is not None else zip(sites, pool.map(program.failure, sites))))
+        counts = {place: (found[*place, True], found[*place, False]) for place in {key[:2] for key in found}}
+        others = {place: counts.get(place)
+                  for place in {*counts, *expected} if counts.get(place) != expected.get(place)}
+        wrong = others if wrong is None else {place: others[place] for place in wrong if place in others}
+        if not wrong:
+            break
+    assert not wrong, '(missed, not missed) as found, where it is not as in wipes.txt'

@@ -1,12 +1,16 @@
 """What the scripts of the folders beside this one share."""
 
+import os
+import re
 import subprocess
 import sys
+from concurrent.futures import ThreadPoolExecutor
 from pathlib import Path
 
 TOP = Path(__file__).resolve().parents[2]
-# Where `machines` and `toolchain`, `parts`, the definitions, and what plants leaks are.
-sys.path += [str(TOP / folder) for folder in ('build', 'docs', 'crates/argon2_vectors', 'crates/argon2_c/c')]
+# Where `machines` and `toolchain`, `parts`, the definitions, what plants leaks, and what tests of bindings share are.
+sys.path += [str(TOP / folder)
+             for folder in ('build', 'docs', 'crates/argon2_vectors', 'crates/argon2_c/c', 'bindings/tests')]
 
 
 def run(*words, **how):
@@ -24,7 +28,59 @@ def said(*words, **how):
     return done.stdout
 
 
+def refuses(status, text, *words, **how):
+    """A command has to end with a status, and to say a text."""
+    done = run(*words, **how)
+    assert done.returncode == status and text in done.stdout, (words, done.stdout[-4000:])
+
+
+def ready(*parts):
+    """The folder that has parts of what is released: release/ where it is of these sources, or what they build."""
+    if run('build/released', *parts).returncode == 0:
+        return TOP / 'release'
+    said('build/all', *parts)
+    return TOP / 'bindings/out'
+
+
+def in_namespace(script, *words):
+    """The words that run bash where what it mounts is seen by it alone."""
+    return ['unshare', '--mount', '--propagation', 'private', 'bash', '-euc', script, 'bash', *words]
+
+
 def exports(file):
     """The names that a shared object has for programs."""
     rows = [line.split() for line in said('readelf', '--dyn-syms', '-W', file).splitlines()]
     return sorted(row[7].partition('@')[0] for row in rows if len(row) > 7 and row[4] == 'GLOBAL' and row[6].isdigit())
+
+
+# ---- lists: lines, rows, and blocks apart by an empty line
+
+def lines(path):
+    """Of a list; one that begins with `#` is none."""
+    return [line for line in path.read_text(encoding='utf-8').split('\n') if line and not line.startswith('#')]
+
+
+def rows(path):
+    """The lines of a table, as lists of what stands between ` | `."""
+    return [[part.strip() for part in f'{line} '.split(' | ')] for line in lines(path)]
+
+
+def blocks(path):
+    """Each block's name, its first line, with its pairs of a word and a text, `WORD: TEXT`, in order."""
+    for block in re.split(r'\n{2,}', re.sub(r'^#.*\n', '', path.read_text(encoding='utf-8'), flags=re.M).strip('\n')):
+        name, *rest = block.split('\n')
+        yield name, [tuple(line.split(': ', 1)) for line in rest]
+
+
+# ---- what the tests of a module ask for, begun before they do, side by side
+
+def ahead(request, name, work, at_once=None):
+    """A fixture's: begins some work for each value that a parameter has in the chosen tests of its module, and gives
+    what waits for what comes of a value, and begins what no chosen test has."""
+    specs = [item.callspec for item in request.session.items
+             if item.module is request.module and hasattr(item, 'callspec')]
+    values = dict.fromkeys(spec.params[name] for spec in specs if name in spec.params)
+    with ThreadPoolExecutor(at_once or len(os.sched_getaffinity(0))) as pool:
+        begun = {value: pool.submit(work, value) for value in values}
+        yield lambda value: (begun.get(value) or pool.submit(work, value)).result()
+        pool.shutdown(cancel_futures=True)

@@ -16,7 +16,7 @@ ITEM = re.compile(r'''
     ^(?:impl(?:<[^{]*?>)?\ (?:(?:fmt::|std::\w+::)?(?P<trait>.+)\ for\ )?|(?P<of_trait>(?:pub(?:\(crate\))?\ )?trait\ ))
         (?P<owner>[\w'_,\ &()\[\];]+) |
     ^\ {4}ghost\ (?!(?:use|Value|view|inverse|invariant)\b)(?P<ghost>\w+)\ = |
-    ^(?P<attributes>(?:\ *\#\[.*\n)*)(?P<indent>\ *)(?P<visibility>pub(?:\([a-z]+\))?\ )?(?P<const>const\ )?
+    ^(?P<attributes>(?:\ *\#\[.*\n)*)(?P<indent>\ *)(?P<visibility>pub(?:\([a-z]+\))?\ )?(?:const\ )?
         (?:extern\ "C"\ )?fn\ (?P<name>\w+)
         (?P<rest>.*\{\}$ | .*(?<!\{)(?:\n(?P=indent)(?:\ .*|\).*)(?<!\{))*?(?<=;)$ |
                  (?:.*\n)+?(?P=indent)(?:\}|(?:\).*)?\{\})$)?''', re.M | re.X)
@@ -61,7 +61,7 @@ class Function:
         self.begin = found.string.count('\n', 0, found.start()) + 1
         self.first = self.begin + found['attributes'].count('\n')
         self.last = self.first + found['rest'].count('\n')
-        self.is_const, self.is_test = bool(found['const']), '#[test]' in found['attributes']
+        self.is_test = '#[test]' in found['attributes']
         self.is_public = found['visibility'] == 'pub ' or bool(owner and owner['of_trait'])
         self.what = owner['trait'] or '' if owner and self.indent else ''
         self.of = re.sub('<.*', '', owner['owner'].strip()) if owner and self.indent else ''
@@ -77,11 +77,6 @@ class Function:
     def folders(self):
         """Where its proofs stand below proofs/, in a folder of its name."""
         return [*self.module.path[1:], *filter(None, [self.owner])]
-
-    @property
-    def label(self):
-        """Its name beside its type or trait, as `Board::take` or `Default for Config`."""
-        return self.owner if self.what else '::'.join(filter(None, [self.of, self.name]))
 
     def is_called(self, place):
         """Whether the checker calls it so: `crate::module::VariantOrd::cmp` is that of `impl Ord for Variant`."""
@@ -169,13 +164,13 @@ class Sources:
 
 
 class Edit:
-    """A mutant: its crate, its pairs of texts, the goals that it names where it has to be rejected, whether `rt ci`
-    tries it too, and the functions in whose spans the texts stand. `function` is that of the last pair."""
+    """A mutant: its crate, its pairs of texts, the goals that it names where it has to be rejected, and the functions
+    in whose spans the texts stand. `function` is that of the last pair."""
 
-    def __init__(self, crate, block, sources, is_tried_alone):
+    def __init__(self, crate, block, sources):
         first, _, self.text = block.partition('\n')
         verdict, _, self.name = first.partition(' ')
-        self.crate, self.is_equal, self.is_tried_alone = crate, verdict == PROVED, is_tried_alone
+        self.crate, self.is_equal = crate, verdict == PROVED
         is_edit = re.fullmatch(rf'(?=file: )(?:{PAIR.pattern}|^goal: .+|\n)+', self.text, re.M)
         found = PAIR.findall(self.text) if is_edit else []
         files = accumulate((path for path, *_ in found), lambda last, path: path or last)
@@ -215,17 +210,16 @@ def promises(text):
 
 
 def blocks_of_edits(crate):
-    """The text of each mutant of a crate, below a line with its verdict and its name, and whether `rt ci` tries it
-    too."""
+    """The text of each mutant of a crate, below a line with its verdict and its name."""
     folder = TOP / 'crates' / crate
     for file in sorted(folder.glob(f'{TRIED_ALONE}/*.edit')):
-        yield f'{REFUSED} {file.stem}\n{file.read_text(encoding="utf-8")}', True
+        yield f'{REFUSED} {file.stem}\n{file.read_text(encoding="utf-8")}'
     text = (folder / MUTANTS).read_text(encoding='utf-8') if (folder / MUTANTS).exists() else ''
-    yield from ((block, False) for block in re.split(r'\n{2,}', text.strip('\n')) if block)
+    yield from filter(None, re.split(r'\n{2,}', text.strip('\n')))
 
 
 def edits(sources):
     """All mutants, crate by crate."""
-    found = [Edit(crate, block, sources, is_alone) for crate in crates() for block, is_alone in blocks_of_edits(crate)]
+    found = [Edit(crate, block, sources) for crate in crates() for block in blocks_of_edits(crate)]
     assert found, 'there is no edit'
     return found

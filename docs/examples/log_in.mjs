@@ -1,9 +1,9 @@
 // A login of a service, which docs/USE.md describes.
-import { verifyAndUpdate } from 'proved-argon2';
+import { Line, verifyAndUpdate } from 'proved-argon2';
 
 const settings = { memoryCost: 19456, timeCost: 2, parallelism: 1 }; // of new hashes
 const longest = 1024; // characters of a password
-let free = 2;
+const line = new Line({ concurrency: 2, waiting: 0 });
 
 /** A user's name on one line of the log. */
 const shown = (user) => String(user).replace(/[^ -~]/g, '?');
@@ -17,19 +17,12 @@ export async function logIn(user, password, stored, secret, signal) {
         console.error(`no password: ${shown(user)}`);
         return [false, stored];
     }
-    if (free === 0) {
-        console.error(`busy: ${shown(user)}`);
-        return [null, stored];
-    }
-    free -= 1;
     try {
-        const { matches, update } = await verifyAndUpdate(stored, password, { ...settings, secret, signal });
+        const { matches, update } = await verifyAndUpdate(stored, password, { ...settings, secret, signal, line });
         console.error(`${matches ? 'logged in' : 'wrong password'}: ${shown(user)}`);
         return [matches, update ?? stored];
     } catch (error) {
-        console.error(`error: ${shown(user)}: ${error.message}`);
+        console.error(`${error.name}: ${shown(user)}: ${error.message}`);
         return [null, stored];
-    } finally {
-        free += 1;
     }
 }

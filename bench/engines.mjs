@@ -1,7 +1,9 @@
-// What is timed in an engine, Node or a page: each by turns, of which the least time counts.
+// Times hashes in Node and in browsers, by the package and by WebAssembly modules alone, by turns, of which the least
+// time counts, and prints lines for bench/figures.txt: engines.mjs SECONDS. A page imports `timeAll`; a process of its
+// own, which is given whether natively, is measured itself.
 
 /** KiB of memory, passes and lanes, for the modules alone. */
-export const cases = [[19456, 2, 1], [65536, 3, 4]];
+const CASES = [[19456, 2, 1], [65536, 3, 4]];
 const SALT = new TextEncoder().encode('somesalt'), PASSWORD = new TextEncoder().encode('password');
 const PAGE = 65536, BLOCK = 1024, TAG_LENGTH = 32;
 
@@ -69,12 +71,60 @@ async function timeCase(hashes, one, seconds, clock) {
 }
 
 /** Of the package, natively or not, and of our module and upstream's two, whose bytes `load` gives. */
-export async function timeAll(argon2, load, seconds, { natives = [undefined], clock = () => performance.now() } = {}) {
+export async function timeAll(argon2, load, seconds, natives = [undefined], clock = () => performance.now()) {
     const packages = [], hashes = [], modules = [];
     for (const native of natives) packages.push(await timePackage(argon2, seconds, native));
     for (const [name, make] of [['ours', makeOurs], ['upstream', makeUpstream], ['vectors', makeUpstream]]) {
         hashes.push(make(await WebAssembly.compile(await load(`${name}.wasm`))));
     }
-    for (const one of cases) modules.push(await timeCase(hashes, one, seconds, clock));
+    for (const one of CASES) modules.push(await timeCase(hashes, one, seconds, clock));
     return { packages, modules };
+}
+
+function say(engine, { packages, modules }, ways = ['']) {
+    packages.forEach((times, at) => console.log(['package', engine + ways[at], ...times.map(Math.round)].join('\t')));
+    console.log(['module', engine, ...[0, 1, 2].map((at) => modules.map((times) => times[at]).join('/'))].join('\t'));
+}
+
+async function timePage(Browser, isThere, serve, seconds) {
+    if (!isThere(Browser.command)) throw new Error(`${Browser.name} is not there`);
+    const server = await serve('.'), browser = await new Browser().open();
+    await browser.visit(server.url);
+    say(await browser.version(), await browser.resultOf(`
+        const argon2 = await import('/proved-argon2/index.js'), { timeAll } = await import('/engines.js');
+        return timeAll(argon2, async (name) => (await fetch(name)).arrayBuffer(), ${seconds});`));
+    await browser.close();
+    server.close();
+}
+
+/** Of a process: the first call, what it has more in memory after many, and how long its event loop is delayed. */
+async function timeProcess(native, { monitorEventLoopDelay }) {
+    const began = performance.now(), delay = monitorEventLoopDelay({ resolution: 1 });
+    const { hash } = await import('proved-argon2');
+    await hash('password', { native });
+    const first = performance.now() - began, before = process.memoryUsage.rss();
+    delay.enable();
+    for (let call = 0; call < 10000; call++) await hash('password', { memoryCost: 1024, timeCost: 1, native });
+    const times = [first, (process.memoryUsage.rss() - before) / 2 ** 20, delay.percentile(99) / 1e6 - 1];
+    const figures = times.map((time) => time.toFixed(time < 10));
+    console.log(['process', native ? 'native' : 'WebAssembly', ...figures].join('\t'));
+    process.exit();
+}
+
+if (globalThis.process) {
+    const [node, script, seconds, native] = process.argv;
+    if (native) await timeProcess(native === 'true', await import('node:perf_hooks'));
+    const { execFileSync } = await import('node:child_process');
+    const { readFile, writeFile } = await import('node:fs/promises');
+    const { Chromium, Firefox, isThere, WebKit } = await import('./browsers.mjs');
+    const { serve } = await import('./server.mjs');
+    const clock = () => Object.values(process.cpuUsage()).reduce((sum, time) => sum + time) / 1000;
+    say(`Node ${process.versions.node}`, await timeAll(await import('proved-argon2'), (name) => readFile(name), seconds,
+        [true, false], clock), [', native', ', WebAssembly']);
+    for (const way of [true, false]) execFileSync(node, [script, seconds, way], { stdio: 'inherit' });
+    // (a page takes modules from files of this kind alone)
+    await writeFile('engines.js', await readFile('engines.mjs'));
+    await writeFile('index.html', '<!doctype html><title>The times of hashes</title>');
+    for (const Browser of [Chromium, Firefox, WebKit]) await timePage(Browser, isThere, serve, seconds);
+    process.exit();
 }

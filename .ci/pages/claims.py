@@ -1,0 +1,160 @@
+"""What pages claim of the sources and of the toolchain: how many mutants there are, what depends on secrets
+(.ci/secrets/depends.txt), what is proved in each way in (docs/layers.txt), what the prover takes without proof, and the
+hash of each group of files of verdicts.txt.
+
+No test finds that those files accept one password more than the proved calls do, so each change of them has to be seen.
+"""
+
+import hashlib
+import json
+import re
+import shutil
+import sys
+import textwrap
+from collections import Counter, defaultdict
+from pathlib import Path
+
+from common import PROMISES, REPORTS, TOP, files, fill, need, quoted, read, row, rows, run, write
+from machines import machines
+from shared.sources import Sources, crates, edits
+from toolchain import is_current
+
+sys.path.append(str(TOP / 'bench'))
+import plots  # noqa: E402
+
+CLAIMS, VERDICTS = 'docs/CLAIMS.md', '.ci/pages/verdicts.txt'
+# The picture of the layers: its words, the colours of those in its boxes, and its measures.
+TITLE = 'Which code is proved, for each way in?'
+CAPTION = ('proved: the prover accepted its contract; checked: by a second tool, for all inputs; tested: by CI; '
+           'trusted: none of these; empty: there is no such layer. C, direct: the proved calls, without the driver')
+COLOURS = {'proved': '#009e73', 'checked': '#56b4e9', 'tested': '#e69f00', 'trusted': '#8a8d91'}
+LEFT, TOP_OF_ROWS, ROW, HEIGHT, GAP = 8, 84, 54, 26, 3
+# The parts of the logic, whose axioms are named; and what makes machine code of what is proved.
+PARTS = 'antt/lib', 'antt/port/mathlib', 'antt/port/seplogic', 'logic'
+COMPILERS = {'bin/rattle': 'the prover, with its back ends',
+             'toolchain/bin/clang': "LLVM's clang, which one of them uses"}
+# What is built of what is proved, with the crate whose proof it rests on. Beside it stands what was said of that.
+NEWEST = machines()['x86_64'].proved[-1]
+PROGRAM = 'The program'
+BUILT = {'The archive for C': ('argon2_c', f'{NEWEST}/libargon2_c.a'),
+         'The WebAssembly modules': ('argon2_c', 'wasm64-unknown-unknown/libargon2_c.a'),
+         PROGRAM: ('argon2_program', f'{NEWEST}/argon2_program'),
+         "The shell's tool": ('argon2_tool', f'{NEWEST}/argon2_tool')}
+# The crate that rests on no function of C, and calls no others than the compiler puts in for copies and zeros.
+WITHOUT_AXIOMS, OF_THE_COMPILER = 'argon2_c', {'memcpy', 'memmove', 'memset'}
+
+
+def check_layer(begun, name, words, shown):
+    """A layer has a word for each way, where it is proved a call that this way makes, else a file of CI."""
+    calls, promised = [path for path in shown if '::' in path], {path for path, *_ in rows(PROMISES)}
+    lacking = [path for path in shown if path not in promised and not (TOP / path).is_file()]
+    lacking += [way for way, word in zip(begun, words) if word == 'proved'
+                and not any(call.startswith((*way.split(), 'argon2::parts::')) for call in calls)]
+    lacking += ['a file'] * (calls == shown and bool({'checked', 'tested'} & {*words}))
+    lacking += ['a word for each way'] * (len(words) != len(begun) or not {*words} <= {*COLOURS, '-'})
+    lacking += ['a way that is proved'] * (bool(calls) and 'proved' not in words)
+    need(not lacking, f'docs/layers.txt: {name} lacks {lacking}')
+
+
+def box(x, y, width, word):
+    """A word in a box of its colour."""
+    written = plots.text(x + width / 2, y + 18, word, 'middle', 'caption').replace('<text', '<text style="fill:#000"')
+    return f'<rect x="{x:.1f}" y="{y}" width="{width:.1f}" height="{HEIGHT}" rx="3" fill="{COLOURS[word]}"/>{written}'
+
+
+def draw_layers():
+    (_, *ways), (_, *begun), *layers = rows('docs/layers.txt')
+    step, parts = (plots.WIDTH - 2 * LEFT) / len(ways), []
+    bottom = TOP_OF_ROWS + ROW * len(layers)
+    for index, way in enumerate(ways):
+        # (every second one is higher, so that names have room, and a line leads down from it)
+        x, y = LEFT + step * (index + 0.5) - GAP / 2, TOP_OF_ROWS - 16 * (2 - index % 2)
+        parts += [plots.text(x, y, way, 'middle', 'head'),
+                  f'<line class="grid" x1="{x:.1f}" x2="{x:.1f}" y1="{y + 6}" y2="{bottom - 6}"/>']
+    for y, (name, *words, shown) in zip(range(TOP_OF_ROWS, bottom, ROW), layers):
+        check_layer(begun, name, words, shown.split())
+        parts += [plots.text(LEFT, y + 14, name, kind='own')]
+        parts += [box(LEFT + step * at, y + 20, step - GAP, word) for at, word in enumerate(words) if word != '-']
+    plots.picture(TOP / 'docs/what-is-proved.svg', bottom, TITLE, CAPTION, parts)
+
+
+def lines_of_the_toolchain(top):
+    """The prover, and the axioms that the logic's files declare and accept."""
+    axioms = [axiom for part in PARTS for path in sorted((top / 'rattle' / part).rglob('*.antt'))
+              for axiom in re.findall(r'^ *axiom +(?:pub +)?([^\s:{]+)', read(path), re.M)]
+    users, projects = defaultdict(list), {path.parent.relative_to(top / 'rattle').as_posix(): json.loads(read(path))
+                                          for path in sorted((top / 'rattle').rglob('antt-project.json'))}
+    for folder, project in projects.items():
+        users[quoted(project.get('axioms', ()))].append(folder)
+    return [*(f'- {what}: `{file}`, SHA-256 `{hashlib.sha256((top / file).read_bytes()).hexdigest()}`'
+              for file, what in COMPILERS.items()),
+            f'- extensions outside the type theory: {quoted(projects["logic"]["native-extensions"])}',
+            f'- axioms that the files of {quoted(PARTS)} declare: {quoted(axioms) or "none"}',
+            *(f'- axioms of the theory that {quoted(who)} may use: {names}' for names, who in users.items() if names)]
+
+
+def report_of(crate, built):
+    """The prover's last report of what is built, or nothing."""
+    said, built = TOP / f'bindings/out/{built}.said', TOP / 'bindings/out' / built
+    reports = re.findall(r'(?:^(?:logic|crate|axioms|statements|  \S+::) *\S.*\n)+logic=proved .*\n',
+                         read(said) if said.exists() else '', re.M)
+    return reports[-1] if reports and is_current(crate, built) else None
+
+
+def lines_of(crate, built, report):
+    """What a proof loads and takes as it is, and what is called once it is built; of a WebAssembly module that is seen
+    by what it imports (bindings/wasm/tests)."""
+    verdict = report.splitlines()[-1].split()
+    called = set() if 'wasm' in built else {
+        *re.findall(r'^\w+$', run('nm', '-u', '-j', TOP / 'bindings/out' / built).stdout, re.M)}
+    reached = re.findall(r'^axioms (\w+): (.*)', report, re.M)
+    some = [f'of `{name}` {which}' for name, which in reached if not which.startswith('none')]
+    none = [name for name, which in reached if which.startswith('none')]
+    if crate == WITHOUT_AXIOMS:
+        taken = [*(word for word in verdict if re.match('axioms=[^0]', word)), *some, *sorted(called - OF_THE_COMPILER)]
+        need(not taken, f'{built} takes functions of C as they are: {taken}')
+    loaded = {*re.findall(r'^statements (\w+):', report, re.M)} - {*crates()}
+    ends = ' '.join(word for word in verdict if not word.startswith('functions='))
+    return [f'- its proof ends with: `{ends}`', f"- the toolchain's crates loaded: {quoted(sorted(loaded))}",
+            f"- functions of C taken as they are: {'; '.join(some + [f'of {quoted(none)} none'] * bool(none))}",
+            *[f'- once built, it calls: {quoted(sorted(called))}'] * bool(called)]
+
+
+def declared(path, top):
+    """How the toolchain's crate declares a function of C, with its contract."""
+    crate, *modules, name = path.split('::')
+    text = read(top / 'rattle' / crate / 'src' / f'{"/".join(modules) or "lib"}.rt')
+    return textwrap.dedent(re.search(rf'^ *(?:pub )?(?:(?:un)?safe )?fn {name}\b.*?;$', text, re.M | re.S)[0])
+
+
+def write_reports(top):
+    """docs/reports.txt. Where one is not built its list stays as it is."""
+    fill(REPORTS, 'the toolchain', lines_of_the_toolchain(top), 'claims')
+    reports = {name: report_of(*which) for name, which in BUILT.items()}
+    lacking = [name for name, report in reports.items() if not report]
+    if lacking:
+        return print(f'not built here: {", ".join(lacking)}')
+    taken = re.findall(r'^ +(\S+) +reached$', reports[PROGRAM], re.M)
+    lists = (line for name, which in BUILT.items() for line in (f'{name}:', '', *lines_of(*which, reports[name]), ''))
+    fill(REPORTS, 'the reports', [*lists, 'The contracts of the functions of C of the programs:', '',
+                                  *(declared(path, top) for path in taken)], 'claims')
+
+
+def with_hash(patterns, reason, *_):
+    """A row of verdicts.txt with the hash of its files, in sorted order, with their names."""
+    found = files(*patterns.split())
+    need(found, f'{VERDICTS}: no file is of {patterns}')
+    sums = (f'{hashlib.sha256((TOP / file).read_bytes()).hexdigest()}  {file}\n' for file in found)
+    return ' | '.join([patterns, reason, hashlib.sha256(''.join(sums).encode()).hexdigest()])
+
+
+def write_all():
+    counts = Counter(edit.is_equal for edit in edits(Sources()))
+    depends = [row(call, words) for _, call, words in rows('.ci/secrets/depends.txt')]
+    fill(CLAIMS, 'mutants', [f'{counts[False]} mutants and {counts[True]} equivalent mutants.'], 'claims')
+    fill(CLAIMS, 'secrets', ['| Call | What depends on these |', '|---|---|', *depends], 'claims')
+    draw_layers()
+    if shutil.which('rt'):
+        write_reports(Path(shutil.which('rt')).resolve().parent.parent)
+    heads = [line for line in read(VERDICTS).splitlines() if line[0] == '#']
+    write(VERDICTS, '\n'.join([*heads, *(with_hash(*cells) for cells in rows(VERDICTS)), '']))
