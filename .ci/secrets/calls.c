@@ -55,8 +55,12 @@ static int tell_here(void *arg, uint64_t done, uint64_t all)
 /* No text is above these, but a call has to compare them. */
 static const proved_argon2_limits WIDEST = {UINT32_MAX, UINT32_MAX, UINT32_MAX, UINT64_MAX};
 
-/* A plain call, which computes a hash in one call of what is proved; one by four threads; and one over memory of this
-   program, which runs the tasks, one for each lane, and is told how far it is. */
+/* A plain call, which computes a hash in one call of what is proved; one over a memory that serves question after
+   question; one in steps in this thread, which is told how far it is; one by four threads; and one over memory of this
+   program, which runs the tasks, one for each lane, and is told. */
+static proved_argon2_options REUSED = {.size = sizeof REUSED, .limits = &WIDEST};
+static const proved_argon2_options PROGRESS = {
+    .size = sizeof PROGRESS, .limits = &WIDEST, .threads = 1, .tell = tell_here, .arg = &answer.calls_back};
 static const proved_argon2_options THREADS = {.size = sizeof THREADS, .limits = &WIDEST, .threads = 4};
 static const proved_argon2_options CALLER = {.size = sizeof CALLER,
     .limits = &WIDEST,
@@ -67,7 +71,8 @@ static const proved_argon2_options CALLER = {.size = sizeof CALLER,
     .pool = &answer.calls_back,
     .tell = tell_here,
     .arg = &answer.calls_back};
-static const proved_argon2_options *const OPTIONS[] = {NULL, &THREADS, &CALLER};
+static const proved_argon2_options *const OPTIONS[] = {NULL, &REUSED, &PROGRESS, &THREADS, &CALLER};
+static const proved_argon2_settings LARGEST = {PROVED_ARGON2_ID, PROVED_ARGON2_VERSION_13, MAX_BLOCKS, 1, 1, 4};
 
 #define IN(field) question.fields[field].at, question.fields[field].length
 #define TEXT(field) (const char *)IN(field)
@@ -118,6 +123,7 @@ static void show_own_memory(void)
 int main(void)
 {
     show_own_memory();
+    if (proved_argon2_memory_new(&LARGEST, &REUSED.memory, &REUSED.memory_len) != PROVED_ARGON2_OK) abort();
     hide(blocks, sizeof blocks);
     while (fread(&question, sizeof question, 1, stdin) == 1) {
         answer = (__typeof__(answer)){.reports = VALGRIND_COUNT_ERRORS};
@@ -129,6 +135,7 @@ int main(void)
         (void)VALGRIND_MAKE_MEM_DEFINED(&answer, sizeof answer);
         fwrite(&answer, sizeof answer, 1, stdout);
     }
+    proved_argon2_memory_free(REUSED.memory, REUSED.memory_len);
     fflush(stdout);
     _exit(EXIT_SUCCESS); /* (where search.c looks: exit does not call it) */
 }

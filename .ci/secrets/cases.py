@@ -17,9 +17,11 @@ VARIANTS, VERSIONS = ('argon2d', 'argon2i', 'argon2id'), (16, 19)
 # The calls of calls.c and its options, in its order.
 HASH_RAW, HASH_ENCODED, VERIFY_RAW, VERIFY_ENCODED = range(4)
 WITHIN, PASSWORD_HASH, PASSWORD_VERIFY, HASH_OVER, VERIFY_OVER = range(4, 9)
-OPTIONS = FRESH, THREADS, CALLER = range(3)
+OPTIONS = FRESH, REUSED, PROGRESS, THREADS, CALLER = range(5)
 OK, DECODING_FAIL, MISMATCH = 0, 19, 64
-FEW_BLOCKS = 640  # that a vector writes which is asked in one thread
+# Which vectors are asked: those that write so many blocks at most, and one with more blocks than that in its memory;
+# and how much a verdict may cost, where each byte of a hash is changed alone.
+FEW_BLOCKS, MAPPED_BLOCKS, CHEAP = 640, 1024, 2048
 # In how many blocks, and in how many in all passes, several lanes have threads in C (proved_argon2_driver.c).
 OF_THREADS, IN_ALL_PASSES = 2048, 4096
 OF_A_TEXT = 4  # reports: of two branches, at two readings (whether it is accepted, and its job)
@@ -88,8 +90,8 @@ class Question(NamedTuple):
         """A verdict is hidden, but not that a text is none. A tag is to its last bit, and each letter of a text's hash
         in some bit, and nothing else is. Each reference is read at so many places."""
         is_read = self.code != DECODING_FAIL
-        expected = (self.branches + reads * self.references(), is_read and self.options == CALLER, self.code,
-                    is_read and self.verified != b'')
+        calls_back = is_read and self.options in (PROGRESS, CALLER)
+        expected = (self.branches + reads * self.references(), calls_back, self.code, is_read and self.verified != b'')
         text = came.out.rstrip(b'\0') if self.call == PASSWORD_HASH else self.written
         hidden, others = came.bits[self.open:len(text)], came.bits[:self.open] + came.bits[len(text):]
         return (expected == (came.reports, came.calls_back > 0, came.code, came.undefined > 0)
@@ -127,14 +129,15 @@ def hashed_texts(vector):
     return [Question(HASH_ENCODED, vector, written=vector.text(), open=len(vector.head()))]
 
 
-def wrong_tags(vector):
-    """Tags that differ in the first, the last and a drawn byte."""
-    places = 0, vector.length - 1, random.Random(vector.salt).randrange(vector.length)
+def wrong_tags(vector, most=0):
+    """Tags that differ in the first, the last and a drawn byte, or in each where that costs so much at most."""
+    places = range(vector.length) if vector.length * vector.blocks() <= most else (
+        0, vector.length - 1, random.Random(vector.salt).randrange(vector.length))
     return [with_byte(vector.tag, at, vector.tag[at] ^ 1 << at % 8) for at in places]
 
 
 def verdicts(vector):
-    wrong = [*wrong_tags(vector), bytes(byte ^ 255 for byte in vector.tag)]
+    wrong = [*wrong_tags(vector, CHEAP), bytes(byte ^ 255 for byte in vector.tag)]
     return [Question(VERIFY_RAW, vector, MISMATCH if tag in wrong else OK, verified=tag)
             for tag in (vector.tag, *wrong)]
 
@@ -158,6 +161,13 @@ def verdicts_within(vector):
     return verdicts_on_texts(vector, WITHIN)
 
 
+def verdicts_on_others(text_and_code):
+    """On a text of another program."""
+    text, code = text_and_code
+    inputs = Vector(VARIANTS.index('argon2i'), 0, 0, 0, 1, 0, b'password')
+    return [Question(VERIFY_ENCODED, inputs, code, OF_A_TEXT, text, open=text.rindex(b'$') + 1)]
+
+
 def passwords(vector):
     """A text that is written for a password alone, and a verdict on one of libargon2's."""
     text = ctypes.create_string_buffer(128)
@@ -169,12 +179,23 @@ def passwords(vector):
 
 # ---- vectors
 
+def rows_of(name):
+    lines = (TOP / 'bindings/vectors' / name).read_text(encoding='utf-8').splitlines()
+    return [line.split() for line in lines if line]
+
+
 def vectors_of(variant, version):
     """Those of a variant and a version that have a password or a secret, of lines `VARIANT VERSION T M P LEN PASSWORD
     SALT SECRET DATA TAG`."""
-    rows = [line.split() for line in (TOP / 'bindings/vectors/raw.txt').read_text(encoding='utf-8').splitlines()]
     return [Vector(VARIANTS.index(variant), *map(int, row[1:6]), *(bytes.fromhex(word.strip('-')) for word in row[6:]))
-            for row in rows if row[:2] == [variant, str(version)] and len(row) == 11 and (row[6], row[8]) != ('-', '-')]
+            for row in rows_of('raw.txt')
+            if row[:2] == [variant, str(version)] and len(row) == 11 and (row[6], row[8]) != ('-', '-')]
+
+
+def texts_of(variant):
+    """The stored texts of a variant, each with its verdict on `password`."""
+    return [(row[0].encode(), OK if row[1] == 'true' else MISMATCH) for row in rows_of('texts.txt')
+            if row[0].lower().startswith(f'${variant}$') and row[1:2] in (['true'], ['false'])]
 
 
 def has_threads(vector):
@@ -182,12 +203,21 @@ def has_threads(vector):
     return vector.lanes > 1 and vector.memory >= OF_THREADS and vector.blocks() >= IN_ALL_PASSES
 
 
+def chosen(found, options):
+    """Vectors that write few blocks, and one over a memory that the library maps; or those that it fills by threads."""
+    if options == THREADS:
+        return [*filter(has_threads, found)]
+    few = [vector for vector in found if vector.blocks() <= FEW_BLOCKS]
+    return few + [vector for vector in found if vector not in few and vector.memory > MAPPED_BLOCKS][:1]
+
+
 def asked(case, options, variant, version):
-    """The questions of a case, vector by vector: those that write few blocks, or that the library fills by threads."""
+    """The questions of a case, vector by vector."""
     if case == passwords:  # (of the settings of password_hash, proved_argon2_owasp2)
         found = [Vector(VARIANTS.index(variant), version, 2, 19456, 1, 32, b'a password', b'of sixteen bytes')]
+    elif case == verdicts_on_others:
+        found = texts_of(variant)
     else:
-        found = [vector for vector in vectors_of(variant, version)
-                 if (has_threads(vector) if options == THREADS else vector.blocks() <= FEW_BLOCKS)]
+        found = chosen(vectors_of(variant, version), options)
     most = None if variant == 'argon2i' and options != THREADS else 2
     return [[question._replace(options=options) for question in case(vector)[:most]] for vector in found]

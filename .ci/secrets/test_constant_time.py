@@ -30,7 +30,9 @@ FEW = 2  # vectors are enough of a case with a leak
 CASES = of.hashes, of.hashed_texts, of.verdicts, of.verdicts_on_texts
 # The cases, with options, variants and versions.
 ASKED = [*product(CASES, (of.FRESH, of.CALLER), of.VARIANTS, of.VERSIONS),
+         *product(CASES, (of.REUSED, of.PROGRESS), of.VARIANTS, [19]), *product(CASES, [of.THREADS], ['argon2d'], [16]),
          *product(CASES, [of.THREADS], ['argon2i'], [16]), *product(CASES, [of.THREADS], ['argon2id'], [19]),
+         *product([of.verdicts_on_others], of.OPTIONS, ['argon2i'], [0]),
          *product([of.verdicts_within], [of.FRESH], of.VARIANTS, [19]), (of.passwords, of.FRESH, 'argon2id', 19)]
 # Leaks in what is proved, each with a case in which it has to be seen; and what is put behind the driver's line that
 # gives a tag or a verdict.
@@ -41,8 +43,10 @@ LEAKS = {
     'branch_on_a_letter': (of.verdicts_on_texts, of.FRESH, 'argon2i', 19),
     'branch_on_a_hash': (of.verdicts, of.FRESH, 'argon2i', 19),
     'if (tag[0] == 0)': (of.hashes, of.CALLER, 'argon2i', 19),
-    'if (code == PROVED_ARGON2_OK)': (of.verdicts, of.FRESH, 'argon2i', 19),
-    'if (hash && memcmp(hash, tag, call->job.hash_length / 2) == 0)': (of.verdicts, of.FRESH, 'argon2i', 19),
+    **dict.fromkeys(('if (code == PROVED_ARGON2_OK)', 'if (hash && memcmp(hash, tag, call->job.hash_length) == 0)',
+                     'if (hash && memcmp(hash, tag, call->job.hash_length / 2) == 0)',
+                     'for (size_t i = 0; hash && i < call->job.hash_length && hash[i] == tag[i]; i++)'),
+                    (of.verdicts, of.FRESH, 'argon2i', 19)),
 }
 # How memcheck heads its reports, each place with how often it was met; a thread may be named in between.
 BRANCH, ADDRESS = 'Conditional jump or move depends on uninitialised value(s)', 'Use of uninitialised value of size 8'
