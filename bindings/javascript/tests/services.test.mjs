@@ -134,20 +134,17 @@ test('the presets, limits and version are those of the module', async () => {
 });
 
 test('as much memory as there is time for, and then passes', async () => {
-    const measure = async (memory, passes) => memory * passes / 1000;
-    const known = [
-        [70, 65536, 1], [140, 65536, 2], [65.6, 65536, 1], [65, 16384, 3], [41, 8192, 5], [1e6, 65536, 10],
-    ];
-    for (const [milliseconds, memory, passes] of known) {
-        const found = await fittingCosts(milliseconds, 65536, measure);
-        assert.deepEqual([found.memory, found.passes], [memory, passes]);
+    const table = readFileSync(new URL('../../../bindings/tests/tunings.txt', `file://${process.env.HEADER}`), 'utf8');
+    for (const row of table.match(/^\d.*/gm)) {
+        const [milliseconds, most, power, ...expected] = row.split(' ').map(Number);
+        const found = fittingCosts(milliseconds, most, async (memory, passes) => 3 * memory / 1024 * passes ** power);
+        if (expected.length > 0) {
+            const { memory, passes } = await found;
+            assert.deepEqual([memory, passes], expected, row);
+        } else {
+            await assert.rejects(found, new RegExp(`^RangeError: .* ${most} KiB take ${milliseconds} milliseconds`));
+        }
     }
-    assert.deepEqual((await fittingCosts(1e6, 2 ** 21, measure)).passes, 2);
-    // (of two passes more are measured first, and no less memory than any hash for passwords has)
-    const slower = async (memory, passes) => measure(memory, passes ** 2);
-    assert.deepEqual((await fittingCosts(350, 65536, slower)).passes, 2);
-    await assert.rejects(fittingCosts(5000, 65536, async (memory) => memory), RangeError);
-    await assert.rejects(fittingCosts(10, 65536, measure), /RangeError: .* 65536 KiB take 10 milliseconds/);
 });
 
 test('settings that are found are measured here', async () => {
