@@ -57,6 +57,8 @@ WRAPPED = 'malloc calloc aligned_alloc free mmap munmap madvise pthread_create p
 LINKED = (FACE / 'c/clearing.c', *(f'-Wl,--wrap={name}' for name in WRAPPED.split()), '-Wl,-z,lazy', '-largon2')
 # What is hashed: a password that fills the last block of what H0 is the hash of, with a salt of nine bytes.
 OURS = of.Vector(rfc9106.ID, 19, 2, 64, 4, 32, (b'the-password-that-is-sought,-' * 8)[:207], b'some-salt')
+OF_RFC = of.Vector(rfc9106.ID, 19, 3, 32, 4, 32, b'\1' * 32, b'\2' * 16, b'\3' * 8, b'\4' * 12)
+OF_16_LANES = of.Vector(rfc9106.ID, 19, 2, 256, 16, 32, b'password', b'somesalt')
 # With a tag of a chain; and with more lanes and longer tags, of which calls.c has room for one.
 OF_A_CHAIN, OF_9_LANES = OURS._replace(length=100), OURS._replace(memory=288, lanes=9, length=3000)
 OF_A_LONG_TAG = OF_9_LANES._replace(length=5000)
@@ -64,6 +66,12 @@ DROPPED = OF_9_LANES._replace(passes=1, length=32, password=b'password')
 # Of one lane, which starts no worker; and a string of it and of a hash of zeros.
 IN_ONE_LANE, OF_A_CHAIN_IN_ONE_LANE = OURS._replace(lanes=1), OF_A_CHAIN._replace(lanes=1)
 STRING = IN_ONE_LANE._replace(tag=bytes(32)).text().decode()
+# Tests of each root call that takes no memory of the caller's, and of each that keeps one, which it drops; and how many
+# of the calls in their machine code are over a caller's memory, in its own function or in the test.
+TESTS, COUNT_OF_TESTS, OVER_CALLERS = re.compile(
+    r'^(\S*\b(?:(?:hash_raw|hash_encoded|verify_raw)_(?:by(?:_two)?_workers|in_one_thread|sequential)(?:_argon2id)?'
+    r'|verify_encoded(?:_ext|_within)?(?:_sequential)?|\w+_in(?:_sequential)?_twice)_refused_in_turn): test$',
+    re.M), 25, {'argon2_tests': 15}
 # Of each program, and of each function with what it calls: how many calls are missed, and how many are not.
 EXPECTED = defaultdict(dict)
 for programs, callee, place, missed, others, *why in rows_of(CALLS.parent / 'wipes.txt'):
@@ -249,6 +257,18 @@ def rows():
     yield Run([], f'fill_sequential {words}\n'.encode(), blocks_of(DROPPED))
 
 
+def runs_of_tests():
+    """The tests of calls in one thread free the blocks as they are, since to overwrite them takes time."""
+    names = TESTS.findall(run(program_of('argon2_tests'), '--list'))
+    assert len(names) == COUNT_OF_TESTS
+    for name in names:
+        vector = OF_16_LANES if name.endswith(':verify_encoded_refused_in_turn') else OF_RFC
+        keeps_memory, has_threads = '_twice_' in name, not re.search('sequential|one_thread', name)
+        blocks = blocks_of(vector) if keeps_memory or not has_threads else []
+        freed = [what for what, _ in blocks if not keeps_memory]
+        yield Run([name], b'', blocks + (not keeps_memory) * pieces(vector), has_threads, 0, (*OF_CALLER, *freed))
+
+
 def commands(hashing, salt, verifying):
     """What the programs of the command line do: one hashes, by bytes of a salt or by its digits, and verifies; in both
     versions, since what fills the memory is not the same. One thread frees the blocks as they are, since to overwrite
@@ -261,21 +281,28 @@ def commands(hashing, salt, verifying):
 
 
 # Of each program in Rattle, what it is run for.
-RATTLE = {'argon2_vectors': rows, 'argon2_program': lambda: commands('hash', OURS.salt.decode(), 'verify'),
+RATTLE = {'argon2_vectors': rows, 'argon2_tests': runs_of_tests,
+          'argon2_program': lambda: commands('hash', OURS.salt.decode(), 'verify'),
           'argon2_tool': lambda: commands('new', OURS.salt.hex(), 'check')}
+
+
+def program_of(crate):
+    return TOP / 'crates' / crate / 'out' / crate.replace('_tests', '_tests_tests')
 
 
 def judge_program(program, runs):
     """What a program leaves as it is: nothing but tags and what it was given, and what it frees. Each call that has a
     memory of its own calls `release`, which is counted: what follows such a call may overwrite what it alone leaves on
     the stack."""
-    assert +program.releasing and not program.computing - program.releasing
+    assert +program.releasing
+    assert (program.computing - program.releasing).total() == OVER_CALLERS.get(program.name, 0)
     found = Counter(dict(program.found(runs)))
     left = {(at, where, what): count for (at, where, what), count in found.items()
             if what not in runs[at].may_be_left and (where == 'left' or what == 'the tag')}
     assert not left and sum(found.values()) > 0
-    freed = [(at, what) for at, one_run in enumerate(runs) for what in one_run.may_be_left if what not in OF_CALLER]
-    assert any(found[at, 'freed', what] for at, what in freed) or not freed
+    for at, one_run in enumerate(runs):
+        freed = [found[at, 'freed', what] for what in one_run.may_be_left if what not in OF_CALLER]
+        assert any(freed) or not freed, f'{one_run.words} does not free its blocks as they are'
 
 
 # ---- all of them
@@ -286,9 +313,8 @@ def fixture_made(request, tmp_path_factory):
     name, folder = request.param, tmp_path_factory.mktemp('made')
     preloaded = Path(build_preloaded('secrets/search', folder))
     if name in RATTLE:
-        made = TOP / 'crates' / name / 'out' / name
-        assert is_current(name, made, says_why=True), f'{name} is of other sources'
-        return Program(name, made, preloaded), [*RATTLE[name]()]
+        assert is_current(name, program_of(name), says_why=True), f'{name} is of other sources'
+        return Program(name, program_of(name), preloaded), [*RATTLE[name]()]
     objects, words = library(folder / 'objects', name if name in BUILDS else ''), [CALLS] if name in BUILDS else LINKED
     program = Program(name, compiled(folder / name, *words, *objects.values()), preloaded)
     return program, [*runs_of_library()] if name in BUILDS else None
