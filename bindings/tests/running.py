@@ -55,6 +55,12 @@ def refuses(status, text, *words, **named):
     return done.stderr
 
 
+def fetch(call, *words):
+    """Whether a call of fetching.bash has what it looks for."""
+    script = 'source bindings/tests/fetching.bash && "$@"'
+    return start("bash", "-c", script, "bash", call, "sid", *words).returncode == 0
+
+
 @functools.lru_cache(None)
 def built(part=MACHINE):
     """The folder that has a part, linked, as it is proved and built here or in release/."""

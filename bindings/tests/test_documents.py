@@ -33,6 +33,8 @@ foreach ($olds as $old) {
     ("crates/argon2_c/include/proved_argon2.h",
      f"#define PROVED_ARGON2_LIBRARY_VERSION_NUMBER UINT32_C({MAJOR * 1000000 + MINOR * 1000 + PATCH})"),
     ("bindings/rust/Cargo.toml", f'version = "{VERSION}"'),
+    ("bindings/rust/password_hash/Cargo.toml", f'version = "{VERSION}"'),
+    ("bindings/rust/password_hash/Cargo.toml", f'proved-argon2 = {{ path = "..", version = "={VERSION}" }}'),
     ("bindings/python/pyproject.toml", f'version = "{VERSION}"'),
     ("bindings/python/src/proved_argon2/_library.py", f'SONAME = "libproved_argon2.so.{MAJOR}"'),
 ])

@@ -7,7 +7,7 @@ import tarfile
 import zipfile
 
 import pytest
-from running import CC, TOP, VERSION, built as built_part, needs, refuses, run, start
+from running import CC, TOP, VERSION, built as built_part, fetch, needs, refuses, run, start
 
 PACKAGE, HERE, SONAME = TOP / "bindings/python", TOP / "bindings/tests", f"libproved_argon2.so.{VERSION.split('.')[0]}"
 PYTHON = sys.executable
@@ -62,12 +62,6 @@ def has(*modules):
 
 
 by_pip = pytest.mark.skipif(not has("pip", "venv", "ensurepip", "hatchling"), reason="no pip, venv or hatchling")
-
-
-def fetch(call, *words):
-    """Whether a call of fetching.bash has what it looks for."""
-    script = 'source bindings/tests/fetching.bash && "$@"'
-    return start("bash", "-c", script, "bash", call, "sid", *words).returncode == 0
 
 
 @pytest.fixture(scope="module")

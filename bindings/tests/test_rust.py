@@ -6,7 +6,7 @@ import resource
 import shutil
 
 import pytest
-from running import CC, MACHINE, TOP, built as built_part, needs, project, refuses, run, start
+from running import CC, CRATES_OF_DEBIAN, MACHINE, TOP, built as built_part, fetch, needs, project, refuses, run, start
 
 CRATE, HERE = TOP / "bindings/rust", TOP / "bindings/tests"
 REGISTRY = pathlib.Path("/usr/share/cargo/registry")
@@ -130,6 +130,21 @@ def test_a_program_ends_well(cargo, tmp_path, name):
     main = {"serde": SERDE, "page": page[0]}.get(name) or (HERE / f"{name}.rs").read_text()
     folder = project(tmp_path / f"of_{name}", main, crates)
     run(*RUN, cwd=folder, env={**cargo, "RUSTFLAGS": f"{os.environ.get('RUSTFLAGS', '')} {flags}"})
+
+
+def test_a_program_over_the_traits_of_0_6_ends_well(cargo, tmp_path):
+    """By crates of Debian's next release alone: those of this one are too old for them."""
+    names = "password-hash", "phc", "base64ct", "ctutils", "cmov", "getrandom", "cfg-if", "libc"
+    are_fetched = all(fetch("fetch_package", f"librust-{name}-dev", tmp_path) for name in names)
+    texts = [file.read_text() for file in tmp_path.glob("usr/share/cargo/registry/*/Cargo.toml")]
+    asked = [int(minor) for text in texts for minor in re.findall(r'^rust-version = "1\.(\d+)', text, re.M)]
+    if not are_fetched or int(run("rustc", "--version").split(".")[1]) < max(asked):
+        pytest.skip("password-hash 0.6, or a compiler for it, cannot be had")
+    (tmp_path / "config.toml").write_text(CRATES_OF_DEBIAN.replace("/usr", f"{tmp_path}/usr"))
+    line = f'argon2 = {{ package = "proved-argon2-password-hash", path = "{CRATE}/password_hash" }}'
+    folder = project(tmp_path / "of_0_6", (HERE / "traits_0_6.rs").read_text(), line)
+    run(*RUN, cwd=folder, env={**cargo, "CARGO_HOME": tmp_path,
+                               "RUSTFLAGS": f"{os.environ.get('RUSTFLAGS', '')} -Dwarnings"})
 
 
 def test_the_tests_of_rust_argon2_pass(cargo, tmp_path):

@@ -1,0 +1,90 @@
+//! The traits of the crate `password-hash` 0.6 over `proved-argon2`, for programs that use RustCrypto's `argon2` 0.6.
+//!
+//! # Examples
+//!
+//! ```
+//! use proved_argon2_password_hash as argon2; // what stands below is RustCrypto's
+//! use argon2::password_hash::{phc::PasswordHash, PasswordHasher, PasswordVerifier};
+//! use argon2::Argon2;
+//!
+//! let stored = Argon2::default().hash_password(b"password")?.to_string();
+//! let hash = PasswordHash::new(&stored)?;
+//! assert!(Argon2::default().verify_password(b"password", &hash).is_ok());
+//! assert!(Argon2::default().verify_password(b"Password", &hash).is_err());
+//! # Ok::<(), argon2::password_hash::Error>(())
+//! ```
+#![forbid(unsafe_code)]
+#![warn(missing_docs)]
+
+use password_hash::phc::Output;
+use password_hash::{Error, Result};
+use proved_argon2::{hash_encoded, verify_encoded_within, Error as Refusal, Limits, Unverified};
+
+pub use password_hash::{self, phc::PasswordHash, PasswordHasher, PasswordVerifier};
+pub use proved_argon2::{Config, ThreadMode, Variant, Version};
+
+/// A hasher with settings of its own, as RustCrypto's of this name. By default it has those of
+/// [`Config::default`].
+///
+/// A stored hash is verified within [`Limits::at_least`] those settings.
+#[derive(Clone, Copy, Debug, Default)]
+pub struct Argon2<'key> {
+    config: Config<'key>,
+}
+
+/// All settings, among them a secret (pepper), associated data and threads.
+impl<'key> From<Config<'key>> for Argon2<'key> {
+    fn from(config: Config<'key>) -> Argon2<'key> {
+        Argon2 { config }
+    }
+}
+
+/// It holds a salt of 8 to 48 bytes and a hash of 10 to 64: other lengths are [`Error::SaltInvalid`] and
+/// [`Error::OutputSize`].
+impl PasswordHasher<PasswordHash> for Argon2<'_> {
+    fn hash_password_with_salt(&self, password: &[u8], salt: &[u8]) -> Result<PasswordHash> {
+        // (of a longer one the error below would be another)
+        Output::init_with(self.config.hash_length as usize, |_| Ok(()))?;
+        let text = hash_encoded(password, salt, &self.config).map_err(told)?;
+        Ok(PasswordHash::new(&text)?)
+    }
+}
+
+/// Of an encoded hash, which `proved-argon2` decodes and compares. One above the limits is [`Error::Crypto`], another
+/// algorithm [`Error::Algorithm`], and what decodes to no hash [`Error::EncodingInvalid`].
+impl PasswordVerifier<str> for Argon2<'_> {
+    fn verify_password(&self, password: &[u8], hash: &str) -> Result<()> {
+        let name = hash.split('$').nth(1).ok_or(Error::EncodingInvalid)?;
+        Variant::from_str(name).map_err(|_| Error::Algorithm)?;
+        let Config { secret, ad, .. } = self.config;
+        match verify_encoded_within(hash, password, secret, ad, &Limits::at_least(&self.config)) {
+            Ok(true) => Ok(()),
+            Ok(false) => Err(Error::PasswordInvalid),
+            Err(Unverified::TooCostly) => Err(Error::Crypto),
+            Err(Unverified::Refused(error)) => Err(told(error)),
+        }
+    }
+}
+
+/// As of its string.
+impl PasswordVerifier<PasswordHash> for Argon2<'_> {
+    fn verify_password(&self, password: &[u8], hash: &PasswordHash) -> Result<()> {
+        self.verify_password(password, hash.to_string().as_str())
+    }
+}
+
+/// An error of `proved-argon2`, as the traits tell it.
+fn told(error: Refusal) -> Error {
+    match error {
+        Refusal::DecodingFail => Error::EncodingInvalid,
+        Refusal::OutOfMemory => Error::OutOfMemory,
+        Refusal::OutputTooShort | Refusal::OutputTooLong => Error::OutputSize,
+        Refusal::PwdTooLong => Error::PasswordInvalid,
+        Refusal::SaltTooShort | Refusal::SaltTooLong => Error::SaltInvalid,
+        Refusal::MemoryTooLittle => Error::ParamInvalid { name: "m" },
+        Refusal::TimeTooSmall => Error::ParamInvalid { name: "t" },
+        Refusal::LanesTooFew | Refusal::LanesTooMany => Error::ParamInvalid { name: "p" },
+        Refusal::AdTooLong | Refusal::SecretTooLong => Error::ParamsInvalid,
+        _ => Error::Internal,
+    }
+}
