@@ -10,6 +10,7 @@
 #include <stdlib.h>
 
 #define MOST 8
+#define MOST_IDLE 8
 #define STACK ((size_t)1 << 20)
 
 /* A typed array: where its elements are, and how many. */
@@ -29,12 +30,20 @@ typedef struct run {
     part parts[MOST];
     uint32_t (*compute)(const proved_argon2_options *with, const part *parts);
     napi_threadsafe_function listener;
-    pthread_t thread;
+    struct run *next;
     _Atomic uint64_t slices;
     uint32_t code;
-    bool is_joined;
+    bool is_over;              /* no thread looks at it any more */
     _Atomic bool is_abandoned; /* the thread of JavaScript ends */
 } run;
+
+/* Threads compute one run after another, since the first milliseconds of a new thread are slow ones. */
+static struct {
+    pthread_mutex_t lock;
+    pthread_cond_t is_waiting, is_over;
+    run *waiting;
+    size_t idle; /* threads without a run, but for those that one is waiting for */
+} pool = {PTHREAD_MUTEX_INITIALIZER, PTHREAD_COND_INITIALIZER, PTHREAD_COND_INITIALIZER, NULL, 0};
 
 /* Reads so many arguments that are arrays, and returns what is behind them. */
 static napi_value take(napi_env env, napi_callback_info info, part *parts, size_t count)
@@ -131,9 +140,8 @@ static int tell(void *arg, uint64_t done, uint64_t all)
     return atomic_load(&told->is_stopped) != 0 || self->is_abandoned;
 }
 
-static void *compute(void *arg)
+static void compute(run *self)
 {
-    run *const self = arg;
     proved_argon2_options with = PROVED_ARGON2_OPTIONS;
     with.threads = ((control *)self->parts[0].at)->threads;
     with.tell = tell;
@@ -141,7 +149,36 @@ static void *compute(void *arg)
     self->code = self->compute(&with, self->parts);
     napi_call_threadsafe_function(self->listener, NULL, NONBLOCKING);
     napi_release_threadsafe_function(self->listener, RELEASE);
-    return NULL;
+}
+
+/* A thread, which ends where enough others are idle. */
+static void *compute_all(void *arg)
+{
+    pthread_mutex_lock(&pool.lock);
+    for (;; pool.idle++) {
+        while (pool.waiting == NULL) {
+            pthread_cond_wait(&pool.is_waiting, &pool.lock);
+        }
+        run *const self = pool.waiting;
+        pool.waiting = self->next;
+        pthread_mutex_unlock(&pool.lock);
+        compute(self);
+        pthread_mutex_lock(&pool.lock);
+        self->is_over = true;
+        pthread_cond_broadcast(&pool.is_over);
+        if (pool.idle == MOST_IDLE) break;
+    }
+    pthread_mutex_unlock(&pool.lock);
+    return arg;
+}
+
+static void await_end(run *self)
+{
+    pthread_mutex_lock(&pool.lock);
+    while (!self->is_over) {
+        pthread_cond_wait(&pool.is_over, &pool.lock);
+    }
+    pthread_mutex_unlock(&pool.lock);
 }
 
 /* What depends on the arrays of a thread of JavaScript ends before it. */
@@ -149,8 +186,7 @@ static void abandon(void *arg)
 {
     run *const self = arg;
     self->is_abandoned = true;
-    pthread_join(self->thread, NULL);
-    self->is_joined = true;
+    await_end(self);
 }
 
 /* In the thread of JavaScript: passes on how many slices are filled or, at the end, 0, and the code. */
@@ -158,31 +194,49 @@ static void hear(napi_env env, napi_value listener, void *context, void *data)
 {
     run *const self = context;
     const bool is_over = data == NULL;
-    if (is_over && !self->is_joined) {
-        pthread_join(self->thread, NULL);
-        napi_remove_env_cleanup_hook(env, abandon, self);
-    }
     if (env != NULL) {
         napi_value receiver = NULL, result;
         napi_get_undefined(env, &receiver);
         const napi_value values[] = {number(env, (uintptr_t)data), number(env, is_over ? self->code : self->slices)};
         napi_call_function(env, receiver, listener, 2, values, &result);
     }
-    if (is_over) free(self);
+    if (!is_over) return;
+    await_end(self);
+    if (!self->is_abandoned) napi_remove_env_cleanup_hook(env, abandon, self);
+    free(self);
 }
 
-/* Starts the thread of a run, which takes no signals of the program. */
-static int start(run *self)
+/* Starts a thread of the pool, which takes no signals of the program. */
+static int start(void)
 {
     sigset_t all, before;
     pthread_attr_t small;
+    pthread_t thread;
     sigfillset(&all);
     pthread_attr_init(&small);
     pthread_attr_setstacksize(&small, STACK);
+    pthread_attr_setdetachstate(&small, PTHREAD_CREATE_DETACHED);
     pthread_sigmask(SIG_SETMASK, &all, &before);
-    const int denied = pthread_create(&self->thread, &small, compute, self);
+    const int denied = pthread_create(&thread, &small, compute_all, NULL);
     pthread_sigmask(SIG_SETMASK, &before, NULL);
     pthread_attr_destroy(&small);
+    return denied;
+}
+
+/* Has an idle thread compute a run, or a new one. */
+static int submit(run *self)
+{
+    int denied = 0;
+    pthread_mutex_lock(&pool.lock);
+    self->next = pool.waiting;
+    pool.waiting = self;
+    if (pool.idle > 0) {
+        pool.idle--;
+        pthread_cond_signal(&pool.is_waiting);
+    } else if ((denied = start()) != 0) {
+        pool.waiting = self->next;
+    }
+    pthread_mutex_unlock(&pool.lock);
     return denied;
 }
 
@@ -200,7 +254,7 @@ static napi_value begin(napi_env env, napi_callback_info info, const run *made, 
         free(self);
         return number(env, PROVED_ARGON2_OUT_OF_MEMORY);
     }
-    if (start(self) != 0) {
+    if (submit(self) != 0) {
         napi_release_threadsafe_function(self->listener, ABORT);
         free(self);
         return number(env, PROVED_ARGON2_WORKER_REFUSED);

@@ -2,6 +2,7 @@
 import assert from 'node:assert/strict';
 import { spawn } from 'node:child_process';
 import { once } from 'node:events';
+import { readdirSync } from 'node:fs';
 import { createRequire } from 'node:module';
 import { test } from 'node:test';
 import { Worker } from 'node:worker_threads';
@@ -25,6 +26,14 @@ test('the addon computes, without a worker, and WebAssembly where it is asked fo
 test('.. and so it does by require', async () => {
     const required = createRequire(import.meta.url)('proved-argon2');
     assert.deepEqual(await required.hash('password', { ...SMALL, native: true }), await argon2.hash('password', SMALL));
+});
+
+test('a thread computes one hash after another', async () => {
+    const countThreads = () => readdirSync('/proc/self/task').length;
+    await argon2.hash('password', SMALL);
+    const before = countThreads();
+    for (let call = 0; call < 20; call++) await argon2.hash('password', SMALL);
+    assert.ok(countThreads() < before + 3);
 });
 
 /** How a process ends that runs some lines once it is in the middle of a hash, and how long that takes. */
