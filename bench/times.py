@@ -11,6 +11,7 @@ and for each implementation its name, the least and the median milliseconds of a
 import ctypes
 import mmap
 import os
+import random
 import re
 import statistics
 import struct
@@ -37,7 +38,7 @@ kept = []
 
 def ours(library, cost, tag, memory=0, length=0):
     """By the call with options, which Rust and Python make too. It gives what hashes and then gives 0, as the next ones
-    do; or None, where an implementation has no such case."""
+    do, or the milliseconds by its own clock; or None, where an implementation has no such case."""
     options, settings = 'NIPNPPPPP', struct.pack('6I', ARGON2ID, VERSION, *cost[:3], TAG_LENGTH)
     packed = struct.pack(options, struct.calcsize(options), cost[3], memory, length, 0, 0, 0, 0, 0)
     nothing = None, c_size_t(0)
@@ -55,6 +56,20 @@ def reusing(library, cost, tag):
     kept.append(ctypes.c_char.from_buffer(pages))
     begin = addressof(kept[-1])
     return ours(library, cost, tag, begin + -begin % HUGE_PAGE, length)
+
+
+def node(script, cost, tag):
+    """In a process of its own, which has the time."""
+    kept.append(process := subprocess.Popen(['node', script, *map(str, cost)], stdin=subprocess.PIPE,
+                                            stdout=subprocess.PIPE))
+
+    def run():
+        process.stdin.write(b'\n')
+        process.stdin.flush()
+        answer, milliseconds = process.stdout.readline().decode().split()
+        tag.raw = bytes.fromhex(answer)
+        return float(milliseconds)
+    return run
 
 
 def upstream(library, cost, tag):
@@ -110,6 +125,8 @@ PEERS = (
     Peer('v4', 'this library, AVX-512', '#0072b2', 'v4.so', ours),
     Peer('v3', 'this library, AVX2', '#56b4e9', 'v3.so', ours),
     Peer('v2', 'this library, no AVX2', '#56b4e9 7 4', 'v2.so', ours),
+    Peer('node', 'this library, Node', '', 'site/peer.mjs', node,
+         'the package for npm in Node {node}, by its addon, in a process of its own'),
     Peer('reusing', 'this library, reusable buffer', '', 'reusing.so', reusing),
     Peer('libsodium', 'libsodium', '#d55e00', 'libsodium.so.23', libsodium,
          "Debian's {libsodium23}, which chooses its code by the processor; one lane only"),
@@ -126,8 +143,10 @@ PEERS = (
 
 
 def load(path):
-    """A library of the folder, or else of the system; None, where it is not there. Ours chooses the build that its file
-    is named by, in its first call."""
+    """A library of the folder, or else of the system, or a script; None, where it is not there. Ours chooses the build
+    that its file is named by, in its first call."""
+    if path.suffix == '.mjs':
+        return path if path.exists() else None
     try:
         library = ctypes.CDLL(str(path) if path.exists() else path.name)
     except OSError:
@@ -146,7 +165,7 @@ def prepare(implementations, cost):
     for name, (library, make) in implementations.items():
         kept.append(tag := create_string_buffer(TAG_LENGTH))
         hashes[name] = make(library, cost, tag)
-        if not hashes[name] or hashes[name]():
+        if not hashes[name] or isinstance(answer := hashes[name](), int) and answer:
             del hashes[name]
         elif tags.setdefault('first', tag.raw) != tag.raw:
             sys.exit(f'{name} gives another tag')
@@ -154,10 +173,11 @@ def prepare(implementations, cost):
 
 
 def time_round(hashes, spent):
-    for name, times in spent.items():
+    """In an order of its own, since the system has to find memory anew behind some, and not behind others."""
+    for name, times in random.sample([*spent.items()], len(spent)):
         begin = time.perf_counter_ns()
-        hashes[name]()
-        times.append((time.perf_counter_ns() - begin) / 1e6)
+        milliseconds = hashes[name]()
+        times.append(milliseconds or (time.perf_counter_ns() - begin) / 1e6)
 
 
 def measure(folder, seconds, run, only=''):
@@ -177,7 +197,7 @@ def measure(folder, seconds, run, only=''):
 
 def version(asked, newer):
     """Of a tool, or a package: `newer PACKAGE` is one of Debian 13, which is in a folder."""
-    tools = {'gcc': 'gcc -dumpfullversion', 'rustc': 'rustc --version'}
+    tools = {'gcc': 'gcc -dumpfullversion', 'rustc': 'rustc --version', 'node': 'node --version'}
     root = f'--admindir={newer}/var/lib/dpkg' if asked.startswith('newer ') else ''
     return subprocess.getoutput(tools.get(asked, f"dpkg-query {root} -Wf '${{source:Package}} ${{Version}}' "
                                           f"{asked.removeprefix('newer ')}"))
