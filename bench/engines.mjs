@@ -1,6 +1,7 @@
 // Times hashes in Node and in browsers, by the package and by WebAssembly modules alone, by turns, of which the least
 // time counts, and prints lines for bench/figures.txt: engines.mjs SECONDS. A page imports `timeAll`; a process of its
-// own, which is given whether natively, is measured itself.
+// own, which is given whether natively, is measured itself; and engines.mjs KIB PASSES LANES THREADS hashes natively
+// whenever a line comes, and writes the tag and milliseconds, for times.py.
 
 /** KiB of memory, passes and lanes, for the modules alone. */
 const CASES = [[19456, 2, 1], [65536, 3, 4]];
@@ -111,8 +112,22 @@ async function timeProcess(native, { monitorEventLoopDelay }) {
     process.exit();
 }
 
+/** Hashes a case whenever a line comes. */
+async function hashByTurns([memoryCost, timeCost, parallelism, threads], { createInterface }) {
+    const { hash } = await import('proved-argon2');
+    const salt = new TextEncoder().encode('somesaltsomesalt');
+    const options = { salt, memoryCost, timeCost, parallelism, threads, native: true, raw: true };
+    for await (const line of createInterface({ input: process.stdin })) {
+        await hash('password', options); // (its threads wake, as the other implementations' one process has)
+        const began = performance.now(), tag = await hash('password', options);
+        console.log(line + Buffer.from(tag).toString('hex'), performance.now() - began);
+    }
+    process.exit();
+}
+
 if (globalThis.process) {
-    const [node, script, seconds, native] = process.argv;
+    const [node, script, seconds, native, ...others] = process.argv;
+    if (others.length > 0) await hashByTurns(process.argv.slice(2).map(Number), await import('node:readline'));
     if (native) await timeProcess(native === 'true', await import('node:perf_hooks'));
     const { execFileSync } = await import('node:child_process');
     const { readFile, writeFile } = await import('node:fs/promises');

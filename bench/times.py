@@ -125,7 +125,7 @@ PEERS = (
     Peer('v4', 'this library, AVX-512', '#0072b2', 'v4.so', ours),
     Peer('v3', 'this library, AVX2', '#56b4e9', 'v3.so', ours),
     Peer('v2', 'this library, no AVX2', '#56b4e9 7 4', 'v2.so', ours),
-    Peer('node', 'this library, Node', '', 'site/peer.mjs', node,
+    Peer('node', 'this library, Node', '', 'site/engines.mjs', node,
          'the package for npm in Node {node}, by its addon, in a process of its own'),
     Peer('reusing', 'this library, reusable buffer', '', 'reusing.so', reusing),
     Peer('libsodium', 'libsodium', '#d55e00', 'libsodium.so.23', libsodium,

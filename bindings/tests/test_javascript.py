@@ -94,6 +94,14 @@ def test_the_addon_declares_what_node_does():
         SOURCES / "addon/addon.c")
 
 
+BARE = """import { hash } from 'proved-argon2';
+import inline = require('proved-argon2/inline');
+
+export const made: Promise<string> = hash('password');
+export const verdict: Promise<boolean> = inline.verify('', 'password');
+"""
+
+
 @needs("tsc")
 @pytest.mark.parametrize("words", ["--module nodenext --moduleResolution nodenext types.mts",
                                    "--module es2022 --moduleResolution node types.mts",
@@ -101,6 +109,7 @@ def test_the_addon_declares_what_node_does():
 def test_the_types_hold(site, words):
     """By both rules by which compilers look for the types of a package, also of CommonJS, and without a page's types or
     Node's."""
+    (site / "bare.cts").write_text(BARE)
     run("tsc", "--noEmit", "--strict", "--target", "es2022", *words.split(), cwd=site)
 
 
