@@ -118,7 +118,6 @@ async function hashByTurns([memoryCost, timeCost, parallelism, threads], { creat
     const salt = new TextEncoder().encode('somesaltsomesalt');
     const options = { salt, memoryCost, timeCost, parallelism, threads, native: true, raw: true };
     for await (const line of createInterface({ input: process.stdin })) {
-        await hash('password', options); // (its threads wake, as the other implementations' one process has)
         const began = performance.now(), tag = await hash('password', options);
         console.log(line + Buffer.from(tag).toString('hex'), performance.now() - began);
     }

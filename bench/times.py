@@ -1,11 +1,11 @@
 #!/usr/bin/env python3
-"""Times whole hashes of our library beside its peers, in one process, by turns:
+"""Times whole hashes of our library beside its peers, in one process (but Node), by turns:
 
     bench/times.py FOLDER SECONDS table|plots [NAME]    one implementation, or all but OpenSSL
     bench/times.py FOLDER                               prints what each is
 
-Each round runs every implementation once, so that a slow moment of the machine falls on all of them. Each tag is
-compared before it is timed. FOLDER is what bench/run builds, and SECONDS is how long a case runs. Each line is a case,
+Each round runs every implementation, so that a slow moment of the machine falls on all of them. Each tag is compared
+before it is timed. FOLDER is what bench/run builds, and SECONDS is how long a case runs. Each line is a case,
 and for each implementation its name, the least and the median milliseconds of a hash.
 """
 import ctypes
@@ -69,6 +69,10 @@ def node(script, cost, tag):
         answer, milliseconds = process.stdout.readline().decode().split()
         tag.raw = bytes.fromhex(answer)
         return float(milliseconds)
+    try:
+        run()
+    except ValueError:  # (it has said why)
+        return None
     return run
 
 
@@ -173,11 +177,15 @@ def prepare(implementations, cost):
 
 
 def time_round(hashes, spent):
-    """In an order of its own, since the system has to find memory anew behind some, and not behind others."""
+    """In an order of its own, and of two hashes the second: the first has to find memory behind some implementations,
+    and not behind others, and wakes its threads."""
     for name, times in random.sample([*spent.items()], len(spent)):
+        hashes[name]()
         begin = time.perf_counter_ns()
-        milliseconds = hashes[name]()
-        times.append(milliseconds or (time.perf_counter_ns() - begin) / 1e6)
+        answer = hashes[name]()
+        times.append(answer or (time.perf_counter_ns() - begin) / 1e6)
+        if isinstance(answer, int) and answer:
+            sys.exit(f'{name} fails: {answer}')
 
 
 def measure(folder, seconds, run, only=''):

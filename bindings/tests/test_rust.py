@@ -148,8 +148,9 @@ def test_a_program_over_the_traits_of_0_6_ends_well(cargo, tmp_path):
     (tmp_path / "config.toml").write_text(CRATES_OF_DEBIAN.replace("/usr", f"{tmp_path}/usr"))
     line = f'argon2 = {{ package = "proved-argon2-password-hash", path = "{CRATE}/password_hash" }}'
     folder = project(tmp_path / "of_0_6", (HERE / "traits_0_6.rs").read_text(), line)
-    run(*RUN, cwd=folder, env={**cargo, "CARGO_HOME": tmp_path,
-                               "RUSTFLAGS": f"{os.environ.get('RUSTFLAGS', '')} -Dwarnings"})
+    named = {**cargo, "CARGO_HOME": tmp_path, "RUSTFLAGS": f"{os.environ.get('RUSTFLAGS', '')} -Dwarnings"}
+    run(*RUN, cwd=folder, env=named)
+    assert "1 passed" in run("cargo", "test", "--offline", "--doc", cwd=CRATE / "password_hash", env=named)
 
 
 def test_the_tests_of_rust_argon2_pass(cargo, tmp_path):

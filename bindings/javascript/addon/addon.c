@@ -33,7 +33,7 @@ typedef struct run {
     struct run *next;
     _Atomic uint64_t slices;
     uint32_t code;
-    bool is_over;              /* no thread looks at it any more */
+    bool is_over;              /* no thread of the pool looks at it any more */
     _Atomic bool is_abandoned; /* the thread of JavaScript ends */
 } run;
 

@@ -86,7 +86,7 @@ function partsOf({ settings, encoded, inputs }, control) {
     return [control, password, salt, secret, associatedData, Uint32Array.from(settings), tag];
 }
 
-/** The code of a run, once its thread has ended. */
+/** The code of a run, once it is over. */
 function codeOf(begin, parts, progress) {
     const [control] = parts;
     const stop = () => Atomics.store(control, 0, 1);

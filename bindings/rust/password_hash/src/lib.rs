@@ -16,7 +16,7 @@
 #![forbid(unsafe_code)]
 #![warn(missing_docs)]
 
-use password_hash::phc::Output;
+use password_hash::phc::{Output, Salt};
 use password_hash::{Error, Result};
 use proved_argon2::{hash_encoded, verify_encoded_within, Error as Refusal, Limits, Unverified};
 
@@ -43,8 +43,9 @@ impl<'key> From<Config<'key>> for Argon2<'key> {
 /// [`Error::OutputSize`].
 impl PasswordHasher<PasswordHash> for Argon2<'_> {
     fn hash_password_with_salt(&self, password: &[u8], salt: &[u8]) -> Result<PasswordHash> {
-        // (of a longer one the error below would be another)
+        // (what the traits do not hold is refused before it is computed)
         Output::init_with(self.config.hash_length as usize, |_| Ok(()))?;
+        Salt::new(salt)?;
         let text = hash_encoded(password, salt, &self.config).map_err(told)?;
         Ok(PasswordHash::new(&text)?)
     }
