@@ -42,7 +42,7 @@ def test_what_is_quoted_of_the_logic_stands_there(needs):
 
 @pytest.mark.parametrize('page', [FIRST, 'docs/INSTALL.md', 'docs/PYTHON.md'])
 def test_the_oldest_c_library_is_the_newest_that_release_asks_for(page):
-    asked = {int(version) for file in TOP.glob('release/*/*')
+    asked = {int(version) for file in TOP.glob('release/*/*') if file.is_file()
              for version in re.findall(rb'\0GLIBC_2\.(\d+)\0', file.read_bytes())}
     named = re.findall(r'(?:GNU C\s+library|glibc)(?:\W|older|than|version|needs?)*2\.(\d+)', read(page))
     assert {*map(int, named)} == {max(asked)}
