@@ -5,8 +5,9 @@
     bench/times.py FOLDER                               prints what each is
 
 Each round runs every implementation, so that a slow moment of the machine falls on all of them. Each tag is compared
-before it is timed. FOLDER is what bench/run builds, and SECONDS is how long a case runs. Each line is a case,
-and for each implementation its name, the least and the median milliseconds of a hash.
+before it is timed. FOLDER is what bench/run builds. A case runs SECONDS for each of its threads, since times differ
+more with more of them. Each line is a case, and for each implementation its name, the least and the median
+milliseconds of a hash.
 """
 import ctypes
 import mmap
@@ -195,7 +196,7 @@ def measure(folder, seconds, run, only=''):
     for cost in RUNS[run]:
         hashes = prepare(loaded, cost)
         spent = {name: [] for name in hashes if only in ('', name)}
-        end = time.perf_counter() + float(seconds)
+        end = time.perf_counter() + float(seconds) * cost[3]
         # (the first round is a cold one)
         while min(map(len, spent.values())) < 2 or time.perf_counter() < end:
             time_round(hashes, spent)
