@@ -39,11 +39,14 @@ fn reads_and_writes_what_libargon2_does() {
     assert_eq!(hasher.hash_password_with_salt(b"password", b"somesalt").unwrap().to_string(), STORED[0]);
 }
 
-fn takes_a_pepper() {
-    let with = |secret| Argon2::from(Config { mem_cost: 64, time_cost: 1, secret, ..Config::default() });
-    let stored = with(b"pepper").hash_password(b"password").unwrap().to_string();
-    assert_eq!(verdict(&with(b"pepper"), &stored, b"password"), Ok(()));
-    assert_eq!(verdict(&with(b"other"), &stored, b"password"), Err(Error::PasswordInvalid));
+fn takes_a_pepper_and_associated_data() {
+    let with =
+        |secret, ad| Argon2::from(Config { mem_cost: 64, time_cost: 1, secret, ad, ..Config::default() });
+    let stored = with(b"pepper", b"user").hash_password(b"password").unwrap().to_string();
+    assert_eq!(verdict(&with(b"pepper", b"user"), &stored, b"password"), Ok(()));
+    for other in [with(b"other", b"user"), with(b"pepper", b"other")] {
+        assert_eq!(verdict(&other, &stored, b"password"), Err(Error::PasswordInvalid));
+    }
 }
 
 fn rejects_what_is_wrong() {
@@ -84,7 +87,7 @@ fn differs() {
 fn main() {
     registers_and_logs_in();
     reads_and_writes_what_libargon2_does();
-    takes_a_pepper();
+    takes_a_pepper_and_associated_data();
     rejects_what_is_wrong();
     differs();
 }
