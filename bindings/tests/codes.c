@@ -11,66 +11,50 @@
 #define PIECE(name) const uint8_t *name, size_t name##_len
 #define SHOWN(name) (int)name##_len, (const char *)name
 #define SETTINGS "%u %u %u %u %u %u"
+#define HASHING "%.*s %.*s %.*s %.*s " SETTINGS
+#define INPUTS PIECE(pwd), PIECE(salt), PIECE(secret), PIECE(ad), const proved_argon2_settings *settings
 #define EACH(settings) \
     (settings)->variant, (settings)->version, (settings)->mem_cost, (settings)->time_cost, (settings)->lanes, \
         (settings)->hash_length
+#define EACH_INPUT SHOWN(pwd), SHOWN(salt), SHOWN(secret), SHOWN(ad), EACH(settings)
 
 /* What is answered: by proved_argon2_check, by any call that computes, by proved_argon2_read, and to who asks for a
- * memory. */
-static uint32_t checking, answer, reading, shortage;
+ * memory, of which each KiB takes so many bytes. */
+static uint32_t checking, answer, reading, shortage, kib;
 
 /* What the last call was passed that computes, that checks, and that does neither. */
-enum { COMPUTING, JUDGING, TELLING };
-static char passed[3][400];
+enum { COMPUTING, JUDGING, TELLING, KINDS };
+static char passed[KINDS][400];
 
 /* Of the last call with options: how many threads it asked for, which names no pool; how many bytes of memory it was
  * passed, or -1; what it was answered that told that it had filled a slice, or -1 where nobody was to be told. */
 static uint32_t threads;
 static int64_t memory_len, progress_result;
 
-/* How many memories were asked for and how many are there. */
-static uint32_t asked, memories;
+/* How many memories were asked for, are there, which those are not that were freed with another length, and were there
+ * at once. */
+static uint32_t asked, memories, most_memories;
 
-void set_answers(uint32_t check, uint32_t then, uint32_t read)
+void set_answers(uint32_t check, uint32_t then, uint32_t read, uint32_t memory, uint32_t kib_size)
 {
     checking = check;
     answer = then;
     reading = read;
+    shortage = memory;
+    kib = kib_size;
+    memset(passed, 0, sizeof passed);
+    threads = asked = most_memories = 0;
+    memory_len = progress_result = -1;
 }
 
-void set_shortage(uint32_t number)
+/* What was seen since the answers were set. */
+const char *seen(void)
 {
-    shortage = number;
-}
-
-const char *passed_to(uint32_t kind)
-{
-    return passed[kind];
-}
-
-uint32_t threads_of_the_last(void)
-{
-    return threads;
-}
-
-int64_t memory_len_of_the_last(void)
-{
-    return memory_len;
-}
-
-int64_t progress_result_of_the_last(void)
-{
-    return progress_result;
-}
-
-uint32_t memories_that_were_asked_for(void)
-{
-    return asked;
-}
-
-uint32_t memories_that_are_there(void)
-{
-    return memories;
+    static char text[sizeof passed + 200];
+    snprintf(text, sizeof text, "%u|%lld|%lld|%u|%u|%u|%s|%s|%s", threads, (long long)memory_len,
+        (long long)progress_result, asked, memories, most_memories, passed[JUDGING], passed[TELLING],
+        passed[COMPUTING]);
+    return text;
 }
 
 static void take(const proved_argon2_options *with)
@@ -92,22 +76,18 @@ uint32_t proved_argon2_check(
     return checking;
 }
 
-uint32_t proved_argon2_hash_raw_with(const proved_argon2_options *with, PIECE(pwd), PIECE(salt), PIECE(secret),
-    PIECE(ad), const proved_argon2_settings *settings, uint8_t *out, size_t out_len)
+uint32_t proved_argon2_hash_raw_with(const proved_argon2_options *with, INPUTS, uint8_t *out, size_t out_len)
 {
     take(with);
-    snprintf(passed[COMPUTING], sizeof *passed, "raw %.*s %.*s %.*s %.*s " SETTINGS, SHOWN(pwd), SHOWN(salt),
-        SHOWN(secret), SHOWN(ad), EACH(settings));
+    snprintf(passed[COMPUTING], sizeof *passed, "raw " HASHING, EACH_INPUT);
     memset(out, 'x', out_len);
     return answer;
 }
 
-uint32_t proved_argon2_hash_encoded_with(const proved_argon2_options *with, PIECE(pwd), PIECE(salt), PIECE(secret),
-    PIECE(ad), const proved_argon2_settings *settings, char *text, size_t text_len)
+uint32_t proved_argon2_hash_encoded_with(const proved_argon2_options *with, INPUTS, char *text, size_t text_len)
 {
     take(with);
-    snprintf(passed[COMPUTING], sizeof *passed, "encoded %.*s %.*s %.*s %.*s " SETTINGS, SHOWN(pwd), SHOWN(salt),
-        SHOWN(secret), SHOWN(ad), EACH(settings));
+    snprintf(passed[COMPUTING], sizeof *passed, "encoded " HASHING, EACH_INPUT);
     if (text_len > 0) {
         memset(text, 'x', text_len - 1);
         text[text_len - 1] = 0;
@@ -115,12 +95,10 @@ uint32_t proved_argon2_hash_encoded_with(const proved_argon2_options *with, PIEC
     return answer;
 }
 
-uint32_t proved_argon2_verify_raw_with(const proved_argon2_options *with, PIECE(pwd), PIECE(salt), PIECE(secret),
-    PIECE(ad), const proved_argon2_settings *settings, PIECE(hash))
+uint32_t proved_argon2_verify_raw_with(const proved_argon2_options *with, INPUTS, PIECE(hash))
 {
     take(with);
-    snprintf(passed[COMPUTING], sizeof *passed, "verify %.*s %.*s %.*s %.*s " SETTINGS " %.*s", SHOWN(pwd), SHOWN(salt),
-        SHOWN(secret), SHOWN(ad), EACH(settings), SHOWN(hash));
+    snprintf(passed[COMPUTING], sizeof *passed, "verify " HASHING " %.*s", EACH_INPUT, SHOWN(hash));
     return answer;
 }
 
@@ -137,26 +115,28 @@ uint32_t proved_argon2_verify_encoded_with(
 
 uint64_t proved_argon2_memory_len(const proved_argon2_settings *settings)
 {
-    return (uint64_t)settings->mem_cost * 1024;
+    return (uint64_t)settings->mem_cost * kib;
 }
 
-uint32_t proved_argon2_memory_new(const proved_argon2_settings *settings, void **memory, size_t *memory_len)
+uint32_t proved_argon2_memory_new(const proved_argon2_settings *settings, void **memory, size_t *length)
 {
     snprintf(passed[TELLING], sizeof *passed, "memory " SETTINGS, EACH(settings));
     asked++;
     if (shortage == PROVED_ARGON2_OK) {
-        *memory_len = (size_t)settings->mem_cost * 1024;
-        *memory = calloc(1, *memory_len);
+        *length = (size_t)settings->mem_cost * kib;
+        *memory = calloc(1, *length);
+        memcpy(*memory, length, sizeof *length);
         memories++;
+        most_memories = memories > most_memories ? memories : most_memories;
     }
     return shortage;
 }
 
-void proved_argon2_memory_free(void *memory, size_t memory_len)
+void proved_argon2_memory_free(void *memory, size_t length)
 {
-    if (memory != NULL && memory_len != 0) {
+    if (memory != NULL && length != 0) {
+        memories -= memcmp(memory, &length, sizeof length) == 0;
         free(memory);
-        memories--;
     }
 }
 

@@ -1,9 +1,7 @@
 """What each call of the package for Python gives for each number that the library may return, as codes.txt says: over
 the library of codes.c, which PROVED_ARGON2_LIBRARY names."""
+import collections
 import concurrent.futures
-import contextlib
-import re
-from pathlib import Path
 
 import pytest
 from proved_argon2 import (
@@ -19,18 +17,11 @@ from proved_argon2 import (
 )
 from proved_argon2 import exceptions as errors
 from proved_argon2.low_level import ARGON2_VERSION, Memory, error_to_str, hash_secret, hash_secret_raw, verify_secret
+from running import CODES, HEADER, MEMORIES, NUMBERS
 
-HERE = Path(__file__).resolve().parent
 STUB = _library._library
-STUB.passed_to.restype = _library.ctypes.c_char_p
-STUB.memory_len_of_the_last.restype = STUB.progress_result_of_the_last.restype = _library.ctypes.c_int64
-COMPUTING, JUDGING, TELLING = range(3)
-HEADER = {name: int(number, 0) for name, number in re.findall(
-    r"^ *PROVED_ARGON2_(\w+) = (\w+)", (HERE.parents[1] / "crates/argon2_c/include/proved_argon2.h").read_text(), re.M)}
-# All numbers of the header, those that stand beside them, and some that no call returns.
-NUMBERS = [*range(23), 63, *range(64, 76), *range(127, 132), 255, 256, 999, 0x7FFFFFFF, 0x80000000, 0xFFFFFFFF]
-ROWS = {row[0]: row[1:] for row in ([*map(str.strip, line.split("|"))] for line in (
-    HERE / "codes.txt").read_text().splitlines() if line[0] != "#")}
+STUB.seen.restype = _library.ctypes.c_char_p
+Seen = collections.namedtuple("Seen", "threads memory_len progress asked there most judging telling computing")
 TEXT, SETTINGS = "$argon2id$x", (3, 64, 4, 5, Type.ID)
 HASH, VERIFY = (b"word", b"somesalt", *SETTINGS), (TEXT.encode(), b"word", Type.ID)
 NAMED = {"key": b"key", "associated_data": b"data"}
@@ -64,23 +55,22 @@ def said_of(number):
     return f"N{number % 1000:03}"
 
 
-def set_answers(check=0, then=0, read=0):
-    STUB.set_answers(*map(_library.ctypes.c_uint32, (check, then, read)))
+def set_answers(check=0, then=0, read=0, memory=0, kib=1024):
+    STUB.set_answers(*map(_library.ctypes.c_uint32, (check, then, read, memory, kib)))
 
 
-def passed(kind):
-    """What the last call was passed that computes, that judges, or that tells."""
-    return STUB.passed_to(kind).decode()
+def seen():
+    """What the library saw since the answers were set."""
+    *numbers, judging, telling, computing = STUB.seen().decode(errors="replace").split("|", 8)
+    return Seen(*map(int, numbers), judging, telling, computing)
 
 
 @pytest.fixture(autouse=True)
 def nothing_is_wrong():
     set_answers()
-    yield
-    STUB.set_shortage(0)
 
 
-def gives(place, call, values, other):
+def gives(place, call, values, other, saw=lambda number: True):
     """A call has to give a value for each number that has one, or to raise what stands for it, and otherwise the other
     error: each with the number's message."""
     for number in NUMBERS:
@@ -93,19 +83,44 @@ def gives(place, call, values, other):
         else:
             found = call()
             assert (found, type(found)) == (expected, type(expected)), number
+        assert saw(number), (number, seen())
 
 
 @each_call
-@pytest.mark.parametrize("memory", [None, Memory])
-def test_a_call_gives_for_each_number_what_the_table_says(name, memory):
-    places, *_, values = ROWS[name]
-    values = {HEADER[code]: VALUES[value] for code, value in (pair.split("=") for pair in values.split())}
-    other = errors.HashingError if name.startswith("hash") else errors.VerificationError
-    if name.startswith("verify"):
-        values[HEADER["TOO_COSTLY"]] = errors.TooCostlyError
-        gives("read", CALLS[name], {0: True}, other)
-    for place in places.split():
-        gives(place, lambda: CALLS[name](memory=memory and memory()), values, other)
+@pytest.mark.parametrize("is_kept", [False, True])
+def test_a_call_gives_for_each_number_what_the_table_says(name, is_kept):
+    """It passes what it is given in its place, and asks for as many threads as lanes. A memory is made where the
+    library says that it is too small, of what the settings or the string say, and only then."""
+    codes, other = CODES[name], errors.HashingError if name.startswith("hash") else errors.VerificationError
+    values = {number: VALUES[value] for number, value in codes.values.items()}
+    telling = codes.telling if codes.hashes else CODES["read"].telling
+
+    def saw(number):
+        computes = number == 0 or place == "then"
+        size = 65536 if computes and is_kept and number == HEADER["OUT_OF_MEMORY"] else 0
+        told = telling if computes or not codes.hashes else ""
+        return seen() == Seen(
+            4 * computes, size if computes and is_kept else -1, 0 if computes else -1, *3 * [size > 0],
+            codes.judging, "memory 2 19 64 3 4 5" if size else told, codes.computing if computes else "")
+
+    for place in [*codes.places, *["read"] * (not codes.hashes)]:
+        if place == "read":
+            values = {0: True}
+        elif not codes.hashes:
+            values[HEADER["TOO_COSTLY"]] = errors.TooCostlyError
+        gives(place, lambda: CALLS[name](memory=Memory() if is_kept else None), values, other, saw)
+
+
+@each_call
+def test_a_memory_is_kept_and_given_back(name):
+    memory = Memory()
+    for size, kib, refused, counts in MEMORIES:
+        set_answers(then=HEADER["OUT_OF_MEMORY"], memory=refused, kib=kib)
+        with pytest.raises(errors.Argon2Error, match=said_of(HEADER["OUT_OF_MEMORY"])):
+            CALLS[name](memory=memory)
+        assert (seen()[3:6], memory._free[0].length) == (counts, size)
+    del memory
+    assert seen().there == 0
 
 
 def test_a_hasher_and_the_calls_before_it_give_the_same():
@@ -131,55 +146,18 @@ def test_the_numbers_are_the_header_s():
         assert getattr(_library, name) == HEADER[name], name
 
 
-@each_call
-def test_each_call_passes_what_it_is_given_in_its_place(name):
-    _, computing, telling, _ = ROWS[name]
-    for memory, length in ((None, -1), (Memory(), 0)):
-        CALLS[name](memory=memory)
-        assert (passed(COMPUTING), STUB.memory_len_of_the_last()) == (computing, length)
-        assert passed(TELLING) == telling or not telling
-        assert name[0] == "v" or passed(JUDGING) == "check 2 19 64 3 4 5 4 8 3 4"
-        assert name[0] == "h" or passed(TELLING) == ROWS["read"][2]
-
-
 @pytest.mark.parametrize("keep_memory", [False, True])
 def test_a_hasher_passes_what_it_is_given_in_its_place(keep_memory):
     limits, length = Limits(10, 11, 12, 13), 0 if keep_memory else -1
     hasher = PasswordHasher(3, 64, 4, 5, 8, "utf-8", Type.I, limits=limits, keep_memory=keep_memory)
     hasher.hash("word", salt=b"somesalt")
-    assert (passed(COMPUTING), STUB.memory_len_of_the_last()) == ("encoded word somesalt   1 19 64 3 4 5", length)
+    assert (seen().computing, seen().memory_len) == ("encoded word somesalt   1 19 64 3 4 5", length)
     hasher.verify(TEXT, "word")
-    assert (passed(COMPUTING), STUB.memory_len_of_the_last()) == (f"text {TEXT} word   10 11 12 13", length)
+    assert (seen().computing, seen().memory_len) == (f"text {TEXT} word   10 11 12 13", length)
     for settings, limits in (((1, 1, 1), "7 8 9 10"), ((9, 8, 1), "8 9 9 72"), ((8, 7, 10), "7 8 10 56")):
         PasswordHasher(*settings).verify(TEXT, "word")
-        assert passed(COMPUTING) == f"text {TEXT} word   {limits}"
+        assert seen().computing == f"text {TEXT} word   {limits}"
     assert Limits() == Limits(memory_cost=7, time_cost=8, parallelism=9, work=10)
-
-
-@each_call
-@pytest.mark.parametrize("number", NUMBERS)
-def test_a_kept_memory_grows_where_the_library_says_that_it_is_too_small(name, number):
-    memory, size = Memory(), 64 << 10 if number == HEADER["OUT_OF_MEMORY"] else 0
-    asked = STUB.memories_that_were_asked_for() + (size > 0)
-    set_answers(then=number)
-    for is_again in (False, True):
-        with contextlib.suppress(errors.Argon2Error):
-            CALLS[name](memory=memory)
-        assert (STUB.memory_len_of_the_last(), memory._free[0].length) == (size, size)
-        assert (STUB.memories_that_are_there(), STUB.memories_that_were_asked_for()) == (size > 0, asked)
-        assert is_again or not size or passed(TELLING) == "memory 2 19 64 3 4 5"
-    del memory
-    assert STUB.memories_that_are_there() == 0
-
-
-@pytest.mark.parametrize("number", NUMBERS[1:])
-def test_a_kept_memory_has_nothing_where_the_library_refuses_one(number):
-    STUB.set_shortage(_library.ctypes.c_uint32(number))
-    set_answers(then=HEADER["OUT_OF_MEMORY"])
-    memory = Memory()
-    with pytest.raises(errors.HashingError, match=said_of(HEADER["OUT_OF_MEMORY"])):
-        hash_secret(*HASH, memory=memory)
-    assert (STUB.memory_len_of_the_last(), memory._free[0].length) == (0, 0)
 
 
 def computing(**named):
@@ -194,18 +172,18 @@ def computing(**named):
 def in_a_thread(call):
     with concurrent.futures.ThreadPoolExecutor(1) as pool:
         pool.submit(call).result()
-    return STUB.progress_result_of_the_last()
+    return seen().progress
 
 
 def test_a_call_tells_how_far_it_is_where_handlers_of_signals_run_or_where_it_is_asked():
     for call in computing():
         call()
-        assert (STUB.progress_result_of_the_last(), in_a_thread(call)) == (0, -1)
-    seen = []
-    for call in computing(progress=lambda *progress: seen.append(progress)):
+        assert (seen().progress, in_a_thread(call)) == (0, -1)
+    told = []
+    for call in computing(progress=lambda *progress: told.append(progress)):
         call()
-        assert (STUB.progress_result_of_the_last(), in_a_thread(call), seen) == (0, 0, [(1, 12)] * 2)
-        seen.clear()
+        assert (seen().progress, in_a_thread(call), told) == (0, 0, [(1, 12)] * 2)
+        told.clear()
 
 
 @pytest.mark.parametrize("error", [ValueError("enough"), KeyboardInterrupt(), SystemExit(3)])
@@ -218,7 +196,7 @@ def test_what_progress_raises_stops_a_call_whatever_that_answers(error, number):
     for call in computing(progress=progress):
         with pytest.raises(type(error)) as raised:
             call()
-        assert raised.value is error and STUB.progress_result_of_the_last() != 0
+        assert raised.value is error and seen().progress != 0
 
 
 @pytest.mark.parametrize("call, threads", [
@@ -228,4 +206,4 @@ def test_what_progress_raises_stops_a_call_whatever_that_answers(error, number):
     *((call, 4) for call in VERIFIERS)])
 def test_there_are_as_many_threads_as_lanes(call, threads):
     call()
-    assert STUB.threads_of_the_last() == threads
+    assert seen().threads == threads

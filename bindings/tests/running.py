@@ -25,6 +25,29 @@ replace-with = "debian"
 [source.debian]
 directory = "/usr/share/cargo/registry"
 """
+# The numbers of the library's header by their names. Then all of them, those that stand beside them, and some that no
+# call returns.
+HEADER = {name: int(number, 0) for name, number in re.findall(
+    r"^ *PROVED_ARGON2_(\w+) = (\w+)", (TOP / "crates/argon2_c/include/proved_argon2.h").read_text(), re.M)}
+NUMBERS = [*range(23), 63, *range(64, 76), *range(127, 132), 255, 256, 999, 0x7FFFFFFF, 0x80000000, 0xFFFFFFFF]
+
+
+class Codes:
+    """A line of codes.txt."""
+
+    def __init__(self, line):
+        self.name, places, self.computing, self.telling, values = map(str.strip, line.split("|"))
+        self.places, self.hashes = places.split(), self.name.startswith("hash")
+        self.values = {HEADER[code]: value for code, value in (pair.split("=") for pair in values.split())}
+        self.judging = "check 2 19 64 3 4 5 4 8 3 4" if self.hashes else ""
+
+
+CODES = {codes.name: codes for codes in map(
+    Codes, re.findall("^[^#].*", (TOP / "bindings/tests/codes.txt").read_text(), re.M))}
+# What a kept memory has after calls that find it too small: its bytes, how many a KiB takes, what is said to who asks
+# for one, and how many are asked for, are there then and were there at once.
+MEMORIES = [(65536, 1024, 0, (1, 1, 1)), (65536, 1024, 0, (0, 1, 0)), (131072, 2048, 0, (1, 1, 1)), *(
+    step for refused in NUMBERS[1:] for step in ((0, 4096, refused, (1, 0, 0)), (65536, 1024, 0, (1, 1, 1))))]
 
 
 def needs(*programs):

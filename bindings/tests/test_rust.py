@@ -8,7 +8,8 @@ import shutil
 import textwrap
 
 import pytest
-from running import CC, CRATES_OF_DEBIAN, MACHINE, TOP, built as built_part, fetch, needs, project, refuses, run, start
+from running import CC, CODES, CRATES_OF_DEBIAN, HEADER, MACHINE, MEMORIES, NUMBERS, TOP, built as built_part
+from running import fetch, needs, project, refuses, run, start
 
 CRATE, HERE = TOP / "bindings/rust", TOP / "bindings/tests"
 REGISTRY = pathlib.Path("/usr/share/cargo/registry")
@@ -100,13 +101,85 @@ def test_its_own_tests_pass(cargo, drawn):
     assert "test result: ok. " in run("cargo", "test", "--offline", "--no-fail-fast", cwd=CRATE, env={**cargo, **drawn})
 
 
-def test_each_number_that_the_library_answers(cargo, tmp_path):
+@pytest.fixture(scope="module")
+def ask(cargo, tmp_path_factory):
+    """What codes.rs says of calls: each is a name, how it is made, and the numbers that are answered."""
+    folder = tmp_path_factory.mktemp("codes")
     run(CC, "-Wall", "-Wextra", "-Werror", "-O1", "-I", TOP / "crates/argon2_c/include", "-c", HERE / "codes.c",
-        "-o", tmp_path / "codes.o")
-    run("ar", "rcs", tmp_path / "libproved_argon2.a", tmp_path / "codes.o")
-    folder = project(tmp_path / "answers", (HERE / "codes.rs").read_text())
-    run(*RUN, cwd=folder, env={**cargo, "PROVED_ARGON2_LIB_DIR": tmp_path, "TABLE": HERE / "codes.txt",
-                               "HEADER": TOP / "crates/argon2_c/include/proved_argon2.h"})
+        "-o", folder / "codes.o")
+    run("ar", "rcs", folder / "libproved_argon2.a", folder / "codes.o")
+    program = project(folder / "answers", (HERE / "codes.rs").read_text())
+
+    def ask(calls):
+        usual = {"check": 0, "then": 0, "read": 0, "memory": 0, "kib": 1024}
+        lines = [" ".join(map(str, (name, how, *{**usual, **answers}.values()))) for name, how, answers in calls]
+        said = run(*RUN, cwd=program, env={**cargo, "PROVED_ARGON2_LIB_DIR": folder}, input="\n".join(lines))
+        return said.splitlines()
+
+    return ask
+
+
+# The values of codes.txt as Rust shows them, and the errors by their numbers.
+SHOWN = {"tag": "Ok([120, 120, 120, 120, 120])", "text": f'Ok("{12 * "x"}")', "true": "Ok(true)", "false": "Ok(false)",
+         "costly": "Err(TooCostly)", "stored": "Ok(Stored { hash_length: 5, lanes: 4, mem_cost: 64, salt_length: 6, "
+                                               "time_cost: 3, variant: Argon2id, version: Version13 })"}
+ERRORS = {number: name.title().replace("_", "") for name, number in HEADER.items()
+          if number in (*range(1, 64), 129, 130, 131) and re.fullmatch("[A-Z_]{3,}", name)}
+# How calls are made, and what who is told answers.
+MOST = 0xFFFFFFFF
+HOW = {"alone": -1, "over": -1, "run": -1, "tells": 0, "stops": 1, "panics": 1}
+
+
+def outcome(codes, number):
+    """What a call gives for a number."""
+    value, error = codes.values.get(number), ERRORS.get(number)
+    if value or not error:
+        return SHOWN[value] if value else "panic"
+    return f"Err(Refused({error}))" if "within" in codes.name else f"Err({error})"
+
+
+def expected(codes, how, place, number):
+    """What is said of a call over a new memory, or over none."""
+    computes = place == "then" and bool(codes.computing)
+    is_over = computes and how in ("over", "stops")
+    size = 65536 if is_over and number == HEADER["OUT_OF_MEMORY"] else 0
+    length = MOST if codes.name == "verify_raw" else 5
+    threads = MOST if codes.name.startswith("verify_encoded") else 3
+    return "|".join(map(str, (
+        "panic" if computes and how == "panics" else outcome(codes, number), size, threads if computes else 0,
+        size if is_over else -1, HOW[how] if computes else -1, *3 * [int(size > 0)], codes.judging,
+        f"memory 2 19 64 3 4 {length}" if size else codes.telling, codes.computing if computes else "")))
+
+
+@pytest.mark.parametrize("name", CODES)
+def test_a_call_gives_for_each_number_what_the_table_says(ask, name):
+    """It passes what it is given in its place, is made once more over a memory that it was told is too small, and
+    leaves none where it had none. Who is told is told once, and stops it."""
+    codes = CODES[name]
+    cases = [(how, place, number) for how in (HOW if codes.computing else ["alone"])
+             for place in codes.places for number in (NUMBERS if place == "then" or not codes.hashes else NUMBERS[1:])]
+    said = ask(call for how, place, number in cases for call in (("new_memory", "", {}), (name, how, {place: number})))
+    for case, found in zip(cases, said[1::2]):
+        assert found == expected(codes, *case), case
+
+
+@pytest.mark.parametrize("name", [name for name, codes in CODES.items() if codes.computing])
+def test_a_memory_is_kept_and_given_back(ask, name):
+    """It is asked for where a call needs more, once the older one is given back whole. Where it is refused there is
+    none, and the next call asks anew."""
+    answers = {"then": HEADER["OUT_OF_MEMORY"]}
+    said = ask([*((name, "over", {**answers, "memory": refused, "kib": kib}) for _, kib, refused, _ in MEMORIES),
+                ("new_memory", "", {}), ("limits", "", {})])
+    found = [line.split("|") for line in said]
+    assert [(int(line[1]), tuple(map(int, line[5:8]))) for line in found] == [
+        *((size, counts) for size, _, _, counts in MEMORIES), (0, (0, 0, 0)), (0, (0, 0, 0))]
+    assert {line[0] for line in found[:-2]} == {outcome(CODES[name], HEADER["OUT_OF_MEMORY"])}
+
+
+def test_other_calls_pass_what_they_are_given_in_its_place(ask):
+    length, limits = ask([("encoded_len", "", {}), ("limits", "", {})])
+    assert length.startswith("12|") and length.endswith("|length 0 19 64 3 4 5 9|")
+    assert limits.startswith("Limits { lanes: 9, mem_cost: 7, time_cost: 8, work: 10 }|")
 
 
 # The crates of a program, which are Debian's, and flags of the compiler. Of the first the linker wraps the calls for a

@@ -1,4 +1,4 @@
-//! How far a call is, and what stops it. Which calls pass it on, bindings/tests/codes.rs tests.
+//! How far a call is, and what stops it. Which calls pass it on, bindings/tests/test_rust.py tests.
 
 use proved_argon2::{hash_raw, Config, Error, Memory, Run, ThreadMode};
 use std::ops::ControlFlow::{self, Break, Continue};
