@@ -19,8 +19,7 @@ pub extern "C" fn bench_hash(memory: u32, passes: u32, lanes: u32, threads: u32,
 pub extern "C" fn bench_hash(memory: u32, passes: u32, lanes: u32, threads: u32, tag: &mut [u8; 32]) -> i32 {
     use argon2::{Config, ThreadMode};
     let thread_mode = ThreadMode::from_threads(threads);
-    let config =
-        Config { lanes, mem_cost: memory, thread_mode, time_cost: passes, ..Config::rfc9106_low_mem() };
+    let config = Config { lanes, mem_cost: memory, thread_mode, time_cost: passes, ..Config::rfc9106_low_mem() };
     tag.copy_from_slice(&argon2::hash_raw(PASSWORD, SALT, &config).expect("the tag"));
     0
 }

@@ -147,10 +147,7 @@ fn tool(variable: &str, usual: &str) -> Result<String, String> {
     println!("cargo:rerun-if-env-changed={variable}");
     let own = || (named("HOST") == named("TARGET")).then(|| usual.to_string());
     env::var(for_target).or_else(|_| env::var(variable)).ok().or_else(own).ok_or_else(|| {
-        format!(
-            "there is no archive for {}: name a compiler and an archiver for it in CC and AR",
-            named("TARGET")
-        )
+        format!("there is no archive for {}: name a compiler and an archiver for it in CC and AR", named("TARGET"))
     })
 }
 

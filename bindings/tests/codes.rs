@@ -47,9 +47,7 @@ fn call(name: &str, how: &str, memory: &mut Memory) -> Box<dyn Debug> {
         ("verify_encoded", "alone") => Box::new(verify_encoded_ext(TEXT, WORD, KEY, DATA)),
         ("verify_encoded", "over") => Box::new(verify_encoded_in(memory, TEXT, WORD, KEY, DATA)),
         ("verify_encoded_within", "alone") => Box::new(verify_encoded_within(TEXT, WORD, KEY, DATA, &LIMITS)),
-        ("verify_encoded_within", "over") => {
-            Box::new(verify_encoded_within_in(memory, TEXT, WORD, KEY, DATA, &LIMITS))
-        }
+        ("verify_encoded_within", "over") => Box::new(verify_encoded_within_in(memory, TEXT, WORD, KEY, DATA, &LIMITS)),
         ("needs_rehash", _) => Box::new(needs_rehash(TEXT, &CONFIG)),
         ("read", _) => Box::new(read(TEXT)),
         ("encoded_len", _) => Box::new(encoded_len(Variant::Argon2d, 64, 3, 4, 9, 5)),
@@ -71,9 +69,7 @@ fn call(name: &str, how: &str, memory: &mut Memory) -> Box<dyn Debug> {
 fn run<'a>(how: &str, memory: &'a mut Memory) -> Run<'a> {
     match how {
         "run" => Run::new(),
-        "tells" => {
-            Run::new().telling(|done, all| if (done, all) == (1, 12) { Continue(()) } else { Break(()) })
-        }
+        "tells" => Run::new().telling(|done, all| if (done, all) == (1, 12) { Continue(()) } else { Break(()) }),
         "stops" => Run::new().over(memory).telling(|_, _| Break(())),
         _ => Run::new().telling(|_, _| panic!("on")),
     }

@@ -2,8 +2,8 @@
 //! The linker gives this program the library's two calls for a memory (`--wrap`), which it counts.
 
 use argon2::{
-    hash_encoded, hash_encoded_in, hash_raw, hash_raw_in, verify_encoded_in, verify_encoded_within_in,
-    verify_raw, verify_raw_in, Config, Error, Limits, Memory, ThreadMode, Unverified,
+    hash_encoded, hash_encoded_in, hash_raw, hash_raw_in, verify_encoded_in, verify_encoded_within_in, verify_raw,
+    verify_raw_in, Config, Error, Limits, Memory, ThreadMode, Unverified,
 };
 use std::ffi::c_void;
 use std::fs::File;
@@ -19,11 +19,7 @@ static WRONG: AtomicUsize = AtomicUsize::new(0);
 static PLACE: AtomicUsize = AtomicUsize::new(0);
 
 extern "C" {
-    fn __real_proved_argon2_memory_new(
-        settings: *const c_void,
-        memory: *mut usize,
-        length: *mut usize,
-    ) -> u32;
+    fn __real_proved_argon2_memory_new(settings: *const c_void, memory: *mut usize, length: *mut usize) -> u32;
     fn __real_proved_argon2_memory_free(memory: usize, length: usize);
 }
 

@@ -3,11 +3,7 @@ use std::error::Error;
 use std::sync::Arc;
 use std::time::Duration;
 
-async fn verify(
-    line: &argon2::Line,
-    stored: String,
-    pwd: &'static [u8],
-) -> Result<bool, Box<dyn Error + Send + Sync>> {
+async fn verify(line: &argon2::Line, stored: String, pwd: &'static [u8]) -> Result<bool, Box<dyn Error + Send + Sync>> {
     let _place = line.enter().await?;
     Ok(tokio::task::spawn_blocking(move || argon2::verify_password(&stored, pwd)).await??)
 }

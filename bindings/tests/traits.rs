@@ -13,8 +13,7 @@ const STORED: [&str; 4] = [
     "$argon2i$v=16$m=256,t=2,p=1$c29tZXNhbHQ$/U3YPXYsSb3q9XxHvc0MLxur+GP960kN9j7emXX8zwY",
     "$argon2id$v=19$m=256,t=2,p=2$c29tZXNhbHQ$bQk8UB/VmZZF4Oo79iDXuL5/0ttZwg2f/5U52iv1cDc",
 ];
-const WITHOUT_VERSION: &str =
-    "$argon2i$m=256,t=2,p=1$c29tZXNhbHQ$/U3YPXYsSb3q9XxHvc0MLxur+GP960kN9j7emXX8zwY";
+const WITHOUT_VERSION: &str = "$argon2i$m=256,t=2,p=1$c29tZXNhbHQ$/U3YPXYsSb3q9XxHvc0MLxur+GP960kN9j7emXX8zwY";
 
 fn verdict(hasher: &Argon2<'_>, stored: &str, password: &[u8]) -> argon2::password_hash::Result<()> {
     hasher.verify_password(password, &PasswordHash::new(stored)?)
@@ -31,10 +30,7 @@ fn registers_and_logs_in() {
 fn reads_and_writes_what_libargon2_does() {
     for stored in STORED {
         assert!(verdict(&Argon2::default(), stored, b"password").is_ok(), "{stored}");
-        assert_eq!(
-            verdict(&Argon2::default(), stored, b"Password"),
-            Err(argon2::password_hash::Error::Password)
-        );
+        assert_eq!(verdict(&Argon2::default(), stored, b"Password"), Err(argon2::password_hash::Error::Password));
     }
     let mut out = [0; 32];
     Argon2::new(Algorithm::Argon2i, Version::V0x10, Params::new(256, 2, 1, None).unwrap())
@@ -57,9 +53,7 @@ fn takes_a_pepper() {
 
 fn rejects_what_is_wrong() {
     assert!(Params::new(7, 1, 1, None).is_err());
-    for (from, to) in
-        [("m=256", "m=7"), ("argon2id", "argon2"), ("v=19", "v=18"), ("t=2", "t=0"), ("$nf65", "$n")]
-    {
+    for (from, to) in [("m=256", "m=7"), ("argon2id", "argon2"), ("v=19", "v=18"), ("t=2", "t=0"), ("$nf65", "$n")] {
         let text = STORED[0].replacen(from, to, 1);
         assert!(verdict(&Argon2::default(), &text, b"password").is_err(), "{text}");
     }
@@ -71,9 +65,7 @@ fn differs() {
     let stored = costly.hash_password(b"password", &SaltString::generate(&mut OsRng)).unwrap().to_string();
     assert!(verdict(&costly, &stored, b"password").is_ok());
     assert!(verdict(&Argon2::default(), &stored, b"password").is_err());
-    assert!(
-        verdict(&Argon2::default(), &STORED[0].replacen("m=256", "m=4294967295", 1), b"password").is_err()
-    );
+    assert!(verdict(&Argon2::default(), &STORED[0].replacen("m=256", "m=4294967295", 1), b"password").is_err());
     assert!(verdict(&Argon2::default(), WITHOUT_VERSION, b"password").is_ok());
     assert!(verdict(&Argon2::default(), &STORED[0].replacen("p=1", "p=1,data=AAAA", 1), b"password").is_err());
     let short = "$argon2id$v=19$m=64,t=1,p=1$c29tZXNhbHQ$AAAAAAAA"; // of six bytes

@@ -40,8 +40,7 @@ fn reads_and_writes_what_libargon2_does() {
 }
 
 fn takes_a_pepper_and_associated_data() {
-    let with =
-        |secret, ad| Argon2::from(Config { mem_cost: 64, time_cost: 1, secret, ad, ..Config::default() });
+    let with = |secret, ad| Argon2::from(Config { mem_cost: 64, time_cost: 1, secret, ad, ..Config::default() });
     let stored = with(b"pepper", b"user").hash_password(b"password").unwrap().to_string();
     assert_eq!(verdict(&with(b"pepper", b"user"), &stored, b"password"), Ok(()));
     for other in [with(b"other", b"user"), with(b"pepper", b"other")] {

@@ -24,13 +24,8 @@ fn log_in(
         return None;
     }
     let today = argon2::Config { secret: PEPPER, ..argon2::Config::default() };
-    let mut run = argon2::Run::new().telling(|_, _| {
-        if has_left() {
-            ControlFlow::Break(())
-        } else {
-            ControlFlow::Continue(())
-        }
-    });
+    let mut run =
+        argon2::Run::new().telling(|_, _| if has_left() { ControlFlow::Break(()) } else { ControlFlow::Continue(()) });
     match run.verify_and_update(stored, password, &today) {
         Ok((is_match, update)) => {
             eprintln!("{}: {user:?}", if is_match { "logged in" } else { "wrong password" });

@@ -163,8 +163,7 @@ impl<'a> Config<'a> {
 
 impl fmt::Debug for Config<'_> {
     fn fmt(&self, f: &mut fmt::Formatter<'_>) -> fmt::Result {
-        let Config { ad, hash_length, lanes, mem_cost, secret: _, thread_mode, time_cost, variant, version } =
-            self;
+        let Config { ad, hash_length, lanes, mem_cost, secret: _, thread_mode, time_cost, variant, version } = self;
         f.debug_struct("Config")
             .field("ad", ad)
             .field("hash_length", hash_length)
@@ -206,9 +205,7 @@ mod tests {
         ];
         assert_eq!(presets.iter().map(Settings::of).collect::<Vec<_>>(), recommended());
         let all = presets.into_iter().chain([Config::original(), Config::default()]);
-        assert!(all
-            .into_iter()
-            .all(|preset| preset.uses_sequential() && preset.secret.len() + preset.ad.len() == 0));
+        assert!(all.into_iter().all(|preset| preset.uses_sequential() && preset.secret.len() + preset.ad.len() == 0));
         assert_eq!(Config::default(), Config::owasp2());
     }
 }

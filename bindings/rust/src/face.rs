@@ -113,8 +113,7 @@ impl Options {
     /// Options of so many threads. They point to what the caller provides, which has to outlive
     /// them.
     fn by(threads: u32, extras: Extras<'_, '_>) -> Options {
-        let (memory, memory_len) =
-            extras.buffer.map_or((null_mut(), 0), |buffer| (buffer.address, buffer.length));
+        let (memory, memory_len) = extras.buffer.map_or((null_mut(), 0), |buffer| (buffer.address, buffer.length));
         Options {
             size: size_of::<Options>(),
             threads,
@@ -241,37 +240,17 @@ pub fn hash_raw(pwd: &[u8], salt: &[u8], config: &Config<'_>, extras: Extras<'_,
 }
 
 /// Writes the encoded hash and then zeros to `out`, which has more bytes than the encoded hash.
-pub fn hash_encoded(
-    pwd: &[u8],
-    salt: &[u8],
-    config: &Config<'_>,
-    extras: Extras<'_, '_>,
-    out: &mut [u8],
-) -> u32 {
+pub fn hash_encoded(pwd: &[u8], salt: &[u8], config: &Config<'_>, extras: Extras<'_, '_>, out: &mut [u8]) -> u32 {
     let (options, settings) = (Options::by(config.workers(), extras), Settings::of(config));
     let (to, length) = (out.as_mut_ptr(), out.len());
-    call!(
-        proved_argon2_hash_encoded_with,
-        options,
-        [pwd, salt, config.secret, config.ad],
-        &settings,
-        to,
-        length
-    )
+    call!(proved_argon2_hash_encoded_with, options, [pwd, salt, config.secret, config.ad], &settings, to, length)
 }
 
 /// Compares a hash with the tag of its length.
 pub fn verify_raw(pwd: &[u8], salt: &[u8], hash: &[u8], config: &Config<'_>, extras: Extras<'_, '_>) -> u32 {
     let (options, settings) = (Options::by(config.workers(), extras), Settings::of(config));
     let (with, length) = (hash.as_ptr(), hash.len());
-    call!(
-        proved_argon2_verify_raw_with,
-        options,
-        [pwd, salt, config.secret, config.ad],
-        &settings,
-        with,
-        length
-    )
+    call!(proved_argon2_verify_raw_with, options, [pwd, salt, config.secret, config.ad], &settings, with, length)
 }
 
 /// Verifies a password against an encoded hash, if that is within the limits.
@@ -283,12 +262,8 @@ pub fn verify_encoded(
     limits: Option<&LimitsOfCrate>,
     extras: Extras<'_, '_>,
 ) -> u32 {
-    let limits = limits.map(|&LimitsOfCrate { lanes, mem_cost, time_cost, work }| Limits {
-        mem_cost,
-        time_cost,
-        lanes,
-        work,
-    });
+    let limits =
+        limits.map(|&LimitsOfCrate { lanes, mem_cost, time_cost, work }| Limits { mem_cost, time_cost, lanes, work });
     let limits = limits.as_ref().map_or(null(), |limits| limits as *const Limits);
     let options = Options { limits, ..Options::by(ALL_THREADS, extras) };
     call!(proved_argon2_verify_encoded_with, options, [text, pwd, secret, ad])

@@ -97,14 +97,7 @@ impl<'a> Run<'a> {
     }
 
     /// The bytes that a call writes, so many. The settings are checked before memory is allocated for them.
-    fn hash(
-        &mut self,
-        pwd: &[u8],
-        salt: &[u8],
-        config: &Config<'_>,
-        length: u64,
-        call: Writing,
-    ) -> Result<Vec<u8>> {
+    fn hash(&mut self, pwd: &[u8], salt: &[u8], config: &Config<'_>, length: u64, call: Writing) -> Result<Vec<u8>> {
         require_done(face::check(pwd, salt, config))?;
         let (length, mut out) = (usize::try_from(length).map_err(|_| Error::OutOfMemory)?, Vec::new());
         out.try_reserve_exact(length).map_err(|_| Error::OutOfMemory)?;
@@ -114,30 +107,20 @@ impl<'a> Run<'a> {
     }
 
     /// Verifies with limits or without.
-    fn verify(
-        &mut self,
-        encoded: &str,
-        pwd: &[u8],
-        secret: &[u8],
-        ad: &[u8],
-        limits: Option<&Limits>,
-    ) -> u32 {
+    fn verify(&mut self, encoded: &str, pwd: &[u8], secret: &[u8], ad: &[u8], limits: Option<&Limits>) -> u32 {
         let settings = || face::read(encoded).1.settings;
         self.call(settings, |extras| face::verify_encoded(encoded, pwd, secret, ad, limits, extras))
     }
 
     /// What a call returns that is passed the buffer and the callback. The settings are computed
     /// only if the buffer is too small.
-    fn call(
-        &mut self,
-        settings: impl FnOnce() -> Settings,
-        mut call: impl FnMut(Extras<'_, 'a>) -> u32,
-    ) -> u32 {
+    fn call(&mut self, settings: impl FnOnce() -> Settings, mut call: impl FnMut(Extras<'_, 'a>) -> u32) -> u32 {
         let Run { memory, progress } = self;
         let number = match memory {
             None => call(Extras { buffer: None, progress: progress.as_mut() }),
-            Some(memory) => memory
-                .call(settings, |buffer| call(Extras { buffer: Some(buffer), progress: progress.as_mut() })),
+            Some(memory) => {
+                memory.call(settings, |buffer| call(Extras { buffer: Some(buffer), progress: progress.as_mut() }))
+            }
         };
         if let Some(progress) = progress {
             progress.resume_panic();

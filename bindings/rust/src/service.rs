@@ -114,11 +114,9 @@ impl<'a> Peppers<'a> {
         pwd: &[u8],
     ) -> result::Result<(bool, Option<(&'a str, String)>), Unverified> {
         let &(newest, secret) = self.keys.first().ok_or(Error::SecretTooShort)?;
-        let found =
-            key_id.map(|key_id| self.keys.iter().find(|key| key.0 == key_id).ok_or(Error::SecretTooShort));
+        let found = key_id.map(|key_id| self.keys.iter().find(|key| key.0 == key_id).ok_or(Error::SecretTooShort));
         let old = Config { secret: found.transpose()?.map_or(&[], |key| key.1), ..self.config };
-        let (is_match, update) =
-            renew(&mut Run::new(), encoded, pwd, &old, &Config { secret, ..self.config })?;
+        let (is_match, update) = renew(&mut Run::new(), encoded, pwd, &old, &Config { secret, ..self.config })?;
         Ok((is_match, update.map(|update| (newest, update))))
     }
 }
@@ -150,10 +148,7 @@ mod tests {
         let stored = hash_password_with(b"password", &small()).unwrap();
         let rejected = Config { time_cost: 0, ..small() };
         assert_eq!(verify_and_update(&stored, b"password", &rejected), Ok((true, None)));
-        assert_eq!(
-            verify_and_update("x", b"password", &small()),
-            Err(Unverified::Refused(Error::DecodingFail))
-        );
+        assert_eq!(verify_and_update("x", b"password", &small()), Err(Unverified::Refused(Error::DecodingFail)));
         let costly = stored.replace("m=64", "m=4294967295");
         assert_eq!(verify_and_update(&costly, b"password", &small()), Err(Unverified::TooCostly));
     }
@@ -184,8 +179,7 @@ mod tests {
     #[test]
     fn a_pepper_rotates() {
         let keys: [(&str, &[u8]); 2] = [("2026", b"new"), ("2025", b"old")];
-        let (both, newest) =
-            (Peppers { keys: &keys, config: small() }, Peppers { keys: &keys[..1], config: small() });
+        let (both, newest) = (Peppers { keys: &keys, config: small() }, Peppers { keys: &keys[..1], config: small() });
         for (key_id, secret) in [(None, &b""[..]), (Some("2025"), b"old")] {
             let stored = hash_password_with(b"password", &Config { secret, ..small() }).unwrap();
             assert_eq!(both.verify_and_update(key_id, &stored, b"Password"), Ok((false, None)));
@@ -196,10 +190,7 @@ mod tests {
             assert_eq!(both.verify_and_update(Some(new_id), &new, b"password"), Ok((true, None)));
         }
         let (key_id, stored) = newest.hash(b"password").unwrap();
-        assert_eq!(
-            (key_id, newest.verify_and_update(Some("2026"), &stored, b"password")),
-            ("2026", Ok((true, None)))
-        );
+        assert_eq!((key_id, newest.verify_and_update(Some("2026"), &stored, b"password")), ("2026", Ok((true, None))));
         let unknown = Err(Unverified::Refused(Error::SecretTooShort));
         assert_eq!(newest.verify_and_update(Some("2025"), &stored, b"password"), unknown);
         assert_eq!(Peppers { keys: &[], config: small() }.hash(b"password"), Err(Error::SecretTooShort));

@@ -3,8 +3,7 @@
 use crate::run::require_done;
 use crate::{face, Config, Error, Limits, Variant, Version};
 use password_hash::{
-    Decimal, Encoding, Error as HashError, Ident, Output, ParamsString, PasswordHash, PasswordHasher, Result,
-    Salt,
+    Decimal, Encoding, Error as HashError, Ident, Output, ParamsString, PasswordHash, PasswordHasher, Result, Salt,
 };
 
 /// The most bytes of a salt in a string of the crate `password-hash`.

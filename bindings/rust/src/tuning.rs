@@ -61,12 +61,7 @@ fn search<'a>(within: Duration, most: &Config<'a>, measure: &Measure<'a>) -> Res
 }
 
 /// Settings with as many passes as there is time for.
-fn with_passes<'a>(
-    within: Duration,
-    least: Config<'a>,
-    took: Duration,
-    measure: &Measure<'a>,
-) -> Result<Tuning<'a>> {
+fn with_passes<'a>(within: Duration, least: Config<'a>, took: Duration, measure: &Measure<'a>) -> Result<Tuning<'a>> {
     let limits = Limits::default();
     let by_work = u32::try_from(limits.work / u64::from(least.mem_cost)).unwrap_or(u32::MAX);
     let by_time = f64::from(least.time_cost) * within.as_secs_f64() / took.as_secs_f64();

@@ -54,13 +54,7 @@ pub fn verify_encoded_ext(encoded: &str, pwd: &[u8], secret: &[u8], ad: &[u8]) -
 /// # Errors
 ///
 /// As [`verify_encoded_ext`].
-pub fn verify_encoded_in(
-    memory: &mut Memory,
-    encoded: &str,
-    pwd: &[u8],
-    secret: &[u8],
-    ad: &[u8],
-) -> Result<bool> {
+pub fn verify_encoded_in(memory: &mut Memory, encoded: &str, pwd: &[u8], secret: &[u8], ad: &[u8]) -> Result<bool> {
     Run::new().over(memory).verify_encoded(encoded, pwd, secret, ad)
 }
 
@@ -147,13 +141,7 @@ pub fn verify_raw(pwd: &[u8], salt: &[u8], hash: &[u8], config: &Config<'_>) -> 
 /// # Errors
 ///
 /// As [`verify_raw`].
-pub fn verify_raw_in(
-    memory: &mut Memory,
-    pwd: &[u8],
-    salt: &[u8],
-    hash: &[u8],
-    config: &Config<'_>,
-) -> Result<bool> {
+pub fn verify_raw_in(memory: &mut Memory, pwd: &[u8], salt: &[u8], hash: &[u8], config: &Config<'_>) -> Result<bool> {
     Run::new().over(memory).verify_raw(pwd, salt, hash, config)
 }
 

@@ -7,13 +7,7 @@ use std::thread;
 
 /// Settings of a hash that takes seconds, in slices of a millisecond.
 fn long() -> Config<'static> {
-    Config {
-        lanes: 2,
-        mem_cost: 8192,
-        thread_mode: ThreadMode::Parallel,
-        time_cost: 1000,
-        ..Config::default()
-    }
+    Config { lanes: 2, mem_cost: 8192, thread_mode: ThreadMode::Parallel, time_cost: 1000, ..Config::default() }
 }
 
 fn short() -> Config<'static> {
@@ -40,10 +34,7 @@ fn each_slice_is_reported_in_the_caller_s_thread_and_no_answer_changes() {
             seen.push((done, all, thread::current().id()));
             Continue(())
         });
-        assert_eq!(
-            run.hash_raw(b"password", b"somesalt", &config),
-            hash_raw(b"password", b"somesalt", &config)
-        );
+        assert_eq!(run.hash_raw(b"password", b"somesalt", &config), hash_raw(b"password", b"somesalt", &config));
         drop(run);
         let slices = 4 * u64::from(time_cost);
         let expected: Vec<_> = (1..=slices).map(|done| (done, slices, thread::current().id())).collect();

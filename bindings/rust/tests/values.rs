@@ -1,8 +1,8 @@
 //! What settings, names, numbers, errors and limits are, show and turn into.
 
 use proved_argon2::{
-    encoded_len, hash_encoded, hash_raw, needs_rehash, read, verify_encoded, verify_encoded_within, Config,
-    Error, Limits, Memory, ThreadMode, Unverified, Variant, Version,
+    encoded_len, hash_encoded, hash_raw, needs_rehash, read, verify_encoded, verify_encoded_within, Config, Error,
+    Limits, Memory, ThreadMode, Unverified, Variant, Version,
 };
 use std::error::Error as _;
 use Variant::{Argon2d, Argon2i, Argon2id};
@@ -10,8 +10,7 @@ use Version::{Version10, Version13};
 
 #[test]
 fn the_tags_of_rfc_9106() {
-    let config =
-        Config { time_cost: 3, mem_cost: 32, lanes: 4, secret: &[3; 8], ad: &[4; 12], ..Config::default() };
+    let config = Config { time_cost: 3, mem_cost: 32, lanes: 4, secret: &[3; 8], ad: &[4; 12], ..Config::default() };
     for (variant, tag) in [
         (Argon2d, "512b391b6f1162975371d30919734294f868e3be3984f3c1a13a4db9fabe4acb"),
         (Argon2i, "c814d9d1dc7f37aa13f0d77f2494bda1c8de6b016dd388d29952a4c4672b6ce8"),
@@ -26,11 +25,9 @@ fn the_tags_of_rfc_9106() {
 
 #[test]
 fn variants_from_and_to_numbers_and_names() {
-    for (variant, number, lower, upper) in [
-        (Argon2d, 0, "argon2d", "Argon2d"),
-        (Argon2i, 1, "argon2i", "Argon2i"),
-        (Argon2id, 2, "argon2id", "Argon2id"),
-    ] {
+    for (variant, number, lower, upper) in
+        [(Argon2d, 0, "argon2d", "Argon2d"), (Argon2i, 1, "argon2i", "Argon2i"), (Argon2id, 2, "argon2id", "Argon2id")]
+    {
         assert_eq!(Variant::from_u32(number), Ok(variant));
         assert_eq!((variant.as_u32(), variant.as_u64()), (number, u64::from(number)));
         assert_eq!([lower, upper].map(Variant::from_str), [Ok(variant), Ok(variant)]);
@@ -100,8 +97,7 @@ fn any_bytes_are_a_password() {
 fn strings_of_any_bytes_and_lengths_are_passed_whole() {
     let text = "$argon2i$v=19$m=4096,t=3,p=1$c2FsdDEyMzQ$MTIzNDU2Nzg5MDEyMzQ1Njc4OTAxMjM0NTY3ODkwMTI";
     assert_eq!(verify_encoded(text, b"password"), Ok(false));
-    let changed =
-        ["\n", " ", "\0"].map(|byte| [format!("{byte}{text}"), format!("{text}{byte}"), byte.to_string()]);
+    let changed = ["\n", " ", "\0"].map(|byte| [format!("{byte}{text}"), format!("{text}{byte}"), byte.to_string()]);
     for text in changed.concat().into_iter().chain([String::new(), "$argon2i".repeat(131_072)]) {
         assert_eq!(verify_encoded(&text, b"password"), Err(Error::DecodingFail), "{text}");
         assert_eq!(needs_rehash(&text, &Config::default()), Err(Error::DecodingFail), "{text}");

@@ -1,8 +1,8 @@
 //! The outside vectors in bindings/vectors, and hashes of libargon2 that drawn.py there draws into $RANDOM_HASHES.
 
 use proved_argon2::{
-    needs_rehash, read, verify_encoded, verify_encoded_in, Config, Error, Limits, Memory, Run, ThreadMode,
-    Variant, Version,
+    needs_rehash, read, verify_encoded, verify_encoded_in, Config, Error, Limits, Memory, Run, ThreadMode, Variant,
+    Version,
 };
 
 const RAW: &str = include_str!("../../vectors/raw.txt");
@@ -17,8 +17,7 @@ fn bytes_of(field: &str) -> Vec<u8> {
 /// The lines of raw.txt, and those that were drawn, if there are any.
 fn lines() -> Vec<String> {
     let drawn = std::env::var("RANDOM_HASHES").map(|file| std::fs::read_to_string(file).unwrap());
-    let lines: Vec<_> =
-        RAW.lines().chain(drawn.as_deref().unwrap_or("").lines()).map(str::to_owned).collect();
+    let lines: Vec<_> = RAW.lines().chain(drawn.as_deref().unwrap_or("").lines()).map(str::to_owned).collect();
     assert_eq!(lines.len(), if drawn.is_ok() { 2240 } else { 240 });
     lines
 }
@@ -80,8 +79,7 @@ fn each_text_verifies_as_in_the_vectors() {
     let mut memory = Memory::new();
     for line in TEXTS.lines() {
         let (text, answer) = line.split_once('\t').unwrap();
-        let verdicts =
-            [verify_encoded(text, b"password"), verify_encoded_in(&mut memory, text, b"password", &[], &[])];
+        let verdicts = [verify_encoded(text, b"password"), verify_encoded_in(&mut memory, text, b"password", &[], &[])];
         for verdict in verdicts {
             let said = verdict.map_or_else(|error| answer_of(&error), |is_match| is_match.to_string());
             assert_eq!(said, answer, "{text}");

@@ -43,12 +43,7 @@ fn fill(salt: &mut [u8; SALT_SIZE]) -> bool {
     const BCRYPT_USE_SYSTEM_PREFERRED_RNG: c_ulong = 2;
     // SAFETY: the pointer and the length are those of an array that this function may write to.
     let status = unsafe {
-        BCryptGenRandom(
-            std::ptr::null_mut(),
-            salt.as_mut_ptr(),
-            SALT_SIZE as c_ulong,
-            BCRYPT_USE_SYSTEM_PREFERRED_RNG,
-        )
+        BCryptGenRandom(std::ptr::null_mut(), salt.as_mut_ptr(), SALT_SIZE as c_ulong, BCRYPT_USE_SYSTEM_PREFERRED_RNG)
     };
     status == 0
 }
