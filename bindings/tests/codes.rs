@@ -70,8 +70,8 @@ fn run<'a>(how: &str, memory: &'a mut Memory) -> Run<'a> {
     match how {
         "run" => Run::new(),
         "tells" => Run::new().telling(|done, all| if (done, all) == (1, 12) { Continue(()) } else { Break(()) }),
-        "stops" => Run::new().over(memory).telling(|_, _| Break(())),
-        _ => Run::new().telling(|_, _| panic!("on")),
+        "stops" => Run::new().telling(|_, _| Break(())).over(memory),
+        _ => Run::new().over(memory).telling(|_, _| panic!("on")),
     }
 }
 

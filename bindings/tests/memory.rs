@@ -1,56 +1,33 @@
 //! The memory that the crate for Rust keeps from call to call, over the library, and what calls leave of a password.
-//! The linker gives this program the library's two calls for a memory (`--wrap`), which it counts.
+//! The linker gives this program the library's call for a memory (`--wrap`), which it counts. When one is asked for and
+//! given back, codes.rs tests.
 
 use argon2::{
     hash_encoded, hash_encoded_in, hash_raw, hash_raw_in, verify_encoded_in, verify_encoded_within_in, verify_raw,
     verify_raw_in, Config, Error, Limits, Memory, ThreadMode, Unverified,
 };
-use std::ffi::c_void;
 use std::fs::File;
 use std::io::Read;
 use std::sync::atomic::{AtomicUsize, Ordering::SeqCst};
 
-/// The requests for memory, the bytes that are held and were held at most, how often one was given back with another
-/// length, and where the last one is.
+/// The requests for memory, and where the last one is.
 static ALLOCATIONS: AtomicUsize = AtomicUsize::new(0);
-static HELD: AtomicUsize = AtomicUsize::new(0);
-static MOST_HELD: AtomicUsize = AtomicUsize::new(0);
-static WRONG: AtomicUsize = AtomicUsize::new(0);
 static PLACE: AtomicUsize = AtomicUsize::new(0);
 
 extern "C" {
-    fn __real_proved_argon2_memory_new(settings: *const c_void, memory: *mut usize, length: *mut usize) -> u32;
-    fn __real_proved_argon2_memory_free(memory: usize, length: usize);
+    fn __real_proved_argon2_memory_new(settings: usize, memory: &mut usize, size: &mut usize) -> u32;
 }
 
 #[no_mangle]
-unsafe extern "C" fn __wrap_proved_argon2_memory_new(
-    settings: *const c_void,
-    memory: *mut usize,
-    length: *mut usize,
-) -> u32 {
+unsafe extern "C" fn __wrap_proved_argon2_memory_new(settings: usize, memory: &mut usize, size: &mut usize) -> u32 {
     ALLOCATIONS.fetch_add(1, SeqCst);
-    let number = __real_proved_argon2_memory_new(settings, memory, length);
-    if number == 0 {
-        MOST_HELD.fetch_max(HELD.fetch_add(*length, SeqCst) + *length, SeqCst);
-        PLACE.store(*memory, SeqCst);
-    }
+    let number = __real_proved_argon2_memory_new(settings, memory, size);
+    PLACE.store(*memory, SeqCst);
     number
 }
 
-#[no_mangle]
-unsafe extern "C" fn __wrap_proved_argon2_memory_free(memory: usize, length: usize) {
-    // (the library itself calls this for what its calls take, or for nothing)
-    if memory != 0 && memory == PLACE.load(SeqCst) {
-        PLACE.store(0, SeqCst);
-        WRONG.fetch_add((length != HELD.swap(0, SeqCst)).into(), SeqCst);
-    }
-    __real_proved_argon2_memory_free(memory, length)
-}
-
-/// The bytes that a memory keeps.
+/// The bytes that a memory keeps, which is the last one.
 fn bytes(memory: &mut Memory) -> &mut [u8] {
-    assert_eq!(HELD.load(SeqCst), memory.size());
     unsafe { std::slice::from_raw_parts_mut(PLACE.load(SeqCst) as *mut u8, memory.size()) }
 }
 
@@ -92,47 +69,24 @@ fn all_answer(config: Config<'_>, memory: &mut Memory, mut holds: impl FnMut(&mu
     }
 }
 
-/// Calls of one size, and of smaller ones, ask for memory once and find it where it was, in any thread.
-fn is_allocated_once() {
-    let mut memory = Memory::new();
-    let before = allocations();
-    for (number, mem_cost) in [3000, 3000, 8, 2999, 1024, 3000].into_iter().enumerate() {
-        all_answer(settings(mem_cost, 1, MODES[number % 3]), &mut memory, |_, is_done| {
-            assert!(!is_done || allocations() == before + 1);
-        });
-    }
-    let place = bytes(&mut memory).as_ptr_range();
-    let moved = std::thread::spawn(move || {
-        hash_raw_in(&mut memory, PWD, SALT, &settings(3000, 1, MODES[0])).unwrap();
-        memory
-    });
-    let mut memory = moved.join().unwrap();
-    assert_eq!(bytes(&mut memory).as_ptr_range(), place);
-    assert_eq!((allocations(), memory.size()), (before + 1, 3000 << 10));
-}
-
-/// One that is too small is given back before another one is asked for.
-fn two_are_never_held() {
-    let mut memory = Memory::new();
-    for mem_cost in [512, 1024, 4096, 16384] {
-        MOST_HELD.store(0, SeqCst);
-        hash_raw_in(&mut memory, PWD, SALT, &settings(mem_cost, 1, MODES[0])).unwrap();
-        assert_eq!([MOST_HELD.load(SeqCst), memory.size()], [(mem_cost as usize) << 10; 2]);
-    }
-}
-
-/// What a call used is clear when it returns, whatever stood there, and what it did not use is as it was.
+/// What a call used is clear when it returns, whatever stood there, and what it did not use is as it was. A memory that
+/// is large enough serves any thread, and no other one is asked for.
 fn calls_clear_what_they_used() {
-    for (mem_cost, lanes, mode) in [(256, 1, MODES[0]), (4096, 4, MODES[1]), (1003, 4, MODES[2])] {
-        let used = (mem_cost / (4 * lanes) * 4 * lanes) as usize * 1024;
-        all_answer(settings(mem_cost, lanes, mode), &mut grown(5000), |memory, is_done| {
-            let (blocks, rest) = bytes(memory).split_at_mut(used);
-            if is_done {
-                assert!(blocks.iter().all(|byte| *byte == 0) && rest.iter().all(|byte| *byte == 0xa5));
-            }
-            blocks.fill(0xa5);
-            rest.fill(0xa5);
+    let mut memory = grown(5000);
+    for (mem_cost, lanes, mode) in [(256, 1, MODES[0]), (4096, 4, MODES[1]), (1003, 4, MODES[2]), (5000, 1, MODES[0])] {
+        let (used, config) = ((mem_cost / (4 * lanes) * 4 * lanes) as usize * 1024, settings(mem_cost, lanes, mode));
+        let before = allocations();
+        let in_a_thread = std::thread::spawn(move || {
+            all_answer(config, &mut memory, |memory, is_done| {
+                let (blocks, rest) = bytes(memory).split_at_mut(used);
+                assert!(!is_done || blocks.iter().all(|byte| *byte == 0) && rest.iter().all(|byte| *byte == 0xa5));
+                blocks.fill(0xa5);
+                rest.fill(0xa5);
+            });
+            memory
         });
+        memory = in_a_thread.join().unwrap();
+        assert_eq!((allocations(), memory.size()), (before, 5000 << 10));
     }
 }
 
@@ -151,19 +105,6 @@ fn errors_leave_it() {
     assert_eq!(costly, Err(Unverified::TooCostly));
     assert_eq!((allocations(), memory.size()), (before, 100 << 10));
     assert!(bytes(&mut memory).iter().all(|byte| *byte == 0xa5));
-}
-
-/// What is kept is given back once, as it was made: where another one is asked for, and at the end.
-fn is_freed_once() {
-    let before = allocations();
-    for mem_cost in [64, 4096] {
-        let mut memory = grown(mem_cost);
-        hash_raw_in(&mut memory, PWD, SALT, &settings(2 * mem_cost, 1, MODES[0])).unwrap();
-        drop(memory);
-        assert_eq!(HELD.load(SeqCst), 0);
-    }
-    drop(Memory::new());
-    assert_eq!((allocations(), WRONG.load(SeqCst)), (before + 4, 0));
 }
 
 /// How often some bytes stand in what this process may write to.
@@ -195,10 +136,7 @@ fn no_copy_of_a_password_is_left() {
 }
 
 fn main() {
-    is_allocated_once();
-    two_are_never_held();
     calls_clear_what_they_used();
     errors_leave_it();
-    is_freed_once();
     no_copy_of_a_password_is_left();
 }

@@ -19,7 +19,6 @@ ITEM = re.compile(r'<a href="(enum|fn|struct|trait|type|constant|macro)\.[^"]*">
 PART = re.compile(r'id="(method|variant|structfield|associatedconstant)\.(\w+)" class="([^"]*)"')
 pytestmark = [needs("cargo"), pytest.mark.timeout(2400)]
 RUN = "cargo", "run", "--offline", "--quiet"
-WRAPPED = " ".join(f"-Clink-arg=-Wl,--wrap=proved_argon2_memory_{name}" for name in ("new", "free"))
 SERDE = """use serde::de::{value::StrDeserializer, Deserialize, IntoDeserializer};
 fn main() {
     fn is_writable<T: serde::Serialize>() {}
@@ -141,7 +140,7 @@ def outcome(codes, number):
 def expected(codes, how, place, number):
     """What is said of a call over a new memory, or over none."""
     computes = place == "then" and bool(codes.computing)
-    is_over = computes and how in ("over", "stops")
+    is_over = computes and how in ("over", "stops", "panics")
     size = 65536 if is_over and number == HEADER["OUT_OF_MEMORY"] else 0
     length = MOST if codes.name == "verify_raw" else 5
     threads = MOST if codes.name.startswith("verify_encoded") else 3
@@ -182,10 +181,10 @@ def test_other_calls_pass_what_they_are_given_in_its_place(ask):
     assert limits.startswith("Limits { lanes: 9, mem_cost: 7, time_cost: 8, work: 10 }|")
 
 
-# The crates of a program, which are Debian's, and flags of the compiler. Of the first the linker wraps the calls for a
+# The crates of a program, which are Debian's, and flags of the compiler. Of the first the linker wraps the call for a
 # memory; the next is a service over RustCrypto's argon2, of which the manifest alone names another package.
 PROGRAMS = {
-    "memory": (with_crate(), WRAPPED),
+    "memory": (with_crate(), "-Clink-arg=-Wl,--wrap=proved_argon2_memory_new"),
     "traits": (with_crate("password-hash"), ""),
     "serde": (with_crate("serde") + 'serde = "1"', ""),
     "page": (with_crate(), ""),
