@@ -1,5 +1,5 @@
 use crate::face;
-use crate::{Config, Error, Memory, Result, Run, Variant};
+use crate::{Config, Error, Result, Run, Variant};
 
 /// The length in bytes of an encoded hash.
 ///
@@ -46,15 +46,6 @@ pub fn hash_encoded(pwd: &[u8], salt: &[u8], config: &Config<'_>) -> Result<Stri
     Run::new().hash_encoded(pwd, salt, config)
 }
 
-/// Hashes a password as [`hash_encoded`] does, in a reusable buffer.
-///
-/// # Errors
-///
-/// As [`hash_encoded`].
-pub fn hash_encoded_in(memory: &mut Memory, pwd: &[u8], salt: &[u8], config: &Config<'_>) -> Result<String> {
-    Run::new().over(memory).hash_encoded(pwd, salt, config)
-}
-
 /// Hashes a password to a raw hash (tag) of `config.hash_length` bytes.
 ///
 /// # Errors
@@ -78,15 +69,6 @@ pub fn hash_encoded_in(memory: &mut Memory, pwd: &[u8], salt: &[u8], config: &Co
 /// ```
 pub fn hash_raw(pwd: &[u8], salt: &[u8], config: &Config<'_>) -> Result<Vec<u8>> {
     Run::new().hash_raw(pwd, salt, config)
-}
-
-/// Hashes a password as [`hash_raw`] does, in a reusable buffer.
-///
-/// # Errors
-///
-/// As [`hash_raw`].
-pub fn hash_raw_in(memory: &mut Memory, pwd: &[u8], salt: &[u8], config: &Config<'_>) -> Result<Vec<u8>> {
-    Run::new().over(memory).hash_raw(pwd, salt, config)
 }
 
 /// Hashes a password to an encoded hash (PHC string) with the default settings and a new salt of 16

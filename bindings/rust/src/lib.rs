@@ -70,19 +70,16 @@ mod verifying;
 
 pub use config::{Config, ThreadMode};
 pub use error::{Error, Result};
-pub use hashing::{
-    encoded_len, hash_encoded, hash_encoded_in, hash_password, hash_password_with, hash_raw, hash_raw_in,
-};
+pub use hashing::{encoded_len, hash_encoded, hash_password, hash_password_with, hash_raw};
 pub use limits::{Limits, Unverified};
 pub use line::{Busy, Enter, Line, Place};
-pub use memory::Memory;
+pub use memory::{hash_encoded_in, hash_raw_in, verify_encoded_in, verify_encoded_within_in, verify_raw_in, Memory};
 pub use run::Run;
 pub use service::{verify_and_update, Peppers};
 pub use tuning::{tune, Tuning};
 pub use variant::{Variant, Version};
 pub use verifying::{
-    needs_rehash, read, verify_encoded, verify_encoded_ext, verify_encoded_in, verify_encoded_within,
-    verify_encoded_within_in, verify_password, verify_raw, verify_raw_in, Stored,
+    needs_rehash, read, verify_encoded, verify_encoded_ext, verify_encoded_within, verify_password, verify_raw, Stored,
 };
 #[cfg(feature = "password-hash")]
 pub use {

@@ -1,5 +1,7 @@
+#![allow(clippy::missing_errors_doc)] // each call has the errors of the one that it names
 use crate::face::{self, Buffer, Settings, OUT_OF_MEMORY};
-use std::fmt;
+use crate::{Config, Limits, Result, Run, Unverified};
+use std::{fmt, result};
 
 /// A reusable buffer: the memory of hashes, for the calls whose names end in `_in`, and for
 /// [`Run::over`](crate::Run::over).
@@ -67,4 +69,40 @@ impl fmt::Debug for Memory {
     fn fmt(&self, f: &mut fmt::Formatter<'_>) -> fmt::Result {
         f.debug_struct("Memory").field("size", &self.size()).finish()
     }
+}
+
+/// [`hash_encoded`](crate::hash_encoded) in a reusable buffer.
+pub fn hash_encoded_in(memory: &mut Memory, pwd: &[u8], salt: &[u8], config: &Config<'_>) -> Result<String> {
+    Run::new().over(memory).hash_encoded(pwd, salt, config)
+}
+
+/// [`hash_raw`](crate::hash_raw) in a reusable buffer.
+pub fn hash_raw_in(memory: &mut Memory, pwd: &[u8], salt: &[u8], config: &Config<'_>) -> Result<Vec<u8>> {
+    Run::new().over(memory).hash_raw(pwd, salt, config)
+}
+
+/// [`verify_encoded_ext`](crate::verify_encoded_ext) in a reusable buffer.
+///
+/// The encoded hash names how much memory that is: use [`verify_encoded_within_in`] for one that others may have
+/// written.
+pub fn verify_encoded_in(memory: &mut Memory, encoded: &str, pwd: &[u8], secret: &[u8], ad: &[u8]) -> Result<bool> {
+    Run::new().over(memory).verify_encoded(encoded, pwd, secret, ad)
+}
+
+/// [`verify_encoded_within`](crate::verify_encoded_within) in a reusable buffer, which a hash above the limits leaves
+/// unchanged.
+pub fn verify_encoded_within_in(
+    memory: &mut Memory,
+    encoded: &str,
+    pwd: &[u8],
+    secret: &[u8],
+    ad: &[u8],
+    limits: &Limits,
+) -> result::Result<bool, Unverified> {
+    Run::new().over(memory).verify_encoded_within(encoded, pwd, secret, ad, limits)
+}
+
+/// [`verify_raw`](crate::verify_raw) in a reusable buffer.
+pub fn verify_raw_in(memory: &mut Memory, pwd: &[u8], salt: &[u8], hash: &[u8], config: &Config<'_>) -> Result<bool> {
+    Run::new().over(memory).verify_raw(pwd, salt, hash, config)
 }

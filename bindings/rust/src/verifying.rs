@@ -1,6 +1,6 @@
 use crate::face::{self, NEEDS_REHASH, OK};
 use crate::run::require_done;
-use crate::{Config, Error, Limits, Memory, Result, Run, Unverified, Variant, Version};
+use crate::{Config, Error, Limits, Result, Run, Unverified, Variant, Version};
 use std::result;
 
 /// Verifies a password against an encoded hash, without a secret or associated data, and without
@@ -46,18 +46,6 @@ pub fn verify_encoded_ext(encoded: &str, pwd: &[u8], secret: &[u8], ad: &[u8]) -
     Run::new().verify_encoded(encoded, pwd, secret, ad)
 }
 
-/// Verifies as [`verify_encoded_ext`] does, in a reusable buffer.
-///
-/// The encoded hash names how much memory that is: use [`verify_encoded_within_in`] for one that others may have
-/// written.
-///
-/// # Errors
-///
-/// As [`verify_encoded_ext`].
-pub fn verify_encoded_in(memory: &mut Memory, encoded: &str, pwd: &[u8], secret: &[u8], ad: &[u8]) -> Result<bool> {
-    Run::new().over(memory).verify_encoded(encoded, pwd, secret, ad)
-}
-
 /// Verifies a password against an encoded hash, with this secret and this associated data, if the
 /// hash is within the limits.
 ///
@@ -91,22 +79,6 @@ pub fn verify_encoded_within(
     Run::new().verify_encoded_within(encoded, pwd, secret, ad, limits)
 }
 
-/// Verifies as [`verify_encoded_within`] does, in a reusable buffer.
-///
-/// # Errors
-///
-/// As [`verify_encoded_within`]. A hash above the limits leaves the buffer unchanged.
-pub fn verify_encoded_within_in(
-    memory: &mut Memory,
-    encoded: &str,
-    pwd: &[u8],
-    secret: &[u8],
-    ad: &[u8],
-    limits: &Limits,
-) -> result::Result<bool, Unverified> {
-    Run::new().over(memory).verify_encoded_within(encoded, pwd, secret, ad, limits)
-}
-
 /// Verifies a password against an encoded hash that is within the default limits, without a secret
 /// and associated data.
 ///
@@ -134,15 +106,6 @@ pub fn verify_password(encoded: &str, pwd: &[u8]) -> result::Result<bool, Unveri
 /// ```
 pub fn verify_raw(pwd: &[u8], salt: &[u8], hash: &[u8], config: &Config<'_>) -> Result<bool> {
     Run::new().verify_raw(pwd, salt, hash, config)
-}
-
-/// Verifies as [`verify_raw`] does, in a reusable buffer.
-///
-/// # Errors
-///
-/// As [`verify_raw`].
-pub fn verify_raw_in(memory: &mut Memory, pwd: &[u8], salt: &[u8], hash: &[u8], config: &Config<'_>) -> Result<bool> {
-    Run::new().over(memory).verify_raw(pwd, salt, hash, config)
 }
 
 /// Whether an encoded hash was made with another variant, version, memory, passes, lanes or length
