@@ -143,28 +143,25 @@ impl<'a> Future for Enter<'a> {
     fn poll(mut self: Pin<&mut Self>, context: &mut Context<'_>) -> Poll<Self::Output> {
         let line = self.line;
         let mut state = line.lock();
-        if let Some(ticket) = self.ticket {
-            if let Some(entry) = state.line.iter_mut().find(|entry| entry.0 == ticket) {
-                entry.1 = context.waker().clone();
+        match self.ticket {
+            Some(ticket) => match state.line.iter_mut().find(|entry| entry.0 == ticket) {
+                Some(entry) => {
+                    entry.1 = context.waker().clone();
+                    return Poll::Pending;
+                }
+                None => self.ticket = None, // who left a place gave it to this one
+            },
+            None if state.free > 0 => state.free -= 1,
+            None if state.line.len() >= line.waiting => return Poll::Ready(Err(Busy)),
+            None => {
+                let ticket = state.next_ticket;
+                self.ticket = Some(ticket);
+                state.next_ticket += 1;
+                state.line.push_back((ticket, context.waker().clone()));
                 return Poll::Pending;
             }
-            drop(state);
-            self.ticket = None;
-            return Poll::Ready(Ok(Place(line)));
         }
-        if state.free > 0 {
-            state.free -= 1;
-            return Poll::Ready(Ok(Place(line)));
-        }
-        if state.line.len() >= line.waiting {
-            return Poll::Ready(Err(Busy));
-        }
-        let ticket = state.next_ticket;
-        state.next_ticket += 1;
-        state.line.push_back((ticket, context.waker().clone()));
-        drop(state);
-        self.ticket = Some(ticket);
-        Poll::Pending
+        Poll::Ready(Ok(Place(line)))
     }
 }
 
