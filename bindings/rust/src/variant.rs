@@ -1,6 +1,9 @@
 use crate::{Error, Result};
 use std::fmt;
 
+const VARIANTS: [Variant; 3] = [Variant::Argon2d, Variant::Argon2i, Variant::Argon2id];
+const VERSIONS: [Version; 2] = [Version::Version10, Version::Version13];
+
 /// The variants of Argon2 (RFC 9106, 1): where the references of a block are drawn from.
 #[derive(Clone, Copy, Debug, Default, Eq, PartialEq, PartialOrd, Ord)]
 pub enum Variant {
@@ -55,12 +58,8 @@ impl Variant {
     /// [`Error::DecodingFail`] for any other string.
     #[allow(clippy::should_implement_trait)]
     pub fn from_str(name: &str) -> Result<Variant> {
-        match name {
-            "argon2d" | "Argon2d" => Ok(Variant::Argon2d),
-            "argon2i" | "Argon2i" => Ok(Variant::Argon2i),
-            "argon2id" | "Argon2id" => Ok(Variant::Argon2id),
-            _ => Err(Error::DecodingFail),
-        }
+        let has_name = |variant: &Variant| [variant.as_lowercase_str(), variant.as_uppercase_str()].contains(&name);
+        VARIANTS.into_iter().find(has_name).ok_or(Error::DecodingFail)
     }
 
     /// The variant of a number.
@@ -69,12 +68,7 @@ impl Variant {
     ///
     /// [`Error::IncorrectType`] above 2.
     pub fn from_u32(number: u32) -> Result<Variant> {
-        match number {
-            0 => Ok(Variant::Argon2d),
-            1 => Ok(Variant::Argon2i),
-            2 => Ok(Variant::Argon2id),
-            _ => Err(Error::IncorrectType),
-        }
+        VARIANTS.into_iter().find(|variant| variant.as_u32() == number).ok_or(Error::IncorrectType)
     }
 }
 
@@ -120,11 +114,7 @@ impl Version {
     /// [`Error::DecodingFail`] for any other string.
     #[allow(clippy::should_implement_trait)]
     pub fn from_str(number: &str) -> Result<Version> {
-        match number {
-            "16" => Ok(Version::Version10),
-            "19" => Ok(Version::Version13),
-            _ => Err(Error::DecodingFail),
-        }
+        VERSIONS.into_iter().find(|version| version.to_string() == number).ok_or(Error::DecodingFail)
     }
 
     /// The version of a number.
@@ -133,11 +123,7 @@ impl Version {
     ///
     /// [`Error::IncorrectVersion`] if it is neither 16 nor 19.
     pub fn from_u32(number: u32) -> Result<Version> {
-        match number {
-            0x10 => Ok(Version::Version10),
-            0x13 => Ok(Version::Version13),
-            _ => Err(Error::IncorrectVersion),
-        }
+        VERSIONS.into_iter().find(|version| version.as_u32() == number).ok_or(Error::IncorrectVersion)
     }
 }
 
