@@ -178,7 +178,7 @@ def test_a_memory_is_kept_and_given_back(ask, name):
 def test_other_calls_pass_what_they_are_given_in_its_place(ask):
     length, limits = ask([("encoded_len", "", {}), ("limits", "", {})])
     assert length.startswith("12|") and length.endswith("|length 0 19 64 3 4 5 9|")
-    assert limits.startswith("Limits { lanes: 9, mem_cost: 7, time_cost: 8, work: 10 }|")
+    assert limits.startswith("Limits { mem_cost: 7, time_cost: 8, lanes: 9, work: 10 }|")
 
 
 # The crates of a program, which are Debian's, and flags of the compiler. Of the first the linker wraps the call for a

@@ -184,28 +184,3 @@ impl Default for Config<'_> {
         Config::owasp2()
     }
 }
-
-#[cfg(test)]
-mod tests {
-    use super::Config;
-    use crate::face::{recommended, Settings};
-
-    #[test]
-    fn the_presets_are_those_that_the_library_recommends() {
-        let presets = [
-            // recommended presets, by .ci/pages/presets
-            Config::owasp1(),
-            Config::owasp2(),
-            Config::owasp3(),
-            Config::owasp4(),
-            Config::owasp5(),
-            Config::rfc9106(),
-            Config::rfc9106_low_mem(),
-            // end
-        ];
-        assert_eq!(presets.iter().map(Settings::of).collect::<Vec<_>>(), recommended());
-        let all = presets.into_iter().chain([Config::original(), Config::default()]);
-        assert!(all.into_iter().all(|preset| preset.uses_sequential() && preset.secret.len() + preset.ad.len() == 0));
-        assert_eq!(Config::default(), Config::owasp2());
-    }
-}

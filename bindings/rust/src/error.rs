@@ -111,19 +111,14 @@ impl std::error::Error for Error {}
 #[cfg(test)]
 mod tests {
     use super::Error;
-    use crate::face::message;
+    use crate::face::{message, TOO_COSTLY};
+    use crate::Unverified;
 
     #[test]
     fn each_text_is_the_library_s() {
         for number in (1..=21).chain([129, 131]) {
             assert_eq!(message(number), Error::of_number(number).to_string());
         }
-        assert_eq!(message(22), "There is no error of this number");
-    }
-
-    #[test]
-    #[should_panic(expected = "the library returned 0")]
-    fn no_error_has_the_number_of_success() {
-        Error::of_number(0);
+        assert_eq!(message(TOO_COSTLY), Unverified::TooCostly.to_string());
     }
 }

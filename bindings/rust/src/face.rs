@@ -8,7 +8,7 @@ mod salt;
 
 pub use salt::new_salt;
 
-use crate::{Config, Limits as LimitsOfCrate};
+use crate::{Config, Limits};
 use calls::*;
 use std::any::Any;
 use std::ffi::c_void;
@@ -38,7 +38,7 @@ const ALL_THREADS: u32 = u32::MAX;
 
 /// `proved_argon2_settings` of the header.
 #[repr(C)]
-#[derive(Debug, Default, PartialEq)]
+#[derive(Default)]
 pub struct Settings {
     // settings, by .ci/pages/presets
     pub variant: u32,
@@ -56,17 +56,6 @@ pub struct Settings {
 pub struct Stored {
     pub settings: Settings,
     pub salt_length: u32,
-}
-
-/// `proved_argon2_limits` of the header.
-#[repr(C)]
-pub struct Limits {
-    // limits, by .ci/pages/presets
-    pub mem_cost: u32,
-    pub time_cost: u32,
-    pub lanes: u32,
-    pub work: u64,
-    // end
 }
 
 /// `proved_argon2_options` of the header. The threads are the call's own.
@@ -259,12 +248,10 @@ pub fn verify_encoded(
     pwd: &[u8],
     secret: &[u8],
     ad: &[u8],
-    limits: Option<&LimitsOfCrate>,
+    limits: Option<&Limits>,
     extras: Extras<'_, '_>,
 ) -> u32 {
-    let limits =
-        limits.map(|&LimitsOfCrate { lanes, mem_cost, time_cost, work }| Limits { mem_cost, time_cost, lanes, work });
-    let limits = limits.as_ref().map_or(null(), |limits| limits as *const Limits);
+    let limits = limits.map_or(null(), |limits| limits as *const Limits);
     let options = Options { limits, ..Options::by(ALL_THREADS, extras) };
     call!(proved_argon2_verify_encoded_with, options, [text, pwd, secret, ad])
 }
@@ -307,25 +294,6 @@ pub fn message(number: u32) -> String {
     // SAFETY: the call gives a constant of the library, which a zero ends.
     let text = unsafe { std::ffi::CStr::from_ptr(proved_argon2_message(number).cast()) };
     text.to_string_lossy().into_owned()
-}
-
-/// The settings that the library recommends.
-#[cfg(test)]
-pub fn recommended() -> Vec<Settings> {
-    // SAFETY: the calls take nothing.
-    unsafe {
-        vec![
-            // calls of presets, by .ci/pages/presets
-            proved_argon2_owasp1(),
-            proved_argon2_owasp2(),
-            proved_argon2_owasp3(),
-            proved_argon2_owasp4(),
-            proved_argon2_owasp5(),
-            proved_argon2_rfc9106(),
-            proved_argon2_rfc9106_low_mem(),
-            // end
-        ]
-    }
 }
 
 #[cfg(test)]

@@ -4,15 +4,16 @@ use std::{error, fmt};
 /// The highest memory, passes and lanes that an encoded hash may name, and the highest product of
 /// memory and passes, for [`verify_encoded_within`](crate::verify_encoded_within).
 #[derive(Clone, Copy, Debug, Eq, PartialEq)]
+#[repr(C)] // `proved_argon2_limits` of the header
 pub struct Limits {
-    /// The lanes.
-    pub lanes: u32,
-
     /// The memory in KiB.
     pub mem_cost: u32,
 
     /// The passes over the memory.
     pub time_cost: u32,
+
+    /// The lanes.
+    pub lanes: u32,
 
     /// The memory in KiB times the passes, by which the time grows.
     pub work: u64,
@@ -57,8 +58,7 @@ impl Default for Limits {
     /// The library's: 2 GiB, 10 passes, 16 lanes, and the work of 4 GiB in one pass. The recommendations of RFC 9106,
     /// OWASP, libsodium and Django are within.
     fn default() -> Limits {
-        let face::Limits { mem_cost, time_cost, lanes, work } = face::default_limits();
-        Limits { lanes, mem_cost, time_cost, work }
+        face::default_limits()
     }
 }
 
@@ -94,18 +94,5 @@ impl error::Error for Unverified {
 impl From<Error> for Unverified {
     fn from(error: Error) -> Unverified {
         Unverified::Refused(error)
-    }
-}
-
-#[cfg(test)]
-mod tests {
-    use super::{Limits, Unverified};
-    use crate::face::{message, TOO_COSTLY};
-
-    #[test]
-    fn the_default_allows_both_recommendations_and_the_text_is_the_library_s() {
-        let limits = Limits { lanes: 16, mem_cost: 2_097_152, time_cost: 10, work: 4_194_304 };
-        assert_eq!(Limits::default(), limits);
-        assert_eq!(Unverified::TooCostly.to_string(), message(TOO_COSTLY));
     }
 }

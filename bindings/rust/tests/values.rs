@@ -131,6 +131,7 @@ fn one_question_mark_serves_both_errors() {
 fn limits_are_raised_to_settings() {
     let small = Config { mem_cost: 1360, time_cost: 1, ..Config::default() };
     let default = Limits::default();
+    assert_eq!(default, Limits { lanes: 16, mem_cost: 2_097_152, time_cost: 10, work: 4_194_304 });
     let (most, square) = (u32::MAX, u64::from(u32::MAX) * u64::from(u32::MAX));
     for (config, limits) in [
         (small, default),

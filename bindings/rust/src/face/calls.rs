@@ -33,14 +33,7 @@ extern "C" {
     pub fn proved_argon2_message(number: u32) -> *const u8;
     pub fn proved_argon2_needs_rehash(
         text: *const u8, text_len: usize, settings: *const Settings) -> u32;
-    pub fn proved_argon2_owasp1() -> Settings;
-    pub fn proved_argon2_owasp2() -> Settings;
-    pub fn proved_argon2_owasp3() -> Settings;
-    pub fn proved_argon2_owasp4() -> Settings;
-    pub fn proved_argon2_owasp5() -> Settings;
     pub fn proved_argon2_read(text: *const u8, text_len: usize, stored: *mut Stored) -> u32;
-    pub fn proved_argon2_rfc9106() -> Settings;
-    pub fn proved_argon2_rfc9106_low_mem() -> Settings;
     pub fn proved_argon2_verify_encoded_with(
         options: *const Options,
         text: *const u8, text_len: usize,
