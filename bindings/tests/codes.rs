@@ -83,8 +83,10 @@ fn main() {
         let words: Vec<_> = line.split(' ').collect();
         let number = |place: usize| words[place].parse().unwrap();
         unsafe { set_answers(number(2), number(3), number(4), number(5), number(6)) };
-        let outcome = catch_unwind(AssertUnwindSafe(|| call(words[0], words[1], &mut memory)));
-        let shown = outcome.map_or("panic".to_owned(), |value| format!("{value:?}"));
+        let shown = match catch_unwind(AssertUnwindSafe(|| call(words[0], words[1], &mut memory))) {
+            Ok(value) => format!("{value:?}"),
+            Err(why) => why.downcast::<&str>().map_or_else(|why| *why.downcast().unwrap(), |why| why.to_string()),
+        };
         println!("{shown}|{}|{}", memory.size(), unsafe { CStr::from_ptr(seen()) }.to_str().unwrap());
     }
 }

@@ -133,7 +133,7 @@ def outcome(codes, number):
     """What a call gives for a number."""
     value, error = codes.values.get(number), ERRORS.get(number)
     if value or not error:
-        return SHOWN[value] if value else "panic"
+        return SHOWN[value] if value else f"the library returned {number}, which is no error"
     return f"Err(Refused({error}))" if "within" in codes.name else f"Err({error})"
 
 
@@ -145,7 +145,7 @@ def expected(codes, how, place, number):
     length = MOST if codes.name == "verify_raw" else 5
     threads = MOST if codes.name.startswith("verify_encoded") else 3
     return "|".join(map(str, (
-        "panic" if computes and how == "panics" else outcome(codes, number), size, threads if computes else 0,
+        "on" if computes and how == "panics" else outcome(codes, number), size, threads if computes else 0,
         size if is_over else -1, HOW[how] if computes else -1, *3 * [int(size > 0)], codes.judging,
         f"memory 2 19 64 3 4 {length}" if size else codes.telling, codes.computing if computes else "")))
 
