@@ -26,11 +26,16 @@ fn main() {
 fn library_folder() -> Result<PathBuf, String> {
     if let Some(folder) = env::var_os(VARIABLE).map(PathBuf::from) {
         let reason = format!("{VARIABLE} is {}, which has no {ARCHIVE}", folder.display());
-        return has_archive(&folder).then_some(folder).ok_or(reason);
+        return with_archive(folder).ok_or(reason);
     }
     let libraries = here().join("lib");
     if libraries.is_dir() {
-        return packaged_folder(&libraries);
+        let folder = libraries.join(name_of_target()?);
+        let reason = match folder.is_dir() {
+            true => format!("{} has no {ARCHIVE}: the crate is not whole", folder.display()),
+            false => format!("the crate has no archive for {}", named("TARGET")),
+        };
+        return with_archive(folder).ok_or(reason);
     }
     let found = name_of_target().and_then(|name| found_folder(&name));
     match sources_in_c() {
@@ -82,16 +87,6 @@ fn name_of_target() -> Result<String, String> {
     }
 }
 
-/// The folder of this crate for the target, where the crate has archives.
-fn packaged_folder(libraries: &Path) -> Result<PathBuf, String> {
-    let folder = libraries.join(name_of_target()?);
-    if !folder.is_dir() {
-        return Err(format!("the crate has no archive for {}", named("TARGET")));
-    }
-    let reason = format!("{} has no {ARCHIVE}: the crate is not whole", folder.display());
-    has_archive(&folder).then_some(folder).ok_or(reason)
-}
-
 /// The repository, where this crate stands in it.
 fn repository() -> Option<&'static Path> {
     here().ancestors().nth(2).filter(|root| root.join("build/released").is_file())
@@ -100,10 +95,7 @@ fn repository() -> Option<&'static Path> {
 /// The folder of what the repository keeps, where no source has changed; or else why not.
 fn released_folder(name: &str) -> Result<PathBuf, String> {
     let root = repository().ok_or_else(String::new)?;
-    let folder = root.join("release").join(name);
-    if !has_archive(&folder) {
-        return Err(String::new());
-    }
+    let folder = with_archive(root.join("release").join(name)).ok_or_else(String::new)?;
     require_released(root, &format!("{name}/{ARCHIVE}")).map_err(|reason| format!(" ({reason})"))?;
     Ok(folder)
 }
@@ -120,7 +112,7 @@ fn require_released(root: &Path, part: &str) -> Result<(), String> {
 /// The library as C, where the target is one for which `release/` has no archive.
 fn sources_in_c() -> Option<PathBuf> {
     let release = repository()?.join("release");
-    let has_none = name_of_target().map_or(true, |name| !has_archive(&release.join(name)));
+    let has_none = name_of_target().ok().and_then(|name| with_archive(release.join(name))).is_none();
     let sources = release.join("portable");
     (has_none && target("OS") == "linux" && sources.is_dir()).then_some(sources)
 }
@@ -165,10 +157,10 @@ fn installed_folder() -> Option<PathBuf> {
         return None;
     }
     let answer = Command::new("pkg-config").args(["--variable=libdir", "proved_argon2"]).output().ok()?;
-    let folder = PathBuf::from(String::from_utf8(answer.stdout).ok()?.trim_end_matches('\n'));
-    has_archive(&folder).then_some(folder)
+    with_archive(PathBuf::from(String::from_utf8(answer.stdout).ok()?.trim_end_matches('\n')))
 }
 
-fn has_archive(folder: &Path) -> bool {
-    folder.join(ARCHIVE).is_file()
+/// A folder that has an archive.
+fn with_archive(folder: PathBuf) -> Option<PathBuf> {
+    folder.join(ARCHIVE).is_file().then_some(folder)
 }
