@@ -186,7 +186,7 @@ def test_a_call_tells_how_far_it_is_where_handlers_of_signals_run_or_where_it_is
         told.clear()
 
 
-@pytest.mark.parametrize("error", [ValueError("enough"), KeyboardInterrupt(), SystemExit(3)])
+@pytest.mark.parametrize("error", [ValueError("enough"), KeyboardInterrupt(), SystemExit(3), GeneratorExit("it")])
 @pytest.mark.parametrize("number", [HEADER["STOPPED"], 0, HEADER["MISMATCH"]])
 def test_what_progress_raises_stops_a_call_whatever_that_answers(error, number):
     def progress(*_):

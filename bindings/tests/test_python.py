@@ -1,13 +1,12 @@
 """The package for Python, installed by pip: its own tests, those of argon2-cffi, and where it finds the library."""
 import re
-import resource
 import shutil
 import sys
 import tarfile
 import zipfile
 
 import pytest
-from running import CC, TOP, VERSION, built as built_part, fetch, needs, refuses, run, start
+from running import CC, TOP, VERSION, built as built_part, fetch, needs, run, start
 
 PACKAGE, HERE, SONAME = TOP / "bindings/python", TOP / "bindings/tests", f"libproved_argon2.so.{VERSION.split('.')[0]}"
 PYTHON = sys.executable
@@ -16,18 +15,6 @@ PYTEST = PYTHON, "-B", "-m", "pytest", "-q"
 HASHES = """from proved_argon2 import PasswordHasher
 hasher = PasswordHasher(time_cost=1, memory_cost=64, parallelism=1)
 assert hasher.verify(hasher.hash("password"), "password") is True"""
-# With 2 GB of memory, a hash of 4 GiB.
-REFUSES = """from proved_argon2.exceptions import HashingError
-from proved_argon2.low_level import Type, hash_secret, hash_secret_raw
-def refusal(salt, memory_cost, hash_len, call):
-    try:
-        call(b"password", salt, 1, memory_cost, 1, hash_len, Type.ID)
-    except HashingError as error:
-        return str(error)
-for call in (hash_secret, hash_secret_raw):
-    assert refusal(b"salt", 8, 0xffffffff, call) == "Salt is too short"
-    assert refusal(b"somesalt", 8, 0xffffffff, call) == "Out of memory"
-    assert refusal(b"somesalt", 0xffffffff, 32, call) == "Out of memory\""""
 # How many pieces of a tag a call that verifies leaves, how many are found that were filled in, and where.
 REGISTERS = """import ctypes, sys
 from proved_argon2 import _library
@@ -208,16 +195,3 @@ def test_the_types_hold(tmp_path):
 
 def test_the_library_is_found_where_the_loader_looks(installed, site):
     run(PYTHON, "-c", HASHES, env={"PYTHONPATH": site, "LD_LIBRARY_PATH": installed / "lib"})
-
-
-def test_settings_are_refused_first_and_then_memory_is(with_library):
-    limit = resource.RLIMIT_AS, (2000000 << 10, 2000000 << 10)
-    run(PYTHON, "-c", REFUSES, env=with_library, preexec_fn=lambda: resource.setrlimit(*limit))
-
-
-@pytest.mark.parametrize("name", ["/nowhere/library.so", "empty.so", "libc.so.6"])
-def test_it_says_where_there_is_no_library_or_another_one(site, tmp_path, name):
-    (tmp_path / "empty.so").touch()
-    file = tmp_path / name if name == "empty.so" else name
-    refuses(1, f"ImportError: {SONAME} cannot be loaded: run ./install", PYTHON, "-c", HASHES,
-            env={"PYTHONPATH": site, "PROVED_ARGON2_LIBRARY": file})

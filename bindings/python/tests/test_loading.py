@@ -52,28 +52,31 @@ def test_an_older_processor_is_refused_by_name():
     assert "has no build for a processor as old as this one" in fresh(program)
 
 
-@pytest.mark.parametrize("system, words", [
-    ("linux", "run ./install in the repository"),
-    ("darwin", "built for Linux, and not for darwin; compile the library as C"),
-    ("win32", "built for Linux, and not for win32; compile the library as C"),
-])
-def test_the_error_names_the_system_and_what_there_is(monkeypatch, system, words):
+@pytest.mark.parametrize("system, file, words", [
+    *(("linux", file, "run ./install in the repository") for file in ("/nowhere/library.so", __file__, "libc.so.6")),
+    *((system, "/nowhere/library.so", f"built for Linux, and not for {system}; compile the library as C")
+      for system in ("darwin", "win32"))])
+def test_the_error_names_the_system_and_what_there_is(monkeypatch, system, file, words):
+    """Where there is no library, what is none, or another one."""
     monkeypatch.setattr(sys, "platform", system)
-    monkeypatch.setenv(_library.VARIABLE, "/nowhere/libproved_argon2")
+    monkeypatch.setenv(_library.VARIABLE, file)
     with pytest.raises(ImportError, match=f"cannot be loaded: .*{words}.*, or name the file in {_library.VARIABLE}"):
         _library._load()
 
 
-def test_a_call_leaves_the_error_number_of_ctypes():
+def test_settings_are_refused_first_and_then_memory_is():
+    """With 2 GiB of memory, a hash of 4 GiB. A call leaves the error number of `ctypes`."""
     said = fresh("""
 import ctypes, resource
-from proved_argon2 import PasswordHasher
 from proved_argon2.exceptions import HashingError
+from proved_argon2.low_level import Type, hash_secret, hash_secret_raw
 resource.setrlimit(resource.RLIMIT_AS, (1 << 31, 1 << 31))
 ctypes.set_errno(7)
-try:
-    PasswordHasher(memory_cost=0xFFFFFFFF).hash("password")
-except HashingError as error:
-    print(error, ctypes.get_errno())
+for call in (hash_secret, hash_secret_raw):
+    for salt, memory, length in ((b"salt", 8, -1), (b"somesalt", 8, -1), (b"somesalt", -1, 32)):
+        try:
+            call(b"password", salt, 1, memory % (1 << 32), 1, length % (1 << 32), Type.ID)
+        except HashingError as error:
+            print(error, ctypes.get_errno())
 """)
-    assert said == "Out of memory 7\n"
+    assert said == 2 * "Salt is too short 7\nOut of memory 7\nOut of memory 7\n"

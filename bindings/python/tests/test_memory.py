@@ -13,37 +13,16 @@ from proved_argon2 import Limits, PasswordHasher, Type, _library
 from proved_argon2.exceptions import HashingError, TooCostlyError, VerificationError, VerifyMismatchError
 from proved_argon2.low_level import Memory, hash_secret, hash_secret_raw, verify_secret
 
-NEW, FREE = _library._library.proved_argon2_memory_new, _library._library.proved_argon2_memory_free
+NEW = _library._library.proved_argon2_memory_new
 LARGE = "$argon2id$v=19$m=1048576,t=1,p=1$c29tZXNhbHQ$AAAAAAAAAAAAAAAAAAAAAA"
 SMALL = {"time_cost": 1, "memory_cost": 1024, "parallelism": 2}
 
 
-class Memories:
-    """Counts the memories that the library is asked for, and those that are there."""
-
-    granted, asked, there, most = 1 << 30, 0, 0, 0
-
-    def new(self, settings, memory, length):
-        self.asked += 1
-        if _library.memory_len(settings) > self.granted:
-            return _library.OUT_OF_MEMORY
-        number = NEW(settings, memory, length)
-        self.there += number == _library.OK
-        self.most = max(self.most, self.there)
-        return number
-
-    def free(self, memory, length):
-        self.there -= 1
-        FREE(memory, length)
-
-
 @pytest.fixture
-def memories():
-    """How the package asks for memories in a test."""
-    counted = Memories()
-    with mock.patch.multiple(
-        _library._library, proved_argon2_memory_new=counted.new, proved_argon2_memory_free=counted.free
-    ):
+def new():
+    """The call by which the package asks the library for a memory, which counts. When it is made, and the memory given
+    back, bindings/tests/codes.py tests."""
+    with mock.patch.object(_library._library, "proved_argon2_memory_new", side_effect=NEW) as counted:
         yield counted
 
 
@@ -105,18 +84,15 @@ REFUSED = [
 ]
 
 
-def test_a_kept_memory_changes_no_answer_and_is_asked_for_where_it_is_too_small_alone(memories):
-    """The old one is freed first, and the last one with what keeps it."""
+def test_a_kept_memory_changes_no_answer_and_is_asked_for_where_it_is_too_small_alone(new):
     memory, asked, largest = Memory(), 0, 0
     shapes = ((64, 1), (4096, 4), (64, 2), (8192, 3), (8, 1), (1000, 5), (9000, 1), (320, 40), (8999, 1))
     for place, (memory_cost, lanes) in enumerate(shapes):
         asked, largest = asked + (memory_cost > largest), max(largest, memory_cost)
         for call, expected in calls(memory_cost, lanes, 2, list(Type)[place % 3]):
-            assert (outcome(call, memory), memories.asked) == (expected, asked), (memory_cost, lanes)
+            assert (outcome(call, memory), new.call_count) == (expected, asked), (memory_cost, lanes)
             fill(memory)
-    assert (memories.most, memories.there, free_pages(memory).length) == (1, 1, 9000 << 10)
-    del memory
-    assert memories.there == 0
+    assert free_pages(memory).length == 9000 << 10
 
 
 def test_a_buffer_that_no_call_used_for_a_minute_is_freed_when_another_call_ends():
@@ -142,26 +118,15 @@ def test_each_call_clears_what_it_used_of_a_kept_memory(memory_cost, lanes):
         assert held(memory) == bytes(used) + b"\xa5" * ((5000 << 10) - used)
 
 
-def test_what_is_refused_leaves_a_kept_memory_as_it_is(memories):
+def test_what_is_refused_leaves_a_kept_memory_as_it_is(new):
     memory, expected = Memory(), [outcome(call, None) for call in REFUSED]
     assert all(error in (HashingError, VerificationError, TooCostlyError) for error, _ in expected)
     assert [outcome(call, memory) for call in REFUSED] == expected
-    assert (memories.asked, free_pages(memory).length) == (0, 0)
+    assert (new.call_count, free_pages(memory).length) == (0, 0)
     raw(100, memory)
     fill(memory)
     assert [outcome(call, memory) for call in REFUSED] == expected
-    assert (memories.asked, held(memory)) == (1, b"\xa5" * (100 << 10))
-
-
-@pytest.mark.parametrize("memory_cost", [4096, 0xFFFFFFFF])
-def test_where_memory_is_refused_a_kept_memory_serves_the_next_call(memories, memory_cost):
-    memories.granted, memory, inputs = 1 << 20, Memory(), (b"password", b"somesalt", 1, memory_cost, 1, 16, Type.ID)
-    for call in (lambda memory: hash_secret(*inputs, memory=memory),
-                 lambda memory: hash_secret_raw(*inputs, memory=memory), verifying("1048576", str(memory_cost))):
-        assert outcome(call, memory)[1] == "Out of memory"
-        assert (free_pages(memory).length, memories.there) == (0, 0)
-        for call, expected in calls(1024):
-            assert outcome(call, memory) == expected
+    assert (new.call_count, held(memory)) == (1, b"\xa5" * (100 << 10))
 
 
 def test_calls_at_once_have_one_each():
@@ -179,13 +144,13 @@ def test_calls_at_once_have_one_each():
         assert not other.is_alive()
 
 
-def test_what_is_raised_in_between_leaves_the_memory_for_the_next_call(memories):
+def test_what_is_raised_in_between_leaves_the_memory_for_the_next_call(new):
     memory = Memory()
     raw(64, memory)
     with pytest.raises(KeyboardInterrupt), memory.pages_for_call():
         raise KeyboardInterrupt
     raw(64, memory)
-    assert (memories.asked, len(memory._free)) == (1, 1)
+    assert (new.call_count, len(memory._free)) == (1, 1)
 
 
 @pytest.mark.parametrize("copied", [copy.copy, copy.deepcopy, lambda hasher: pickle.loads(pickle.dumps(hasher))])
@@ -219,7 +184,7 @@ def test_core_dumps_leave_out_what_is_kept():
 
 
 @pytest.mark.parametrize("keep_memory", [False, True])
-def test_a_hasher_keeps_memory_by_an_option_alone(memories, keep_memory):
+def test_a_hasher_keeps_memory_by_an_option_alone(new, keep_memory):
     hasher = PasswordHasher(**SMALL, keep_memory=keep_memory)
     assert (PasswordHasher().keep_memory, hasher.keep_memory) == (False, keep_memory)
     for _ in range(3):
@@ -227,10 +192,8 @@ def test_a_hasher_keeps_memory_by_an_option_alone(memories, keep_memory):
         assert PasswordHasher().verify(text, "password") is hasher.verify(text, "password") is True
         with pytest.raises(VerifyMismatchError):
             hasher.verify(text, "Password")
-    assert memories.asked == memories.there == keep_memory
+    assert new.call_count == keep_memory
     assert not keep_memory or held(hasher._memory) == bytes(1024 << 10)
-    del hasher
-    assert memories.there == 0
 
 
 def resident():

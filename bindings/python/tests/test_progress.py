@@ -93,24 +93,6 @@ def test_what_it_raises_stops_the_call_and_the_next_one_is_right():
         assert call() == answer
 
 
-def test_the_end_of_a_generator_is_raised_as_any_other_exception(monkeypatch):
-    def ends(*_):
-        raise GeneratorExit("it")
-
-    lost = []
-    monkeypatch.setattr(sys, "unraisablehook", lost.append)
-    for call in long_calls(progress=ends):
-        with pytest.raises(GeneratorExit, match="it"):
-            call()
-    assert lost == []
-
-
-def test_a_wrong_progress_stops_the_call():
-    for call in long_calls(progress=lambda done: None):
-        with pytest.raises(TypeError):
-            call()
-
-
 @pytest.fixture
 def alarm():
     """What sets a handler of the alarm, and when that comes."""
