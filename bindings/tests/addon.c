@@ -30,6 +30,18 @@ static napi_callback hash;
 static sem_t ended;
 static unsigned made, reports;
 
+/* A call that does nothing. */
+#define NOTHING(name, ...) \
+    unsigned name(__VA_ARGS__) \
+    { \
+        return 0; \
+    }
+NOTHING(napi_create_string_utf8, napi_env env, const char *text, size_t length, napi_value *value)
+NOTHING(napi_set_named_property, napi_env env, napi_value object, const char *name, napi_value value)
+NOTHING(napi_add_env_cleanup_hook, napi_env env, void (*hook)(void *arg), void *arg)
+NOTHING(napi_remove_env_cleanup_hook, napi_env env, void (*hook)(void *arg), void *arg)
+NOTHING(napi_release_threadsafe_function, napi_threadsafe_function function, unsigned mode)
+
 unsigned napi_get_cb_info(
     napi_env env, napi_callback_info info, size_t *count, napi_value *values, napi_value *receiver, void **data)
 {
@@ -59,11 +71,6 @@ unsigned napi_create_double(napi_env env, double number, napi_value *value)
     return 0;
 }
 
-unsigned napi_create_string_utf8(napi_env env, const char *text, size_t length, napi_value *value)
-{
-    return 0;
-}
-
 unsigned napi_create_function(
     napi_env env, const char *name, size_t length, napi_callback callback, void *data, napi_value *value)
 {
@@ -71,25 +78,10 @@ unsigned napi_create_function(
     return 0;
 }
 
-unsigned napi_set_named_property(napi_env env, napi_value object, const char *name, napi_value value)
-{
-    return 0;
-}
-
 unsigned napi_call_function(
     napi_env env, napi_value receiver, napi_value function, size_t count, const napi_value *values, napi_value *result)
 {
     printf("%.0f %.0f %u ", values[0]->number, values[1]->number, reports);
-    return 0;
-}
-
-unsigned napi_add_env_cleanup_hook(napi_env env, void (*hook)(void *arg), void *arg)
-{
-    return 0;
-}
-
-unsigned napi_remove_env_cleanup_hook(napi_env env, void (*hook)(void *arg), void *arg)
-{
     return 0;
 }
 
@@ -106,11 +98,6 @@ unsigned napi_call_threadsafe_function(napi_threadsafe_function function, void *
 {
     reports += data != NULL;
     return data == NULL ? (unsigned)sem_post(&ended) : 0;
-}
-
-unsigned napi_release_threadsafe_function(napi_threadsafe_function function, unsigned mode)
-{
-    return 0;
 }
 
 int main(int argc, char **argv)
