@@ -20,7 +20,7 @@ use std::fmt;
 /// assert_eq!(config.thread_mode, ThreadMode::Sequential);
 /// assert!(config.secret.is_empty() && config.ad.is_empty());
 /// ```
-#[derive(Clone, Copy, PartialEq)]
+#[derive(Clone, Copy, Eq, PartialEq)]
 pub struct Config<'a> {
     /// The associated data.
     pub ad: &'a [u8],

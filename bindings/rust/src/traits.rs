@@ -12,26 +12,12 @@ const MOST_OF_A_SALT: usize = 64;
 /// The memory in KiB, the passes, the lanes and the length of the hash; or, by default, those of the
 /// hasher.
 #[derive(Clone, Copy, Debug, Default, Eq, PartialEq)]
-pub struct Params(Option<Costs>);
+pub struct Params(Option<Config<'static>>);
 
-#[derive(Clone, Copy, Debug, Eq, PartialEq)]
-struct Costs {
-    mem_cost: u32,
-    time_cost: u32,
-    lanes: u32,
-    hash_length: u32,
-}
-
-impl Costs {
-    fn of(config: &Config<'_>) -> Costs {
-        let Config { mem_cost, time_cost, lanes, hash_length, .. } = *config;
-        Costs { mem_cost, time_cost, lanes, hash_length }
-    }
-
-    fn put_in<'a>(self, config: &Config<'a>) -> Config<'a> {
-        let Costs { mem_cost, time_cost, lanes, hash_length } = self;
-        Config { mem_cost, time_cost, lanes, hash_length, ..*config }
-    }
+/// Settings with the costs of others.
+fn with_costs<'a>(config: &Config<'a>, costs: &Config<'_>) -> Config<'a> {
+    let Config { mem_cost, time_cost, lanes, hash_length, .. } = *costs;
+    Config { mem_cost, time_cost, lanes, hash_length, ..*config }
 }
 
 impl Params {
@@ -44,13 +30,17 @@ impl Params {
         let default = Config::default();
         let length = output_len.map_or(Ok(default.hash_length), u32::try_from);
         let hash_length = length.map_err(|_| Error::OutputTooLong)?;
-        let costs = Costs { mem_cost: m_cost, time_cost: t_cost, lanes: p_cost, hash_length };
-        require_done(face::check(&[], &[0; 8], &costs.put_in(&default)))?;
+        let costs = Config { mem_cost: m_cost, time_cost: t_cost, lanes: p_cost, hash_length, ..default };
+        require_done(face::check(&[], &[0; 8], &costs))?;
         Ok(Params(Some(costs)))
     }
 
-    fn costs(&self) -> Costs {
-        self.0.unwrap_or_else(|| Costs::of(&Config::default()))
+    fn of(config: &Config<'_>) -> Params {
+        Params(Some(with_costs(&Config::default(), config)))
+    }
+
+    fn costs(&self) -> Config<'static> {
+        self.0.unwrap_or_default()
     }
 
     /// The memory in KiB.
@@ -138,8 +128,7 @@ impl<'key> Argon2<'key> {
     /// A hasher without a secret.
     #[must_use]
     pub fn new(algorithm: Variant, version: Version, params: Params) -> Argon2<'key> {
-        let config = Config { variant: algorithm, version, ..Config::default() };
-        params.costs().put_in(&config).into()
+        Config { variant: algorithm, version, ..params.costs() }.into()
     }
 
     /// A hasher with a secret (pepper).
@@ -181,22 +170,18 @@ impl<'key> Argon2<'key> {
         // (without a version it is of the older one)
         let version = version.map_or(Ok(Version::Version10), Version::from_u32)?;
         let config = Config { variant, version, ..self.with(params) };
-        if Limits::at_least(&self.config).allow(&config) {
-            Ok(config)
-        } else {
-            Err(HashError::Crypto)
-        }
+        Limits::at_least(&self.config).allow(&config).then_some(config).ok_or(HashError::Crypto)
     }
 
     fn with(&self, params: Params) -> Config<'key> {
-        params.0.map_or(self.config, |costs| costs.put_in(&self.config))
+        params.0.map_or(self.config, |costs| with_costs(&self.config, &costs))
     }
 }
 
 /// All settings of this crate, threads among them.
 impl<'key> From<Config<'key>> for Argon2<'key> {
     fn from(config: Config<'key>) -> Argon2<'key> {
-        Argon2 { config, params: Params(Some(Costs::of(&config))) }
+        Argon2 { config, params: Params::of(&config) }
     }
 }
 
@@ -228,7 +213,7 @@ impl PasswordHasher for Argon2<'_> {
         Ok(PasswordHash {
             algorithm: Ident::try_from(config.variant.as_lowercase_str())?,
             version: Some(config.version.as_u32()),
-            params: Params(Some(Costs::of(&config))).try_into()?,
+            params: Params::of(&config).try_into()?,
             salt: Some(salt),
             hash: Some(Output::new(&tag)?),
         })
