@@ -278,29 +278,29 @@ def test_clippy_and_rustdoc_find_nothing(cargo):
     run("cargo", "doc", *words, cwd=CRATE, env={**cargo, "RUSTDOCFLAGS": "-D warnings"})
 
 
-def parts_of(page):
-    """A line, or a few, for each kind of part."""
-    parts = {}
-    for kind, name, marks in PART.findall(page.read_text()):
-        if "trait-impl" not in marks:
-            parts.setdefault(kind, set()).add(name)
-    return [textwrap.fill(f"{kind}: {' '.join(sorted(names))}", 120, initial_indent="    ", subsequent_indent=" " * 8)
-            for kind, names in sorted(parts.items())]
+def listed(kind, names):
+    """A line, or a few."""
+    return textwrap.fill(f"{kind}: {' '.join(names)}", 120, subsequent_indent=" " * 4)
 
 
 def surface_in(folder):
-    """Each public item with its parts: newer versions of rustdoc show those of an alias too."""
-    lines = []
+    """The public items of each kind, and the parts that each item has: newer versions of rustdoc show those of an alias
+    too."""
+    items, parts = {}, {}
     for kind, name in ITEM.findall((folder / "all.html").read_text()):
-        lines += [f"{kind} {name}", *(parts_of(folder / f"{kind}.{name}.html") if kind != "type" else [])]
-    return lines
+        items.setdefault(kind, []).append(name)
+        page = (folder / f"{kind}.{name}.html").read_text() if kind != "type" else ""
+        for part, of_part, marks in PART.findall(page):
+            if "trait-impl" not in marks:
+                parts.setdefault(f"{name}, {part}", set()).add(of_part)
+    return [listed(kind, sorted(names)) for kind, names in [*items.items(), *sorted(parts.items())]]
 
 
 def test_the_public_items_are_those_of_the_list(built, cargo, tmp_path):
     run("cargo", "doc", "--offline", "--no-deps", "--all-features", cwd=CRATE, env={
         **cargo, "CARGO_TARGET_DIR": tmp_path, "RUSTDOCFLAGS": "-D warnings"})
     found = surface_in(tmp_path / "doc/proved_argon2")
-    assert "    variant: Refused TooCostly" in found
+    assert "Unverified, variant: Refused TooCostly" in found
     assert "\n".join([*found, ""]) == (CRATE / "surface.txt").read_text()
 
 
