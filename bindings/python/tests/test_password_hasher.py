@@ -223,14 +223,6 @@ def test_a_string_is_encoded_and_no_form_of_it_is_made_of_another():
         assert utf8.verify(utf8.hash(password.encode()), password)
 
 
-@pytest.mark.parametrize("name, number, why", [
-    ("memory_cost", 15, "Memory cost is too small"), ("time_cost", 0, "Time cost is too small"),
-    ("parallelism", 0, "Too few lanes"), ("hash_len", 3, "Output is too short"), ("salt_len", 7, "Salt is too short")])
-def test_refused_settings_say_so(name, number, why):
-    with pytest.raises(HashingError, match=why):
-        PasswordHasher(**{**SMALL, name: number}).hash("password")
-
-
 @pytest.mark.parametrize("password", [None, 1, bytearray(b"password")])
 def test_a_password_that_is_no_bytes_is_refused(password):
     with pytest.raises(TypeError, match="'password'"):

@@ -94,18 +94,6 @@ def test_django_works_with_it(piece):
     run(DJANGO, piece)
 
 
-@needs("django", "argon2")
-def test_django_reads_what_it_writes_with_argon2_cffi():
-    run(DJANGO, """
-theirs = type("Theirs", (Proved,), {"library": "argon2"})()
-ours = get_hasher("argon2")
-for writer, reader in ((theirs, ours), (ours, theirs)):
-    text = writer.encode("secret", writer.salt())
-    assert reader.verify("secret", text) is True
-    assert reader.verify("Secret", text) is False
-""")
-
-
 @needs("django")
 def test_django_renews_what_another_hasher_made():
     run("from django.conf import settings\nsettings.configure()", lines("Django"), """
@@ -136,17 +124,6 @@ assert handler._argon2_cffi is proved_argon2
 assert result.testsRun - len(result.skipped) >= 40, result
 assert result.wasSuccessful()
 """)
-
-
-@needs("passlib", "argon2")
-@pytest.mark.parametrize("variant", ["I", "D", "ID"])
-def test_passlib_reads_what_it_writes_with_argon2_cffi(variant):
-    hasher = ("from passlib.hash import argon2\n"
-              f'it = argon2.using(rounds=2, memory_cost=64, parallelism=2, type="{variant}")')
-    ours = run(IN_PLACE, hasher, "print(it.hash('password'))").strip()
-    assert ours.startswith(f"$argon2{variant.lower()}$v=19$m=64,t=2,p=2$")
-    for place in (IN_PLACE, ""):
-        assert run(place, hasher, f"print(it.verify('password', {ours!r}))") == "True\n"
 
 
 @pytest.mark.parametrize("name, made", [
