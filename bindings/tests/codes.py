@@ -93,7 +93,11 @@ def test_a_call_gives_for_each_number_what_the_table_says(name, is_kept):
     library says that it is too small, of what the settings or the string say, and only then."""
     codes, other = CODES[name], errors.HashingError if name.startswith("hash") else errors.VerificationError
     values = {number: VALUES[value] for number, value in codes.values.items()}
-    telling = codes.telling if codes.hashes else CODES["read"].telling
+    telling, memories = codes.telling if codes.hashes else CODES["read"].telling, []
+
+    def call():
+        memories[:] = [Memory() if is_kept else None]
+        return CALLS[name](memory=memories[0])
 
     def saw(number):
         computes = number == 0 or place == "then"
@@ -108,7 +112,7 @@ def test_a_call_gives_for_each_number_what_the_table_says(name, is_kept):
             values = {0: True}
         elif not codes.hashes:
             values[HEADER["TOO_COSTLY"]] = errors.TooCostlyError
-        gives(place, lambda: CALLS[name](memory=Memory() if is_kept else None), values, other, saw)
+        gives(place, call, values, other, saw)
 
 
 @each_call

@@ -124,8 +124,8 @@ SHOWN = {"tag": "Ok([120, 120, 120, 120, 120])", "text": f'Ok("{12 * "x"}")', "t
                                                "time_cost: 3, variant: Argon2id, version: Version13 })"}
 ERRORS = {number: name.title().replace("_", "") for name, number in HEADER.items()
           if number in (*range(1, 64), 129, 130, 131) and re.fullmatch("[A-Z_]{3,}", name)}
-# How calls are made, and what who is told answers.
 MOST = 0xFFFFFFFF
+# How calls are made, and what who is told answers.
 HOW = {"alone": -1, "over": -1, "run": -1, "tells": 0, "stops": 1, "panics": 1}
 
 
@@ -138,7 +138,8 @@ def outcome(codes, number):
 
 
 def expected(codes, how, place, number):
-    """What is said of a call over a new memory, or over none."""
+    """What is said of a call over a new memory, or over none: its value, and the bytes that the memory has; how many
+    threads, bytes of memory and what answer the library saw; its memories, and what it was passed."""
     computes = place == "then" and bool(codes.computing)
     is_over = computes and how in ("over", "stops", "panics")
     size = 65536 if is_over and number == HEADER["OUT_OF_MEMORY"] else 0
