@@ -26,22 +26,6 @@ text, tag = hash_secret(*inputs), hash_secret_raw(*inputs)
 call = ctypes.cast(_library._library.proved_argon2_verify_encoded, ctypes.c_void_p)
 left = looker.pieces_left(call, text, password, size(len(password)), tag, size(len(tag)))
 print(left, looker.pieces_filled(tag[:16]), looker.looked_at().decode())"""
-# Each call of the page has the arguments of the package, in their order and with their defaults.
-ARGUMENTS = """import inspect, pathlib, re
-import proved_argon2
-from proved_argon2 import PasswordHasher, extract_parameters
-page = " ".join(pathlib.Path("docs/PYTHON.md").read_text().split())
-def arguments(call):
-    parameters = inspect.signature(call).parameters.values()
-    return [(parameter.name.replace("hash", "text"), parameter.kind, parameter.default)
-            for parameter in parameters if parameter.name != "self"]
-calls = {"PasswordHasher": PasswordHasher, "extract_parameters": extract_parameters}
-for name in ("hash", "verify", "check_needs_rehash"):
-    calls[f"hasher.{name}"] = getattr(PasswordHasher, name)
-for name, call in calls.items():
-    names = dict(vars(proved_argon2))
-    exec("def documented({}): pass".format(re.search(rf"`{re.escape(name)}\\((.*?)\\)`", page).group(1)), names)
-    assert arguments(names["documented"]) == arguments(call), (name, arguments(names["documented"]))"""
 
 
 def has(*modules):
@@ -178,10 +162,6 @@ def test_the_library_is_compiled_as_c_on_a_machine_that_there_is_none_for(packag
     assert [name for name in names if name.endswith("/c/module_code.h")]
     zipfile.ZipFile(pack(folder, "wheel", tmp_path, PYTHONPATH=tmp_path)).extractall(tmp_path / "site")
     run(PYTHON, "-B", "-c", HASHES, env={"PYTHONPATH": tmp_path / "site"})
-
-
-def test_the_page_has_the_arguments_of_the_calls(with_library):
-    run(PYTHON, "-c", ARGUMENTS, env=with_library)
 
 
 @needs("mypy")

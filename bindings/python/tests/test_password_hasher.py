@@ -2,6 +2,7 @@
 import base64
 import inspect
 import pickle
+import re
 import subprocess
 import sys
 import unicodedata
@@ -33,6 +34,7 @@ from proved_argon2.exceptions import (
     VerifyMismatchError,
 )
 
+TOP = Path(__file__).resolve().parents[3]
 SMALL = {"time_cost": 1, "memory_cost": 32, "parallelism": 2}
 TEXT = "$argon2i$v=19$m=256,t=2,p=1$c29tZXNhbHQ$iekCn0Y3spW+sCcFanM2xBT63UP2sghkUoHLIUpWRS8"
 OLD_CALLS = hash_password, hash_password_raw, verify_password
@@ -62,6 +64,21 @@ def test_the_constructor_has_the_arguments_and_defaults_of_argon2_cffi_and_then_
     text = PasswordHasher().hash("password", salt=b"somesalt")
     assert text.startswith("$argon2id$v=19$m=65536,t=3,p=4$c29tZXNhbHQ$")
     assert PasswordHasher().verify(text, "password") is True
+
+
+def arguments(call):
+    return [(name.replace("hash", "text"), argument.kind, argument.default)
+            for name, argument in inspect.signature(call).parameters.items() if name != "self"]
+
+
+@pytest.mark.parametrize("name, call", [
+    ("PasswordHasher", PasswordHasher), ("extract_parameters", extract_parameters),
+    *((f"hasher.{name}", getattr(PasswordHasher, name)) for name in ("hash", "verify", "check_needs_rehash"))])
+def test_the_page_has_the_arguments_of_a_call(name, call):
+    """In their order and with their defaults."""
+    page, names = " ".join((TOP / "docs/PYTHON.md").read_text("utf-8").split()), dict(vars(proved_argon2))
+    exec("def documented({}): pass".format(re.search(rf"`{name}\((.*?)\)`", page)[1]), names)
+    assert arguments(names["documented"]) == arguments(call)
 
 
 def test_the_exceptions_stand_under_one_another_as_in_argon2_cffi():
@@ -273,7 +290,7 @@ def test_what_begins_as_a_hash_cannot_be_verified(text):
 
 
 def test_package_library_and_repository_have_one_version():
-    version = (Path(__file__).resolve().parents[3] / "VERSION").read_text().strip()
+    version = (TOP / "VERSION").read_text().strip()
     major, minor, patch = map(int, version.split("."))
     number = _library._library.proved_argon2_library_version()
     assert (proved_argon2.__version__, number) == (version, (major * 1000 + minor) * 1000 + patch)
