@@ -6,15 +6,6 @@ import subprocess
 from shared import TOP
 
 
-def cache_of(rt, crate):
-    """The folder of kept work that a check of a crate best begins with, or None: that of another checkout too, where
-    the kit knows of them."""
-    if hasattr(rt, 'work_for'):
-        return rt.work_for(crate)
-    own = os.path.join(crate.folder, 'out/incremental')
-    return own if os.path.isdir(own) else None
-
-
 def has_processor(build):
     """Whether the processor runs a build of build/machines.txt for x86-64."""
     supported = subprocess.run(['/lib64/ld-linux-x86-64.so.2', '--help'], stdout=subprocess.PIPE, text=True, check=True)
