@@ -1,7 +1,8 @@
-//! How far a call is, and what stops it. Which calls pass it on, also a panic, bindings/tests/test_rust.py tests.
+//! How far a call is, and what stops it. Which calls pass it on, bindings/tests/test_rust.py tests.
 
 use proved_argon2::{hash_raw, Config, Error, Memory, Run, ThreadMode};
 use std::ops::ControlFlow::{self, Break, Continue};
+use std::panic::{catch_unwind, AssertUnwindSafe};
 use std::thread;
 
 /// Settings of a hash that takes seconds, in slices of a millisecond.
@@ -55,4 +56,20 @@ fn a_call_is_stopped_and_the_next_one_is_right() {
         assert_eq!(Run::new().over(&mut memory).hash_raw(b"password", b"somesalt", &short()), right);
     }
     assert_eq!(format!("{:?}", Run::new()), "Run { memory: None, tells: false }");
+}
+
+#[test]
+fn a_panic_in_the_callback_stops_the_call_and_comes_out_of_it() {
+    let mut memory = Memory::new();
+    let mut run = Run::new().over(&mut memory).telling(|done, _| {
+        assert!(done < 3, "it is the third");
+        Continue(())
+    });
+    for _ in 0..2 {
+        let payload = catch_unwind(AssertUnwindSafe(|| run.hash_raw(b"password", b"somesalt", &long())));
+        assert_eq!(payload.unwrap_err().downcast_ref(), Some(&"it is the third"));
+    }
+    drop(run);
+    let again = Run::new().over(&mut memory).hash_raw(b"password", b"somesalt", &short());
+    assert_eq!(again, hash_raw(b"password", b"somesalt", &short()));
 }
