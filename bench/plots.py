@@ -1,20 +1,13 @@
-"""The pictures of README.md and docs/PERFORMANCE.md: SVG whose letters are text, readable on white and on black, and on
-a phone, where they have 0.8 of their size. Each series has a colour of Okabe and Ito's palette, which differ in
-lightness too, and its name beside it."""
+"""The pictures of README.md and docs/: SVG whose letters are text, readable on white and on black, and on a phone, on
+which they have 0.8 of their size."""
 
 import math
-import re
 import textwrap
 from html import escape
 
-from times import PEERS
-
 WIDTH, MARGIN, LINE, HEIGHT = 480, 16, 18, 260
-# How many letters a line has at most: of a caption, and in bold.
-LETTERS, BOLD_LETTERS = 62, 52
-LABELS = {peer.name: peer.label for peer in PEERS}
-# The colour and the dashes of a series, in the order in which they are drawn.
-STYLES = {peer.name: peer.style.partition(' ')[::2] for peer in PEERS if peer.style}
+# Where a plot begins and ends, and where bars begin, and end at most.
+LEFT, RIGHT, BARS, LONGEST = 54, WIDTH - 150, 206, 204
 SHEET = '''text { font: 14px system-ui, sans-serif; fill: #6e7781 }
 .title { font-size: 16px; font-weight: 600 }
 .own { font-weight: 600 }
@@ -30,122 +23,81 @@ def text(x, y, words, anchor='start', kind=''):
     return f'<text x="{x:.1f}" y="{y:.1f}" text-anchor="{anchor}"{kind}>{escape(words)}</text>'
 
 
-def lines(x, y, words, letters=LETTERS, kind='caption'):
-    """Words in lines, and how high these are."""
-    wrapped = textwrap.wrap(words, letters)
-    return [text(x, y + LINE * at, line, kind=kind) for at, line in enumerate(wrapped)], LINE * len(wrapped)
-
-
 def picture(path, bottom, title, caption, parts):
     """Writes an SVG of some parts, which end at `bottom`, with a caption below them."""
-    below, height = lines(MARGIN, bottom + LINE, caption)
-    size = bottom + height + 12
+    below = textwrap.wrap(caption, 62)
+    size = bottom + LINE * len(below) + 12
     path.write_text('\n'.join([
         f'<svg xmlns="http://www.w3.org/2000/svg" width="{WIDTH}" height="{size}" viewBox="0 0 {WIDTH} {size}" '
         'role="img">',
         f'<title>{escape(title)}</title>', f'<style>{SHEET}</style>', text(MARGIN, 26, title, kind='title'), *parts,
-        *below, '</svg>', '']), encoding='utf-8')
-
-
-def milliseconds(number):
-    """A time as people write it: two digits, and no more than the number has."""
-    return f'{number:.2g}' if number < 10 else f'{number:.0f}'
-
-
-def apart(places, least):
-    """The same places in their order, moved downwards until each is so far below the one before."""
-    moved = {}
-    for name, place in sorted(places.items(), key=lambda item: item[1]):
-        moved[name] = max([place, *(other + least for other in moved.values())])
-    return moved
-
-
-def heights(numbers, height):
-    """A logarithmic axis from below to above all numbers: how high one is, and the powers of ten and their halves."""
-    low, high = math.log10(min(numbers)) - 0.1, math.log10(max(numbers)) + 0.1
-    steps = (1, 10) if high - low > 2.5 else (1, 2, 5, 10)
-    marks = {base * 10 ** power for power in range(-4, 6) for base in steps}
-    return (lambda number: height * (math.log10(number) - low) / (high - low),
-            sorted(mark for mark in marks if low <= math.log10(mark) <= high))
-
-
-def series_of(name, spots, end, right):
-    """The line of a series through its spots, and its name at the end, which is so high."""
-    colour, dashes = STYLES[name]
-    x, y = spots[-1]
-    return [
-        f'<polyline points="{" ".join(f"{x:.1f},{y:.1f}" for x, y in spots)}" fill="none" stroke="{colour}" '
-        f'stroke-width="2.5" stroke-dasharray="{dashes or "none"}"/>',
-        *(f'<circle cx="{x:.1f}" cy="{y:.1f}" r="4" fill="{colour}"/>' for x, y in spots),
-        f'<line x1="{x + 6:.1f}" y1="{y:.1f}" x2="{right + 6}" y2="{end:.1f}" stroke="{colour}" stroke-opacity="0.5"/>',
-        f'<circle cx="{right + 10}" cy="{end:.1f}" r="4" fill="{colour}"/>',
-        text(right + 18, end + 5, LABELS[name].replace('this library', 'ours'),
-             kind='head' if name.startswith('v') else 'caption')]
-
-
-def panel(bottom, title, cases, word, axis):
-    """A plot above `bottom` of the times of each series by case, on an axis (heights), with the word of each case."""
-    (height_of, marks), left, right = axis, 54, WIDTH - 150
-    at_x = [left + (right - left) * (index + 0.3) / len(cases) for index in range(len(cases))]
-    out = [text(MARGIN, bottom - HEIGHT - 8, title, kind='own')]
-    for number in marks:
-        y = bottom - height_of(number)
-        out += [f'<line class="grid" x1="{left}" x2="{right}" y1="{y:.1f}" y2="{y:.1f}"/>',
-                text(left - 8, y + 5, f'{number:g}', 'end')]
-    out += [text(x, bottom + 20 + LINE * at, part, 'middle') for x, case in zip(at_x, cases)
-            for at, part in enumerate(word(case).split())]
-    spots = {name: [(x, bottom - height_of(times[name])) for x, times in zip(at_x, cases.values()) if name in times]
-             for name in STYLES if any(name in times for times in cases.values())}
-    ends = apart({name: points[-1][1] for name, points in spots.items()}, 18)
-    return out + [line for name, points in spots.items() for line in series_of(name, points, ends[name], right)]
-
-
-def size(case):
-    """The memory of a case as people write it."""
-    kib = int(re.match(r'\((\d+),', case)[1])
-    power = (kib.bit_length() - 1) // 10
-    return f'{kib >> 10 * power} {("KiB", "MiB", "GiB")[power]}'
-
-
-# A picture of lines: its question, which cases it has, what an axis says of one, and what is below.
-BY_CASE = {
-    'time-by-memory.svg': ('How long does a hash take with more memory?', ', 2, 1)', size,
-                           'memory, in 2 passes, 1 lane, 1 thread'),
-    'time-by-threads.svg': ('How long does a hash take with more threads?', ', 3, ',
-                            lambda case: case.rsplit(' ', 1)[1],
-                            'threads, and as many lanes, over 64 MiB in 3 passes'),
-}
-
-
-def draw_lines(folder, caption, kinds, times):
-    """For each kind of kernel a plot, below one another on one logarithmic axis; the times are by kind and case."""
-    for name, (title, part, word, below) in BY_CASE.items():
-        shown = {key: {name: of[name] for name in STYLES if name in of} for key, of in times.items() if part in key[1]}
-        axis = heights([number for of in shown.values() for number in of.values()], HEIGHT)
-        out, top = [text(MARGIN, 50, 'milliseconds a hash, on a logarithmic axis')], 90
-        for kind, kernel in kinds.items():
-            cases = {case: of for (its, case), of in shown.items() if its == kind}
-            out += panel(top + HEIGHT, kernel, cases, word, axis)
-            top += HEIGHT + 82
-        out.append(text(WIDTH / 2, top - 20, below, 'middle', 'caption'))
-        picture(folder / name, top - 12, title, caption, out)
+        *(text(MARGIN, bottom + LINE * at, line, kind='caption') for at, line in enumerate(below, 1)), '</svg>', '']),
+        encoding='utf-8')
 
 
 def draw_bars(path, title, caption, groups):
-    """Bars from zero in groups, each of (words, [(label, milliseconds, whether it is ours)]), the quickest first."""
-    left, right, row, y = 206, 70, 26, 44
-    out = []
-    for words, bars in groups:
-        most = max(number for _, number, _ in bars)
-        head, height = lines(MARGIN, y + 14, words, BOLD_LETTERS, 'own')
-        out += head
-        y += height + 10
-        for label, number, is_ours in sorted(bars, key=lambda bar: bar[1]):
-            width = (WIDTH - left - right) * number / most
-            out += [text(left - 8, y + 15, label, 'end', 'head' if is_ours else 'caption'),
-                    f'<rect x="{left}" y="{y}" width="{width:.1f}" height="{row - 6}" rx="2" '
-                    f'fill="{"#0072b2" if is_ours else "#8a8d91"}"/>',
-                    text(left + width + 8, y + 15, f'{milliseconds(number)} ms', kind='own' if is_ours else '')]
-            y += row
-        y += 16
-    picture(path, y - 10, title, caption, out)
+    """Bars from zero in groups by words, each bar of its milliseconds, its label, and whether it is ours."""
+    y, parts = 58, []
+    for words, bars in groups.items():
+        parts += [text(MARGIN, y, words, kind='own')]
+        for number, label, is_ours in sorted(bars):
+            width, y = LONGEST * number / max(bars)[0], y + 26
+            parts += [text(BARS - 8, y, label, 'end', 'head' if is_ours else 'caption'),
+                      f'<rect x="{BARS}" y="{y - 15}" width="{width:.1f}" height="20" rx="2" '
+                      f'fill="{"#0072b2" if is_ours else "#8a8d91"}"/>',
+                      text(BARS + width + 8, y, f'{number:.0f} ms', kind='own' if is_ours else '')]
+        y += 40
+    picture(path, y - 20, title, caption, parts)
+
+
+def axis(numbers):
+    """A logarithmic one from below to above all numbers: how high one is, and what is marked, powers of ten and on a
+    short axis twice and five times these."""
+    low, high = math.log10(min(numbers)) - 0.1, math.log10(max(numbers)) + 0.1
+    marks = [step * 10 ** power for power in range(-4, 6) for step in ((1,) if high - low > 2.5 else (1, 2, 5))]
+    return (lambda number: HEIGHT * (math.log10(number) - low) / (high - low),
+            [mark for mark in marks if low <= math.log10(mark) <= high])
+
+
+def series(label, style, spots, end):
+    """The line of a series through its spots, in a colour and with dashes, and its name at the end, which is so low."""
+    colour, _, dashes = style.partition(' ')
+    x, y = spots[-1]
+    return [
+        f'<g fill="{colour}" stroke="{colour}">',
+        f'<polyline points="{" ".join(f"{x:.1f},{y:.1f}" for x, y in spots)}" fill="none" stroke-width="2.5" '
+        f'stroke-dasharray="{dashes or "none"}"/>',
+        f'<line x1="{x + 6:.1f}" y1="{y:.1f}" x2="{RIGHT + 6}" y2="{end:.1f}" stroke-opacity="0.5"/>',
+        *(f'<circle cx="{x:.1f}" cy="{y:.1f}" r="3.5"/>' for x, y in [*spots, (RIGHT + 10, end)]), '</g>',
+        text(RIGHT + 18, end + 5, label, kind='head' if label.startswith('ours') else 'caption')]
+
+
+def panel(bottom, cases, styles, height_of, marks):
+    """A plot above `bottom` of the times by case and series, on an axis."""
+    at_x = [LEFT + (RIGHT - LEFT) * (index + 0.3) / len(cases) for index in range(len(cases))]
+    parts, end = [], 0
+    for mark in marks:
+        y = bottom - height_of(mark)
+        parts += [f'<line class="grid" x1="{LEFT}" x2="{RIGHT}" y1="{y:.1f}" y2="{y:.1f}"/>',
+                  text(LEFT - 8, y + 5, f'{mark:g}', 'end')]
+    parts += [text(x, bottom + 20 + LINE * at, word, 'middle') for x, words in zip(at_x, cases)
+              for at, word in enumerate(words.split())]
+    spots = {name: [(x, bottom - height_of(times[name][0])) for x, times in zip(at_x, cases.values()) if name in times]
+             for name in styles}
+    for name, points in sorted(spots.items(), key=lambda item: item[1][-1:] and item[1][-1][1]):
+        # (no name is over another)
+        end = max(points[-1][1], end + 18)
+        parts += series(*styles[name], points, end)
+    return parts
+
+
+def draw_lines(path, title, below, caption, styles, panels):
+    """Plots below one another on one logarithmic axis: by words the times by case and series, whose labels and styles
+    are named."""
+    scale = axis([times[name][0] for cases in panels.values() for times in cases.values() for name in styles
+                  if name in times])
+    bottom, parts = 8, [text(MARGIN, 50, 'milliseconds a hash, on a logarithmic axis')]
+    for words, cases in panels.items():
+        bottom += HEIGHT + 82
+        parts += [text(MARGIN, bottom - HEIGHT - 8, words, kind='own'), *panel(bottom, cases, styles, *scale)]
+    picture(path, bottom + 70, title, caption, [*parts, text(WIDTH / 2, bottom + 62, below, 'middle', 'caption')])
