@@ -29,13 +29,9 @@ TAG, kept = create_string_buffer(32), []
 # The kinds of kernel, in the words of the pages, and what makes it one of them.
 KINDS = {'madvise': 'huge pages on request', 'always': 'huge pages for all'}
 SWITCH = Path('/sys/kernel/mm/transparent_hugepage/enabled')
-# KiB, passes, lanes, and the threads that fill them: the cases of the table, and those of the pictures by what their
-# axis says of each.
-TABLE = ((256, 2, 1, 1), (1024, 2, 1, 1), (19456, 2, 1, 1), (65536, 3, 1, 1), (65536, 3, 4, 1), (65536, 3, 4, 4),
-         (262144, 1, 4, 4))
-BY_MEMORY = {f'{size} {unit}': (size << power, 2, 1, 1) for unit, power, sizes in (
-    ('KiB', 0, (64, 256)), ('MiB', 10, (1, 4, 16, 64, 256)), ('GiB', 20, (1,))) for size in sizes}
-BY_THREADS = {str(threads): (65536, 3, threads, threads) for threads in (1, 2, 4, 8)}
+# KiB, passes, lanes, and the threads that fill them.
+COSTS = ((256, 2, 1, 1), (1024, 2, 1, 1), (4096, 2, 1, 1), (19456, 2, 1, 1), (1048576, 2, 1, 1), (65536, 3, 1, 1),
+         (65536, 3, 4, 1), (65536, 3, 2, 2), (65536, 3, 4, 4), (65536, 3, 8, 8), (262144, 1, 4, 4))
 
 
 def timed(call, *arguments):
@@ -113,24 +109,23 @@ def openssl(library, cost):
     return timed(lambda: library.EVP_KDF_derive(context, TAG, c_size_t(len(TAG)), parameters) != 1)
 
 
-# An implementation: its names in figures.txt and on pages; the style of its line, if it is drawn, a colour of Okabe and
-# Ito's palette and dashes; a library of the machine, lib*, or a file of the folder; and what makes of that and a case
-# what hashes, which gives milliseconds, or None where it has no such case.
-Peer = namedtuple('Peer', 'name label style library call')
+# An implementation: its names in figures.txt and on pages; a library of the machine, or made by bench/run; and what
+# makes what hashes, which gives milliseconds, or None where it has no such case.
+Peer = namedtuple('Peer', 'name label library call')
 PEERS = (
-    Peer('v4', 'this library, AVX-512', '#0072b2', 'v4.so', ours),
-    Peer('v3', 'this library, AVX2', '#56b4e9', 'v3.so', ours),
-    Peer('v2', 'this library, no AVX2', '#56b4e9 7 4', 'v2.so', ours),
-    Peer('node', 'this library, Node', '', 'package/src/index.js', partial(node, 'native')),
-    Peer('wasm', 'this library, Node, WebAssembly', '', 'package/src/index.js', partial(node, 'wasm')),
-    Peer('reusing', 'this library, reusable buffer', '', 'reusing.so', reusing),
-    Peer('libsodium', 'libsodium', '#d55e00', 'libsodium.so.23', libsodium),
-    Peer('reference-native', 'C reference, native', '#009e73', 'reference-native.so', upstream),
-    Peer('reference-v3', 'C reference, AVX2', '', 'reference-v3.so', upstream),
-    Peer('libargon2', 'libargon2', '#cc79a7', 'libargon2.so.1', upstream),
-    Peer('rust-argon2', 'rust-argon2 3.0.0', '', 'crates.so', partial(crate, 'rust_argon2')),
-    Peer('rustcrypto', 'RustCrypto argon2', '', 'crates.so', partial(crate, 'rustcrypto')),
-    Peer('openssl', 'OpenSSL', '', 'newer/usr/lib/x86_64-linux-gnu/libcrypto.so.3', openssl))
+    Peer('v4', 'this library, AVX-512', 'v4.so', ours),
+    Peer('v3', 'this library, AVX2', 'v3.so', ours),
+    Peer('v2', 'this library, no AVX2', 'v2.so', ours),
+    Peer('node', 'this library, Node', 'package/src/index.js', partial(node, 'native')),
+    Peer('wasm', 'this library, Node, WebAssembly', 'package/src/index.js', partial(node, 'wasm')),
+    Peer('reusing', 'this library, reusable buffer', 'reusing.so', reusing),
+    Peer('libsodium', 'libsodium', 'libsodium.so.23', libsodium),
+    Peer('reference-native', 'C reference, native', 'reference-native.so', upstream),
+    Peer('reference-v3', 'C reference, AVX2', 'reference-v3.so', upstream),
+    Peer('libargon2', 'libargon2', 'libargon2.so.1', upstream),
+    Peer('rust-argon2', 'rust-argon2 3.0.0', 'crates.so', partial(crate, 'rust_argon2')),
+    Peer('rustcrypto', 'RustCrypto argon2', 'crates.so', partial(crate, 'rustcrypto')),
+    Peer('openssl', 'OpenSSL', 'newer/usr/lib/x86_64-linux-gnu/libcrypto.so.3', openssl))
 
 
 def load(folder, name):
@@ -185,7 +180,7 @@ def main(folder, seconds):
     loaded = {peer: library for peer in PEERS if (library := load(folder, peer.library))}
     as_it_was, columns = re.search(r'\[(.*)\]', SWITCH.read_text())[1], {}
     try:
-        for kind, cost in itertools.product(KINDS, dict.fromkeys((*TABLE, *BY_MEMORY.values(), *BY_THREADS.values()))):
+        for kind, cost in itertools.product(KINDS, COSTS):
             SWITCH.write_text(kind)
             columns[column(kind, cost)] = measure(loaded, cost, float(seconds))
     finally:
