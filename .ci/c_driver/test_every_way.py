@@ -9,7 +9,7 @@ import subprocess
 from pathlib import Path
 
 import pytest
-from shared import TOP, ahead, blocks, rows
+from shared import TOP, ahead, rows
 
 HERE = Path(__file__).resolve().parent
 DRIVER = (TOP / 'bindings/c/proved_argon2_driver.c').read_text(encoding='utf-8')
@@ -22,7 +22,7 @@ CASES = list(itertools.product((1, 2, 3), (1, 2, 3), (1, 2)))
 SWITCHES = {(1, 1): 0, (1, 2): 0, (2, 1): 2, (2, 2): 2, (3, 1): 2, (3, 2): 1}
 RUNS = {tuple(map(int, case.split())): f'{runs} runs' for case, runs in rows(HERE / 'runs.txt')}
 # Each by its name, with what it takes the place of; the lines of a piece stand apart by @.
-FAULTS = {name: [piece.replace('@', '\n') for _, piece in pieces] for name, pieces in blocks(HERE / 'faults.txt')}
+FAULTS = {name: [piece.replace('@', '\n') for piece in pieces] for name, *pieces in rows(HERE / 'faults.txt')}
 FAULTS_IN_ALL = 39
 
 

@@ -1,7 +1,6 @@
 """What the scripts of the folders beside this one share."""
 
 import os
-import re
 import subprocess
 import sys
 from concurrent.futures import ThreadPoolExecutor
@@ -53,7 +52,7 @@ def exports(file):
     return sorted(row[7].partition('@')[0] for row in rows if len(row) > 7 and row[4] == 'GLOBAL' and row[6].isdigit())
 
 
-# ---- lists: lines, rows, and blocks apart by an empty line
+# ---- lists: lines, and rows
 
 def lines(path):
     """Of a list; one that begins with `#` is none."""
@@ -63,13 +62,6 @@ def lines(path):
 def rows(path):
     """The lines of a table, as lists of what stands between ` | `."""
     return [[part.strip() for part in f'{line} '.split(' | ')] for line in lines(path)]
-
-
-def blocks(path):
-    """Each block's name, its first line, with its pairs of a word and a text, `WORD: TEXT`, in order."""
-    for block in re.split(r'\n{2,}', re.sub(r'^#.*\n', '', path.read_text(encoding='utf-8'), flags=re.M).strip('\n')):
-        name, *rest = block.split('\n')
-        yield name, [tuple(line.split(': ', 1)) for line in rest]
 
 
 # ---- what the tests of a module ask for, begun before they do, side by side
