@@ -46,26 +46,18 @@ WITHOUT_AXIOMS, OF_THE_COMPILER = 'argon2_c', {'memcpy', 'memmove', 'memset'}
 
 def check_layer(begun, name, words, shown):
     """A layer has a word for each way, where it is proved a call that this way makes, else a file of CI."""
-    calls, promised = [path for path in shown if '::' in path], {path for path, *_ in rows(PROMISES)}
-    lacking = [path for path in shown if path not in promised and not (TOP / path).is_file()]
-    lacking += [way for way, word in zip(begun, words) if word == 'proved'
-                and not any(call.startswith((*way.split(), 'argon2::parts::')) for call in calls)]
-    lacking += ['a file'] * (calls == shown and bool({'checked', 'tested'} & {*words}))
-    lacking += ['a word for each way'] * (len(words) != len(begun) or not {*words} <= {*COLOURS, '-'})
-    lacking += ['a way that is proved'] * (bool(calls) and 'proved' not in words)
-    need(not lacking, f'docs/layers.txt: {name} lacks {lacking}')
-
-
-def box(x, y, width, word):
-    """A word in a box of its colour."""
-    written = plots.text(x + width / 2, y + 18, word, 'middle', 'caption').replace('<text', '<text style="fill:#000"')
-    return f'<rect x="{x:.1f}" y="{y}" width="{width:.1f}" height="{HEIGHT}" rx="3" fill="{COLOURS[word]}"/>{written}'
+    calls, there = [path for path in shown if '::' in path], {*files(), *(path for path, *_ in rows(PROMISES))}
+    unshown = [way for way, word in zip(begun, words) if word == 'proved'
+               and not any(call.startswith((*way.split(), 'argon2::parts::')) for call in calls)]
+    need(there.issuperset(shown) and not unshown, f'docs/layers.txt: {name}: {unshown} or one of {shown} is not there')
+    need(len(words) == len(begun) and {*COLOURS, '-'}.issuperset(words), f'docs/layers.txt: {name} has {words}')
+    need(bool(calls) == ('proved' in words) and (calls != shown or {'checked', 'tested'}.isdisjoint(words)),
+         f'docs/layers.txt: {name}: {shown} does not show {words}')
 
 
 def draw_layers():
     (_, *ways), (_, *begun), *layers = rows('docs/layers.txt')
-    step, parts = (plots.WIDTH - 2 * LEFT) / len(ways), []
-    bottom = TOP_OF_ROWS + ROW * len(layers)
+    step, bottom, parts = (plots.WIDTH - 2 * LEFT) / len(ways), TOP_OF_ROWS + ROW * len(layers), []
     for index, way in enumerate(ways):
         # (every second one is higher, so that names have room, and a line leads down from it)
         x, y = LEFT + step * (index + 0.5) - GAP / 2, TOP_OF_ROWS - 16 * (2 - index % 2)
@@ -74,7 +66,10 @@ def draw_layers():
     for y, (name, *words, shown) in zip(range(TOP_OF_ROWS, bottom, ROW), layers):
         check_layer(begun, name, words, shown.split())
         parts += [plots.text(LEFT, y + 14, name, kind='own')]
-        parts += [box(LEFT + step * at, y + 20, step - GAP, word) for at, word in enumerate(words) if word != '-']
+        for x, word in ((LEFT + step * at, word) for at, word in enumerate(words) if word != '-'):
+            box = f'<rect x="{x:.1f}" y="{y + 20}" width="{step - GAP:.1f}" height="{HEIGHT}" rx="3" '
+            written = plots.text(x + (step - GAP) / 2, y + 38, word, 'middle', 'caption')
+            parts += [box + f'fill="{COLOURS[word]}"/>' + written.replace('<text', '<text style="fill:#000"')]
     plots.picture(TOP / 'docs/what-is-proved.svg', bottom, TITLE, CAPTION, parts)
 
 

@@ -7,7 +7,7 @@ import textwrap
 from pathlib import Path
 
 sys.path.insert(0, str(Path(__file__).resolve().parents[1]))
-from shared import TOP, lines, run  # noqa: E402
+from shared import TOP, lines, run, said  # noqa: E402
 from parts import filled, marked  # noqa: E402
 
 os.environ['PATH'] += ':/opt/rattle/bin'
@@ -15,13 +15,10 @@ os.environ['PATH'] += ':/opt/rattle/bin'
 FIRST, HOW_TO_CHANGE, PROMISES, REPORTS = 'README.md', 'CONTRIBUTING.md', 'docs/promises.txt', 'docs/reports.txt'
 
 
-class Fault(Exception):
-    """Something that cannot be written as it is."""
-
-
 def need(is_well, fault):
+    """Ends at something that cannot be written as it is."""
     if not is_well:
-        raise Fault(fault)
+        sys.exit(f'.ci/pages/write: {fault}')
 
 
 def read(file):
@@ -82,9 +79,7 @@ class Copy:
         (self.top / 'bindings/out').symlink_to(TOP / 'bindings/out')
 
     def run(self, *words):
-        came = run(*words, cwd=self.top)
-        assert came.returncode == 0, came.stdout
-        return came.stdout
+        return said(*words, cwd=self.top)
 
     def change(self, file, old, new):
         """Puts another text in the place of one, or makes a file."""

@@ -12,7 +12,7 @@ import re
 from collections import defaultdict
 
 from common import TOP, fill, link, need, quoted, read, row, wrapped
-from shared.sources import CLAUSE, Sources, crates
+from shared.sources import Sources, crates
 
 PAGE = 'docs/DEFINITIONS.md'
 # The calls of one step of a hash, which the driver makes where it has threads or a callback, with the theorem that
@@ -21,13 +21,15 @@ STEPS = ['proved_argon2_job_begin', 'proved_argon2_job_fill', 'proved_argon2_job
          'any_order_of_steps']
 PRINTED = ['hash_raw', 'verify_encoded_within', 'proved_argon2_hash_over', 'proved_argon2_verify_over']
 CODE = {path: read(path) for path in sorted(TOP.glob('crates/*/src/**/*.rt'))}
-# An import of definitions, and how one begins; a definition; and one below no comment.
+# An import of definitions, how one begins, and one of a type of the code; a definition; and one below no comment.
 BEGIN = r'^ *(?:ghost use|use(?= \w+\.)) '
 IMPORT = re.compile(BEGIN + r'((?:\w+\.)*\w+)(?:\.\{([^}]*)\}| as \w+) ?(?:;|$)', re.M)
+OF_A_TYPE = re.compile(r'\.declared\.[a-z_.]*([A-Z]\w*)')
 DEFINED = r'^(?:abbrev |unfoldable )?pub (?!mod |use )(?:record |data )?([^\s({:]+)'
 BARE = re.compile(r'^(?!--(?! end$| ----)).*\n' + DEFINED, re.M)
-DECLARED = re.compile(r'^ *(?:pub(?:\([a-z]+\))? )?(?:struct|type) (\w+)\b([^;{]*(?:;|\{.*?^\}))', re.M | re.S)
-MODEL = re.compile(r'^impl(?:<[^>]*>)? Model for (\w+)[^{]*\{\n.*?^\}', re.M | re.S)
+# A type with its fields, and its view.
+TYPE = re.compile(r'^ *(?:pub(?:\([a-z]+\))? )?(?:struct|type) (\w+)\b([^;{]*(?:;|\{.*?^\}))', re.M | re.S)
+VIEW = re.compile(r'^impl(?:<[^>]*>)? Model for (\w+)[^{]*\{\n.*?^\}', re.M | re.S)
 
 
 def path_of(module):
@@ -43,59 +45,54 @@ def definitions_of(module):
 
 @functools.cache
 def imports_of(text):
-    """What a text imports of ours: by a name there the file that defines it, and the types of the code."""
-    found, files, types = IMPORT.findall(text), {}, set()
+    """Our definitions that a text imports: by a name there the file that defines it."""
+    found, files = IMPORT.findall(text), {}
     need(len(found) == len(re.findall(BEGIN, text, re.M)), f'an import is not understood: {text[:300]}')
     for module, names in found:
-        _, crate, *place = module.removesuffix('.TheVariants').split('.')
-        if not module.startswith('Rattle.') or crate not in crates() or 'TheConstants' in place:
-            continue
-        if 'declared' in place:
-            types.add(place[-1])
+        if not re.match(rf'Rattle\.(?:{"|".join(crates())})\.(?!.*\b(?:TheConstants|declared)\b)', module):
             continue
         need(names, f'{module}: a whole module')
-        for name, *other in (part.strip().split(' as ') for part in names.split(',') if part.strip()):
+        for name, _, other in (part.strip().partition(' as ') for part in names.split(',') if part.strip()):
             need(name in definitions_of(module), f'{module}.{name} is no definition')
-            files[other[0] if other else name] = module
-    return files, types
+            files[other or name] = module
+    return files
+
+
+def closure(found, following):
+    """What is found, what follows from each of it, and so on."""
+    met = set()
+    while found:
+        met |= found
+        found = {further for one in found for further in following(one)} - met
+    return met
 
 
 def reached_from(text, imports):
-    """The files of the names that a text has, with those from which they import; and the types of all of these."""
-    words, (files, own_types) = {*re.findall(r'[^\s(){}\[\],;.@]+', text)}, imports_of(imports)
-    met, types = set(), own_types & words
-    waiting = {file for name, file in files.items() if words.issuperset(filter(None, name.split('◌')))}
-    while waiting:
-        met |= waiting
-        found = [imports_of(read(path_of(file))) for file in waiting]
-        types |= {name for _, names in found for name in names}
-        waiting = {file for inner, _ in found for file in inner.values()} - met
-    return met, types
+    """The files of the names that a text has, with those from which they import."""
+    words = {*re.findall(r'[^\s(){}\[\],;.@]+', text)}
+    own = {file for name, file in imports_of(imports).items() if words.issuperset(filter(None, name.split('◌')))}
+    return closure(own, lambda file: imports_of(read(path_of(file))).values())
 
 
 def views_of(names):
     """The views of these types, and of those that they hold: by name the file and the text of `impl Model`."""
-    views = {view[1]: (path, view[0]) for path, text in CODE.items() for view in MODEL.finditer(text)}
     held = defaultdict(set)
-    for name, fields in (pair for text in CODE.values() for pair in DECLARED.findall(text)):
+    for name, fields in (pair for text in CODE.values() for pair in TYPE.findall(text)):
         held[name].update(re.findall(r'\w+', re.sub('//.*', '', fields)))
-    met, waiting = set(), {*names}
-    while waiting:
-        met |= waiting
-        waiting = {inner for name in waiting for inner in held.get(name, ())} - met
-    return {name: views[name] for name in sorted(met & views.keys())}
+    views = {view[1]: (path, view[0]) for path, text in CODE.items() for view in VIEW.finditer(text)}
+    return {name: views[name] for name in sorted(closure(names, lambda name: held[name]) & views.keys())}
 
 
 class Door:
     """One way in: its calls, and the files on which their clauses, and the views of the types there, rest."""
 
     def __init__(self, calls):
-        found = [reached_from(clauses_of(call), call.module.text) for call in calls]
-        words = re.findall(r'\w+', '\n'.join(map(contract_of, calls)))
-        self.calls, self.own = calls, {file for files, _ in found for file in files}
-        self.views = views_of({*words, *(name for _, types in found for name in types)})
-        self.files = self.own.union(*(reached_from(text, CODE[path])[0] for path, text in self.views.values()))
+        self.calls = calls
+        self.own = set().union(*(reached_from(clauses_of(call), call.module.text) for call in calls))
         need(self.own, f'no clause of {[call.name for call in calls]} is found')
+        texts = [*map(contract_of, calls), *(' '.join(OF_A_TYPE.findall(read(path_of(file)))) for file in self.own)]
+        self.views = views_of({*re.findall(r'\w+', '\n'.join(texts))})
+        self.files = self.own.union(*(reached_from(text, CODE[path]) for path, text in self.views.values()))
 
 
 def order_of(module):
@@ -118,7 +115,7 @@ def contract_of(call):
 
 
 def clauses_of(call):
-    return re.search(rf'(?:{CLAUSE.pattern}.*)?\Z', contract_of(call), re.M | re.S)[0]
+    return re.search(r'(?:^ +(?:requires|ensures)\*?(?: \w+)? \{.*)?\Z', contract_of(call), re.M | re.S)[0]
 
 
 def contracts(calls):

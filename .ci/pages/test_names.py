@@ -25,12 +25,17 @@ FILES = files()
 PAGES = [*(file for file in FILES if file.endswith('.md')), PROMISES, 'docs/promises-open.txt']
 PATHS = {f'/{path}' for file in FILES for path in (file, *map(str, Path(file).parents))}
 # What is named and lies elsewhere: in upstream's source, in rust-argon2, in the toolchain, or where it is installed.
-ELSEWHERE = re.compile(r'[/~$]|.*(?:/out/|NAME|CRATE)|(?:rattle/logic|Denote/|Prog/|antt/)|(?:opt\.c|ref\.c|'
+ELSEWHERE = re.compile(r'[/~$]|.*(?:\bout/|NAME|CRATE)|(?:rattle/logic|Denote/|Prog/|antt/)|(?:opt\.c|ref\.c|'
                        r'index_alpha|Block::as_u8_mut|blake2b_simd|constant_time_eq|lib/libproved_argon2\.so)$')
 # Code, in a fence or set apart by four blanks, and paragraphs.
-BLOCK = re.compile(r'^```(\w*)\n(.*?)^```$|((?:^ {4}[^\n]*(?:\n|\Z))+)|(?:^(?!```| {4})[^\n]+(?:\n|\Z))+', re.M | re.S)
-NAMED_PATH = re.compile(r'(?<![\w`/.])((?:docs/)?[A-Z]+\.md|\.ci/[a-z_/]+(?:\.[a-z]+)?)')
-COMMAND = re.compile(r'(rt|(proved-)?argon2)( |$)|\.ci|\./|bench/|bindings/|crates/')
+BLOCK = re.compile(r'^```(\w*)\n((?:.*\n)*?)```$|((?:^ {4}.*(?:\n|\Z))+)|((?:^(?!```| {4}).+(?:\n|\Z))+)', re.M)
+# A path, and a name of the code; how a command begins, what stands before one, and those whose words are told elsewhere
+# than in their files.
+PATH = re.compile(rf'(?!\.\.)[\w./~$-]*(?:/[\w./~$-]*|(?:{"|".join(map(re.escape, ENDINGS))}))')
+NAME = re.compile(r'(?=.*(?:[a-z]_|::))\w+(?:::\w+)*')
+COMMAND = re.compile(r'(?:rt|(?:proved-)?argon2)(?: |$)|\.ci|\./|bench/|bindings/|crates/')
+SEPARATOR = re.compile(r'(?:&&|[|;()]|sudo |^)\s*')
+PROGRAMS = {'./argon2', 'argon2', 'proved-argon2', *['rt'] * bool(shutil.which('rt'))}
 # How a word of a command stands where it is told: after `rt`, as a label of a shell's `case`, between quotes.
 WORD_IN_HELP = r'(?:\brt |\||\b\d:|#     \./argon2 |"){}(?![\w-])'
 # A link with its words, its path and its heading; a page's name; and the pages that are packed without the others.
@@ -59,19 +64,17 @@ def words():
 
 @cache
 def help_of(command):
-    """What tells of the words of a command; nothing for `rt` where it is not there."""
-    if command == 'rt':
-        return run('rt', 'help').stdout if shutil.which('rt') else ''
-    program = read('bindings/shell/commands.sh') + read('crates/argon2_commands/src/command.rt')
-    return program + read('argon2') if command == './argon2' else program
+    """What tells of the words of a command."""
+    programs = 'bindings/shell/commands.sh', 'crates/argon2_commands/src/command.rt', 'argon2'
+    return run('rt', 'help').stdout if command == 'rt' else ''.join(map(read, programs))
 
 
 @cache
 def avoided():
     table = read(HOW_TO_CHANGE).partition('\n## Words\n')[2].partition('\n## ')[0]
-    forms = [r'\s+'.join(word.split()) for cell in SAID_OTHERWISE.findall(table) for word in cell.split(', ')]
+    forms = ', '.join(SAID_OTHERWISE.findall(table)).split(', ')
     assert len(forms) > 10
-    return re.compile(rf'\b(?:{"|".join(forms)})s?\b', re.I)
+    return re.compile(rf'\b(?:{"|".join(forms)})s?\b'.replace(' ', r'\s+'), re.I)
 
 
 def words_avoided_in(text):
@@ -82,36 +85,28 @@ def beside(page, path):
     return os.path.normpath(Path(page).parent / path) if path else page
 
 
-def is_path(word):
-    return re.fullmatch(r'(?!\.\.)[\w./~$-]+', word) and ('/' in word or Path(word).suffix in ENDINGS)
-
-
-def has_path(name, page):
+def is_lost_path(name, page):
     plain = name.rstrip('/').removeprefix('./')
     first = f'/{plain.split("/")[0]}'
     places = tuple(f'/{path}{end}' for path in (plain, beside(page, plain)) for end in ('', '.rt', '.antt', '.py'))
     is_below = first in PATHS or f'/crates{first}' in PATHS
-    return (ELSEWHERE.match(name) or any(path.endswith(places) for path in PATHS)
-            or not is_below and plain in everything())
+    return not ELSEWHERE.match(name) and not any(path.endswith(places) for path in PATHS) and (
+        is_below or plain not in everything())
 
 
-def is_name(word):
-    return re.fullmatch(r'\w+(::\w+)*', word) and re.search(r'[a-z]_|::', word)
+def is_lost_name(word):
+    """Whether not each part of a name is a word of the sources, or stands in one where it begins or ends with `_`."""
+    is_there = word in everything() if re.search('^_|_$', word) else words().issuperset(word.split('::'))
+    return not is_there and not ELSEWHERE.match(word)
 
 
-def has_name(word):
-    """Whether each part of a name is a word of the sources, or stands in one where it begins or ends with `_`."""
-    is_piece = word.startswith('_') or word.endswith('_')
-    return ELSEWHERE.match(word) or is_piece and word in everything() or words().issuperset(word.split('::'))
-
-
-def lost_of(first, *others):
-    """What of a command is not there: its file, its first word or an option; or nothing."""
-    if first in ('rt', './argon2', 'argon2', 'proved-argon2'):
-        is_known = not others or not help_of(first) or not re.fullmatch('-*[a-z][a-z-]*', others[0])
-        return '' if is_known or re.search(WORD_IN_HELP.format(others[0]), help_of(first)) else f'{first} {others[0]}'
-    lost = [word for word in others if re.fullmatch('--[a-z-]+', word) and word not in text_of(first)]
-    return ' '.join([first, *lost]) if lost or not text_of(first) else ''
+def lost_words(first, *others):
+    """The words of a command that are not there: its file, its first word or an option."""
+    if first in PROGRAMS:
+        return [word for word in others[:1] if re.fullmatch('-*[a-z][a-z-]*', word)
+                and not re.search(WORD_IN_HELP.format(word), help_of(first))]
+    return [first] * (not text_of(first)) + [
+        word for word in others if re.fullmatch('--[a-z-]+', word) and word not in text_of(first)]
 
 
 def faults_of_links(page, text):
@@ -119,12 +114,11 @@ def faults_of_links(page, text):
     are named without a link."""
     for name, path, heading in LINK.findall(text):
         to = beside(page, path)
-        there = text_of(to)
-        headings = re.sub(r'[^\w\n -]', '', '\n'.join(re.findall('^#+ (.*)$', there, re.M)).lower()).replace(' ', '-')
-        if heading and there and heading not in headings.split('\n'):
+        headings = re.sub(r'[^\w\n -]', '', '\n'.join(re.findall('^#+ (.*)$', text_of(to), re.M)).lower())
+        if heading and text_of(to) and heading not in headings.replace(' ', '-').split('\n'):
             yield f'{to}#{heading}'
         if re.fullmatch(r'`\w+`', name) and to.endswith(('.rt', '.antt')) and not re.search(
-                rf'\b(?:proved_argon2_)?{name.strip("`")}\b', there):
+                rf'\b(?:proved_argon2_)?{name.strip("`")}\b', text_of(to)):
             yield f'{name} in {to}'
     yield from (f'link to {name}' for name in PAGE.findall(re.sub(r'\[[^\]]*\]\([^)]*\)|`[^`]*`', '', text)))
 
@@ -132,12 +126,12 @@ def faults_of_links(page, text):
 def faults(page, text, is_code):
     """What a paragraph or a line of code names that is not there, and its words that are avoided."""
     quoted = [' '.join(quote.split()) for quote in re.findall(r'`([^`]+)`', text)]
-    paths = {*NAMED_PATH.findall(text), *(path for _, path, _ in LINK.findall(text) if path), *filter(is_path, quoted)}
-    yield from (path for path in paths if not has_path(path, page))
-    parts = (part.strip() for one in ([text] if is_code else quoted) for part in re.split(r'&&|[|;()]|sudo ', one))
-    yield from filter(None, (lost_of(*part.split()) for part in parts
-                             if COMMAND.match(part) and (is_code or ' ' in part)))
-    yield from (word for word in quoted if is_name(word) and not has_name(word))
+    paths = {*(path for _, path, _ in LINK.findall(text) if path), *filter(PATH.fullmatch, ' '.join(quoted).split())}
+    yield from (path for path in paths if is_lost_path(path, page))
+    yield from (word for word in quoted if NAME.fullmatch(word) and is_lost_name(word))
+    for part in SEPARATOR.split(text) if is_code else (part for one in quoted for part in SEPARATOR.split(one)):
+        if COMMAND.match(part) and (is_code or ' ' in part):
+            yield from lost_words(*part.split())
     if not is_code and not PACKED.fullmatch(page):
         yield from faults_of_links(page, text)
     if not is_code and page != HOW_TO_CHANGE:
@@ -146,10 +140,10 @@ def faults(page, text, is_code):
 
 def faults_of(page, text):
     """Those of the paragraphs of a page, and of the lines of its code for a shell. Other code is left out."""
-    for block in BLOCK.finditer(text):
-        code = block[3] or (block[2] if block[1] == 'sh' else None)
-        for part in code.splitlines() if code else [block[0]] * (block[2] is None):
-            yield from ((part, fault) for fault in faults(page, part, code is not None))
+    for language, fenced, apart, paragraph in BLOCK.findall(text):
+        code = apart or fenced * (language == 'sh')
+        for part in [paragraph, *code.splitlines()]:
+            yield from ((part, fault) for fault in faults(page, part, part != paragraph))
 
 
 @pytest.mark.parametrize('page', PAGES)

@@ -1,5 +1,5 @@
-"""What stands in the sources, in the form that `rt fmt` gives them: functions with their spans and clauses, the paths
-under which users find them, tests, and mutants."""
+"""What stands in the sources, in the form that `rt fmt` gives them: functions with their spans, the paths under which
+users find them, tests, and mutants."""
 
 import re
 import textwrap
@@ -8,14 +8,12 @@ from itertools import accumulate
 
 from shared import TOP
 
-CLAUSE = re.compile(r'^ +(requires|ensures)\*?(?: (\w+))? \{', re.M)
-# What begins or ends with a line: a block of a type or a trait, a ghost item there, and a whole function, whose body
-# ends where its indentation comes back. One that only declares it ends with `;` before any `{` that ends a line.
+# What begins or ends with a line: a block of a type or a trait, and a whole function, whose body ends where its
+# indentation comes back. One that only declares it ends with `;` before any `{` that ends a line.
 ITEM = re.compile(r'''
     ^\}$ |
     ^(?:impl(?:<[^{]*?>)?\ (?:(?:fmt::|std::\w+::)?(?P<trait>.+)\ for\ )?|(?P<of_trait>(?:pub(?:\(crate\))?\ )?trait\ ))
         (?P<owner>[\w'_,\ &()\[\];]+) |
-    ^\ {4}ghost\ (?!(?:use|Value|view|inverse|invariant)\b)(?P<ghost>\w+)\ = |
     ^(?P<attributes>(?:\ *\#\[.*\n)*)(?P<indent>\ *)(?P<visibility>pub(?:\([a-z]+\))?\ )?(?:const\ )?
         (?:extern\ "C"\ )?fn\ (?P<name>\w+)
         (?P<rest>.*\{\}$ | .*(?<!\{)(?:\n(?P=indent)(?:\ .*|\).*)(?<!\{))*?(?<=;)$ |
@@ -51,10 +49,10 @@ def spelled(name):
 
 
 class Function:
-    """A function: its module, its type `of` and what trait it is of, its lines, `begin` with its attributes, and the
-    names of its clauses and of the ghost items before it. `owner` is `Board` or `Default for Config`."""
+    """A function: its module, its type `of` and what trait it is of, and its lines, `begin` with its attributes.
+    `owner` is `Board` or `Default for Config`."""
 
-    def __init__(self, module, found, owner, ghosts):
+    def __init__(self, module, found, owner):
         self.module, self.name, self.indent, self.path = module, found['name'], found['indent'], None
         if found['rest'] is None:
             raise ValueError(f'the function {self.name} has no end where `rt fmt` puts it')
@@ -66,8 +64,6 @@ class Function:
         self.what = owner['trait'] or '' if owner and self.indent else ''
         self.of = re.sub('<.*', '', owner['owner'].strip()) if owner and self.indent else ''
         self.owner = f'{self.what} for {self.of}' if self.what else self.of
-        head = found['rest'].partition(f'\n{self.indent}{{\n')[0]  # (a closure in the body may have clauses too)
-        self.clauses = [*(ghosts if self.what else ()), *(clause.groups() for clause in CLAUSE.finditer(head))]
 
     @property
     def crate(self):
@@ -86,14 +82,12 @@ class Function:
 
 def functions_in(text, module=None):
     """The functions of a file."""
-    owner, ghosts = None, []
+    owner = None
     for found in ITEM.finditer(text):
         if found['name']:
-            yield Function(module, found, owner, ghosts)
-        elif found['ghost']:
-            ghosts.append(found['ghost'])
+            yield Function(module, found, owner)
         else:
-            owner, ghosts = found['owner'] and found, []
+            owner = found['owner'] and found
 
 
 class Module:
