@@ -7,7 +7,7 @@ from pathlib import Path
 import pytest
 import shared
 from shared import TOP, rows
-from shared.sources import MUTANTS, TRIED_ALONE, Sources, edits
+from shared.sources import MUTANTS, TRIED_ALONE
 
 TESTS = Path(__file__).with_name('tests.txt')
 EDITS = [(*re.split('[/ ]', what), *fields) for what, *fields in rows(TESTS) if fields]
@@ -35,7 +35,7 @@ def top(tmp_path_factory):
     for crate, name, kind, old, new, goals, _ in EDITS:
         goals = ''.join(f'goal: {goal}\n' for goal in goals.split(', ') if goal)
         file = f'{kind}/{name}.edit' if kind == TRIED_ALONE else MUTANTS
-        (made / f'crates/{crate}/{file}').parent.mkdir(exist_ok=True)
+        (made / f'crates/{crate}/{file}').parent.mkdir(parents=True, exist_ok=True)
         with (made / f'crates/{crate}/{file}').open('a', encoding='utf-8') as to:
             to.write(f'{kind} {name}\n' * (kind != TRIED_ALONE) + f'file: src/lib.rt\nold: {old}\nnew: {new}\n{goals}')
             to.write('\n' * (kind != TRIED_ALONE))
@@ -59,10 +59,3 @@ def test_others(top, judged):
     assert status == 0 and good == {'sample/good': judged[1]['sample/good']}
     assert wrong == 1 and none['no_such_edit'].startswith('FAILED: ')
     assert before and files_of(top / 'crates/sample/out/incremental') == before
-
-
-def test_each_block_is_judged():
-    """A block of a file is an edit, also where its crate is in no list."""
-    blocks = [line for file in TOP.glob(f'crates/*/{MUTANTS}') for line in file.read_text(encoding='utf-8').split('\n')
-              if re.match('(refused|proved) ', line)]
-    assert len(blocks) + len([*TOP.glob(f'crates/*/{TRIED_ALONE}/*.edit')]) == len(edits(Sources()))

@@ -172,6 +172,8 @@ class Edit:
         self.goals, self.functions = re.findall(r'^goal: (.+)$', self.text, re.M), []
         self.is_of_theorem = any(goal.startswith('proofs/') for goal in self.goals)
         faults, texts = [] if is_edit else [f'it is no edit: {self.text}'], {}
+        if (crate,) not in sources.modules:
+            faults.append('crates.txt lacks its crate')
         if verdict not in (REFUSED, PROVED):
             faults.append(f'it is neither {REFUSED} nor {PROVED}, but {verdict}')
         for file, old, new in self.pairs:
@@ -184,7 +186,6 @@ class Edit:
             around = (f for f in sources.functions if f.module.file == file and f.first <= line <= f.last)
             self.functions.append(next(around, None))
         self.fault = next(iter(faults), None) or next(filter(None, map(self.lost_promise, texts, texts.values())), None)
-        self.file = self.pairs[-1][0] if self.pairs else None
         self.function = self.functions[-1] if self.functions else None
 
     def lost_promise(self, file, text):
@@ -203,9 +204,8 @@ def promises(text):
     return [promise[0] for promise in PROMISE.finditer(text)]
 
 
-def blocks_of_edits(crate):
+def blocks_of_edits(folder):
     """The text of each mutant of a crate, below a line with its verdict and its name."""
-    folder = TOP / 'crates' / crate
     for file in sorted(folder.glob(f'{TRIED_ALONE}/*.edit')):
         yield f'{REFUSED} {file.stem}\n{file.read_text(encoding="utf-8")}'
     text = (folder / MUTANTS).read_text(encoding='utf-8') if (folder / MUTANTS).exists() else ''
@@ -213,7 +213,8 @@ def blocks_of_edits(crate):
 
 
 def edits(sources):
-    """All mutants, crate by crate."""
-    found = [Edit(crate, block, sources) for crate in crates() for block in blocks_of_edits(crate)]
+    """All mutants, folder by folder: also those of one that crates.txt lacks, which nothing tries."""
+    found = [Edit(folder.name, block, sources) for folder in sorted(TOP.glob('crates/*/'))
+             for block in blocks_of_edits(folder)]
     assert found, 'there is no edit'
     return found
