@@ -80,16 +80,6 @@ class Function:
         return bool(re.fullmatch('::'.join(filter(None, names)), place))
 
 
-def functions_in(text, module=None):
-    """The functions of a file."""
-    owner = None
-    for found in ITEM.finditer(text):
-        if found['name']:
-            yield Function(module, found, owner)
-        else:
-            owner = found['owner'] and found
-
-
 class Module:
     """One file of src/, or a public module within one, which has no file: its functions, what it names to its users,
     and what of that it passes on by which path."""
@@ -97,36 +87,28 @@ class Module:
     def __init__(self, path, text, file=None):
         self.path, self.text, self.file = path, text, file
         self.is_test = 'tests' in path[1:]
-        self.inner = [Module((*path, name), textwrap.dedent(inside)) for name, inside in INNER.findall(text)]
         self.types = {name: derives for derives, name in TYPE.findall(text)}
         passed_on = (item for at, names in RE_EXPORT.findall(text.replace('pub use crate::', f'pub use {path[0]}::'))
                      for item in [f'{at}::{name}' for name in re.findall(r'\w+', names)] or [at])
         self.exports = {item.split('::')[-1]: tuple(item.split('::')) for item in passed_on}
-        self.functions = [*functions_in(text, self)] if file else []
+        owner, self.functions = None, []
+        for found in ITEM.finditer(text if file else ''):
+            if found['name']:
+                self.functions.append(Function(self, found, owner))
+            else:
+                owner = found['owner'] and found
         functions = (f.name for f in self.functions if f.is_public and not f.owner)
         self.names = {*self.types, *self.exports, *re.findall(r'^pub mod (\w+)(?:;| \{)', text, re.M), *functions}
-
-
-def read_modules(crate):
-    """The modules of a crate, and those within them."""
-    folder = TOP / 'crates' / crate / 'src'
-    for file in sorted(folder.rglob('*.rt')):
-        parts = file.relative_to(folder).with_suffix('').parts
-        path = (crate,) if parts in (('lib',), ('main',)) else (crate, *parts)
-        module = Module(path, file.read_text(encoding='utf-8'), file)
-        yield from (module, *module.inner)
-
-
-def rank(path):
-    """Of several public paths users go by one of argon2, and the shortest."""
-    return path[0] != 'argon2', len(path)
 
 
 class Sources:
     """All crates."""
 
     def __init__(self):
-        self.modules = {module.path: module for crate in crates() for module in read_modules(crate)}
+        self.modules = {}
+        for crate in crates():
+            for file in sorted(TOP.glob(f'crates/{crate}/src/**/*.rt')):
+                self.read(file, crate)
         self.functions = [f for module in self.modules.values() for f in module.functions]
         self.tests = {f.name: f for f in self.functions if f.is_test}
         texts = '\n'.join(module.text for module in self.modules.values())
@@ -137,13 +119,21 @@ class Sources:
         for function in (f for f in self.functions if not f.module.is_test):
             function.path = self.path_of(function)
 
+    def read(self, file, crate):
+        """Adds the module of a file, and those within it."""
+        parts = file.relative_to(TOP / 'crates' / crate / 'src').with_suffix('').parts
+        path, text = (crate, *(parts if parts not in (('lib',), ('main',)) else ())), file.read_text(encoding='utf-8')
+        inner = {(*path, name): textwrap.dedent(inside) for name, inside in INNER.findall(text)}
+        self.modules |= {path: Module(path, text, file), **{at: Module(at, inside) for at, inside in inner.items()}}
+
     def walk(self, place, public):
         """Notes the public path under which an item is found, one of argon2, and the shortest, and of what is in it."""
         holder, module = self.modules.get(place[:-1]), self.modules.get(place)
         if holder and place[-1] in holder.exports:
             path = holder.exports[place[-1]]
             return self.walk(path if path[:1] in self.modules else holder.path + path, public)
-        if place not in self.places or rank(public) < rank(self.places[place]):
+        known = self.places.get(place)
+        if not known or (public[0] != 'argon2', len(public)) < (known[0] != 'argon2', len(known)):
             self.places[place] = public
             for name in module.names if module else ():
                 self.walk((*place, name), (*public, name))
@@ -195,13 +185,9 @@ class Edit:
             return None
         if 'src' not in file.relative_to(TOP / 'crates' / self.crate).parts:
             return f'it changes {file.relative_to(TOP)}, which has no bodies'
-        before, after = (Counter(map(str.strip, promises(code))) for code in (file.read_text(encoding='utf-8'), text))
+        before, after = (Counter(promise[0].strip() for promise in PROMISE.finditer(code))
+                         for code in (file.read_text(encoding='utf-8'), text))
         return next((f'it changes more than bodies: {promise}' for promise in before - after), None)
-
-
-def promises(text):
-    """The clauses and ghost items of a file."""
-    return [promise[0] for promise in PROMISE.finditer(text)]
 
 
 def blocks_of_edits(folder):
