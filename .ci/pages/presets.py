@@ -3,14 +3,15 @@ default limits (crates/argon2/src/limits.rt), the most threads of a stored strin
 (errors.txt), the fields of settings, limits and options (the header), the version (VERSION) and who publishes this
 (PROJECT)."""
 
+import itertools
 import re
 import textwrap
 
 from common import fill, need, read, rows, write
 
 TABLE = '.ci/pages/presets.txt'
-PRESET = re.compile(r"[{}] ([^{}]*?): Argon2\w+, [^{}]*? pub fn (\w+)\(\) -> Config<'a> "
-                    r'ensures \{ IsPreset (\w+) (\d+) (\d+) result \}')
+PRESET = re.compile(r"[{}] (?P<what>[^{}]*?): Argon2\w+, [^{}]*? pub fn (?P<name>\w+)\(\) -> Config<'a> "
+                    r'ensures \{ IsPreset (?P<variant>\w+) (?P<m>\d+) (?P<t>\d+) result \}')
 # The preset whose promise the calls for C of the other ones share.
 WITH_PROMISE = 'owasp1'
 OPTION = re.compile(r'^    /\* [^/]* \*/\n    ((.*?)(\w+));', re.M)
@@ -25,10 +26,10 @@ TYPES = {
     'proved_argon2_run *': (8, '*const c_void', 'null()', 'ctypes.c_void_p'),
     'proved_argon2_tell *': (8, 'Option<extern "C" fn(*mut c_void, u64, u64) -> c_int>', 'None', '_Tell'),
 }
-# What may stand for the value of a mark, of the project by the mark; and between two words.
+# What may stand for the value of a mark, of some by the mark; and between two words.
 VALUE, BLANK = r'\d(?:[\d_,]*\d)?(?: [KMG]iB)?', r'\s+(?:(?:///|//|#|\*|--) )?'
-OF_PROJECT = {'v': r'\d+\.\d+\.\d+', **dict.fromkeys('ngh', r'[\d_]+'), 'Name': '[^\n"]*?', 'Publisher': '[^\n"<]*?',
-              'Contact': r'[^\s"<]+@[\w.-]+\w', 'Address': 'https://[^\\s"`]*'}
+OF_MARK = {'.': r'[^\d().]{1,40}', 'v': r'\d+\.\d+\.\d+', **dict.fromkeys('ngh', r'[\d_]+'), 'Name': '[^\n"]*?',
+           'Publisher': '[^\n"<]*?', 'Contact': r'[^\s"<]+@[\w.-]+\w', 'Address': 'https://[^\\s"`]*'}
 
 
 def one_line(text):
@@ -39,13 +40,11 @@ def one_line(text):
 def presets():
     """What each mark stands for, by a preset."""
     text = one_line(read('crates/argon2_standard/src/config.rt'))
-    found = PRESET.findall(text)
+    found = [preset.groupdict() for preset in PRESET.finditer(text)]
     need(len(found) == text.count('pub fn') - text.count('&self)'), 'a preset of config.rt has another form')
-    for what, name, variant, kib, passes in found:
-        camel = re.sub(r'_(\w)', lambda letter: letter[1].upper(), name)
-        yield {'what': what, 'name': name, 'Name': camel, 'variant': variant, 'm': kib, 't': passes,
-               'mib': str(int(kib) // 1024), 'memory': memory_of(kib),
-               'passes': f'{passes} pass' + 'es' * (passes != '1')}
+    return [{**preset, 'Name': re.sub(r'_(\w)', lambda letter: letter[1].upper(), preset['name']),
+             'mib': str(int(preset['m']) // 1024), 'memory': memory_of(preset['m']),
+             'passes': f'{preset["t"]} pass' + 'es' * (preset['t'] != '1')} for preset in found]
 
 
 def memory_of(kib):
@@ -108,19 +107,12 @@ def lists():
     """Each list by the name that places call it."""
     (original, *recommended), every, (fields_of_options, size) = presets(), [*errors()], options()
     most = re.search(r'MAX_WORKERS: u32 = (\d+);', read('crates/argon2/src/stored.rt'))
-
-    def errors_in(first, end):
-        return [error for error in every if first <= int(error['n']) < end]
     return {
         'presets': [original, *recommended],
         'recommended': recommended,
         'others': [preset for preset in recommended if preset['name'] != WITH_PROMISE],
-        'errors': errors_in(0, 64),
-        'errors of C': errors_in(64, 128),  # of the proved calls for C alone
-        'errors of the driver': errors_in(128, 256),
-        'proved errors': errors_in(0, 128),
-        'errors from 64 on': errors_in(64, 256),
-        'all errors': every,
+        **{f'errors {first}-{end}': [error for error in every if first <= int(error['n']) < end]
+           for first, end in itertools.combinations((0, 64, 128, 256), 2)},
         'settings': fields('Settings'),
         'limits': fields('Limits'),
         'default limits': [default_limits()],
@@ -147,29 +139,32 @@ def part_of(form, items):
 
 
 def with_values(text, form, values):
-    """A text in which all places of a form have these values in the place of whatever others; blanks and ends of lines
-    are as they were."""
-    first, *pieces = re.split(r'<(\w+)>', form)
-    names, texts = pieces[::2], [re.sub(r'(?:\\ )+', lambda _: BLANK, re.escape(one)) for one in (first, *pieces[1::2])]
-    pattern = ''.join(f'{OF_PROJECT.get(name, VALUE)}({after})' for name, after in zip(names, texts[1:]))
-    return re.sub(f'({texts[0]}){pattern}', lambda found: found[1] + ''.join(
-        values[name] + after for name, after in zip(names, found.groups()[1:])), text)
+    """A text in which all places of a form have these values in the place of whatever others, and how many there are.
+    Blanks, ends of lines and what stands for <.> are as they were."""
+    pieces = re.split(r'<(\w+|\.)>', form)
+    kinds = [OF_MARK.get(piece, VALUE) if at % 2 else re.sub(r'(?:\\ )+', lambda _: BLANK, re.escape(piece))
+             for at, piece in enumerate(pieces)]
+    return re.subn(''.join(f'({kind})' for kind in kinds), lambda found: ''.join(
+        values.get(piece, old) if at % 2 else old for at, (piece, old) in enumerate(zip(pieces, found.groups()))), text)
 
 
 def write_place(file, what, items, mark, form):
     """Writes the items of a list to a place, or sees that it has them."""
     need(items and len({put_in(item, form) for item in items}) == len(items), f'{file}, {what}: two have one text')
-    line = re.sub('.*<has>|</has>.*', '', form, flags=re.S)
+    text = read(file)
     if mark == '=':
-        write(file, with_values(read(file), form, items[0]))
+        text, count = with_values(text, form, items[0])
+        need(count, f'{file}, {what}: nothing is as {form}')
+        write(file, text)
+    elif mark == '-':
+        lost = [item['name'] for item in items if one_line(put_in(item, form)).strip() not in one_line(text)]
+        need(not lost, f'{file}, {what}: it lacks {lost}, each as {form}')
     elif mark == '+':
-        lost = [item for item in items if put_in(item, line) not in read(file)]
-        write(file, '\n'.join([read(file), *(put_in(item, re.sub('</?has>', '', form) + '\n') for item in lost)]))
-    elif mark != '-':
-        return fill(file, mark, [part_of(form, items)], 'presets')
-    text = one_line(read(file))
-    lost = [item['name'] for item in items if one_line(put_in(item, line)).strip() not in text]
-    return need(not lost, f'{file}, {what}: it lacks {lost}, each as {line}')
+        has = re.search('^old: .*', form, re.M)[0]
+        lost = [item for item in items if put_in(item, has) not in text]
+        write(file, '\n'.join([text, *(put_in(item, form + '\n') for item in lost)]))
+    else:
+        fill(file, mark, [part_of(form, items)], 'presets')
 
 
 def write_all():
