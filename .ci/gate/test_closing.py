@@ -6,16 +6,15 @@ import shutil
 import pytest
 from shared import TOP, run
 
+PASSES, SKIPS = 'judge(one QUICK COMMAND true)\n', 'judge(two QUICK COMMAND sh -c "exit 77")'
 # What CTest is to run | what .ci/run has to end with.
 RUNS = {
-    'all pass': ('judge(one QUICK COMMAND true)', '1 passed, 0 failed, 0 skipped'),
-    'one fails': ('judge(one QUICK COMMAND true)\njudge(two QUICK COMMAND false)', '1 passed, 1 failed, 0 skipped'),
-    'one is skipped': ('judge(one QUICK COMMAND true)\njudge(two QUICK COMMAND sh -c "exit 77")',
-                       '1 passed, 0 failed, 1 skipped'),
-    'nothing passes': ('judge(two QUICK COMMAND sh -c "exit 77")', '0 passed, 1 failed, 1 skipped'),
+    'all pass': (PASSES, '1 passed, 0 failed, 0 skipped'),
+    'one fails': (f'{PASSES}judge(two QUICK COMMAND false)', '1 passed, 1 failed, 0 skipped'),
+    'one is skipped': (PASSES + SKIPS, '1 passed, 0 failed, 1 skipped'),
+    'nothing passes': (SKIPS, '0 passed, 1 failed, 1 skipped'),
     'nothing is there': ('', '0 passed, 1 failed, 0 skipped'),
-    'one cannot begin': ('judge(one QUICK COMMAND true)\njudge(two QUICK COMMAND /no/program)',
-                         '1 passed, 1 failed, 0 skipped'),
+    'one cannot begin': (f'{PASSES}judge(two QUICK COMMAND /no/program)', '1 passed, 1 failed, 0 skipped'),
     'what others need fails': ('judge(one EARLY MAKES built COMMAND false)\njudge(two COMMAND true)',
                                '0 passed, 2 failed, 0 skipped'),
     'a module of pytest has no test': ('judge(test_none.py QUICK)', '0 passed, 1 failed, 0 skipped'),

@@ -35,7 +35,9 @@ PATH = re.compile(rf'(?!\.\.)[\w./~$-]*(?:/[\w./~$-]*|(?:{"|".join(map(re.escape
 NAME = re.compile(r'(?=.*(?:[a-z]_|::))\w+(?:::\w+)*')
 COMMAND = re.compile(r'(?:rt|(?:proved-)?argon2)(?: |$)|\.ci|\./|bench/|bindings/|crates/')
 SEPARATOR = re.compile(r'(?:&&|[|;()]|sudo |^)\s*')
-PROGRAMS = {'./argon2', 'argon2', 'proved-argon2', *['rt'] * bool(shutil.which('rt'))}
+HELP = {'rt': run('rt', 'help').stdout if shutil.which('rt') else '',
+        **dict.fromkeys(('./argon2', 'argon2', 'proved-argon2'), ''.join(map(read, (
+            'argon2', 'bindings/shell/commands.sh', 'crates/argon2_commands/src/command.rt'))))}
 # How a word of a command stands where it is told: after `rt`, as a label of a shell's `case`, between quotes.
 WORD_IN_HELP = r'(?:\brt |\||\b\d:|#     \./argon2 |"){}(?![\w-])'
 # A link with its words, its path and its heading; a page's name; and the pages that are packed without the others.
@@ -51,22 +53,8 @@ def text_of(file):
     return (TOP / file).read_bytes().decode('utf-8', 'replace') if (TOP / file).is_file() else ''
 
 
-@cache
-def everything():
-    return '\n'.join(text_of(file) for file in FILES if not file.endswith('.md') and not file.startswith('docs/')
-                     and file != '.ci/pages/test_names.py')
-
-
-@cache
-def words():
-    return {*re.findall(r'\w+', '\n'.join([everything(), *PATHS]))}
-
-
-@cache
-def help_of(command):
-    """What tells of the words of a command."""
-    programs = 'bindings/shell/commands.sh', 'crates/argon2_commands/src/command.rt', 'argon2'
-    return run('rt', 'help').stdout if command == 'rt' else ''.join(map(read, programs))
+SOURCES = '\n'.join(text_of(file) for file in FILES if not re.match(r'docs/|.*\.md$|\.ci/pages/test_names', file))
+WORDS_OF_SOURCES = {*re.findall(r'\w+', '\n'.join([SOURCES, *PATHS]))}
 
 
 @cache
@@ -77,34 +65,27 @@ def avoided():
     return re.compile(rf'\b(?:{"|".join(forms)})s?\b'.replace(' ', r'\s+'), re.I)
 
 
-def words_avoided_in(text):
-    return avoided().findall(NAMED.sub('', text))
-
-
-def beside(page, path):
-    return os.path.normpath(Path(page).parent / path) if path else page
-
-
 def is_lost_path(name, page):
     plain = name.rstrip('/').removeprefix('./')
     first = f'/{plain.split("/")[0]}'
-    places = tuple(f'/{path}{end}' for path in (plain, beside(page, plain)) for end in ('', '.rt', '.antt', '.py'))
+    beside = os.path.normpath(Path(page).parent / plain)
+    places = tuple(f'/{path}{end}' for path in (plain, beside) for end in ('', '.rt', '.antt', '.py'))
     is_below = first in PATHS or f'/crates{first}' in PATHS
     return not ELSEWHERE.match(name) and not any(path.endswith(places) for path in PATHS) and (
-        is_below or plain not in everything())
+        is_below or plain not in SOURCES)
 
 
 def is_lost_name(word):
     """Whether not each part of a name is a word of the sources, or stands in one where it begins or ends with `_`."""
-    is_there = word in everything() if re.search('^_|_$', word) else words().issuperset(word.split('::'))
+    is_there = word in SOURCES if re.search('^_|_$', word) else WORDS_OF_SOURCES.issuperset(word.split('::'))
     return not is_there and not ELSEWHERE.match(word)
 
 
 def lost_words(first, *others):
     """The words of a command that are not there: its file, its first word or an option."""
-    if first in PROGRAMS:
-        return [word for word in others[:1] if re.fullmatch('-*[a-z][a-z-]*', word)
-                and not re.search(WORD_IN_HELP.format(word), help_of(first))]
+    if first in HELP:
+        return [word for word in others[:1] if HELP[first] and re.fullmatch('-*[a-z][a-z-]*', word)
+                and not re.search(WORD_IN_HELP.format(word), HELP[first])]
     return [first] * (not text_of(first)) + [
         word for word in others if re.fullmatch('--[a-z-]+', word) and word not in text_of(first)]
 
@@ -113,7 +94,7 @@ def faults_of_links(page, text):
     """The headings that are not there, the names that are not in the files to which they are links, and the pages that
     are named without a link."""
     for name, path, heading in LINK.findall(text):
-        to = beside(page, path)
+        to = os.path.normpath(Path(page).parent / path) if path else page
         headings = re.sub(r'[^\w\n -]', '', '\n'.join(re.findall('^#+ (.*)$', text_of(to), re.M)).lower())
         if heading and text_of(to) and heading not in headings.replace(' ', '-').split('\n'):
             yield f'{to}#{heading}'
@@ -126,7 +107,8 @@ def faults_of_links(page, text):
 def faults(page, text, is_code):
     """What a paragraph or a line of code names that is not there, and its words that are avoided."""
     quoted = [' '.join(quote.split()) for quote in re.findall(r'`([^`]+)`', text)]
-    paths = {*(path for _, path, _ in LINK.findall(text) if path), *filter(PATH.fullmatch, ' '.join(quoted).split())}
+    paths = {*(path for _, path, _ in LINK.findall(text) if path), *filter(PATH.fullmatch, ' '.join(quoted).split()),
+             *re.findall(r'\.ci/[\w./]*\w', text)}
     yield from (path for path in paths if is_lost_path(path, page))
     yield from (word for word in quoted if NAME.fullmatch(word) and is_lost_name(word))
     for part in SEPARATOR.split(text) if is_code else (part for one in quoted for part in SEPARATOR.split(one)):
@@ -135,7 +117,7 @@ def faults(page, text, is_code):
     if not is_code and not PACKED.fullmatch(page):
         yield from faults_of_links(page, text)
     if not is_code and page != HOW_TO_CHANGE:
-        yield from (f'other word for {word}' for word in words_avoided_in(text))
+        yield from (f'other word for {word}' for word in avoided().findall(NAMED.sub('', text)))
 
 
 def faults_of(page, text):
@@ -153,7 +135,7 @@ def test_what_a_page_names_is_there(page):
 
 @pytest.mark.parametrize('text', [
     'in [a page](NOTHING.md)', '[it](docs/USE.md#nothing)', 'see docs/C.md',
-    '`it`, of LIBARGON2.md', '[it](USE.md), and\n(USE.md)', 'run `.ci/pages/nothing`', 'a row of `nothing.txt`',
+    '`it`, of LIBARGON2.md', '[it](USE.md), and\n(USE.md)', 'run `.ci/pages/nothing`', 'run .ci/nothing', 'a row of `nothing.txt`',
     'it is `crates/argon2/src/nothing.rt`', 'the folder `argon2_text/specs/Nothing`', '    .ci/pages/write --nothing',
     '    ./argon2 nothing', 'a `hash_of_nothing`', 'a `Config::nothing_of`',
     '[`blake2b`](crates/argon2/src/hashing.rt)', 'the Refusals of a call', 'it spells\na value',
@@ -164,7 +146,7 @@ def test_a_wrong_text_is_found(text):
 
 def test_definitions_have_the_words_of_the_pages():
     comments = {file: '\n'.join(re.findall(r'^ *-- (.*)$', read(file), re.M)) for file in files('crates/*/specs/**')}
-    assert comments and not [file for file, text in comments.items() if words_avoided_in(text)]
+    assert comments and not [file for file, text in comments.items() if avoided().search(NAMED.sub('', text))]
 
 
 def test_all_pages_can_be_read():
