@@ -1,6 +1,5 @@
 """What pages claim of the sources and of the toolchain: how many mutants there are, what depends on secrets
-(.ci/secrets/depends.txt), what is proved in each way in (docs/layers.txt), what the prover takes without proof, and the
-hash of each group of files of verdicts.txt.
+(.ci/secrets/depends.txt), what the prover takes without proof, and the hash of each group of files of verdicts.txt.
 
 No test finds that those files accept one password more than the proved calls do, so each change of them has to be seen.
 """
@@ -9,26 +8,16 @@ import hashlib
 import json
 import re
 import shutil
-import sys
 import textwrap
 from collections import Counter, defaultdict
 from pathlib import Path
 
-from common import PROMISES, REPORTS, TOP, files, fill, need, quoted, read, row, rows, run, write
+from common import REPORTS, TOP, files, fill, need, quoted, read, row, rows, run, write
 from machines import machines
 from shared.sources import Sources, crates, edits
 from toolchain import is_current
 
-sys.path.append(str(TOP / 'bench'))
-import plots  # noqa: E402
-
 CLAIMS, VERDICTS = 'docs/CLAIMS.md', '.ci/pages/verdicts.txt'
-# The picture of the layers: its words, the colours of those in its boxes, and its measures.
-TITLE = 'Which code is proved, for each way in?'
-CAPTION = ('proved: the prover accepted its contract; checked: by a second tool, for all inputs; tested: by CI; '
-           'trusted: none of these; empty: there is no such layer. C, direct: the proved calls, without the driver')
-COLOURS = {'proved': '#009e73', 'checked': '#56b4e9', 'tested': '#e69f00', 'trusted': '#8a8d91'}
-LEFT, TOP_OF_ROWS, ROW, HEIGHT, GAP = 8, 84, 54, 26, 3
 # The parts of the logic, whose axioms are named; and what makes machine code of what is proved.
 PARTS = 'antt/lib', 'antt/port/mathlib', 'antt/port/seplogic', 'logic'
 COMPILERS = {'bin/rattle': 'the prover, with its back ends',
@@ -42,35 +31,6 @@ BUILT = {'The archive for C': ('argon2_c', f'{NEWEST}/libargon2_c.a'),
          "The shell's tool": ('argon2_tool', f'{NEWEST}/argon2_tool')}
 # The crate that rests on no function of C, and calls no others than the compiler puts in for copies and zeros.
 WITHOUT_AXIOMS, OF_THE_COMPILER = 'argon2_c', {'memcpy', 'memmove', 'memset'}
-
-
-def check_layer(begun, name, words, shown):
-    """A layer has a word for each way, where it is proved a call that this way makes, else a file of CI."""
-    calls, there = [path for path in shown if '::' in path], {*files(), *(path for path, *_ in rows(PROMISES))}
-    unshown = [way for way, word in zip(begun, words) if word == 'proved'
-               and not any(call.startswith((*way.split(), 'argon2::parts::')) for call in calls)]
-    need(there.issuperset(shown) and not unshown, f'docs/layers.txt: {name}: {unshown} or one of {shown} is not there')
-    need(len(words) == len(begun) and {*COLOURS, '-'}.issuperset(words), f'docs/layers.txt: {name} has {words}')
-    need(bool(calls) == ('proved' in words) and (calls != shown or {'checked', 'tested'}.isdisjoint(words)),
-         f'docs/layers.txt: {name}: {shown} does not show {words}')
-
-
-def draw_layers():
-    (_, *ways), (_, *begun), *layers = rows('docs/layers.txt')
-    step, bottom, parts = (plots.WIDTH - 2 * LEFT) / len(ways), TOP_OF_ROWS + ROW * len(layers), []
-    for index, way in enumerate(ways):
-        # (every second one is higher, so that names have room, and a line leads down from it)
-        x, y = LEFT + step * (index + 0.5) - GAP / 2, TOP_OF_ROWS - 16 * (2 - index % 2)
-        parts += [plots.text(x, y, way, 'middle', 'head'),
-                  f'<line class="grid" x1="{x:.1f}" x2="{x:.1f}" y1="{y + 6}" y2="{bottom - 6}"/>']
-    for y, (name, *words, shown) in zip(range(TOP_OF_ROWS, bottom, ROW), layers):
-        check_layer(begun, name, words, shown.split())
-        parts += [plots.text(LEFT, y + 14, name, kind='own')]
-        for x, word in ((LEFT + step * at, word) for at, word in enumerate(words) if word != '-'):
-            box = f'<rect x="{x:.1f}" y="{y + 20}" width="{step - GAP:.1f}" height="{HEIGHT}" rx="3" '
-            written = plots.text(x + (step - GAP) / 2, y + 38, word, 'middle', 'caption')
-            parts += [box + f'fill="{COLOURS[word]}"/>' + written.replace('<text', '<text style="fill:#000"')]
-    plots.picture(TOP / 'docs/what-is-proved.svg', bottom, TITLE, CAPTION, parts)
 
 
 def lines_of_the_toolchain(top):
@@ -148,7 +108,6 @@ def write_all():
     depends = [row(call, words) for _, call, words in rows('.ci/secrets/depends.txt')]
     fill(CLAIMS, 'mutants', [f'{counts[False]} mutants and {counts[True]} equivalent mutants.'], 'claims')
     fill(CLAIMS, 'secrets', ['| Call | What depends on these |', '|---|---|', *depends], 'claims')
-    draw_layers()
     if shutil.which('rt'):
         write_reports(Path(shutil.which('rt')).resolve().parent.parent)
     heads = [line for line in read(VERDICTS).splitlines() if line[0] == '#']

@@ -134,8 +134,8 @@ def test_what_a_page_names_is_there(page):
 
 
 @pytest.mark.parametrize('text', [
-    'in [a page](NOTHING.md)', '[it](docs/USE.md#nothing)', 'see docs/C.md',
-    '`it`, of LIBARGON2.md', '[it](USE.md), and\n(USE.md)', 'run `.ci/pages/nothing`', 'run .ci/nothing', 'a row of `nothing.txt`',
+    'in [a page](NOTHING.md)', '[it](docs/USE.md#nothing)', 'see docs/C.md', '`it`, of LIBARGON2.md',
+    '[it](USE.md), and\n(USE.md)', 'run `.ci/pages/nothing`', 'run .ci/nothing', 'a row of `nothing.txt`',
     'it is `crates/argon2/src/nothing.rt`', 'the folder `argon2_text/specs/Nothing`', '    .ci/pages/write --nothing',
     '    ./argon2 nothing', 'a `hash_of_nothing`', 'a `Config::nothing_of`',
     '[`blake2b`](crates/argon2/src/hashing.rt)', 'the Refusals of a call', 'it spells\na value',

@@ -11,6 +11,9 @@ from shared.sources import Sources, edits
 # A phone's pixels, and those of the smallest letter there.
 PHONE, LEAST = 400, 10.8
 BLOCK = re.compile(r'^```(rust|antt)\n(.*?)^```$', re.M | re.S)
+# Of the picture of the layers: a way in, and a layer.
+WAY = re.compile(r'<!-- (.*) -->\n<text x="(\d+)\.5" y="\d+" class="head">')
+LAYER = re.compile(r'<!-- (.*) -->\n<g transform=.*><text x="8" y="14" class="own">.*\n(.*)</g>')
 PROMISED = {'argon2_blocks', 'argon2_standard', 'argon2_memory', 'argon2_fill', 'argon2_text', 'argon2',
             'argon2_commands', 'argon2_tool', 'argon2_c'}
 
@@ -61,6 +64,20 @@ def test_no_tag_while_there_are_placeholders():
 def test_the_letters_of_a_picture_can_be_read_on_a_phone(picture):
     width = int(re.search(r'viewBox="0 0 (\d+) ', read(picture))[1])
     assert min(map(int, re.findall(r'(?:font|font-size): (\d+)px', read(picture)))) * min(1, PHONE / width) >= LEAST
+
+
+def test_each_layer_of_the_picture_is_shown():
+    """Where it is proved by a call that this way makes, and where it is checked or tested by a file."""
+    picture, there = read('docs/what-is-proved.svg'), {*files(), *(path for path, *_ in rows(PROMISES))}
+    ways = {int(x) - 27: begun.split() for begun, x in WAY.findall(picture)}
+    layers = [(shown.split(), re.findall(r'#(\w+)" x="(\d+)"', words)) for shown, words in LAYER.findall(picture)]
+    assert len(ways) == picture.count('"head"') and len(layers) == picture.count('"own"') > 10
+    for shown, words in layers:
+        calls, said = [path for path in shown if '::' in path], {word for word, _ in words}
+        assert there.issuperset(shown) and all(f'<g id="{word}">' in picture for word in said)
+        assert bool(calls) == ('proved' in said) and (calls != shown or said.isdisjoint({'checked', 'tested'}))
+        assert all(any(call.startswith((*ways[int(x)], 'argon2::parts::')) for call in calls)
+                   for word, x in words if word == 'proved')
 
 
 def test_each_mutant_fits_and_names_what_it_breaks():
