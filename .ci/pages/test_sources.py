@@ -11,6 +11,7 @@ LONGEST = 120
 # A language: the ends of names and the first lines that its files have, and what judges them.
 LANGUAGES = {
     'Python': (r'\.py', r'#!.*python3', 'flake8'),
+    'the package for Python': (r'/proved_argon2/\w+\.py', '//!$^', 'pydocstyle --select D100,D101,D102,D103,D104,D106'),
     'shell': (r'\.(ba)?sh', r'#!.*\b(ba)?sh', 'shellcheck --severity warning --format gcc'),
     'Rust': (r'\.rs', '//!$^', 'rustfmt --edition 2021 --config-path bindings/rust --check --files-with-diff'),
     'C': (r'\.[ch]', '//!$^', 'clang-format --dry-run -Werror --ferror-limit=0'),
@@ -72,12 +73,6 @@ def test_no_files_of_a_crate_use_each_other(crate):
 def test_a_planted_cycle_is_found():
     assert len(cycle_of({('a',): 'use crate::b::it;', ('b',): 'fn it() { super::c::it() }',
                          ('c',): 'use crate::{a::it};', (): 'use a::it;'})) == 4
-
-
-def test_each_item_for_python_has_a_docstring(needs):
-    needs('pydocstyle')
-    came = run('pydocstyle', '--select=D100,D101,D102,D103,D104,D106', 'bindings/python/src/proved_argon2')
-    assert came.returncode == 0, came.stdout
 
 
 def test_each_item_for_javascript_has_a_comment():

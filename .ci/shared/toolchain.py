@@ -22,6 +22,5 @@ def build_preloaded(name, folder):
     what binds it later saves the program's registers on the stack."""
     made = os.path.join(folder, f'{os.path.basename(name)}.so')
     subprocess.run(['gcc', '-std=gnu11', '-O1', '-Wall', '-Wextra', '-Werror', '-D_GNU_SOURCE', '-shared', '-fPIC',
-                    '-nostdlib',
-                    '-Wl,-z,now', '-o', made, TOP / f'.ci/{name}.c'], check=True)
+                    '-nostdlib', '-Wl,-z,now', '-o', made, TOP / f'.ci/{name}.c'], check=True)
     return made
