@@ -24,7 +24,7 @@ CODE = {path: read(path) for path in sorted(TOP.glob('crates/*/src/**/*.rt'))}
 # An import of definitions, how one begins, and one of a type of the code; a definition; and one below no comment.
 BEGIN = r'^ *(?:ghost use|use(?= \w+\.)) '
 IMPORT = re.compile(BEGIN + r'((?:\w+\.)*\w+)(?:\.\{([^}]*)\}| as \w+) ?(?:;|$)', re.M)
-OF_A_TYPE = re.compile(r'\.declared\.[a-z_.]*([A-Z]\w*)')
+OF_A_TYPE = re.compile(r'\.declared\.[a-z0-9_.]*([A-Z]\w*)')
 DEFINED = r'^(?:abbrev |unfoldable )?pub (?!mod |use )(?:record |data )?([^\s({:]+)'
 BARE = re.compile(r'^(?!--(?! end$| ----)).*\n' + DEFINED, re.M)
 # A type with its fields, and its view.
@@ -32,15 +32,10 @@ TYPE = re.compile(r'^ *(?:pub(?:\([a-z]+\))? )?(?:struct|type) (\w+)\b([^;{]*(?:
 VIEW = re.compile(r'^impl(?:<[^>]*>)? Model for (\w+)[^{]*\{\n.*?^\}', re.M | re.S)
 
 
-def path_of(module):
-    """The file `Rattle.CRATE.specs.NAME`."""
-    return TOP.joinpath('crates', *module.split('.')[1:]).with_suffix('.antt')
-
-
 @functools.cache
-def definitions_of(module):
-    need(path_of(module).is_file(), f'{module} is no file')
-    return re.findall(DEFINED, read(path_of(module)), re.M)
+def definitions_of(file):
+    need(file.is_file(), f'{file} is no file')
+    return re.findall(DEFINED, read(file), re.M)
 
 
 @functools.cache
@@ -52,9 +47,10 @@ def imports_of(text):
         if not re.match(rf'Rattle\.(?:{"|".join(crates())})\.(?!.*\b(?:TheConstants|declared)\b)', module):
             continue
         need(names, f'{module}: a whole module')
+        file = TOP.joinpath('crates', *module.split('.')[1:]).with_suffix('.antt')
         for name, _, other in (part.strip().partition(' as ') for part in names.split(',') if part.strip()):
-            need(name in definitions_of(module), f'{module}.{name} is no definition')
-            files[other or name] = module
+            need(name in definitions_of(file), f'{module}.{name} is no definition')
+            files[other or name] = file
     return files
 
 
@@ -71,7 +67,7 @@ def reached_from(text, imports):
     """The files of the names that a text has, with those from which they import."""
     words = {*re.findall(r'[^\s(){}\[\],;.@]+', text)}
     own = {file for name, file in imports_of(imports).items() if words.issuperset(filter(None, name.split('◌')))}
-    return closure(own, lambda file: imports_of(read(path_of(file))).values())
+    return closure(own, lambda file: imports_of(read(file)).values())
 
 
 def views_of(names):
@@ -90,22 +86,16 @@ class Door:
         self.calls = calls
         self.own = set().union(*(reached_from(clauses_of(call), call.module.text) for call in calls))
         need(self.own, f'no clause of {[call.name for call in calls]} is found')
-        texts = [*map(contract_of, calls), *(' '.join(OF_A_TYPE.findall(read(path_of(file)))) for file in self.own)]
+        texts = [*map(contract_of, calls), *(' '.join(OF_A_TYPE.findall(read(file))) for file in self.own)]
         self.views = views_of({*re.findall(r'\w+', '\n'.join(texts))})
         self.files = self.own.union(*(reached_from(text, CODE[path]) for path, text in self.views.values()))
 
 
-def order_of(module):
+def order_of(file):
     """Crates in the order of crates.txt, and files in that of the file above them."""
-    _, crate, *above, name = module.split('.')
-    text = read(f'crates/{crate}/{"/".join(above if above[1:] else (*above, "Lib"))}.antt')
-    return crates().index(crate), above, text.index(f'pub mod {name}\n')
-
-
-def line_of(module):
-    _, crate, _, *parts = module.split('.')
-    place = '/'.join(parts)
-    return f'- [{place}.antt](../crates/{crate}/specs/{place}.antt): {len(definitions_of(module))}'
+    crate, *_ = file.relative_to(TOP / 'crates').parts
+    above = file.with_name('Lib.antt') if file.parent.name == 'specs' else file.parent.with_suffix('.antt')
+    return crates().index(crate), above, read(above).index(f'pub mod {file.stem}\n')
 
 
 def contract_of(call):
@@ -147,10 +137,9 @@ def doors():
 
 def check(root):
     """The clauses of the root calls rest on the files of the folders Standard, where each definition has a comment."""
-    standard = {'.'.join(('Rattle', *path.relative_to(TOP / 'crates').with_suffix('').parts))
-                for path in TOP.glob('crates/*/specs/Standard/*.antt')}
-    others = sorted(standard ^ root.own)
-    bare = [f'{file}.{name}' for file in standard for name in BARE.findall(read(path_of(file)))]
+    standard = {*TOP.glob('crates/*/specs/Standard/*.antt')}
+    bare = [f'{name} in {file}' for file in standard for name in BARE.findall(read(file))]
+    others = standard ^ root.own
     need(not others, f'files below the root calls in no folder Standard, or there and below none: {others}')
     need(not bare, f'definitions without a comment: {bare}')
 
@@ -164,7 +153,9 @@ def write_all():
     fill(PAGE, 'counts', heads + counts, 'definitions')
     for name, door in known.items():
         fill(PAGE, f'contracts of {name}', contracts([call for call in door.calls if call not in done]), 'definitions')
-        fill(PAGE, f'definitions of {name}', map(line_of, sorted(door.files - seen, key=order_of)), 'definitions')
+        new = [f'- {link(str(file).partition("/specs/")[2], file)}: {len(definitions_of(file))}'
+               for file in sorted(door.files - seen, key=order_of)]
+        fill(PAGE, f'definitions of {name}', new, 'definitions')
         done, seen = done + door.calls, seen | door.files
     views = {view: found for door in known.values() for view, found in door.views.items()}
     places = ', '.join(link(view, path) for view, (path, _) in sorted(views.items()))
