@@ -7,14 +7,13 @@ from pathlib import Path
 import pytest
 
 sys.path.insert(0, str(Path(__file__).resolve().parent))
-from shared import TOP, run  # noqa: E402
+from shared import TOP, said  # noqa: E402
 
 
 @pytest.fixture(scope='session')
 def built():
     """The folder that has what this machine's build/all links."""
-    made = run('build/all')
-    assert made.returncode == 0, made.stdout
+    said('build/all')
     return TOP / 'bindings/out'
 
 

@@ -9,7 +9,7 @@ import json
 import re
 import shutil
 import textwrap
-from collections import Counter, defaultdict
+from collections import Counter
 from pathlib import Path
 
 from common import REPORTS, TOP, files, fill, need, quoted, read, row, rows, run, write
@@ -37,15 +37,14 @@ def lines_of_the_toolchain(top):
     """The prover, and the axioms that the logic's files declare and accept."""
     axioms = [axiom for part in PARTS for path in sorted((top / 'rattle' / part).rglob('*.antt'))
               for axiom in re.findall(r'^ *axiom +(?:pub +)?([^\s:{]+)', read(path), re.M)]
-    users, projects = defaultdict(list), {path.parent.relative_to(top / 'rattle').as_posix(): json.loads(read(path))
-                                          for path in sorted((top / 'rattle').rglob('antt-project.json'))}
-    for folder, project in projects.items():
-        users[quoted(project.get('axioms', ()))].append(folder)
+    projects = {path.parent.relative_to(top / 'rattle').as_posix(): json.loads(read(path))
+                for path in sorted((top / 'rattle').rglob('antt-project.json'))}
     return [*(f'- {what}: `{file}`, SHA-256 `{hashlib.sha256((top / file).read_bytes()).hexdigest()}`'
               for file, what in COMPILERS.items()),
             f'- extensions outside the type theory: {quoted(projects["logic"]["native-extensions"])}',
             f'- axioms that the files of {quoted(PARTS)} declare: {quoted(axioms) or "none"}',
-            *(f'- axioms of the theory that {quoted(who)} may use: {names}' for names, who in users.items() if names)]
+            *(f'- axioms of the theory that `{folder}` may use: {quoted(project["axioms"])}'
+              for folder, project in projects.items() if project.get('axioms'))]
 
 
 def report_of(crate, built):
