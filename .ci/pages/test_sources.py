@@ -27,16 +27,11 @@ ITEM_OF_TYPES = re.compile(r'(\*/\n)?^((?:export (?!default)|declare | {4}(?:rea
 OF_CI = re.compile(r'\.ci\b(?!/pages/\w+(?: (?:\*/|-->))?$)')
 
 
-def first_line(name):
-    with open(TOP / name, 'rb') as file:
-        return file.readline(200).decode(errors='replace')
-
-
 @pytest.mark.parametrize('language', LANGUAGES)
 def test_files_are_laid_out(language, needs):
     end, begin, judge = LANGUAGES[language]
     own = [name for name in files() if not name.startswith('release/')
-           and (re.fullmatch(f'.*{end}', name) or re.match(begin, first_line(name)))]
+           and (re.fullmatch(f'.*{end}', name) or re.match(begin.encode(), (TOP / name).read_bytes()))]
     long = [f'{name}:{number}' for name in own for number, line in enumerate(read(name).splitlines(), 1)
             if len(line) > LONGEST and language != 'Rattle']
     assert own and not long
