@@ -50,7 +50,7 @@ def spelled(name):
 
 class Function:
     """A function: its module, its type `of` and what trait it is of, and its lines, `begin` with its attributes.
-    `owner` is `Board` or `Default for Config`."""
+    `owner` is `Board` or `Default for Config`, and `folders` say where its proofs stand below proofs/."""
 
     def __init__(self, module, found, owner):
         self.module, self.name, self.indent, self.path = module, found['name'], found['indent'], None
@@ -64,15 +64,7 @@ class Function:
         self.what = owner['trait'] or '' if owner and self.indent else ''
         self.of = re.sub('<.*', '', owner['owner'].strip()) if owner and self.indent else ''
         self.owner = f'{self.what} for {self.of}' if self.what else self.of
-
-    @property
-    def crate(self):
-        return self.module.path[0]
-
-    @property
-    def folders(self):
-        """Where its proofs stand below proofs/, in a folder of its name."""
-        return [*self.module.path[1:], *filter(None, [self.owner])]
+        self.crate, self.folders = module.path[0], [*module.path[1:], *filter(None, [self.owner])]
 
     def is_called(self, place):
         """Whether the checker calls it so: `crate::module::VariantOrd::cmp` is that of `impl Ord for Variant`."""
