@@ -12,7 +12,7 @@ from running import VERSION, first_lines, needs
 from shared import TOP, exports, ready, run, said
 
 CC = 'aarch64-linux-gnu-gcc', '-std=gnu11', '-O1', '-I', TOP / 'crates/argon2_c/include'
-SHARED, LIBARGON2 = f'libproved_argon2.so.{VERSION}', TOP / 'bindings/libargon2/tests'
+SHARED, LIBARGON2 = f'libproved_argon2.so.{VERSION}', TOP / 'bindings/libargon2/tests/fuzz.py'
 ROOT, SEED = TOP / 'out/aarch64/root', os.environ.get('SEED', str(secrets.randbits(32)))
 LIB = ROOT / 'usr/lib/aarch64-linux-gnu'
 TAG = '6d093c501fd5999645e0ea3bf620d7b8be7fd2db59c20d9fff9539da2bf57037'
@@ -84,13 +84,12 @@ def test_launcher_takes_the_programs(tool, tmp_path):
 
 # ---- libargon2's place, and Node's addon
 
-def test_libargon2_has_its_names_and_returns_the_same(made, tmp_path):
+def test_libargon2_has_its_names_and_returns_the_same(made):
     """In drawn calls of its whole interface."""
     libraries = LIB / 'libargon2.so.1', made / 'libargon2.so.1'
     assert exports(libraries[0]) == exports(libraries[1]) and len(exports(libraries[0])) == 22
     assert '[libargon2.so.1]' in said('readelf', '-dW', libraries[1])
-    said(*CC, LIBARGON2 / 'fuzz.c', '-ldl', '-o', tmp_path / 'fuzz')
-    said(*arm(tmp_path / 'fuzz', SEED, 2000, *libraries))
+    said(*arm(ROOT / 'usr/bin/python3', '-B', LIBARGON2, SEED, 2000, *libraries))
 
 
 @pytest.mark.parametrize('words', ['somesalt -e', 'somesalt -id -t 2 -k 256 -p 4 -l 24 -r'])
