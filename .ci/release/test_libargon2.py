@@ -44,7 +44,7 @@ def work(tmp_path_factory):
     link = '-L', folder / 'lib', '-largon2'
     wrapped = re.findall(r'__wrap_(\w+)\(.*;', (FACE / 'c/system.h').read_text(encoding='utf-8'))
     for name, *words in (
-        ('vectors', '-I', FACE / 'c', TESTS / 'vectors.c', *link), ('starved', TESTS / 'starved.c', *link, '-ldl'),
+        ('starved', TESTS / 'starved.c', *link, '-ldl'),
         ('secrets', '-I', FACE / 'c', TESTS / 'secrets.c', ARCHIVE, *link, '-pthread', '-Wl,-z,lazy',
          *(f'-Wl,--wrap={name}' for name in wrapped)),
     ):
@@ -95,11 +95,9 @@ def test_links_both_archives_and_names_an_older_processor(tmp_path):
 
 # ---- what it returns
 
-# The vectors of libargon2; what calls leave of H0 and a tag; at most 16 threads for an encoded hash; and processes to
-# which something is denied.
+# What calls leave of H0 and a tag; at most 16 threads for an encoded hash; and processes to which something is denied.
 @pytest.mark.parametrize('words', [
-    ('vectors',), ('secrets',), ('starved', 'texts', 0),
-    *(('starved', kind, at) for kind in KINDS for at in range(20))],
+    ('secrets',), ('starved', 'texts', 0), *(('starved', kind, at) for kind in KINDS for at in range(20))],
     ids=lambda words: ' '.join(map(str, words)))
 def test_program(work, words):
     said(*over(work / 'lib', work / words[0], *words[1:]))
@@ -110,8 +108,9 @@ def test_drawn_calls_return_what_they_do_of_debian(seed):
     said(*FUZZ, seed, CALLS, THEIRS, BUILT / 'libargon2.so.1')
 
 
-def test_vectors_of_debian(work):
-    said(work / 'vectors')
+@pytest.mark.parametrize('folder', ['', BUILT], ids=["Debian's", 'ours'])
+def test_vectors(folder):
+    said(*over(folder, '/usr/bin/python3', '-B', TESTS / 'vectors.py'))
 
 
 def fetched(kind, release, package, folder):
