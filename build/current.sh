@@ -3,25 +3,16 @@
 # shellcheck shell=sh disable=SC2034,SC2154
 
 # crates.txt and the sources (src, specs, proofs) of crates and of those below them: `find_sources NAME..` leaves them
-# in `sources`. Fails where a crate is not there, or stands above one below it.
+# in `sources`.
 find_sources() {
-    sources=crates.txt seen=' ' asked=" $* "
-    while IFS=':' read -r named below; do
-        crate=${named%% *}
-        seen="$seen$crate "
-        case $asked in *" $crate "*) ;; *) continue ;; esac
-        asked="$asked$below "
-        for lower in $below; do
-            case $seen in *" $lower "*) why="crates.txt has $crate above $lower" && return 1 ;; esac
-        done
+    sources=crates.txt
+    for crate in $(awk -F '[ :]' -v asked="$*" '{ below[$1] = $0 } END {
+        for (; match(asked, /[a-z0-9_]+/); asked = substr(asked, RSTART + RLENGTH))
+            if (!seen[crate = substr(asked, RSTART, RLENGTH)]++) { print crate; asked = asked " " below[crate] }
+    }' "$root/crates.txt"); do
         for kind in src specs proofs; do
             [ ! -d "$root/crates/$crate/$kind" ] || sources="$sources crates/$crate/$kind"
         done
-    done <<END
-$(tac "$root/crates.txt")
-END
-    for crate; do
-        case $seen in *" $crate "*) ;; *) why="crates.txt has no $crate" && return 1 ;; esac
     done
 }
 
@@ -55,55 +46,44 @@ find_machines() {
     machines=$(sed -n 's/^\([^# ]*\) .*/\1/p' "$root/build/machines.txt" | tr '\n' ' ')
 }
 
-# Prints the release of Debian and the packages of the tools here that link a part of release/, as its list names them,
-# `CODENAME PACKAGE=VERSION..`: `list_packages PART`. Fails where one is not there.
+# Prints the release of Debian and the packages of the tools here that link release/, as its list names them,
+# `CODENAME PACKAGE=VERSION..`. Fails where one is not there.
 list_packages() {
-    packages='gcc gcc-12 cpp-12 libgcc-12-dev binutils libc6-dev'
-    case $1 in
-    wasm32) packages='binaryen wabt' ;;
-    portable) packages=wabt ;;
-    windows-x86_64)
-        packages="$packages gcc-mingw-w64-x86-64-posix gcc-mingw-w64-x86-64-posix-runtime mingw-w64-x86-64-dev
-            binutils-mingw-w64-x86-64 mingw-w64-common python3-pyelftools"
-        ;;
-    aarch64)
-        packages='gcc-aarch64-linux-gnu gcc-12-aarch64-linux-gnu binutils-aarch64-linux-gnu libc6-dev-arm64-cross'
-        ;;
-    esac
-    # shellcheck disable=SC2086 # they are words
-    packages=$(dpkg-query -Wf '${Package}=${Version}\n' $packages) \
-        && echo "$(. /etc/os-release && echo "$VERSION_CODENAME")" $packages
+    (. /etc/os-release && printf %s "$VERSION_CODENAME")
+    dpkg-query -Wf ' ${Package}=${Version}' gcc gcc-12 cpp-12 libgcc-12-dev binutils libc6-dev \
+        gcc-aarch64-linux-gnu gcc-12-aarch64-linux-gnu binutils-aarch64-linux-gnu libc6-dev-arm64-cross \
+        gcc-mingw-w64-x86-64-posix gcc-mingw-w64-x86-64-posix-runtime mingw-w64-x86-64-dev binutils-mingw-w64-x86-64 \
+        mingw-w64-common python3-pyelftools binaryen wabt
 }
 
 # ---- what is built here
 
-# The file that names the kit that is here, into `kit_file`, or nothing.
-find_kit() {
-    kit_file='' rt=$(PATH=$PATH:/opt/rattle/bin && command -v rt) || return 0
-    [ ! -L "$rt" ] || rt=$(readlink -f -- "$rt")
-    [ ! -e "${rt%/*}/../KIT-ID" ] || kit_file=${rt%/*}/../KIT-ID
+# What a build of crates is made from, in a line: `line_of NAME..` leaves it in `line`, with the kit that is here, if
+# there is one, as `rt version` says it.
+line_of() {
+    find_sources "$@"
+    # shellcheck disable=SC2086 # they are words
+    sum_files $sources || return
+    line=$sum rt=$(PATH=$PATH:/opt/rattle/bin && command -v rt) || return 0
+    rt=$(readlink -f -- "$rt")
+    [ ! -e "${rt%/*}/../KIT-ID" ] || line="$sum $(paste -s -d ' ' -- "${rt%/*}/../KIT-ID")"
 }
 
-# What a build of crates is made from, in a line: `line_of NAME..` leaves it in `line`, with the kit, as `rt version`
-# says it.
-line_of() {
-    # shellcheck disable=SC2086 # they are words
-    find_sources "$@" && sum_files $sources || return
-    find_kit
-    line=$sum${kit_file:+ $(paste -s -d " " -- "$kit_file")}
+# Where a build is noted, and what of it beside what it is made from: `find_note FILE` leaves them in `note` and `of`.
+# The note of a folder stands in it, and goes where the folder is made anew.
+find_note() {
+    note=$1/sources of=folder
+    [ -d "$1" ] || { note=$1.sources && of=$(sha256sum <"$1"); }
 }
 
 # Whether a file, or what a folder has, is what was noted beside it, and was built of these sources of a crate, and by
 # this kit, where there is one: `is_built CRATE FILE`.
 is_built() {
     why="$2 is not built"
-    [ -e "$2" ] || return
-    line_of "$1" || return
-    why="$2 is older than its sources" of=folder noted_sum='' note=$2/sources
-    [ -d "$2" ] || { of=$(sha256sum <"$2") note=$2.sources; }
-    ! [ -e "$note" ] || { read -r noted && read -r noted_sum; } <"$note"
-    [ "$noted_sum" = "$of" ] || return
-    case $noted in "$line" | "$line "*) ;; *) return 1 ;; esac
+    [ -e "$2" ] && line_of "$1" && find_note "$2" || return
+    why="$2 is older than its sources" noted='' noted_of=''
+    ! [ -e "$note" ] || { read -r noted && read -r noted_of; } <"$note"
+    case $noted_of:$noted in "$of:$line" | "$of:$line "*) ;; *) return 1 ;; esac
 }
 
 # ---- release/
@@ -137,7 +117,8 @@ others_of() {
 
 # The hash of all that a folder of release/ is built from: `sum_part FOLDER`.
 sum_part() {
-    find_sources argon2_c argon2_program argon2_tool && others_of "$1" || return
+    find_sources argon2_c argon2_program argon2_tool
+    others_of "$1"
     # shellcheck disable=SC2086 # they are words
     sum_files $sources $others
 }
@@ -149,13 +130,16 @@ is_of_sources() {
     grep -qxF "# sources $1 $sum" "$root/release/MANIFEST" 2>/dev/null
 }
 
-# Whether a file is there as the manifest has it: `is_listed FILE`.
+# Whether a file of release/, or what a folder has, is as the manifest names it: `is_listed PART`. Lines that the list
+# and the sums of the files have in common are there twice.
 is_listed() {
-    why="release/MANIFEST does not name $1"
-    case $1 in *[!A-Za-z0-9_./-]* | */*/* | *..*) return 1 ;; esac
-    listed=$(grep "  $1\$" "$root/release/MANIFEST") || return
-    why="release/$1 is not there, and release/MANIFEST names it"
-    [ -f "$root/release/$1" ] || return
-    why="release/$1 is not the file that release/MANIFEST names: it was changed"
-    sum=$(sha256sum <"$root/release/$1") && [ "$listed" = "${sum%% *}  $1" ]
+    why="release/MANIFEST names no file of $1"
+    listed=$(grep -E "^[^#].*  $1(/|\$)" "$root/release/MANIFEST") || return
+    other=$(cd "$root/release" && { echo "$listed" && find "$1" ! -type d -exec sha256sum -- {} + 2>/dev/null; } \
+        | LC_ALL=C sort -k 2 | uniq -u | sed -n '1s/^.*  //p')
+    case $listed in
+    *"  $other"*) why="release/$other is not the file that release/MANIFEST names: it was changed, or is not there" ;;
+    *) why="release/MANIFEST does not name $other" ;;
+    esac
+    [ ! "$other" ]
 }

@@ -1,30 +1,28 @@
 """The toolchain's own code, which stands beside `rt`, and whether what it built is current."""
 import contextlib
-import importlib.machinery
-import importlib.util
+import functools
 import os
 import shutil
 import subprocess
 import sys
+from importlib.machinery import SourceFileLoader
+from importlib.util import module_from_spec, spec_from_loader
 
 HERE = os.path.dirname(os.path.realpath(__file__))
 
 
-def load(path):
-    """A script as a module."""
-    sys.path.append(os.path.dirname(path))
-    loader = importlib.machinery.SourceFileLoader(os.path.basename(path), path)
-    module = importlib.util.module_from_spec(importlib.util.spec_from_loader(loader.name, loader))
-    loader.exec_module(module)
-    return module
-
-
+@functools.cache
 def load_rt():
     """The command `rt` as a module; its library is `load_rt().rtlib`."""
     os.environ["PATH"] = os.environ.get("PATH", "") + ":/opt/rattle/bin"
     found = shutil.which("rt")
     assert found, "there is no rt, which proves and builds"
-    return load(os.path.realpath(found))
+    path = os.path.realpath(found)
+    sys.path.append(os.path.dirname(path))
+    loader = SourceFileLoader("rt", path)
+    module = module_from_spec(spec_from_loader("rt", loader))
+    loader.exec_module(module)
+    return module
 
 
 @contextlib.contextmanager
@@ -41,18 +39,18 @@ def locked(crate):
 
 def stamp(crate):
     """What the sources of a crate and of those below it are, in one line: `build/stamp` says how it is made."""
-    return subprocess.run([f"{HERE}/stamp", crate], stdout=subprocess.PIPE, check=True, text=True).stdout.strip()
+    return subprocess.check_output([f"{HERE}/stamp", crate], text=True).strip()
 
 
-def mark(crate, line, *files):
-    """Notes of files that they are built from these sources of a crate; gives whether these are still the same."""
-    return subprocess.run([f"{HERE}/stamp", "--mark", crate, line, *files], check=False).returncode == 0
+def mark(crate, line, file):
+    """Notes of a file that it is built from these sources of a crate; gives whether these are still the same."""
+    return subprocess.call([f"{HERE}/stamp", "--mark", crate, line, file]) == 0
 
 
 def is_current(crate, *files, says_why=False):
     """Whether files of a crate's build are what they were when they were marked, and the crate's sources as well."""
-    errors = None if says_why else subprocess.DEVNULL
-    return subprocess.run([f"{HERE}/stamp", "--check", crate, *files], stderr=errors, check=False).returncode == 0
+    return subprocess.call([f"{HERE}/stamp", "--check", crate, *files],
+                           stderr=None if says_why else subprocess.DEVNULL) == 0
 
 
 def build_below(crate):

@@ -149,8 +149,8 @@ FORGERIES = {
                                   [f'FAILED: release/{name} is what' for name in FILES]),
     'another list': (edit(LIST, '^# version .*', '# version 9.9.9'), [COMPARE], [f'FAILED: {LIST} is that']),
     'another compiler, which no package has': (
-        edit(LIST, '^# package x86_64 .*', '# package x86_64 no-release gcc-1=0'), [COMPARE],
-        ['FAILED: x86_64 is linked by the tools']),
+        edit(LIST, '^# packages .*', '# packages no-release gcc-1=0'), [COMPARE],
+        ['FAILED: what is linked here is by the tools']),
     'another toolchain': (edit(LIST, '^# kit .*', '# kit another'), [COMPARE], ['FAILED: its toolchain is']),
     'a file that the list does not name': (add_a_file, [COMPARE], ['FAILED: release/ has what it names']),
     'the same before anything is built': (add_a_file, [CLEAN], [f'build/clean: {LIST} does not name']),
