@@ -150,8 +150,8 @@ def test_drawn_calls_with_sanitizers(work):
 
 
 def test_programs_of_debian(work):
-    shown = said(TESTS / 'programs.py', work / 'lib')
-    assert 'passed: ' in shown and 'FAILED: ' not in shown, shown
+    shown = said('env', f'LIBARGON2={work}/lib', '/usr/bin/python3', '-B', '-m', 'pytest', '-q', TESTS / 'programs.py')
+    assert ' passed' in shown, shown
 
 
 # ---- planted faults
