@@ -4,6 +4,7 @@ import assert from 'node:assert/strict';
 import { readFileSync } from 'node:fs';
 import { test } from 'node:test';
 import { Memory, Place, pointer } from '../../javascript/src/memory.js';
+import { hashesOf, linesOf } from '../../javascript/tests/hashes.mjs';
 
 const { MODULES: folder, VECTORS: vectors, CALLS } = process.env;
 const load = (name) => new WebAssembly.Module(readFileSync(`${folder}/${name}.wasm`));
@@ -12,12 +13,10 @@ const MODULES = {
     'the module': [load('proved_argon2'), [], 'memory memory'],
     'the shared module': [load('proved_argon2_shared'), ['memory env.memory'], 'global __stack_pointer'],
 };
-const VARIANTS = ['argon2d', 'argon2i', 'argon2id'];
 const ODD = [0, 1, 2, 3, 7, 8, 0x10, 0x13, 0x14, 255, 0xFFFFFF, 0x1000000, 0x7FFFFFFF, 0x80000000, 0xFFFFFFFF];
 const LAST_CODE = 72, SEED = 47, TEXTS = 3000, BLOCK = 1024;
 const STORED = 64, JOB = 88;  // bytes
 
-const bytesOf = (hex) => Buffer.from(hex === '-' ? '' : hex, 'hex');
 const asBytes = (numbers) => new Uint8Array(Uint32Array.from(numbers).buffer);
 
 // Room for blocks, with other blocks' remains in it.
@@ -29,15 +28,16 @@ function takeBlocks(memory, count) {
 
 // ---- tags
 
-// The vectors that are small enough to be all computed, as their answers and what the call gives.
-const small = readFileSync(`${vectors}/raw.txt`, 'utf8').trim().split('\n').map((line) => line.split(' '))
-    .filter(([, , , memory, , , , , , , answer]) => answer !== 'ERR' && +memory <= 1024);
+// The vectors that are small enough to be all computed.
+const small = hashesOf(`${vectors}/raw.txt`, 240).filter(({ settings: { memoryCost }, expected }) =>
+    memoryCost <= 1024 && !expected.startsWith('ERR'));
 
-function hash(memory, [variant, version, passes, kibibytes, lanes, length, ...inputs]) {
+function hash(memory, { settings: { hashLength, ...others }, salt, inputs: { password, secret, associatedData } }) {
     memory.clear();
-    const numbers = memory.putNumbers([VARIANTS.indexOf(variant), version, kibibytes, passes, lanes, length]);
-    const places = memory.putAll(inputs.slice(0, 4).map(bytesOf)), settings = pointer(numbers);
-    const blocks = takeBlocks(memory, Number(memory.call('memory_len', settings)) / BLOCK), tag = memory.take(+length);
+    const settings = pointer(memory.putNumbers([...Object.values(others), hashLength]));
+    const places = memory.putAll([password, salt, secret, associatedData]);
+    const blocks = takeBlocks(memory, Number(memory.call('memory_len', settings)) / BLOCK);
+    const tag = memory.take(hashLength);
     assert.equal(memory.call('hash_over', ...places, settings, blocks, tag), 0);
     return Buffer.from(memory.read(tag)).toString('hex');
 }
@@ -45,7 +45,7 @@ function hash(memory, [variant, version, passes, kibibytes, lanes, length, ...in
 async function computesTheVectors(module) {
     const memory = await Memory.open(module);
     assert.ok(small.length > 100);
-    for (const vector of small) assert.equal(hash(memory, vector), vector[10], vector.join(' '));
+    for (const vector of small) assert.equal(hash(memory, vector), vector.expected, vector.line);
 }
 
 // ---- what may come
@@ -120,7 +120,7 @@ async function answersOddJobs(module) {
 
 // Texts of the vectors with bytes changed, taken away or put in, and others that are no texts at all.
 async function answersOddTexts(module) {
-    const texts = readFileSync(`${vectors}/texts.txt`, 'utf8').trim().split('\n').map((line) => line.split('\t')[0]);
+    const texts = linesOf(`${vectors}/texts.txt`).map((line) => line.split('\t')[0]);
     const memory = await Memory.open(module), answers = new Answers(memory), { take } = answers, draw = random(SEED);
     for (let at = 0; at < TEXTS; at++) {
         memory.clear();
