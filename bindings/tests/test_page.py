@@ -1,13 +1,14 @@
-"""docs/demo in browsers without a window, as a visitor uses it, and the package for npm in that page. PICTURES names a
-folder for pictures."""
+"""docs/demo in browsers without a window, as a visitor uses it, and the package for npm in that page."""
 import pytest
 from running import TOP, has_node, needs, run
 
+MINI_BROWSER = "/usr/lib/x86_64-linux-gnu/webkit2gtk-4.1/MiniBrowser"
 pytestmark = [has_node(), pytest.mark.timeout(2400)]
 
 
 @pytest.mark.parametrize("browser", [
-    pytest.param(name, marks=needs(name)) for name in ("chromium", "firefox-esr", "WebKitWebDriver")])
+    pytest.param("Chromium", marks=needs("chromium")), pytest.param("Firefox", marks=needs("firefox-esr")),
+    pytest.param("WebKit", marks=needs("xvfb-run", MINI_BROWSER))])
 def test_the_page_and_the_package_in_it(site, drawn, browser):
     named = {"BROWSER": browser, "PAGE": TOP / "docs/demo", "VECTORS": TOP / "bindings/vectors", **drawn}
     run("node", "--test", "--test-reporter=spec", "page.test.mjs", cwd=site, env=named)

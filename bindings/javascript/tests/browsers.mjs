@@ -1,12 +1,14 @@
-// Chromium, Firefox and WebKit without a window, each driven by what it has for that: pipes, a socket, or a server.
-import assert from 'node:assert/strict';
-import { spawn, spawnSync } from 'node:child_process';
-import { once } from 'node:events';
-import { existsSync, mkdtempSync, readdirSync, readFileSync, rmSync, writeFileSync } from 'node:fs';
-import { connect, createServer } from 'node:net';
+// Chromium, Firefox and WebKit without a window, each with the page of a folder, and the package that is installed here.
+// No protocol of theirs is needed: the page is in a frame, and what is around it asks a server here what to do.
+import { execFileSync, spawn, spawnSync } from 'node:child_process';
+import { EventEmitter, once } from 'node:events';
+import { createReadStream, existsSync, mkdtempSync, readdirSync, readFileSync, rmSync, writeFileSync } from 'node:fs';
+import { createServer } from 'node:http';
 import { tmpdir } from 'node:os';
-import { join } from 'node:path';
-import { setTimeout as sleep } from 'node:timers/promises';
+import { dirname, extname, join, normalize } from 'node:path';
+import { PassThrough } from 'node:stream';
+import { json } from 'node:stream/consumers';
+import { fileURLToPath } from 'node:url';
 
 /** Whether a program is there, a browser or another one. */
 export const isThere = (program) => spawnSync('sh', ['-c', `command -v ${program}`]).status === 0;
@@ -16,6 +18,23 @@ export class BrowserEnded extends Error {}
 
 /** How long anything of a browser may take, in milliseconds: nothing waits for ever. */
 const LONGEST_WAIT = 300000;
+const TYPES = { '.html': 'text/html', '.css': 'text/css', '.js': 'text/javascript', '.wasm': 'application/wasm' };
+/** What isolates a page from other origins, so that its workers can share a memory. */
+const ISOLATED = { 'Cross-Origin-Opener-Policy': 'same-origin', 'Cross-Origin-Embedder-Policy': 'require-corp' };
+
+/** What is around a page: it tells what expressions give that have the page's document, and its frame. */
+const AROUND = `<!doctype html><meta charset="utf-8"><title>A page in a frame</title><body><script>
+const frame = Object.assign(document.createElement('iframe'), { src: '/', width: 1040, height: 700 });
+async function answer({ data }) {
+    const { number, expression } = JSON.parse(data);
+    const evaluate = new Function('document', 'frame', 'return (async () => (' + expression + '))()');
+    const outcome = await evaluate(frame.contentDocument, frame)
+        .then((value) => ({ value }), (error) => ({ error: error + ' ' + error.stack }));
+    fetch('/answered', { method: 'POST', body: JSON.stringify({ number, ...outcome }) });
+}
+frame.addEventListener('load', () => { new EventSource('/asked').onmessage = answer; }, { once: true });
+document.body.append(frame);
+</script>`;
 
 /** What the system says of a process, or nothing where it has just ended. */
 function statusOf(number) {
@@ -35,70 +54,81 @@ function memoryBelow(first) {
         bytes + 1024 * (parseInt(RssAnon) + parseInt(RssShmem)), 0);
 }
 
-/** Requests by numbers, and what waits for their answers. */
-class Requests {
-    #waiting = new Map();
-    #last = 0;
-    #ended;
-
-    begin(send) {
-        if (this.#ended) {
-            return Promise.reject(this.#ended);
-        }
-        this.#last += 1;
-        const number = this.#last;
-        const answer = new Promise((resolve, reject) => {
-            this.#waiting.set(number, { resolve, reject });
-            send(number);
-        });
-        const late = new BrowserEnded(`there was no answer within ${LONGEST_WAIT / 1000} seconds`);
-        const timer = setTimeout(() => this.endAll(late), LONGEST_WAIT);
-        return answer.finally(() => clearTimeout(timer));
-    }
-
-    throwIfEnded() {
-        if (this.#ended) {
-            throw this.#ended;
-        }
-    }
-
-    /** Rejects all that waits, and what is asked later. */
-    endAll(error) {
-        this.#ended = error;
-        for (const { reject } of this.#waiting.values()) {
-            reject(error);
-        }
-        this.#waiting.clear();
-    }
-
-    end(number, error, result) {
-        const waiting = this.#waiting.get(number);
-        this.#waiting.delete(number);
-        if (error) {
-            waiting?.reject(error instanceof Error ? error : new Error(error.message ?? JSON.stringify(error)));
-        } else {
-            waiting?.resolve(result);
-        }
+/** Sends the file of a path: those of the package are the installed ones. */
+function sendFile(path, folder, response, headers) {
+    const installed = dirname(fileURLToPath(import.meta.resolve('proved-argon2')));
+    const [, inPackage] = path.match(/^\/proved-argon2\/(.*)/) ?? [];
+    const file = inPackage ? join(installed, inPackage) : join(folder, path === '/' ? 'index.html' : path);
+    if (existsSync(file)) {
+        response.writeHead(200, { 'Content-Type': TYPES[extname(file)] ?? 'text/plain', ...headers });
+        createReadStream(file).pipe(response);
+    } else {
+        response.writeHead(404).end();
     }
 }
 
-/** What both have: a process with a profile of its own, which goes with it. */
+/** A browser with a profile and a server of its own, which go with it. */
 class Browser {
     profile = mkdtempSync(join(tmpdir(), 'browser-'));
-    requests = new Requests();
+    #asked = new PassThrough();
+    #answers = new EventEmitter();
+    #last = 0;
+    #ending = new AbortController();
+    #server;
+    #process;
+    #ended;
 
-    start(command, options, { pipes = [], env = {} } = {}) {
-        const all = { ...process.env, HOME: this.profile, ...env };
-        const stdio = ['ignore', 'ignore', 'ignore', ...pipes];
-        this.process = spawn(command, options, { stdio, env: all, detached: true });
-        this.ended = once(this.process, 'exit').then(([code, signal]) => this.hasEnded(signal ?? `status ${code}`));
-        process.once('exit', () => this.#end());
+    /** Opens the page of a folder, isolated from other origins or not, by a policy for its content if there is one. */
+    async open(folder, { isIsolated = true, policy } = {}) {
+        const isolated = isIsolated ? ISOLATED : {};
+        const headers = policy ? { ...isolated, 'Content-Security-Policy': policy } : isolated;
+        this.#server = createServer((request, response) => {
+            const path = normalize(new URL(request.url, 'http://localhost').pathname);
+            if (!this.#converse(path, request, response, isolated)) {
+                sendFile(path, folder, response, headers);
+            }
+        });
+        await once(this.#server.listen(0, '127.0.0.1'), 'listening');
+        this.#start(`http://127.0.0.1:${this.#server.address().port}/around`);
+        await this.evaluate('true');
+        return this;
     }
 
-    /** Ends all its processes, of which it is the first. */
-    #end() {
+    /** Answers what is around the page, if it is that. What it asks for goes on until the page has ended. */
+    #converse(path, request, response, isolated) {
+        const type = { '/around': 'text/html', '/asked': 'text/event-stream', '/answered': 'text/plain' }[path];
+        if (type === undefined) {
+            return false;
+        }
+        response.writeHead(200, { 'Content-Type': type, ...isolated });
+        if (path === '/asked') {
+            this.#asked.pipe(response).once('close', () => this.#end('its page has ended'));
+        } else {
+            response.end(path === '/around' ? AROUND : '');
+        }
+        if (path === '/answered') {
+            json(request).then(({ number, ...outcome }) => this.#answers.emit(number, outcome));
+        }
+        return true;
+    }
+
+    #start(url) {
+        const { command: [program, ...words], variables } = this.constructor;
+        const env = { ...process.env, HOME: this.profile, TMPDIR: this.profile, ...variables };
+        this.#process = spawn(program, [...words, ...this.options, url], { stdio: 'ignore', env, detached: true });
+        this.#ended = once(this.#process, 'exit').then((how) => this.#end(`it has ended by itself: ${how}`));
+        process.once('exit', () => this.kill());
+    }
+
+    /** What waits for it fails, and what is asked later. */
+    #end(how) {
+        this.#ending.abort(new BrowserEnded(`${this.constructor.name}: ${how}`));
+    }
+
+    /** Ends all its processes, as a fault would. */
+    kill(signal = 'SIGKILL') {
         try {
-            process.kill(-this.process.pid, 'SIGKILL');
+            process.kill(-this.#process.pid, signal);
         } catch (error) {
             if (error.code !== 'ESRCH') {
                 throw error;
@@ -107,304 +137,86 @@ class Browser {
     }
 
     async close() {
-        this.#end();
-        await this.ended;
+        this.kill('SIGTERM');
+        await this.#ended;
+        this.kill();
+        this.#server.close();
+        this.#server.closeAllConnections();
         rmSync(this.profile, { recursive: true, force: true, maxRetries: 10 });
     }
 
     /** The bytes that its processes keep. */
     memoryInUse() {
-        return memoryBelow(this.process.pid);
+        return memoryBelow(this.#process.pid);
     }
 
-    /** Ends it as a fault would. */
-    kill() {
-        this.process.kill('SIGKILL');
+    version() {
+        const { command: [program, ...words], name } = this.constructor;
+        const said = execFileSync(program, [...words, '--version'], { encoding: 'utf8' });
+        return `${name} ${said.match(/\d[\d.]*\d/)[0]}`;
     }
 
-    /** What waits for it fails, and what is asked later. */
-    hasEnded(how) {
-        this.requests.endAll(new BrowserEnded(`${this.constructor.name} has ended by itself: ${how}`));
-    }
-
-    /** Waits until a condition holds: `what` is what a browser lacks that takes too long. */
-    async waitFor(what, condition) {
-        const end = Date.now() + LONGEST_WAIT;
-        while (!await condition()) {
-            this.requests.throwIfEnded();
-            assert.ok(Date.now() < end, `after ${LONGEST_WAIT / 1000} seconds: ${what}`);
-            await sleep(20);
+    /** What an expression gives, or the promise that it is. */
+    async evaluate(expression) {
+        const { signal } = this.#ending;
+        signal.throwIfAborted();
+        const timer = setTimeout(() => this.#end(`there was no answer to ${expression}`), LONGEST_WAIT);
+        this.#last += 1;
+        this.#asked.write(`data: ${JSON.stringify({ number: this.#last, expression })}\n\n`);
+        const [{ value, error }] = await once(this.#answers, this.#last, { signal })
+            .catch(() => signal.throwIfAborted()).finally(() => clearTimeout(timer));
+        if (error) {
+            throw new Error(error);
         }
+        return value;
     }
 
-    /** Opens a page, and marks it: where its process has ended, Firefox has another page or none in its place. */
-    async visit(url) {
-        await this.navigate(url);
-        await this.evaluate(`document.documentElement.dataset.visited = ''`);
-    }
-
-    /** Waits until an expression of the page that was visited is true. */
+    /** Waits until an expression is true. */
     async until(expression) {
-        await this.waitFor(expression, async () => {
-            const [isVisited, holds] = await this.evaluate(
-                `['visited' in document.documentElement.dataset, Boolean(${expression})]`) ?? [];
-            if (!isVisited) {
-                this.hasEnded('its page has crashed');
-            }
-            return isVisited && holds;
-        });
+        const pause = 'await new Promise((resolve) => { setTimeout(resolve, 20); })';
+        await this.evaluate(`(async () => { while (!(${expression})) ${pause}; })()`);
     }
 
     /** What a program gives that runs as a module of the page. */
-    async resultOf(program) {
-        const module = `const failed = (error) => ({ error: String(error.stack) });
-            const result = await (async () => {${program}})().catch(failed);
-            document.documentElement.dataset.result = JSON.stringify(result);`;
-        await this.evaluate(`(() => {
-            delete document.documentElement.dataset.result;
+    resultOf(program) {
+        const module = `(async () => {${program}})().then(resolve, reject);`;
+        return this.evaluate(`new Promise((resolve, reject) => {
+            Object.assign(document.defaultView, { resolve, reject });
             const script = document.createElement('script');
             script.type = 'module';
             script.textContent = ${JSON.stringify(module)};
             document.body.append(script);
-        })()`);
-        await this.until('document.documentElement.dataset.result !== undefined');
-        const result = JSON.parse(await this.evaluate('document.documentElement.dataset.result'));
-        if (result.error) {
-            throw new Error(result.error);
-        }
-        return result;
+        })`);
     }
 }
 
-/** By its DevTools Protocol: messages that a zero ends, over two pipes. */
 export class Chromium extends Browser {
-    static command = 'chromium';
-    #rest = '';
+    static command = ['chromium'];
+    options = ['--headless', '--no-sandbox', '--disable-gpu', '--disable-dev-shm-usage', '--remote-debugging-port=0',
+        `--user-data-dir=${this.profile}`];
+}
 
-    async open() {
-        const options = ['--headless', '--no-sandbox', '--disable-gpu', '--disable-dev-shm-usage', '--hide-scrollbars',
-            '--remote-debugging-pipe', `--user-data-dir=${this.profile}`];
-        this.start(Chromium.command, options, { pipes: ['pipe', 'pipe'] });
-        this.process.stdio[4].setEncoding('utf8').on('data', (data) => this.#read(data));
-        await this.#send('Target.setDiscoverTargets', { discover: true });
-        const { targetId } = await this.#send('Target.createTarget', { url: 'about:blank' });
-        ({ sessionId: this.session } = await this.#send('Target.attachToTarget', { targetId, flatten: true }));
-        return this;
-    }
+export class Firefox extends Browser {
+    static command = ['firefox-esr'];
+    /** It has no other pages and processes than this one's, and lets it compute for long without a pause. */
+    static settings = `
+        user_pref("browser.newtab.preload", false);
+        user_pref("browser.startup.homepage_override.mstone", "ignore");
+        user_pref("datareporting.policy.dataSubmissionEnabled", false);
+        user_pref("dom.ipc.processPrelaunch.enabled", false);
+        user_pref("dom.max_script_run_time", 0);`;
+    options = ['--headless', '--no-remote', '--profile', this.profile];
 
-    #read(data) {
-        const messages = (this.#rest + data).split('\0');
-        this.#rest = messages.pop();
-        for (const { id, error, result, method } of messages.map((message) => JSON.parse(message))) {
-            if (method === 'Target.targetCrashed') {
-                this.hasEnded('its page has crashed');
-            } else {
-                this.requests.end(id, error, result);
-            }
-        }
-    }
-
-    #send(method, params = {}) {
-        return this.requests.begin((id) =>
-            this.process.stdio[3].write(`${JSON.stringify({ id, method, params, sessionId: this.session })}\0`));
-    }
-
-    async navigate(url) {
-        await this.#send('Page.navigate', { url });
-        const isOpen = `document.readyState === 'complete' && location.href === ${JSON.stringify(url)}`;
-        await this.waitFor(isOpen, () => this.evaluate(isOpen));
-    }
-
-    async evaluate(expression) {
-        const asked = { expression, returnByValue: true, awaitPromise: true };
-        const { result, exceptionDetails } = await this.#send('Runtime.evaluate', asked);
-        if (exceptionDetails) {
-            throw new Error(exceptionDetails.exception?.description ?? exceptionDetails.text);
-        }
-        return result.value;
-    }
-
-    async version() {
-        const [, number] = (await this.#send('Browser.getVersion')).product.split('/');
-        return `Chromium ${number}`;
-    }
-
-    async show({ width, height, isDark, isPhone = false }) {
-        const scheme = { name: 'prefers-color-scheme', value: isDark ? 'dark' : 'light' };
-        const screen = { width, height, deviceScaleFactor: isPhone ? 2 : 1, mobile: isPhone };
-        await this.#send('Emulation.setDeviceMetricsOverride', screen);
-        await this.#send('Emulation.setEmulatedMedia', { features: [scheme] });
-    }
-
-    async screenshot() {
-        const { data } = await this.#send('Page.captureScreenshot', { format: 'png', captureBeyondViewport: true });
-        return Buffer.from(data, 'base64');
+    constructor() {
+        super();
+        writeFileSync(join(this.profile, 'user.js'), Firefox.settings);
     }
 }
 
-/** By commands of WebDriver, which `send` carries. */
-class WebDriver extends Browser {
-    async navigate(url) {
-        await this.send('Navigate', { url });
-    }
-
-    evaluate(expression) {
-        return this.send('ExecuteScript', { script: `return (${expression});`, args: [] });
-    }
-
-    async version() {
-        return this.name;
-    }
-
-    async show({ width, height }) {
-        await this.send('SetWindowRect', { width, height });
-    }
-
-    async screenshot() {
-        return Buffer.from(await this.send('TakeScreenshot', { full: true }), 'base64');
-    }
-}
-
-/** By Marionette: messages behind their lengths, over a socket whose port it writes to its profile. */
-export class Firefox extends WebDriver {
-    static command = 'firefox-esr';
-    #rest = Buffer.alloc(0);
-
-    async open() {
-        writeFileSync(join(this.profile, 'user.js'), 'user_pref("marionette.port", 0);\n');
-        this.start(Firefox.command, ['--headless', '--marionette', '--remote-allow-system-access', '--no-remote',
-            '--profile', this.profile]);
-        const port = join(this.profile, 'MarionetteActivePort');
-        await this.waitFor('its port', () => existsSync(port) && readFileSync(port, 'utf8') !== '');
-        this.socket = connect(Number(readFileSync(port, 'utf8')), '127.0.0.1');
-        this.socket.on('data', (data) => this.#read(data));
-        await once(this.socket, 'connect');
-        const { capabilities } = await this.send('NewSession');
-        this.name = `Firefox ${capabilities.browserVersion}`;
-        await this.send('SetTimeouts', { script: LONGEST_WAIT });
-        return this;
-    }
-
-    #read(data) {
-        this.#rest = Buffer.concat([this.#rest, data]);
-        for (let at = this.#rest.indexOf(':'); at > 0; at = this.#rest.indexOf(':')) {
-            const end = at + 1 + Number(this.#rest.subarray(0, at));
-            if (this.#rest.length < end) {
-                return;
-            }
-            const message = JSON.parse(this.#rest.subarray(at + 1, end));
-            this.#rest = this.#rest.subarray(end);
-            if (Array.isArray(message)) {
-                const [, id, error, result] = message;
-                this.requests.end(id, error, result && 'value' in result ? result.value : result);
-            }
-        }
-    }
-
-    send(name, parameters = {}, from = 'WebDriver') {
-        return this.requests.begin((id) => {
-            const message = JSON.stringify([0, id, `${from}:${name}`, parameters]);
-            this.socket.write(`${Buffer.byteLength(message)}:${message}`);
-        });
-    }
-
-    async show(size) {
-        await super.show(size);
-        await this.send('SetContext', { value: 'chrome' }, 'Marionette');
-        const name = 'layout.css.prefers-color-scheme.content-override';
-        await this.evaluate(`Services.prefs.setIntPref('${name}', ${size.isDark ? 0 : 1})`);
-        await this.send('SetContext', { value: 'content' }, 'Marionette');
-    }
-
-    async close() {
-        this.socket?.destroy();
-        await super.close();
-    }
-}
-
-/** A port of this machine that nobody has. */
-async function freePort() {
-    const server = createServer().listen(0, '127.0.0.1');
-    await once(server, 'listening');
-    const { port } = server.address();
-    server.close();
-    return port;
-}
-
-/** A display that nobody looks at: WebKit wants one. */
-async function openDisplay() {
-    const display = spawn('Xvfb', ['-displayfd', '3', '-screen', '0', '1600x1200x24', '-nolisten', 'tcp'],
-        { stdio: ['ignore', 'ignore', 'ignore', 'pipe'] });
-    const [number] = await once(display.stdio[3].setEncoding('utf8'), 'data');
-    process.once('exit', () => display.kill());
-    return { name: `:${number.trim()}`, close: () => display.kill() };
-}
-
-/** Where a server has WebDriver's commands. */
-const PATHS = {
-    NewSession: '', SetTimeouts: '/timeouts', Navigate: '/url', ExecuteScript: '/execute/sync',
-    SetWindowRect: '/window/rect', TakeScreenshot: '/screenshot', DeleteSession: '',
-};
-const METHODS = { TakeScreenshot: 'GET', DeleteSession: 'DELETE' };
-
-/** By requests to a server, which starts the browser of WebKitGTK. WebKit is Safari's engine. */
-export class WebKit extends WebDriver {
-    static command = 'WebKitWebDriver';
-    #session = '';
-
-    async open() {
-        const port = await freePort();
-        this.display = await openDisplay();
-        this.address = `http://127.0.0.1:${port}/session`;
-        // (in Safari the memories of an isolated page can be shared; WebKitGTK wants to be told)
-        const env = { DISPLAY: this.display.name, GDK_BACKEND: 'x11', JSC_useSharedArrayBuffer: '1' };
-        this.start(WebKit.command, [`--port=${port}`], { env });
-        const { sessionId, capabilities } = await this.#openSession();
-        this.#session = `/${sessionId}`;
-        this.isOpen = true;
-        this.name = `WebKit ${capabilities.browserVersion}`;
-        await this.send('SetTimeouts', { script: LONGEST_WAIT });
-        return this;
-    }
-
-    /** Once the server hears. */
-    async #openSession() {
-        for (;;) {
-            try {
-                return await this.send('NewSession', { capabilities: {} });
-            } catch (error) {
-                if (error.cause?.code !== 'ECONNREFUSED') {
-                    throw error;
-                }
-                await sleep(50);
-            }
-        }
-    }
-
-    /** A request that fails where the server has ended, too. */
-    send(name, parameters) {
-        return this.requests.begin(async (number) => {
-            try {
-                const method = METHODS[name] ?? 'POST';
-                const body = method === 'POST' ? JSON.stringify(parameters) : undefined;
-                const answer = await fetch(`${this.address}${this.#session}${PATHS[name]}`, { method, body });
-                const { value } = await answer.json();
-                if (value?.error === 'invalid session id') {
-                    this.hasEnded(value.message);
-                }
-                this.requests.end(number, answer.ok ? undefined : value, value);
-            } catch (error) {
-                if (this.isOpen) {
-                    this.hasEnded(error.cause?.message ?? error.message);
-                }
-                this.requests.end(number, error);
-            }
-        });
-    }
-
-    async close() {
-        await this.send('DeleteSession').catch(() => {});
-        await super.close();
-        this.display.close();
-    }
+/** The browser of WebKitGTK, on a display that nobody looks at. WebKit is Safari's engine. */
+export class WebKit extends Browser {
+    static command = ['xvfb-run', '--auto-servernum', '/usr/lib/x86_64-linux-gnu/webkit2gtk-4.1/MiniBrowser'];
+    // (in Safari the memories of an isolated page can be shared; WebKitGTK wants to be told)
+    static variables = { GDK_BACKEND: 'x11', JSC_useSharedArrayBuffer: '1' };
+    options = ['--private'];
 }

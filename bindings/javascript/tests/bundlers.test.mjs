@@ -8,7 +8,6 @@ import { fileURLToPath } from 'node:url';
 import { promisify } from 'node:util';
 import { gzipSync } from 'node:zlib';
 import { Chromium, isThere } from './browsers.mjs';
-import { serve } from './server.mjs';
 
 const RIGHT = 'true false';
 const PAGE = '<!doctype html><meta charset="utf-8"><title>page</title><script type="module" src="bundle.js"></script>';
@@ -69,15 +68,12 @@ const run = (folder, command, ...words) => promisify(execFile)(command, words, {
 /** What a folder's page tells, which has its program as bundle.js. */
 async function runsInPage(folder, policy, isIsolated) {
     writeFileSync(join(folder, 'index.html'), PAGE);
-    const server = await serve(folder, { isIsolated, policy });
-    const browser = await new Chromium().open();
+    const browser = await new Chromium().open(folder, { isIsolated, policy });
     try {
-        await browser.visit(server.url);
         await browser.until('document.documentElement.dataset.outcome !== undefined');
         assert.equal(await browser.evaluate('document.documentElement.dataset.outcome'), RIGHT);
     } finally {
         await browser.close();
-        server.close();
     }
 }
 

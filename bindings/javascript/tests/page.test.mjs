@@ -1,15 +1,13 @@
 // docs/demo in a browser, as a visitor uses it, and the package in that page, isolated from other origins and not.
-// PICTURES names a folder for pictures.
 import assert from 'node:assert/strict';
-import { readFileSync, writeFileSync } from 'node:fs';
 import { after, before, describe, test } from 'node:test';
 import { setTimeout as sleep } from 'node:timers/promises';
 import * as argon2 from 'proved-argon2';
-import { BrowserEnded, Chromium, Firefox, WebKit } from './browsers.mjs';
-import { serve } from './server.mjs';
+import * as browsers from './browsers.mjs';
+import { hashesOf } from './hashes.mjs';
 
-const { BROWSER, PAGE, PICTURES, RANDOM_HASHES, VECTORS } = process.env;
-const linesOf = (file) => readFileSync(file, 'utf8').split('\n').filter(Boolean);
+const { BROWSER, PAGE, RANDOM_HASHES, VECTORS } = process.env;
+const { BrowserEnded, [BROWSER]: Browser } = browsers;
 const WORKERS = 8;
 const MIB = 2 ** 20;
 const CALLS = 300;
@@ -20,11 +18,8 @@ const MEMORIES = [4096, 16384];
 const BESIDES = 64 * MIB;
 /** Workers end after 5 seconds without work. */
 const IDLE = { tries: 40, pause: 500 };
-const SIZES = {
-    light: { width: 1040, height: 700, isDark: false },
-    dark: { width: 1040, height: 700, isDark: true },
-    phone: { width: 390, height: 844, isDark: false, isPhone: true },
-};
+/** How wide the page is on a screen, and on a phone. */
+const WIDTHS = [1040, 390];
 
 const MEASURED = `document.getElementById('estimate').textContent.startsWith('A hash takes')`;
 
@@ -68,21 +63,17 @@ const mixedCalls = (from, to) => `${IMPORTED}
     }
     return true;`;
 
-/** Lines of hashes, computed in the page by at most so many workers. */
-const hashesInPage = (lines, threads) => `${IMPORTED}
-    const variants = { argon2d: 0, argon2i: 1, argon2id: 2 };
-    const bytes = (hex) => Uint8Array.from(hex === '-' ? [] : hex.match(/../g), (pair) => parseInt(pair, 16));
+/** Hashes, computed in the page by at most so many workers. */
+const computedInPage = (hashes, threads) => `${IMPORTED}
+    const bytes = ({ data }) => Uint8Array.from(data);
     const hex = (tag) => [...tag].map((byte) => byte.toString(16).padStart(2, '0')).join('');
     const wrong = [];
-    for (const line of ${literal(lines)}) {
-        const [type, version, timeCost, memoryCost, parallelism, hashLength, ...rest] = line.split(' ');
-        const [password, salt, secret, associatedData] = rest.slice(0, 4).map(bytes);
-        const settings = { type: variants[type], version: +version, timeCost: +timeCost, memoryCost: +memoryCost,
-            parallelism: +parallelism, hashLength: +hashLength };
-        const others = { salt, secret, associatedData, raw: true, threads: ${threads} };
+    for (const { line, settings, salt, inputs, expected } of ${literal(hashes)}) {
+        const [password, secret, associatedData] = Object.values(inputs).map(bytes);
+        const others = { salt: bytes(salt), secret, associatedData, raw: true, threads: ${threads} };
         const tag = await argon2.hash(password, { ...settings, ...others })
             .then(hex, (error) => 'ERR ' + error.message);
-        if (tag !== rest.slice(4).join(' ')) wrong.push([line, tag]);
+        if (tag !== expected) wrong.push([line, tag]);
     }
     return { wrong, isIsolated: crossOriginIsolated };`;
 
@@ -103,27 +94,17 @@ const REFUSED_IN_PAGE = `
     for (const call of tried) names.push(await call().then(String, (error) => error.name));
     return names;`;
 
-function tests(Browser, isIsolated) {
+function tests(isIsolated) {
     let browser;
-    let server;
-
     let restarts = 1;
 
     async function open() {
-        browser = await new Browser().open();
-        await browser.visit(server.url);
+        browser = await new Browser().open(PAGE, { isIsolated });
         await browser.until(MEASURED);
     }
 
-    before(async () => {
-        server = await serve(PAGE, { isIsolated });
-        await open();
-    });
-
-    after(async () => {
-        await browser.close();
-        server.close();
-    });
+    before(open);
+    after(() => browser.close());
 
     /** A test of the page. A browser that ends by itself is started anew, once. */
     const pageTest = (what, call) => test(`${isIsolated ? 'isolated' : 'not isolated'}: ${what}`, async (context) => {
@@ -141,9 +122,8 @@ function tests(Browser, isIsolated) {
         }
     });
 
-    async function compare(lines, least, threads) {
-        assert.ok(lines.length >= least, `${lines.length} lines`);
-        const { wrong, isIsolated: found } = await browser.resultOf(hashesInPage(lines, threads));
+    async function compare(hashes, threads) {
+        const { wrong, isIsolated: found } = await browser.resultOf(computedInPage(hashes, threads));
         assert.deepEqual(wrong, []);
         assert.equal(found, isIsolated);
     }
@@ -163,13 +143,12 @@ function tests(Browser, isIsolated) {
         assert.ok(browser.memoryInUse() - start <= BESIDES, `${(browser.memoryInUse() - start) / MIB} MiB stay`);
     });
 
-    pageTest('the outside hashes', () => compare(linesOf(`${VECTORS}/raw.txt`), 240, WORKERS));
+    pageTest('the outside hashes', () => compare(hashesOf(`${VECTORS}/raw.txt`, 240), WORKERS));
 
     pageTest('2,000 random hashes of libargon2, by 1 to 8 workers', async () => {
-        const lines = linesOf(RANDOM_HASHES);
-        const part = Math.ceil(lines.length / WORKERS);
+        const hashes = hashesOf(RANDOM_HASHES, 2000);
         for (let threads = 1; threads <= WORKERS; threads++) {
-            await compare(lines.slice((threads - 1) * part, threads * part), 2000 / WORKERS, threads);
+            await compare(hashes.filter((_, i) => i % WORKERS === threads - 1), threads);
         }
     });
 
@@ -235,27 +214,20 @@ function tests(Browser, isIsolated) {
         assert.match(await submit(browser, 'hashing'), /^Hashed in /);
     });
 
-    pageTest('the page is seen', async () => {
+    pageTest('the page fits on a screen and on a phone', async () => {
         await set(browser, 'memory', '14');
         await submit(browser, 'hashing');
         await set(browser, 'encoded', '$argon2id$');
         await submit(browser, 'verifying');
-        for (const [name, size] of Object.entries(SIZES)) {
-            await browser.show(size);
-            assert.deepEqual(await browser.evaluate(TOO_WIDE), [], name);
-            const picture = await browser.screenshot();
-            assert.deepEqual([...picture.subarray(1, 4)], [...Buffer.from('PNG')]);
-            if (PICTURES) {
-                writeFileSync(`${PICTURES}/${Browser.name}-${isIsolated ? 'isolated-' : ''}${name}.png`, picture);
-            }
+        for (const width of WIDTHS) {
+            await browser.evaluate(`frame.width = ${width}`);
+            assert.deepEqual(await browser.evaluate(TOO_WIDE), [], `${width} pixels`);
         }
     });
 }
 
-const Browser = [Chromium, Firefox, WebKit].find((browser) => browser.command === BROWSER);
-
 test('a browser that ends fails what waits for it', async () => {
-    const browser = await new Browser().open();
+    const browser = await new Browser().open(PAGE);
     const waiting = browser.evaluate('new Promise(() => {})');
     setTimeout(() => browser.kill(), 200);
     await assert.rejects(waiting, BrowserEnded);
@@ -264,5 +236,5 @@ test('a browser that ends fails what waits for it', async () => {
 });
 
 for (const isIsolated of [true, false]) {
-    describe(Browser.name, () => tests(Browser, isIsolated));
+    describe(BROWSER, () => tests(isIsolated));
 }
