@@ -61,14 +61,30 @@ export class Progress {
     }
 }
 
-export class Queue {
+/** So many places, which are taken at once, or in turn once others leave theirs. */
+export class Places {
+    #taken = 0;
     #waiting = [];
+    #all;
 
-    get length() {
+    /** `all` says how many there are, which may change. */
+    constructor(all) {
+        this.#all = all;
+    }
+
+    /** How many calls wait. */
+    get waiting() {
         return this.#waiting.length;
     }
 
-    /** What the call in front is given, once it is its turn. One that is aborted meanwhile goes. */
+    /** Takes what is free, but no more than so many. Returns how many. */
+    take(most) {
+        const count = Math.max(0, Math.min(most, this.#all() - this.#taken));
+        this.#taken += count;
+        return count;
+    }
+
+    /** Takes one in turn. A call that is aborted meanwhile goes. */
     wait(progress) {
         let forget;
         const turn = new Promise((resolve, reject) => {
@@ -82,18 +98,20 @@ export class Queue {
         return turn.finally(forget);
     }
 
-    /** Gives something to the call in front. */
-    give(value) {
-        this.#waiting.shift().resolve(value);
+    /** Takes one at once or in turn, and what else is free, but no more than so many. */
+    async takeInTurn(most, progress) {
+        return this.take(most) || await this.wait(progress) + this.take(most - 1);
     }
 
-    /** Has the call in front fail. */
-    fail(error) {
-        this.#waiting.shift().reject(error);
+    leave(count) {
+        this.#taken -= count;
+        while (this.waiting > 0 && this.take(1) > 0) {
+            this.#waiting.shift().resolve(1);
+        }
     }
 }
 
-const NAMES = new Set([...Object.keys(DEFAULTS), 'concurrency', 'waiting']);
+const NAMES_OF_LINE = new Set([...Object.keys(DEFAULTS), 'concurrency', 'waiting']);
 const WAITING_FOR_EACH = 16;
 
 /** How many hashes fit into the processors, a lane each, and into a quarter of the memory; at least one. */
@@ -104,11 +122,10 @@ function fittingIn({ memoryCost, parallelism }) {
 
 /** A bound on how many calls compute at once, and on how many more wait for that. */
 export class Line {
-    #computing = 0;
-    #queue = new Queue();
+    #places = new Places(() => this.concurrency);
 
     constructor(options = {}) {
-        const own = { ...DEFAULTS, ...ownOf(options, NAMES, 'options') };
+        const own = { ...DEFAULTS, ...ownOf(options, NAMES_OF_LINE, 'options') };
         Object.entries(own).forEach(([name, value]) => numberOf(name, value));
         this.concurrency = own.concurrency ?? fittingIn(own);
         this.waiting = own.waiting ?? WAITING_FOR_EACH * this.concurrency;
@@ -122,26 +139,16 @@ export class Line {
     async run(call, { signal } = {}) {
         const progress = new Progress(undefined, signalOf(signal));
         progress.throwIfStopped();
-        if (this.#computing < this.concurrency) {
-            this.#computing += 1;
-        } else if (this.#queue.length < this.waiting) {
-            await this.#queue.wait(progress).catch(() => progress.throwIfStopped());
-        } else {
-            throw new BusyError('Too many calls compute or wait');
+        if (this.#places.take(1) === 0) {
+            if (this.#places.waiting >= this.waiting) {
+                throw new BusyError('Too many calls compute or wait');
+            }
+            await this.#places.wait(progress).catch(() => progress.throwIfStopped());
         }
         try {
             return await call();
         } finally {
-            this.#leave();
-        }
-    }
-
-    /** Gives a place to the call in front, if one waits. */
-    #leave() {
-        if (this.#queue.length > 0) {
-            this.#queue.give();
-        } else {
-            this.#computing -= 1;
+            this.#places.leave(1);
         }
     }
 }

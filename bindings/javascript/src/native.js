@@ -3,14 +3,13 @@ import { addonFile } from './assets.js';
 import { allocate } from './bytes.js';
 import { check, OK, OUT_OF_MEMORY, Rejected, STOPPED } from './codes.js';
 import { Unsupported } from './errors.js';
-import { Queue } from './line.js';
+import { Places } from './line.js';
 import { nodeThreads, processors } from './platform.js';
 import { hashLengthOf } from './run.js';
 
 const NOT_WANTED = '0';
-const queue = new Queue();
-/** How many threads compute. */
-let busy = 0;
+/** The threads that compute. */
+const computing = new Places(processors);
 /** What a thread reads and writes, which is not to be collected meanwhile. */
 const kept = new Set();
 let loaded;
@@ -45,26 +44,6 @@ export function addonFor(native) {
         throw new Unsupported(`${words}: ${cause.message}`, { cause });
     }
     return addon;
-}
-
-/** A thread at once or in its turn, and as many that help it as there are processors without work. */
-async function takeThreads(most, progress) {
-    if (busy < processors()) {
-        busy += 1;
-    } else {
-        await queue.wait(progress);
-    }
-    const helpers = Math.max(0, Math.min(most - 1, processors() - busy));
-    busy += helpers;
-    return 1 + helpers;
-}
-
-function giveBack(threads) {
-    busy -= threads;
-    while (busy < processors() && queue.length > 0) {
-        busy += 1;
-        queue.give();
-    }
 }
 
 /** Room for a tag. The engine may have none. */
@@ -112,7 +91,7 @@ function codeOf(begin, parts, progress) {
 
 /** Runs a task by at most so many threads, and returns its code and its tag. */
 export async function runByThreads(addon, task, most, progress) {
-    const threads = await takeThreads(most, progress);
+    const threads = await computing.takeInTurn(most, progress);
     try {
         if (progress.isStopped) {
             throw new Rejected(STOPPED);
@@ -121,6 +100,6 @@ export async function runByThreads(addon, task, most, progress) {
         const code = await codeOf(task.encoded === undefined ? addon.hash : addon.verify, parts, progress);
         return { code, tag: parts.at(-1) };
     } finally {
-        giveBack(threads);
+        computing.leave(threads);
     }
 }

@@ -1,99 +1,46 @@
 // The workers of this thread: at most as many as there are processors. A worker leads a call, and others help it.
 import { Rejected, STOPPED, WORKER_REFUSED } from './codes.js';
 import { LaneWorker } from './lane_worker.js';
-import { Queue } from './line.js';
+import { Places } from './line.js';
 import { compiledModule } from './module.js';
 import { canShare, processors } from './platform.js';
 
-const workers = new Set();
+/** The workers with a call. */
+const working = new Places(processors);
 /** Workers with nothing to do. The last one to work is taken first, so that others can go. */
 const idle = [];
-const queue = new Queue();
 
-/** Takes the last idle worker of those that are preferred, or else the last one. */
-function popIdle(isPreferred) {
-    const index = idle.findLastIndex(isPreferred);
-    return idle.splice(index < 0 ? idle.length - 1 : index, 1)[0];
-}
-
-/** A worker that is there at once, or none. */
-function takeWorker(isPreferred) {
-    if (idle.length > 0) {
-        return popIdle(isPreferred).wake();
-    }
-    if (workers.size >= processors()) {
-        return undefined;
-    }
+/** The last idle worker with a memory or without one, if there is any, or else the last one, or else a new one. */
+function takeWorker(hasMemory) {
+    const index = idle.findLastIndex((worker) => worker.hasMemory === hasMemory);
+    const [worker] = idle.splice(index, 1);
     try {
-        const worker = new LaneWorker(forgetWorker);
-        workers.add(worker);
-        return worker.wake();
+        return (worker ?? new LaneWorker(forgetWorker)).wake();
     } catch (cause) {
         throw new Rejected(WORKER_REFUSED, cause);
     }
 }
 
-/** A worker with a memory leads, so that helpers need none. */
-const takeLeader = () => takeWorker((worker) => worker.hasMemory);
-const takeHelper = () => takeWorker((worker) => !worker.hasMemory);
-
 /**
  * A worker has ended, and its memory is to go. Those that have joined this memory end too, once they have nothing to
- * do: nothing else makes an engine let it go. Then there may be a worker for a call that waits.
+ * do: nothing else makes an engine let it go.
  */
 function forgetWorker(ended) {
-    workers.delete(ended);
     if (idle.includes(ended)) {
         idle.splice(idle.indexOf(ended), 1);
     }
     idle.filter((worker) => worker.joined.has(ended)).forEach((worker) => worker.end());
-    if (queue.length > 0) {
-        passWorkerOn();
-    }
-}
-
-/** Has the call that waits in front go on, if a worker can be had. */
-function passWorkerOn() {
-    try {
-        const worker = takeLeader();
-        if (worker) {
-            queue.give(worker);
-        }
-    } catch (error) {
-        queue.fail(error);
-    }
 }
 
 /** A worker has done its part of a call. */
 function release(worker) {
     worker.call = undefined;
-    if (worker.isEnded) {
-        return;
-    }
     if ([...worker.joined].some((leader) => leader.isEnded)) {
         worker.end();
-    } else if (queue.length === 0) {
+    } else if (!worker.isEnded) {
         idle.push(worker);
         worker.rest();
-    } else {
-        queue.give(worker);
     }
-}
-
-/** A worker to lead a call, and as many that help it as there are at once. */
-async function takeWorkers(most, progress) {
-    const leader = takeLeader() ?? await queue.wait(progress);
-    const taken = [leader];
-    while (taken.length < most && canShare()) {
-        const helper = takeHelper();
-        if (helper === undefined) {
-            break;
-        }
-        helper.joined.add(leader);
-        taken.push(helper);
-    }
-    leader.hasMemory = true;
-    return taken;
 }
 
 /** A call that a worker leads, and others help it. */
@@ -111,6 +58,8 @@ class Call {
     constructor(taken, progress) {
         this.#workers = taken;
         [this.#leader, ...this.#helpers] = taken;
+        this.#leader.hasMemory = true;
+        this.#helpers.forEach((helper) => helper.joined.add(this.#leader));
         this.#progress = progress;
         this.#ended.catch(() => {}); // (whoever awaits it may not do so yet)
         for (const worker of taken) {
@@ -168,10 +117,16 @@ class Call {
 
 /** Runs a task by at most so many workers, and returns its code and its tag. */
 export async function runByWorkers(task, most, progress) {
-    const taken = await takeWorkers(most, progress);
+    const count = await working.takeInTurn(canShare() ? most : 1, progress);
+    const taken = [];
     try {
+        // (one with a memory leads, so that helpers need none)
+        while (taken.length < count) {
+            taken.push(takeWorker(taken.length === 0));
+        }
         return await new Call(taken, progress).run(task);
     } finally {
         taken.forEach(release);
+        working.leave(count);
     }
 }

@@ -152,17 +152,19 @@ for (const [what, [native, count, limit]] of Object.entries(COMPUTING)) {
 }
 
 test('a call that is stopped as its turn comes takes no other from the line', async () => {
-    const { Queue, Progress } = await import(new URL('line.js', import.meta.resolve('proved-argon2')));
-    const queue = new Queue();
+    const { Places, Progress } = await import(new URL('line.js', import.meta.resolve('proved-argon2')));
+    const places = new Places(() => 2);
     const controller = new AbortController();
-    const first = queue.wait(new Progress(undefined, controller.signal));
-    const second = queue.wait(new Progress());
-    queue.give('first');
+    assert.equal(places.take(3), 2);
+    const first = places.wait(new Progress(undefined, controller.signal));
+    const second = places.takeInTurn(3, new Progress());
+    places.leave(1);
     controller.abort();
-    assert.equal(await first, 'first');
-    assert.equal(queue.length, 1);
-    queue.give('second');
-    assert.equal(await second, 'second');
+    assert.deepEqual([await first, places.waiting], [1, 1]);
+    places.leave(1);
+    assert.deepEqual([await second, places.waiting, places.take(1)], [1, 0, 0]);
+    places.leave(2);
+    assert.equal(await places.takeInTurn(3, new Progress()), 2);
 });
 
 test('a worker that fails is WorkerRefused, and the next call has another', async () => {
