@@ -4,7 +4,7 @@ import { MISMATCH, OK, Rejected, check, errorOf } from './codes.js';
 import { Encoder } from './encoder.js';
 import { Argon2Error } from './errors.js';
 import { Line, Progress } from './line.js';
-import { Calls, runInPlace } from './module.js';
+import { openCalls, runInPlace } from './module.js';
 import { addonFor, runByThreads } from './native.js';
 import {
     encodedOf, inputsOf, inputsToVerify, isRaw, limitsOf, optionsOf, runningOf, settingsOf,
@@ -24,22 +24,17 @@ function waysOf(own) {
     return { ...running, addon: addonFor(native), progress: new Progress(onProgress, signal) };
 }
 
-/** Runs a task where the call wants it to. */
-function run(task, { addon, worker, threads, progress }) {
+/** The code and the tag of a task whose settings the library has checked, computed where the call wants it. */
+async function compute(task, { addon, worker, threads, progress }) {
+    progress.throwIfStopped();
     const most = Math.min(threads, lanesOf(task.settings));
-    if (worker && addon) {
-        return runByThreads(addon, task, most, progress);
-    }
-    return worker && canStartWorkers() ? runByWorkers(task, most, progress) : runInPlace(task, progress);
-}
-
-/** The code and the tag of a task whose settings the library has checked. */
-async function compute(task, ways) {
-    ways.progress.throwIfStopped();
     try {
-        return await run(task, ways);
+        if (worker && addon) {
+            return await runByThreads(addon, task, most, progress);
+        }
+        return await (worker && canStartWorkers() ? runByWorkers(task, most, progress) : runInPlace(task, progress));
     } finally {
-        ways.progress.throwIfStopped();
+        progress.throwIfStopped();
     }
 }
 
@@ -58,7 +53,7 @@ async function callInLine(line, running, inputs, call) {
 /** .. by an encoder. An error's number becomes the error of that name. */
 function callWith({ line, addon, progress }, inputs, work) {
     return callInLine(line, progress, inputs, async () => {
-        const encoder = new Encoder(addon ?? await Calls.open());
+        const encoder = new Encoder(addon ?? await openCalls());
         try {
             return await work(encoder);
         } catch (error) {

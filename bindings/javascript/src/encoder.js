@@ -3,17 +3,9 @@
 import { NEEDS_REHASH, check } from './codes.js';
 import { SETTINGS } from './run.js';
 
-/** Of proved_argon2_limits: its bytes, and where the work is. */
-const LIMITS = 24;
-const WORK = 16;
-
-/** Limits, as C lays them out. */
-function limitsAsBytes({ memoryCost, timeCost, parallelism, work }) {
-    const view = new DataView(new ArrayBuffer(LIMITS));
-    [memoryCost, timeCost, parallelism].forEach((number, i) => view.setUint32(4 * i, number, true));
-    view.setBigUint64(WORK, BigInt(work), true);
-    return new Uint8Array(view.buffer);
-}
+/** Limits, as C lays them out: the work is a number of 64 bits. */
+const limitsAsNumbers = ({ memoryCost, timeCost, parallelism, work }) => Uint32Array.of(
+    memoryCost, timeCost, parallelism, 0, Number(BigInt.asUintN(32, BigInt(work))), Number(BigInt(work) >> 32n));
 
 const lengthsOf = (...inputs) => BigUint64Array.from(inputs, ({ length }) => BigInt(length));
 
@@ -38,7 +30,7 @@ export class Encoder {
     decode(encoded, limits, { password, secret, associatedData }) {
         const stored = new Uint32Array(SETTINGS + 1);
         const lengths = lengthsOf(password, secret, associatedData);
-        check(this.#calls.checkEncoded(encoded, limitsAsBytes(limits), lengths, stored));
+        check(this.#calls.checkEncoded(encoded, limitsAsNumbers(limits), lengths, stored));
         return { settings: [...stored.subarray(0, SETTINGS)], saltLength: stored[SETTINGS] };
     }
 

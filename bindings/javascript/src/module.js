@@ -33,79 +33,59 @@ export function compiledModule() {
     return compiled;
 }
 
+/** The memory of the calls that take no time. */
 let opened;
 
-/** The addon's calls that take no time, by the module: arrays are copied into its memory, and back. */
-export class Calls {
-    #memory;
+function openMemory() {
+    opened ??= compiledModule().then(Memory.open);
+    opened.catch(() => {
+        opened = undefined;
+    });
+    return opened;
+}
 
-    constructor(memory) {
-        this.#memory = memory;
-    }
+const asBytes = ({ buffer, byteOffset, byteLength }) => new Uint8Array(buffer, byteOffset, byteLength);
 
-    /** The calls of this thread. */
-    static async open() {
-        opened ??= compiledModule().then((module) => Memory.open(module)).then((memory) => new Calls(memory));
-        opened.catch(() => {
-            opened = undefined;
-        });
-        return opened;
-    }
+/** What a call is passed for a value, which is at a place if it is an array: numbers by an address, bytes by two. */
+function placeFor(value, place) {
+    return value instanceof Uint32Array ? pointer(place) : place ?? value;
+}
 
-    /** Works with the memory, and overwrites it. One that has grown much, or whose instance failed, is dropped. */
-    #withMemory(work) {
-        let isReusable = false;
-        try {
-            const result = work(this.#memory);
-            isReusable = this.#memory.size <= MAX_REUSED;
-            return result;
-        } finally {
-            this.#memory.clear();
-            opened = isReusable ? opened : undefined;
-        }
+/**
+ * Calls with arrays, and copies back what is written to them. The memory is overwritten. One that has grown much, or
+ * whose instance failed, is used no more.
+ */
+function callOver(memory, name, ...values) {
+    let isReusable = false;
+    try {
+        const arrays = values.filter(ArrayBuffer.isView);
+        const places = memory.putAll(arrays.map(asBytes));
+        const result = memory.call(name, ...values.map((value) => placeFor(value, places[arrays.indexOf(value)])));
+        arrays.forEach((array, i) => asBytes(array).set(memory.view(places[i])));
+        isReusable = memory.size <= MAX_REUSED;
+        return result;
+    } finally {
+        memory.clear();
+        opened = isReusable ? opened : undefined;
     }
+}
 
-    message([code]) {
-        return this.#withMemory((memory) => {
-            const text = memory.take(MESSAGE);
-            const isKnown = memory.call('message', code, text) === OK;
-            return isKnown ? new TextDecoder().decode(memory.read(text)).replace(/\0.*/s, '') : `error ${code}`;
-        });
-    }
-
-    check(settings, lengths) {
-        return this.#withMemory((memory) => memory.call('check', pointer(memory.putNumbers(settings)), ...lengths));
-    }
-
-    checkEncoded(encoded, limits, lengths, stored) {
-        return this.#withMemory((memory) => {
-            const place = memory.take(stored.length, 4);
-            const bounds = pointer(memory.put(limits));
-            const code = memory.call('check_encoded', memory.put(encoded), bounds, ...lengths, pointer(place));
-            stored.set(memory.numbersAt(place, stored.length));
-            return code;
-        });
-    }
-
-    encodedLength(salt, settings) {
-        return this.#withMemory((memory) =>
-            Number(memory.call('encoded_len', pointer(memory.putNumbers(settings)), salt.length)));
-    }
-
-    encode(salt, settings, tag, text) {
-        return this.#withMemory((memory) => {
-            const place = memory.take(text.length);
-            const numbers = pointer(memory.putNumbers(settings));
-            const code = memory.call('encode', memory.put(salt), numbers, memory.put(tag), place);
-            text.set(memory.view(place));
-            return code;
-        });
-    }
-
-    needsRehash(encoded, settings) {
-        return this.#withMemory((memory) =>
-            memory.call('needs_rehash', memory.put(encoded), pointer(memory.putNumbers(settings))));
-    }
+/** The addon's calls that take no time, by the module. */
+export async function openCalls() {
+    const memory = await openMemory();
+    const call = (...values) => callOver(memory, ...values);
+    return {
+        message([code]) {
+            const text = new Uint8Array(MESSAGE);
+            const isKnown = call('message', code, text) === OK;
+            return isKnown ? new TextDecoder().decode(text).replace(/\0.*/s, '') : `error ${code}`;
+        },
+        check: (settings, lengths) => call('check', settings, ...lengths),
+        checkEncoded: (encoded, limits, lengths, stored) => call('check_encoded', encoded, limits, ...lengths, stored),
+        encodedLength: (salt, settings) => Number(call('encoded_len', settings, salt.length)),
+        encode: (salt, settings, tag, text) => call('encode', salt, settings, tag, text),
+        needsRehash: (encoded, settings) => call('needs_rehash', encoded, settings),
+    };
 }
 
 const line = new Line({ concurrency: 1, waiting: 2 ** 32 - 1 });

@@ -130,7 +130,7 @@ function invitationsTo(memory, layout, { stacks, barrier }) {
     return stacks.map((stack, i) => ({ ...common, stack: { ...stack }, helper: i + 1 }));
 }
 
-async function compute(memory, task, { helpers, invite, report }) {
+async function computeOver(memory, task, { helpers, invite, report }) {
     const places = takePlaces(memory, task, helpers);
     const layout = makeJob(memory, task, places);
     const barrier = helpers > 0 ? new Barrier(memory.shared, places.barrier) : undefined;
@@ -151,7 +151,7 @@ async function compute(memory, task, { helpers, invite, report }) {
  */
 export async function run(memory, task, company) {
     try {
-        return await compute(memory, task, company);
+        return await computeOver(memory, task, company);
     } catch (error) {
         if (error instanceof Rejected) {
             return { code: error.code };
