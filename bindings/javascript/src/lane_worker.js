@@ -5,33 +5,24 @@ import { nodeThreads } from './platform.js';
 /** How long a worker without work stays, in milliseconds. Its memory goes with it. */
 const STAYS = 5000;
 
-/** A worker of Node. It keeps no process alive while it has nothing to do. */
-function startThread({ onMessage, onEnd }) {
+/** A worker of Node. */
+function startThread(onMessage, onEnd) {
     // (the flags of the process are not for a file of ours: `--input-type` would keep it from starting)
     const worker = newThread(nodeThreads.Worker, { execArgv: [] });
     worker.on('message', onMessage);
     worker.on('error', onEnd);
     worker.on('messageerror', onEnd);
     worker.on('exit', (status) => onEnd(new Error(`the worker has ended with status ${status}`)));
-    worker.unref();
-    return {
-        post: (message, moved) => worker.postMessage(message, moved),
-        keepsAlive: (does) => (does ? worker.ref() : worker.unref()),
-        end: () => worker.terminate(),
-    };
+    return worker;
 }
 
 /** A worker of a page. */
-function startInPage({ onMessage, onEnd }) {
+function startInPage(onMessage, onEnd) {
     const worker = newPageWorker();
     worker.onmessage = ({ data }) => onMessage(data);
     worker.onerror = ({ message }) => onEnd(new Error(message || 'the file of the worker could not be loaded'));
     worker.onmessageerror = () => onEnd(new Error('a message of the worker could not be read'));
-    return {
-        post: (message, moved) => worker.postMessage(message, moved),
-        keepsAlive: () => {},
-        end: () => worker.terminate(),
-    };
+    return worker;
 }
 
 const start = nodeThreads ? startThread : startInPage;
@@ -50,25 +41,23 @@ export class LaneWorker {
 
     constructor(onEnd) {
         this.#onEnd = onEnd;
-        this.#worker = start({
-            onMessage: (message) => this.call?.hear({ __proto__: null, ...message }),
-            onEnd: (cause) => this.end(cause),
-        });
+        const onMessage = (message) => this.call?.hear({ __proto__: null, ...message });
+        this.#worker = start(onMessage, (cause) => this.end(cause));
     }
 
     post(message, moved = []) {
-        this.#worker.post(message, moved);
+        this.#worker.postMessage(message, moved);
     }
 
     wake() {
         clearTimeout(this.#timer);
-        this.#worker.keepsAlive(true);
+        this.#worker.ref?.();
         return this;
     }
 
-    /** Has it wait for work. */
+    /** Has it wait for work. It keeps no process of Node alive meanwhile. */
     rest() {
-        this.#worker.keepsAlive(false);
+        this.#worker.unref?.();
         this.#timer = setTimeout(() => this.end(), STAYS);
         this.#timer.unref?.();
     }
@@ -80,7 +69,7 @@ export class LaneWorker {
         }
         this.isEnded = true;
         clearTimeout(this.#timer);
-        this.#worker.end();
+        this.#worker.terminate();
         this.call?.fail(cause);
         this.#onEnd(this);
     }
