@@ -304,18 +304,10 @@ export class AbortError extends Error {
 }
 
 /** The same by one name, for `import argon2 from`. */
-declare const argon2: {
-    hash: typeof hash;
-    verify: typeof verify;
-    verifyAndUpdate: typeof verifyAndUpdate;
-    needsRehash: typeof needsRehash;
-    Line: typeof Line;
-    PepperedHasher: typeof PepperedHasher;
-    tune: typeof tune;
-    argon2d: typeof argon2d;
-    argon2i: typeof argon2i;
-    argon2id: typeof argon2id;
-    presets: typeof presets;
-    defaultLimits: typeof defaultLimits;
-};
+declare namespace argon2 {
+    export {
+        hash, verify, verifyAndUpdate, needsRehash, Line, PepperedHasher, tune, argon2d, argon2i, argon2id, presets,
+        defaultLimits,
+    };
+}
 export default argon2;
