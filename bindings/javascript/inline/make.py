@@ -2,8 +2,8 @@
 """Makes the package's single files: make.py SOURCES MODULES
 
 Into the folder SOURCES it writes `inline.js`, an ES module, and `inline.cjs`, which is CommonJS. Each has all of the
-package in it: its code, that of the worker, and both WebAssembly modules of the folder MODULES. Each file of the
-package becomes a function, which is called once and returns what the file exports, so that their names stay apart.
+package in it: its code, that of the worker, and both WebAssembly modules of the folder MODULES. The package's files
+come one behind another, without what they import and export: no two of them declare the same name, as engines check.
 """
 import base64
 import json
@@ -14,62 +14,37 @@ from pathlib import Path
 HERE = Path(__file__).resolve().parent
 MODULES = {"OWN_MODULE": "proved_argon2.wasm", "SHARED_MODULE": "proved_argon2_shared.wasm"}
 COMMENT = re.compile(r"^ *(?://[^\n]*|/\*\*.*?\*/)\n", re.M | re.S)
-IMPORT = re.compile(r"^import (\{[^}]*\}|\* as \w+) from '\./(\w+)\.js';\n", re.M)
-ALL_OF = re.compile(r"^export \* from '\./(\w+)\.js';\n", re.M)
+IMPORT = re.compile(r"^(?:import (?:\{[^}]*\}|\* as (\w+))|export \*) from '\./(\w+)\.js';\n", re.M)
+EXPORT = re.compile(r"^export (?=(?:async )?(?:const|let|function|class) (\w+))", re.M)
 LISTED = re.compile(r"^export \{([^}]*)\};\n", re.M)
-DEFAULT = re.compile(r"^export default ", re.M)
-DECLARED = re.compile(r"^export ((?:async )?(?:const|let|function|class) (\w+))", re.M)
 LEFT = re.compile(r"^(?:import|export)\b.*", re.M)
 
 
 class Bundle:
-    """Files of the package as functions, those that others import first."""
+    """Files of the package, those that others import first."""
 
     def __init__(self, folder, assets=None):
-        self.folder, self.assets, self.exports, self.parts = folder, assets, {}, []
+        self.folder, self.assets, self.exports = folder, assets, {}
 
-    def add(self, name):
-        """Adds a file, and before it what it imports. Returns the names that it exports."""
+    def text(self, name):
+        """A file's text, behind that of the files that it imports, if these are not there already."""
         if name in self.exports:
-            if self.exports[name] is None:
-                sys.exit(f"make.py: {name}.js imports itself")
-            return self.exports[name]
-        self.exports[name] = None
+            return ""
         is_asset = name == "assets" and self.assets is not None
         text = COMMENT.sub("", self.assets if is_asset else (self.folder / f"{name}.js").read_text(encoding="utf-8"))
-        text, names = self.with_functions(name, text)
-        self.parts.append(f"const {name}_js = (() => {{\n{text}return {{ {', '.join(names)} }};\n}})();\n")
-        self.exports[name] = names
-        return names
+        self.exports[name] = EXPORT.findall(text)
+        imported = "".join(self.text(other) for _, other in IMPORT.findall(text))
+        return imported + EXPORT.sub("", IMPORT.sub(self.all_of, text))
 
-    def with_functions(self, name, text):
-        """A file's text without imports and exports, and what it exports."""
-        names = [found[1] for found in DECLARED.findall(text)]
-        names += [export.strip() for found in LISTED.findall(text) for export in found.split(",") if export.strip()]
-        for other in ALL_OF.findall(text):
-            names += [f"{export}: {other}_js.{export}" for export in self.add(other)]
-        text = IMPORT.sub(self.import_of, text)
-        text = DECLARED.sub(r"\1", LISTED.sub("", ALL_OF.sub("", text)))
-        text, defaults = DEFAULT.subn("const ofThis = ", text)
-        names += ["default: ofThis"] * defaults
-        if LEFT.search(text):
-            sys.exit(f"make.py: {name}.js has a line that is not known: {LEFT.search(text)[0]}")
-        return text, names
-
-    def import_of(self, found):
+    def all_of(self, found):
+        """What is in the place of an import: an object, if that is to have all that a file exports."""
         names, other = found.groups()
-        self.add(other)
-        return f"const {names.removeprefix('* as ')} = {other}_js;\n"
-
-    def text(self):
-        return "'use strict';\n" + "".join(self.parts)
+        return names and f"const {names} = {{ {', '.join(self.exports[other])} }};\n"
 
 
 def inlined(folder, modules):
     """The code in front of the package's: what its assets are."""
-    worker = Bundle(folder)
-    worker.add("worker")
-    assets = {"WORKER": f"(() => {{\n{worker.text()}}})();\n"}
+    assets = {"WORKER": f"(() => {{\n'use strict';\n{Bundle(folder).text('worker')}}})();\n"}
     for name, file in MODULES.items():
         assets[name] = base64.b64encode((modules / file).read_bytes()).decode()
     return "".join(f"const {name} = {json.dumps(value)};\n" for name, value in assets.items())
@@ -78,15 +53,17 @@ def inlined(folder, modules):
 def main():
     folder, modules = map(Path, sys.argv[1:])
     package = Bundle(folder, (HERE / "assets.js").read_text(encoding="utf-8"))
-    names = [name.split(":")[0] for name in package.add("index")]
-    front = "// The package proved-argon2 as one file, made of its sources by bindings/javascript/inline/make.py.\n"
-    body = inlined(folder, modules) + package.text().removeprefix("'use strict';\n")
-    listed = ", ".join(name for name in names if name != "default")
-    (folder / "inline.js").write_text(
-        f"{front}{body}export const {{ {listed} }} = index_js;\nexport default index_js.default;\n", encoding="utf-8")
+    text = package.text("index").replace("export default", "const all =")
+    names = ", ".join([*package.exports["errors"], *re.split(r",\s+", LISTED.search(text)[1].strip(" ,\n"))])
+    text = LISTED.sub("", text)
+    if LEFT.search(text):
+        sys.exit(f"make.py: a line is not known: {LEFT.search(text)[0]}")
+    body = ("// The package proved-argon2 as one file, made of its sources by bindings/javascript/inline/make.py.\n"
+            f"{inlined(folder, modules)}{text}")
+    (folder / "inline.js").write_text(f"{body}export {{ {names}, all as default }};\n", encoding="utf-8")
     (folder / "inline.cjs").write_text(
-        f"'use strict';\n{front}{body}"
-        "module.exports = Object.defineProperty(index_js, '__esModule', { value: true });\n", encoding="utf-8")
+        f"'use strict';\n{body}const exported = {{ {names}, default: all }};\n"
+        "module.exports = Object.defineProperty(exported, '__esModule', { value: true });\n", encoding="utf-8")
 
 
 main()

@@ -8,8 +8,8 @@ function getterOf(prototype, name) {
     return (value) => get.call(value);
 }
 
-const NAMES = ['buffer', 'byteOffset', 'byteLength'];
-const gettersOf = (prototype) => NAMES.map((name) => getterOf(prototype, name));
+const PARTS = ['buffer', 'byteOffset', 'byteLength'];
+const gettersOf = (prototype) => PARTS.map((name) => getterOf(prototype, name));
 const ofTypedArray = gettersOf(TypedArray);
 const ofDataView = gettersOf(DataView.prototype);
 const kindOf = getterOf(TypedArray, Symbol.toStringTag);

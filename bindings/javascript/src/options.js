@@ -39,7 +39,7 @@ const NO_LIMITS = Object.freeze({
     memoryCost: MAX_NUMBER, timeCost: MAX_NUMBER, parallelism: MAX_NUMBER, work: 2n ** 64n - 1n,
 });
 
-const NAMES = new Set([
+const NAMES_OF_OPTIONS = new Set([
     ...Object.keys(DEFAULTS), 'salt', 'secret', 'associatedData', 'raw', 'limits', 'onProgress', 'signal', 'native',
     'worker', 'threads', 'line',
 ]);
@@ -63,7 +63,7 @@ export function ownOf(object, names, what) {
 
 export function optionsOf(options) {
     requireEngine();
-    return ownOf(options, NAMES, 'options');
+    return ownOf(options, NAMES_OF_OPTIONS, 'options');
 }
 
 export function numberOf(name, value, most = MAX_NUMBER) {
