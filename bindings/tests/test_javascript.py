@@ -1,5 +1,6 @@
 """The package for npm: its own tests in Node, also in that of another release of Debian, and beside other
 implementations."""
+import json
 import re
 import shutil
 import sys
@@ -22,10 +23,7 @@ OTHER_NODE = """for folder in "$2" "$3"; do mkdir -p "$1$folder" && mount --bind
 mount --rbind /dev "$1/dev" && mount -t proc proc "$1/proc"
 exec chroot "$1" env -C "$PWD" node "${@:4}"
 """
-ASKS_FOR_NOTHING = """const manifest = require(process.argv[1]);
-for (const name of ["dependencies", "optionalDependencies", "peerDependencies", "scripts", "bin"]) {
-    if (name in manifest) throw new Error(name);
-}"""
+ASKS = {"dependencies", "optionalDependencies", "peerDependencies", "scripts", "bin"}
 
 
 @pytest.fixture(scope="module")
@@ -85,7 +83,7 @@ def test_it_asks_for_nothing_and_has_the_licence(site):
     folder = site / "node_modules/proved-argon2"
     for name in ("LICENSE", "NOTICE"):
         assert (folder / name).read_bytes() == (TOP / name).read_bytes()
-    run("node", "-e", ASKS_FOR_NOTHING, folder / "package.json")
+    assert not ASKS & json.loads((folder / "package.json").read_text()).keys()
 
 
 @pytest.mark.skipif(not NODE_API.exists(), reason="there is no header of Node's")

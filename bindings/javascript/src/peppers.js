@@ -1,6 +1,6 @@
 // A pepper that rotates: keys by an ID, which is stored beside each encoded hash.
 import { bytesOf } from './bytes.js';
-import { hash, verifyAndRenew, verifyAndUpdate } from './calls.js';
+import { hash, verifyAndRenew } from './calls.js';
 
 /** Hashes with the newest of several peppers, and verifies with the one of a stored hash. */
 export class PepperedHasher {
@@ -36,9 +36,8 @@ export class PepperedHasher {
             throw new RangeError(`there is no pepper '${keyId}'`);
         }
         const own = { ...this.#options, ...options, secret: keyId === null ? undefined : this.#keys.get(keyId) };
-        const { matches, update } = await (keyId === this.newest
-            ? verifyAndUpdate(encoded, password, own)
-            : verifyAndRenew(encoded, password, own, this.#keys.get(this.newest)));
+        const newSecret = keyId === this.newest ? undefined : this.#keys.get(this.newest);
+        const { matches, update } = await verifyAndRenew(encoded, password, own, newSecret);
         return { matches, update: update === null ? null : { keyId: this.newest, encoded: update } };
     }
 }

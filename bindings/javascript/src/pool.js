@@ -45,7 +45,6 @@ function release(worker) {
 
 /** A call that a worker leads, and others help it. */
 class Call {
-    #workers;
     #leader;
     #helpers;
     #progress;
@@ -56,7 +55,6 @@ class Call {
     });
 
     constructor(taken, progress) {
-        this.#workers = taken;
         [this.#leader, ...this.#helpers] = taken;
         this.#leader.hasMemory = true;
         this.#helpers.forEach((helper) => helper.joined.add(this.#leader));
@@ -69,13 +67,12 @@ class Call {
 
     async run(task) {
         this.#module = await compiledModule();
-        const forget = this.#progress.whenAborted(() => this.#stop());
-        if (!this.#progress.isStopped) {
-            this.#begin(task);
-            return this.#ended.finally(forget);
+        if (this.#progress.isStopped) {
+            throw new Rejected(STOPPED);
         }
-        forget();
-        throw new Rejected(STOPPED);
+        const forget = this.#progress.whenAborted(() => this.#stop());
+        this.#begin(task);
+        return this.#ended.finally(forget);
     }
 
     /** A channel from the leader to each helper passes the memory: this thread would hold it until it is collected. */
@@ -108,7 +105,7 @@ class Call {
     /** Ends all workers of the call, since they wait for each other. */
     fail(cause) {
         this.#end.reject(new Rejected(WORKER_REFUSED, cause));
-        for (const worker of this.#workers) {
+        for (const worker of [this.#leader, ...this.#helpers]) {
             worker.call = undefined;
             worker.end(cause);
         }

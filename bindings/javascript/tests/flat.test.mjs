@@ -3,7 +3,6 @@ import assert from 'node:assert/strict';
 import os from 'node:os';
 import { test } from 'node:test';
 import { setTimeout as sleep } from 'node:timers/promises';
-import threads from 'node:worker_threads';
 
 const MIB = 2 ** 20;
 const WORKERS = 4;
@@ -13,25 +12,15 @@ const SIZES = [4096, 16384];
 const LANES = [1, 4];
 /** What a process may have more than it began with: the code and the heaps of its workers. */
 const BESIDES = 96 * MIB;
-/** How long workers stay, in milliseconds: the package's own time, and those that stand for it here. */
-const STAYS = 5000;
+/** How long workers stay, in milliseconds. */
 const LONG = 1000;
 const SOON = 50;
 
-const workers = [];
-threads.Worker = class extends threads.Worker {
-    constructor(...values) {
-        super(...values);
-        workers.push(this);
-        this.on('exit', () => workers.splice(workers.indexOf(this), 1));
-    }
-};
 os.availableParallelism = () => WORKERS;
 
-let stays = STAYS;
-const { setTimeout: wait } = globalThis;
-globalThis.setTimeout = (call, delay, ...more) => wait(call, delay === STAYS ? stays : delay, ...more);
-
+// (what the package drops is to go)
+process.env.KEEPS_INSTANCES = 'no';
+const { letStay, workers } = await import('./watching.mjs');
 const argon2 = await import('proved-argon2');
 await argon2.hash('password', { memoryCost: 64, native: false });
 const start = process.memoryUsage.rss();
@@ -86,7 +75,7 @@ const KINDS = {
 
 for (const [what, [calls, stay, memories, makeCall]] of Object.entries(KINDS)) {
     test(`${what}, and an idle process is back at its first size`, async () => {
-        stays = stay;
+        letStay(stay);
         let most = 0;
         for (let call = 0; call < calls; call++) {
             await makeCall(call);
@@ -95,7 +84,7 @@ for (const [what, [calls, stay, memories, makeCall]] of Object.entries(KINDS)) {
         // (where workers end soon, theirs may be gone before it is seen)
         assert.ok(stay < LONG || memories < WORKERS || most > SIZES[1] * 1024 / 2, 'no memory was seen');
         assertFlat(most, memories);
-        stays = SOON;
+        letStay(SOON);
         await argon2.hash('password', settingsOf(3));
         while (workers.length > 0) {
             await sleep(SOON);

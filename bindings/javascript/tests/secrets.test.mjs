@@ -23,37 +23,31 @@ const hidden = (bytes) => Array.from(bytes, (byte) => (byte ^ MASK).toString(16)
 /** Outside the engine's heap, where a caller can overwrite them. */
 const drawn = () => randomFillSync(Buffer.allocUnsafeSlow(LENGTH));
 
-/** The writable regions of a process. */
-function regionsOf(pid) {
-    const lines = readFileSync(`/proc/${pid}/maps`, 'utf8').matchAll(/^(\w+)-(\w+) rw/gm);
-    return Array.from(lines, ([, start, end]) => [parseInt(start, 16), parseInt(end, 16)]);
-}
-
-/** The bytes of a region, piece by piece. Pages that are not there are left out. */
-function* piecesOf(file, [start, end]) {
-    for (let at = start; at < end; at += CHUNK) {
-        const piece = Buffer.alloc(Math.min(CHUNK + KNOWN_BY, end - at));
-        try {
-            yield piece.subarray(0, readSync(file, piece, 0, piece.length, at));
-        } catch (error) {
-            assert.equal(error.code, 'EIO');
+/** What a process may write, piece by piece. Pages that are not there are left out. */
+function* memoryOf(pid) {
+    const file = openSync(`/proc/${pid}/mem`);
+    for (const [, ...bounds] of readFileSync(`/proc/${pid}/maps`, 'utf8').matchAll(/^(\w+)-(\w+) rw/gm)) {
+        const [start, end] = bounds.map((bound) => parseInt(bound, 16));
+        for (let at = start; at < end; at += CHUNK) {
+            const piece = Buffer.alloc(Math.min(CHUNK + KNOWN_BY, end - at));
+            try {
+                yield piece.subarray(0, readSync(file, piece, 0, piece.length, at));
+            } catch (error) {
+                assert.equal(error.code, 'EIO');
+            }
         }
     }
+    closeSync(file);
 }
 
 /** How many of these begin somewhere in the memory of a process. */
 function countIn(pid, secrets) {
     const found = new Set();
-    const file = openSync(`/proc/${pid}/mem`);
     let bytes = 0;
-    for (const region of regionsOf(pid)) {
-        for (const piece of piecesOf(file, region)) {
-            bytes += piece.length;
-            secrets.filter((secret) => piece.includes(secret.subarray(0, KNOWN_BY)))
-                .forEach((secret) => found.add(secret));
-        }
+    for (const piece of memoryOf(pid)) {
+        bytes += piece.length;
+        secrets.filter((secret) => piece.includes(secret.subarray(0, KNOWN_BY))).forEach((secret) => found.add(secret));
     }
-    closeSync(file);
     return { bytes, found: found.size };
 }
 

@@ -5,8 +5,9 @@ import threads, { BroadcastChannel, MessagePort, isMainThread, threadId } from '
 
 const STACK = 65536;
 const STAYS = 5000;
-/** Each instance of the package's with its memory, kept here, so that what the package drops can be looked at too. */
+/** Each instance of the package's with its memory, so that what the package drops can be looked at too. */
 const instances = [];
+const keepsInstances = process.env.KEEPS_INSTANCES !== 'no';
 /** The workers that are not gone. */
 export const workers = [];
 let started = 0;
@@ -16,20 +17,15 @@ const { instantiate } = WebAssembly;
 WebAssembly.instantiate = async (...values) => {
     const made = await instantiate(...values);
     const { exports } = made.instance ?? made;
-    if ('proved_argon2_job_make' in exports) { // (Node has modules of its own)
+    if (keepsInstances && 'proved_argon2_job_make' in exports) { // (Node has modules of its own)
         const { memory = values[1].env.memory, __heap_base: base } = exports;
         instances.push({ base: Number(base.value), memory });
     }
     return made;
 };
 
-function held(memory, from, to) {
-    let bytes = 0;
-    for (const word of new Uint32Array(memory.buffer, from, (to - from) / 4)) {
-        bytes += word === 0 ? 0 : 4;
-    }
-    return bytes;
-}
+const held = (memory, from, to) => new Uint32Array(memory.buffer, from, (to - from) / 4)
+    .reduce((bytes, word) => bytes + (word === 0 ? 0 : 4), 0);
 
 /** How many bytes of the memories are in words that are not zero, but for the module's tables, and how many in all. */
 export function look() {
