@@ -15,7 +15,7 @@ NODE_API = Path("/usr/include/node/node_api.h")
 pytestmark = [has_node(), pytest.mark.timeout(2400)]
 # Those of what both engines do, and those of the package alone.
 BOTH = "vectors", "errors", "inputs", "services", "secrets", "line"
-OWN = *BOTH, "native", "running", "flat"
+OWN = *BOTH, "running", "flat"
 WEBASSEMBLY = {"PROVED_ARGON2_NATIVE": 0}
 DEBIAN = "sid"
 # Node of the system in a folder, which sees the tests and these sources: SYSTEM SITE SOURCES WORD..

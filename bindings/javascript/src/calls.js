@@ -1,14 +1,12 @@
 // The calls that hash and verify.
-import { bytesOf, copyOf, Inputs, passwordOf } from './bytes.js';
+import { allocate, bytesOf, copyOf, Inputs, passwordOf } from './bytes.js';
 import { MISMATCH, OK, Rejected, check, errorOf } from './codes.js';
 import { Encoder } from './encoder.js';
 import { Argon2Error } from './errors.js';
 import { Line, Progress } from './line.js';
 import { openCalls, runInPlace } from './module.js';
 import { addonFor, runByThreads } from './native.js';
-import {
-    encodedOf, inputsOf, inputsToVerify, isRaw, limitsOf, optionsOf, runningOf, settingsOf,
-} from './options.js';
+import { encodedOf, inputsOf, isRaw, limitsOf, optionsOf, runningOf, settingsOf } from './options.js';
 import { canStartWorkers } from './platform.js';
 import { runByWorkers } from './pool.js';
 import { lanesOf } from './run.js';
@@ -84,7 +82,7 @@ export async function verify(encoded, password, options = {}) {
     const { bytes, data } = encodedOf(encoded);
     const limits = limitsOf(own);
     const ways = waysOf(own);
-    const inputs = inputsToVerify(password, { __proto__: null, associatedData: data, ...own });
+    const inputs = inputsOf(password, { __proto__: null, associatedData: data, ...own, salt: allocate(0) });
     ways.threads = Math.min(ways.threads, MAX_THREADS_OF_STRING);
     return callWith(ways, inputs, async (encoder) => {
         const task = { ...encoder.decode(bytes, limits, inputs), encoded: bytes, inputs };

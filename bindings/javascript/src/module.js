@@ -12,37 +12,32 @@ const MESSAGE = 64;
 /** What a memory may have grown to and still be reused by the next call. */
 const MAX_REUSED = 2 ** 20;
 
-/** The module for a memory that workers share, where they can, else the one with a memory of its own. */
-let compiled;
+/** Makes something once, and anew where that has failed, or it was dropped. */
+function keep(make) {
+    let made;
+    const drop = () => {
+        made = undefined;
+    };
+    const get = () => {
+        made ??= make();
+        made.catch(drop);
+        return made;
+    };
+    return { get, drop };
+}
 
-async function compile() {
+/** The module for a memory that workers share, where they can, else the one with a memory of its own. */
+const compiled = keep(async () => {
     if (globalThis.WebAssembly === undefined) {
         throw new Unsupported('This engine has no WebAssembly');
     }
     return WebAssembly.compile(await readModule(canShare()));
-}
+});
 
-/** The module. It is read anew where that has failed. */
-export function compiledModule() {
-    if (compiled === undefined) {
-        compiled = compile();
-        compiled.catch(() => {
-            compiled = undefined;
-        });
-    }
-    return compiled;
-}
+export const compiledModule = compiled.get;
 
 /** The memory of the calls that take no time. */
-let opened;
-
-function openMemory() {
-    opened ??= compiledModule().then(Memory.open);
-    opened.catch(() => {
-        opened = undefined;
-    });
-    return opened;
-}
+const opened = keep(() => compiledModule().then(Memory.open));
 
 const asBytes = ({ buffer, byteOffset, byteLength }) => new Uint8Array(buffer, byteOffset, byteLength);
 
@@ -66,13 +61,15 @@ function callOver(memory, name, ...values) {
         return result;
     } finally {
         memory.clear();
-        opened = isReusable ? opened : undefined;
+        if (!isReusable) {
+            opened.drop();
+        }
     }
 }
 
 /** The addon's calls that take no time, by the module. */
 export async function openCalls() {
-    const memory = await openMemory();
+    const memory = await opened.get();
     const call = (...values) => callOver(memory, ...values);
     return {
         message([code]) {

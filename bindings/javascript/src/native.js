@@ -7,7 +7,6 @@ import { Places } from './line.js';
 import { nodeThreads, processors } from './platform.js';
 import { hashLengthOf } from './run.js';
 
-const NOT_WANTED = '0';
 /** The threads that compute. */
 const computing = new Places(processors);
 /** What a thread reads and writes, which is not to be collected meanwhile. */
@@ -19,8 +18,8 @@ function load() {
     const { process } = globalThis;
     const made = { exports: {} };
     try {
-        if (process.env.PROVED_ARGON2_NATIVE === NOT_WANTED) {
-            throw new Error(`PROVED_ARGON2_NATIVE is ${NOT_WANTED}`);
+        if (process.env.PROVED_ARGON2_NATIVE === '0') {
+            throw new Error('PROVED_ARGON2_NATIVE is 0');
         }
         process.dlopen(made, addonFile(`./${process.platform}-${process.arch}.node`));
         // (the library may have no build for this processor)

@@ -129,9 +129,7 @@ export function encodedOf(encoded) {
 /** The bytes of an option, or none. */
 const bytesOrNone = (name, value) => (value === undefined ? allocate(0) : bytesOf(name, value));
 
-/** The salt that is given, or a new one of 16 bytes (RFC 9106, 3.1). */
-const saltOf = (salt) => (salt === undefined ? randomSalt() : bytesOf('salt', salt));
-
+/** A new salt of 16 bytes (RFC 9106, 3.1). */
 function randomSalt() {
     try {
         return crypto.getRandomValues(allocate(SALT_LENGTH));
@@ -140,18 +138,15 @@ function randomSalt() {
     }
 }
 
-/** The inputs of a hash. */
+/** The inputs of a hash, or of a verification, whose salt is in the string. */
 export function inputsOf(password, { salt, secret, associatedData }) {
     return new Inputs({
-        salt: saltOf(salt),
+        salt: salt === undefined ? randomSalt() : bytesOf('salt', salt),
         secret: bytesOrNone('secret', secret),
         associatedData: bytesOrNone('associatedData', associatedData),
         password: passwordOf(password),
     });
 }
-
-/** .. and of a verification, whose salt is in the string. */
-export const inputsToVerify = (password, own) => inputsOf(password, { __proto__: null, ...own, salt: allocate(0) });
 
 function threadsOf(threads = MAX_NUMBER) {
     if (numberOf('threads', threads) === 0) {

@@ -25,9 +25,6 @@ function shapeOf(memory, job) {
     return { lanes, segmentLength, passes };
 }
 
-/** How many slices are filled, over all passes. */
-const slicesOf = (layout) => SLICES * layout.passes;
-
 /** A slice, whole. */
 function sliceOf(layout, slice) {
     const length = layout.lanes * layout.segmentLength;
@@ -94,7 +91,7 @@ function makeJob(memory, { encoded, inputs }, places) {
 
 /** Has helpers take each step, and takes it too. `report` is called with the progress, and returns whether to stop. */
 async function fill(memory, layout, barrier, helpers, report) {
-    const slices = slicesOf(layout);
+    const slices = SLICES * layout.passes;
     for (let step = 0; step <= slices; step++) {
         barrier?.begin(step);
         const own = takeStep(memory, layout, step, 0, helpers + 1);

@@ -1,8 +1,8 @@
-// Chromium, Firefox and WebKit without a window, each with the page of a folder, and the package that is installed here.
-// No protocol of theirs is needed: the page is in a frame, and what is around it asks a server here what to do.
+// Chromium, Firefox and WebKit without a window, each with the page of a folder and the package that is installed. No
+// protocol of theirs is needed: the page is in a frame, and what is around it asks a server here what to do.
 import { execFileSync, spawn, spawnSync } from 'node:child_process';
 import { EventEmitter, once } from 'node:events';
-import { createReadStream, existsSync, mkdtempSync, readdirSync, readFileSync, rmSync, writeFileSync } from 'node:fs';
+import { createReadStream, existsSync, mkdtempSync, rmSync, writeFileSync } from 'node:fs';
 import { createServer } from 'node:http';
 import { tmpdir } from 'node:os';
 import { dirname, extname, join, normalize } from 'node:path';
@@ -36,22 +36,17 @@ frame.addEventListener('load', () => { new EventSource('/asked').onmessage = ans
 document.body.append(frame);
 </script>`;
 
-/** What the system says of a process, or nothing where it has just ended. */
-function statusOf(number) {
-    try {
-        return Object.fromEntries(readFileSync(`/proc/${number}/status`, 'utf8').split('\n')
-            .map((line) => line.split(/:\s+/)));
-    } catch {
-        return {};
-    }
-}
-
 /** The bytes that a process and those below it have written and keep: without the files that they map. */
 function memoryBelow(first) {
-    const all = new Map(readdirSync('/proc').filter(Number).map((number) => [number, statusOf(number)]));
-    const isBelow = (number) => all.has(number) && (number === String(first) || isBelow(all.get(number).PPid));
-    return [...all].filter(([number]) => isBelow(number)).reduce((bytes, [, { RssAnon = 0, RssShmem = 0 }]) =>
-        bytes + 1024 * (parseInt(RssAnon) + parseInt(RssShmem)), 0);
+    const command = 'grep -sE "^(PPid|RssAnon|RssShmem):" /proc/[0-9]*/status';
+    const { stdout } = spawnSync('sh', ['-c', command], { encoding: 'utf8' });
+    const all = new Map();
+    for (const [, number, name, value] of stdout.matchAll(/(\d+)\/status:(\w+):\s+(\d+)/g)) {
+        all.set(+number, { RssAnon: 0, RssShmem: 0, ...all.get(+number), [name]: +value });
+    }
+    const isBelow = (number) => all.has(number) && (number === first || isBelow(all.get(number).PPid));
+    return [...all].filter(([number]) => isBelow(number))
+        .reduce((bytes, [, { RssAnon, RssShmem }]) => bytes + 1024 * (RssAnon + RssShmem), 0);
 }
 
 /** Sends the file of a path: those of the package are the installed ones. */
@@ -126,18 +121,12 @@ class Browser {
     }
 
     /** Ends all its processes, as a fault would. */
-    kill(signal = 'SIGKILL') {
-        try {
-            process.kill(-this.#process.pid, signal);
-        } catch (error) {
-            if (error.code !== 'ESRCH') {
-                throw error;
-            }
-        }
+    kill(signal = 'KILL') {
+        spawnSync('sh', ['-c', `kill -s ${signal} -- -${this.#process.pid}`]);
     }
 
     async close() {
-        this.kill('SIGTERM');
+        this.kill('TERM');
         await this.#ended;
         this.kill();
         this.#server.close();

@@ -14,7 +14,7 @@ function hashOf(line) {
     return { line, settings, salt, inputs: { password, secret, associatedData }, expected: others.slice(4).join(' ') };
 }
 
-/** The hashes of a file, which has so many at least. What is expected is in hexadecimal, or `ERR` and an error's words. */
+/** The hashes of a file, so many at least: what is expected is in hexadecimal, or `ERR` and an error's words. */
 export function hashesOf(file, least) {
     const hashes = linesOf(file).map(hashOf);
     assert.ok(hashes.length >= least, `${hashes.length} lines`);

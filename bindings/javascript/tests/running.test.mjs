@@ -1,14 +1,84 @@
-// How calls run: progress, an end on demand, workers, and what is left in memory.
+// How calls run: by the addon and by workers, with progress, an end on demand, and what is left in memory.
 import assert from 'node:assert/strict';
-import { execFile } from 'node:child_process';
-import { getEventListeners } from 'node:events';
+import { spawn } from 'node:child_process';
+import { getEventListeners, once } from 'node:events';
 import { readdirSync } from 'node:fs';
+import { createRequire } from 'node:module';
 import os, { availableParallelism } from 'node:os';
 import { test } from 'node:test';
 import { setTimeout as sleep } from 'node:timers/promises';
-import { promisify } from 'node:util';
-import { countWorkers, letStay, look, lookIntoWorkers, workers } from './watching.mjs';
+import { Worker } from 'node:worker_threads';
+import { countWorkers, letStay, look, lookIntoWorkers, outputOf, workers } from './watching.mjs';
 import * as argon2 from 'proved-argon2';
+
+const NATIVE = { memoryCost: 1024, timeCost: 1, salt: new Uint8Array(16), raw: true };
+/** Takes a minute or so. */
+const ENDLESS = '{ memoryCost: 65536, timeCost: 1000, parallelism: 2, native: true, onProgress }';
+const SOON = 10000;
+
+// (before others, whose threads stay)
+test('a thread computes one hash after another', async () => {
+    const threads = () => new Set(readdirSync('/proc/self/task'));
+    const before = threads();
+    await argon2.hash('password', NATIVE);
+    const added = [...threads()].filter((thread) => !before.has(thread));
+    for (let call = 0; call < 20; call++) {
+        await argon2.hash('password', NATIVE);
+    }
+    const after = threads();
+    assert.ok(added.length > 0 && added.every((thread) => after.has(thread)));
+    assert.ok(after.size < before.size + added.length + 3);
+});
+
+test('the addon computes, without a worker, and WebAssembly where it is asked for', async () => {
+    const started = countWorkers();
+    const tag = await argon2.hash('password', NATIVE);
+    assert.deepEqual(await argon2.hash('password', { ...NATIVE, native: true }), tag);
+    assert.equal(started(), 0);
+    assert.deepEqual(await argon2.hash('password', { ...NATIVE, native: false }), tag);
+    assert.equal(started(), 1);
+});
+
+test('.. and so it does by require', async () => {
+    const required = createRequire(import.meta.url)('proved-argon2');
+    const tag = await required.hash('password', { ...NATIVE, native: true });
+    assert.deepEqual(tag, await argon2.hash('password', NATIVE));
+});
+
+/** How a process ends that runs some lines once it is in the middle of a hash, and how long that takes. */
+async function endOf(lines) {
+    const program = `import { hash } from 'proved-argon2';
+        const onProgress = (done) => done === 2 && end();
+        function end() { ${lines} }
+        hash('password', ${ENDLESS}).catch(() => process.exit(9));`;
+    const child = spawn(process.execPath, ['--input-type=module', '--eval', program],
+        { cwd: import.meta.dirname, stdio: 'ignore' });
+    const began = performance.now();
+    const [status, signal] = await once(child, 'exit');
+    assert.ok(performance.now() - began < SOON, 'it took long');
+    return signal ?? status;
+}
+
+test('a process ends in the middle of a hash', async () => {
+    assert.equal(await endOf('process.exit(7);'), 7);
+    assert.equal(await endOf("setTimeout(() => { throw new Error('thrown on purpose'); });"), 1);
+});
+
+test('a worker of the program ends in the middle of a hash, and others have the addon then', async () => {
+    for (let round = 0; round < 3; round++) {
+        const program = `const { parentPort } = require('node:worker_threads');
+            const onProgress = (done) => done === 2 && parentPort.postMessage(done);
+            require('proved-argon2').hash('password', ${ENDLESS});`;
+        const worker = new Worker(program, { eval: true });
+        await once(worker, 'message');
+        const began = performance.now();
+        await worker.terminate();
+        assert.ok(performance.now() - began < SOON, 'it took long');
+        assert.equal((await argon2.hash('password', NATIVE)).length, 32);
+    }
+});
+
+// ---- by workers, and by both
 
 const SMALL = { memoryCost: 1024, timeCost: 3, parallelism: 4, salt: new Uint8Array(16), raw: true, native: false };
 const RUNNINGS = {
@@ -195,19 +265,14 @@ test('a process ends while a worker waits for work', async () => {
         import { hash, verify } from 'proved-argon2';
         process.once('beforeExit', () => console.log(workers.length));
         console.log(await verify(await hash('password', { memoryCost: 64, native: false }), 'password'));`;
-    const words = ['--input-type=module', '--eval', program];
-    const how = { cwd: import.meta.dirname, timeout: 600000 };
-    const { stdout } = await promisify(execFile)(process.execPath, words, how);
-    assert.equal(stdout, 'true\n1\n');
+    assert.equal(await outputOf(['--input-type=module', '--eval', program]), 'true\n1\n');
 });
 
 test('a memory that a port loses goes another way', async () => {
     const words = ['--import', './watching.mjs', '--test-reporter=tap',
         '--test-name-pattern=by a worker for each lane', 'vectors.test.mjs'];
-    const how = { cwd: import.meta.dirname, timeout: 120000,
-        env: { ...process.env, NODE_TEST_CONTEXT: undefined, PROVED_ARGON2_NATIVE: '0', LOSES_MEMORIES: '1' } };
-    const { stdout } = await promisify(execFile)(process.execPath, words, how);
-    assert.match(stdout, /^# pass 1$/m);
+    const variables = { NODE_TEST_CONTEXT: undefined, PROVED_ARGON2_NATIVE: '0', LOSES_MEMORIES: '1' };
+    assert.match(await outputOf(words, variables), /^# pass 1$/m);
 });
 
 test('workers without work go', async () => {

@@ -1,6 +1,8 @@
 // What the tests see of the package from outside: which workers are started, and what all memories of the module hold.
 // It is loaded before the package, in the thread of a test and, by `--import`, in each worker.
+import { execFile } from 'node:child_process';
 import { setTimeout as sleep } from 'node:timers/promises';
+import { promisify } from 'node:util';
 import threads, { BroadcastChannel, MessagePort, isMainThread, threadId } from 'node:worker_threads';
 
 const STACK = 65536;
@@ -59,6 +61,12 @@ export function letStay(milliseconds) {
 export function countWorkers() {
     const before = started;
     return () => started - before;
+}
+
+/** What a process of Node says that has some arguments, and more variables. */
+export async function outputOf(words, variables = {}) {
+    const how = { cwd: import.meta.dirname, timeout: 600000, env: { ...process.env, ...variables } };
+    return (await promisify(execFile)(process.execPath, words, how)).stdout;
 }
 
 function watchWorkers() {
