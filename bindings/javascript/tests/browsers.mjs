@@ -72,6 +72,7 @@ class Browser {
     #server;
     #process;
     #ended;
+    #beats;
 
     /** Opens the page of a folder, isolated from other origins or not, by a policy for its content if there is one. */
     async open(folder, { isIsolated = true, policy } = {}) {
@@ -97,6 +98,8 @@ class Browser {
         }
         response.writeHead(200, { 'Content-Type': type, ...isolated });
         if (path === '/asked') {
+            // (Firefox closes it once something comes for a page that has crashed)
+            this.#beats = setInterval(() => this.#asked.write(':\n\n'), 1000);
             this.#asked.pipe(response).once('close', () => this.#end('its page has ended'));
         } else {
             response.end(path === '/around' ? AROUND : '');
@@ -129,6 +132,7 @@ class Browser {
         this.kill('TERM');
         await this.#ended;
         this.kill();
+        clearInterval(this.#beats);
         this.#server.close();
         this.#server.closeAllConnections();
         rmSync(this.profile, { recursive: true, force: true, maxRetries: 10 });

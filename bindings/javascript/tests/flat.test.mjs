@@ -54,12 +54,12 @@ async function hashAndRest(call) {
 }
 
 const hashWith = (options) => (call) => argon2.hash('password', { ...settingsOf(call), ...options });
-const manyWith = (options, round = 0) => Array.from({ length: 10 }, (_, i) => hashWith(options)(10 * round + i));
-const hashTogether = (round) => Promise.all(manyWith({}, round));
+const manyWith = (options, count, first) => Array.from({ length: count }, (_, i) => hashWith(options)(first + i));
+const hashTogether = (round) => Promise.all(manyWith({}, 10, 10 * round));
 let waiting;
 
 function hashInTurn(call) {
-    waiting ??= manyWith({ worker: false });
+    waiting ??= manyWith({ worker: false }, 40, 0);
     return waiting[call];
 }
 
@@ -70,7 +70,7 @@ const KINDS = {
     '.. and where workers end between calls': [CALLS / 5, 1, WORKERS, hashAndRest],
     '.. and where workers die in a call': [CALLS / 5, LONG, WORKERS, hashOrDie],
     'threads of the addon leave no memory': [10 * CALLS, LONG, 0, hashWith({ native: true })],
-    'calls in place take one memory, however many wait': [10, LONG, 1, hashInTurn],
+    'calls in place take one memory, however many wait': [40, LONG, 1, hashInTurn],
 };
 
 for (const [what, [calls, stay, memories, makeCall]] of Object.entries(KINDS)) {

@@ -84,11 +84,8 @@ function watchWorkers() {
 
 function tellWhatIsHeld() {
     const channel = new BroadcastChannel('memories');
-    channel.onmessage = ({ data }) => {
-        if (data === 'look') { // (and no other worker's answer)
-            channel.postMessage(look());
-        }
-    };
+    // (and no other worker's answer)
+    channel.onmessage = ({ data }) => data === 'look' && channel.postMessage(look());
     channel.unref();
 }
 
