@@ -19,12 +19,6 @@ const JOB = NUMBERS + 6 * 4;
 export const lanesOf = (settings) => settings[LANES];
 export const hashLengthOf = (settings) => settings[HASH_LENGTH];
 
-/** The numbers of a job that say how many steps there are, and over which blocks. */
-function shapeOf(memory, job) {
-    const [, , lanes, segmentLength, passes] = memory.numbersAt(new Place(job.at + NUMBERS), 6);
-    return { lanes, segmentLength, passes };
-}
-
 /** A slice, whole. */
 function sliceOf(layout, slice) {
     const length = layout.lanes * layout.segmentLength;
@@ -86,7 +80,9 @@ function makeJob(memory, { encoded, inputs }, places) {
         : memory.call('job_read', first, ofPassword, ...keys, job, places.salt, places.hash);
     inputPlaces.forEach((place) => memory.clearPlace(place));
     check(code);
-    return { ...shapeOf(memory, places.job), job: { ...places.job }, blocks: { ...places.blocks } };
+    // (these numbers say how many steps there are, and over which blocks)
+    const [, , lanes, segmentLength, passes] = memory.numbersAt({ at: places.job.at + NUMBERS }, 5);
+    return { lanes, segmentLength, passes, job: { ...places.job }, blocks: { ...places.blocks } };
 }
 
 /** Has helpers take each step, and takes it too. `report` is called with the progress, and returns whether to stop. */
