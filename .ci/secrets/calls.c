@@ -8,14 +8,16 @@
    (test_instructions.py). Without valgrind nothing is marked (test_wiping.py). */
 #include "proved_argon2.h"
 
+#include <errno.h>
+#include <pthread.h>
 #include <stdio.h>
 #include <stdlib.h>
 #include <unistd.h>
 #include <valgrind/memcheck.h>
 
 enum { CAPACITY = 4096, MAX_BLOCKS = 4096 };
-enum { HASH_RAW, HASH_ENCODED, VERIFY_RAW, VERIFY_ENCODED };
-enum { WITHIN = 4, PASSWORD_HASH, PASSWORD_VERIFY, HASH_OVER, VERIFY_OVER };
+enum { HASH_RAW, HASH_ENCODED, VERIFY_RAW, VERIFY_ENCODED, WITHIN };
+enum { PASSWORD_HASH = WITHIN + 1, PASSWORD_VERIFY, HASH_OVER, VERIFY_OVER };
 enum { PASSWORD, SALT, SECRET, AD, VERIFIED, FIELDS }; /* the last is the hash or the text that is verified */
 
 /* The call, by which options, and how much of what is verified is open. */
@@ -113,16 +115,16 @@ static void hide_secrets(void)
     hide(&question.fields[VERIFIED].at[question.open], question.fields[VERIFIED].length - question.open);
 }
 
-/* A static program has the variables of its first thread behind its data, where memcheck takes them for undefined. */
-static void show_own_memory(void)
+/* The driver asks whether a stack is large enough, with a guard for which there is no memory. Valgrind takes that for a
+   wrong number, so that each thread would get 1 GiB, which memcheck takes seconds to mark: nothing is asked. */
+int pthread_attr_setguardsize(pthread_attr_t *attributes, size_t size)
 {
-    extern char end[];
-    (void)VALGRIND_MAKE_MEM_DEFINED_IF_ADDRESSABLE(end, (size_t)((char *)sbrk(0) - end));
+    (void)attributes;
+    return size > 0 ? EINVAL : 0;
 }
 
 int main(void)
 {
-    show_own_memory();
     if (proved_argon2_memory_new(&LARGEST, &REUSED.memory, &REUSED.memory_len) != PROVED_ARGON2_OK) abort();
     hide(blocks, sizeof blocks);
     while (fread(&question, sizeof question, 1, stdin) == 1) {

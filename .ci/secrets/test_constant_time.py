@@ -12,6 +12,7 @@ sees nothing. calls.c makes the calls, of cases.py. depends.txt has what each ca
 import os
 import re
 import subprocess
+from collections import defaultdict
 from itertools import product
 
 import cases as of
@@ -28,35 +29,31 @@ SECONDS = 3600
 READS = dict(zip(machines()['x86_64'].proved, (10, 9), strict=True))
 FEW = 2  # vectors are enough of a case with a leak
 CASES = of.hashes, of.hashed_texts, of.verdicts, of.verdicts_on_texts
-# The cases, with options, variants and versions.
-ASKED = [*product(CASES, (of.FRESH, of.CALLER), of.VARIANTS, of.VERSIONS),
-         *product(CASES, (of.REUSED, of.PROGRESS), of.VARIANTS, [19]), *product(CASES, [of.THREADS], ['argon2d'], [16]),
-         *product(CASES, [of.THREADS], ['argon2i'], [16]), *product(CASES, [of.THREADS], ['argon2id'], [19]),
-         *product([of.verdicts_on_others], of.OPTIONS, ['argon2i'], [0]),
-         *product([of.verdicts_within], [of.FRESH], of.VARIANTS, [19]), (of.passwords, of.FRESH, 'argon2id', 19)]
-# Leaks in what is proved, each with a case in which it has to be seen; and what is put behind the driver's line that
-# gives a tag or a verdict.
+EVERY, NEWER = tuple(product(of.VARIANTS, of.VERSIONS)), tuple(product(of.VARIANTS, [19]))
+# The cases, with options, and with the variants and versions that one run is asked.
+ASKED = [*product(CASES, (of.FRESH, of.CALLER), [EVERY]), *product(CASES, (of.REUSED, of.PROGRESS), [NEWER]),
+         *product(CASES, [of.THREADS], [(('argon2d', 16), ('argon2i', 16), ('argon2id', 19))]),
+         *product([of.verdicts_on_others], of.OPTIONS, [(('argon2i', 0),)]), (of.verdicts_within, of.FRESH, NEWER),
+         (of.passwords, of.FRESH, (('argon2id', 19),))]
+# Leaks in what is proved, each with a case and a variant in which it has to be seen; and what is put behind the
+# driver's line that gives a tag or a verdict.
 LEAKS = {
-    'branch_on_a_word': (of.hashes, of.FRESH, 'argon2i', 19),
-    'branch_on_a_reference': (of.hashes, of.FRESH, 'argon2id', 19),
-    'table_of_letters': (of.hashed_texts, of.FRESH, 'argon2i', 19),
-    'branch_on_a_letter': (of.verdicts_on_texts, of.FRESH, 'argon2i', 19),
-    'branch_on_a_hash': (of.verdicts, of.FRESH, 'argon2i', 19),
-    'if (tag[0] == 0)': (of.hashes, of.CALLER, 'argon2i', 19),
+    'branch_on_a_word': (of.hashes, of.FRESH, 'argon2i'),
+    'branch_on_a_reference': (of.hashes, of.FRESH, 'argon2id'),
+    'table_of_letters': (of.hashed_texts, of.FRESH, 'argon2i'),
+    'branch_on_a_letter': (of.verdicts_on_texts, of.FRESH, 'argon2i'),
+    'branch_on_a_hash': (of.verdicts, of.FRESH, 'argon2i'),
+    'if (tag[0] == 0)': (of.hashes, of.CALLER, 'argon2i'),
     **dict.fromkeys(('if (code == PROVED_ARGON2_OK)', 'if (hash && memcmp(hash, tag, call->job.hash_length) == 0)',
                      'if (hash && memcmp(hash, tag, call->job.hash_length / 2) == 0)',
                      'for (size_t i = 0; hash && i < call->job.hash_length && hash[i] == tag[i]; i++)'),
-                    (of.verdicts, of.FRESH, 'argon2i', 19)),
+                    (of.verdicts, of.FRESH, 'argon2i')),
 }
 # How memcheck heads its reports, each place with how often it was met; a thread may be named in between.
 BRANCH, ADDRESS = 'Conditional jump or move depends on uninitialised value(s)', 'Use of uninitialised value of size 8'
 PLACE = re.compile(r'^==\d+== (\d+) errors in context .*\n(?:==\d+== Thread \d+:\n)?==\d+== (.*)$', re.M)
-MEMCHECK = ['valgrind', *'-v --error-limit=no --num-callers=1 --leak-check=no --vgdb=no --read-inline-info=no'.split()]
-# What a static program's C library does before its memory is shown. The library for C calls two of these, malloc and
-# free, of which memcheck would see nothing in a shared one either.
-OF_THE_START = ''.join(f'{{\n{function}\nMemcheck:{kind}\nfun:{function}\n}}\n'
-                       for function in ('__tls_init_tp', '*malloc', '_int_free', '*strcspn*')
-                       for kind in ('Cond', 'Param\nset_robust_list(head)'))
+MEMCHECK = ['valgrind', *'-v --error-limit=no --default-suppressions=no --num-callers=1 --leak-check=no --vgdb=no '
+            '--read-inline-info=no'.split()]
 
 
 def planted(leak, folder, objects):
@@ -74,78 +71,75 @@ def planted(leak, folder, objects):
 
 @pytest.fixture(scope='module')
 def came(request, tmp_path_factory):
-    """What comes of questions to calls.c over the library, and over it with each leak. It is linked statically, since
-    valgrind takes longer to read the shared libraries than to ask most questions."""
+    """What comes of rows, over calls.c with each leak."""
     folder = tmp_path_factory.mktemp('made')
-    objects, programs = library(folder / 'objects'), {}
-    for leak in (None, *LEAKS):
-        programs[leak] = compiled(folder / f'calls-{len(programs)}', '-static', CALLS,
-                                  *planted(leak, folder, objects).values())
-    (folder / 'start').write_text(OF_THE_START, encoding='utf-8')
-    yield from ahead(request, 'row', lambda row: ask(programs[row[1]], row[0], *row[2:], few=FEW if row[1] else None))
+    objects = library(folder / 'objects')
+    programs = {leak: compiled(folder / f'calls-{number}', CALLS, *planted(leak, folder, objects).values())
+                for number, leak in enumerate((None, *LEAKS))}
+    yield from ahead(request, 'row', lambda row: Came(programs[row[1]], row[0], *row[2:], FEW if row[1] else None))
 
 
 class Came:
-    """What came of questions to a program: what failed, and how often each place was reported. Of a report only the
-    innermost function counts, since the library tells a debugger nothing of callers."""
+    """What came of a case of vectors, or of a few, in one run: whether that is all, and right, which answers are wrong,
+    and how often each place was reported. Of a report only the innermost function counts, since the library tells a
+    debugger nothing of callers."""
 
-    def __init__(self, ran, questions, reads):
-        self.log, came = ran.stderr.decode(errors='replace'), of.answers(ran.stdout)
-        self.wrong = [answer[:4] for question, answer in zip(questions, came) if not question.is_right(answer, reads)]
-        self.is_ended = ran.returncode == 0 and len(came) == len(questions) > 0
-        self.places = [(int(count), kind) for count, kind in PLACE.findall(self.log.partition('ERROR SUMMARY')[2])]
+    def __init__(self, program, cpu, case, options, kinds, most):
+        questions = [one for kind in kinds for asked in of.asked(case, options, *kind)[:most] for one in asked]
+        ran = subprocess.run([*MEMCHECK, program], input=b''.join(question.packed() for question in questions),
+                             capture_output=True, check=False, env={**os.environ, 'PROVED_ARGON2_CPU': cpu},
+                             timeout=SECONDS)
+        self.log, answers, self.places = ran.stderr.decode(errors='replace'), of.answers(ran.stdout), defaultdict(list)
+        for count, kind in PLACE.findall(self.log.partition('ERROR SUMMARY')[2]):
+            self.places[kind].append(int(count))
+        self.is_ended = ran.returncode == 0 and len(answers) == len(questions) > 0
+        self.wrong = [answer[:4] for question, answer in zip(questions, answers)
+                      if not question.is_right(answer, READS[cpu])]
+        self.is_right = self.is_ended and not self.wrong and self.are_expected(
+            sum(one.branches for one in questions), sum(one.references() for one in questions), READS[cpu])
 
-    def are_reported(self, references, branches, reads):
-        """Whether places are those of so many references, each found and read by addresses at so many places, at each
-        once, and of so many branches in all, and no other."""
-        found = [[count for count, kind in self.places if kind == heading] for heading in (ADDRESS, BRANCH)]
-        return (len(self.places) == sum(map(len, found)) and sum(found[1]) == branches
-                and found[0] == [references] * (reads if references else 0))
+    def are_expected(self, branches, references, reads):
+        """Whether places are those of so many branches in all, and of so many references, each found and read by
+        addresses at so many places, at each once, and no other."""
+        return (self.places.keys() <= {BRANCH, ADDRESS} and sum(self.places[BRANCH]) == branches
+                and self.places[ADDRESS] == [references] * (reads if references else 0))
 
     def shown(self):
         functions = sorted(set(re.findall(r'^==\d+==    at 0x[0-9A-F]+: (\S+) ', self.log, re.M)))
-        return '\n'.join([*functions, *map(str, self.wrong[:5]), *map(str, self.places)])
-
-
-def ask(program, cpu, case, *how, few=None):
-    """Asks a case of its vectors, or of a few: how many there are, what came, and whether that is right."""
-    found, reads = of.asked(case, *how), READS[cpu]
-    questions = sum(found[:few], [])
-    ran = subprocess.run([*MEMCHECK, f'--suppressions={program.parent}/start', program],
-                         input=b''.join(question.packed() for question in questions), capture_output=True, check=False,
-                         env={**os.environ, 'PROVED_ARGON2_CPU': cpu}, timeout=SECONDS)
-    came = Came(ran, questions, reads)
-    references, branches = (sum(numbers) for numbers in zip(*((one.references(), one.branches) for one in questions)))
-    return len(found), came, came.is_ended and not came.wrong and came.are_reported(references, branches, reads)
+        return '\n'.join([*functions, *map(str, self.wrong[:5]), str(dict(self.places))])
 
 
 def named(row):
-    cpu, leak, case, *how = row
-    return '-'.join(map(str, (cpu, *filter(None, [leak]), case.__name__, *how)))
+    cpu, leak, case, options, _ = row
+    return '-'.join(map(str, (cpu, *filter(None, [leak]), case.__name__, options)))
 
 
 @pytest.mark.timeout(SECONDS)
 @pytest.mark.parametrize('row', [(cpu, None, *how) for cpu in READS for how in ASKED], ids=named)
 def test_nothing_else_depends_on_secrets(came, row):
-    count, found, is_right = came(row)
-    assert is_right, found.shown()
-    assert count > 18 or row[2] == of.passwords or row[3] == of.THREADS
+    assert came(row).is_right, came(row).shown()
 
 
 @pytest.mark.timeout(SECONDS)
-@pytest.mark.parametrize('row', [(cpu, leak, *how) for cpu in READS for leak, how in LEAKS.items()], ids=named)
+@pytest.mark.parametrize('row', [(cpu, leak, case, options, ((variant, 19),)) for cpu in READS
+                                 for leak, (case, options, variant) in LEAKS.items()], ids=named)
 def test_each_leak_is_seen(came, row):
     """And it is all that goes wrong."""
-    _, found, is_right = came(row)
-    assert not is_right and found.is_ended and {kind for _, kind in found.places} <= {BRANCH, ADDRESS}, found.shown()
-    assert found.places
+    found = came(row)
+    kinds = {kind for kind, counts in found.places.items() if counts}
+    assert not found.is_right and found.is_ended and set() < kinds <= {BRANCH, ADDRESS}, found.shown()
 
 
 def test_all_is_asked():
-    """Each build is, and each case of depends.txt by the variants that its calls name, and may report what it says."""
+    """Each build is, of enough vectors, and each case of depends.txt by the variants that its calls name, and may
+    report what it says."""
     assert [*READS] == machines()['x86_64'].proved
-    asked = {(case.__name__, variant): of.asked(case, options, variant, version)[0]
-             for case, options, variant, version in ASKED}
+    asked = {}
+    for case, options, kinds in ASKED:
+        for variant, version in kinds:
+            vectors = of.asked(case, options, variant, version)
+            assert len(vectors) > 18 or vectors and (case == of.passwords or options == of.THREADS)
+            asked[case.__name__, variant] = vectors[0]
     rows = [((case, re.match(r'Argon2(?:id|i|d)\b', call)[0].lower()), words)
             for cases, call, words in rows_of(CALLS.parent / 'depends.txt') for case in cases.split()]
     assert sorted(row for row, _ in rows) == sorted(asked)
