@@ -4,12 +4,12 @@ branches look at the letters of a stored hash as a whole, as often as a text is 
 they are base64. A block that is drawn from a block is reported at each place that finds or reads it (constant_time)."""
 
 import base64
-import ctypes
 import random
 import struct
 from collections import namedtuple
 from typing import NamedTuple
 
+from argon2.low_level import Type, hash_secret
 from shared import TOP
 
 CALLS = TOP / '.ci/secrets/calls.c'
@@ -27,7 +27,6 @@ OF_THREADS, IN_ALL_PASSES = 2048, 4096
 OF_A_TEXT = 4  # reports: of two branches, at two readings (whether it is accepted, and its job)
 CAPACITY = 4096
 ASKED, ANSWERED = struct.Struct('<9I' + f'I{CAPACITY}s' * 5), struct.Struct(f'<4I{CAPACITY}s{CAPACITY}s')
-PEER, SIZE = ctypes.CDLL('libargon2.so.1'), ctypes.c_size_t
 # What calls.c answers.
 Answer = namedtuple('Answer', 'reports calls_back code undefined out bits')
 
@@ -97,12 +96,7 @@ class Question(NamedTuple):
         return (expected == (came.reports, came.calls_back > 0, came.code, came.undefined > 0)
                 and came.out == text.ljust(CAPACITY, b'\0') and not any(others)
                 and all(bits == 255 if self.call == HASH_RAW else bits for bits in hidden)
-                and (self.call != PASSWORD_HASH or is_accepted(text, self.vector.password)))
-
-
-def is_accepted(text, password):
-    """Whether libargon2 accepts a text, of a salt that was drawn meanwhile."""
-    return PEER.argon2id_verify(text, password, SIZE(len(password))) == 0
+                and (self.call != PASSWORD_HASH or text == of_libargon2(self.vector, text.split(b'$')[4])))
 
 
 def answers(said):
@@ -113,6 +107,12 @@ def answers(said):
 def letters(data):
     """Unpadded base64."""
     return base64.b64encode(data).rstrip(b'=')
+
+
+def of_libargon2(vector, salt):
+    """The text of another implementation, with the letters of a salt, which may have been drawn meanwhile."""
+    return hash_secret(vector.password, base64.b64decode(salt + b'=='), vector.passes, vector.memory, vector.lanes,
+                       vector.length, Type(vector.variant), vector.version)
 
 
 def with_byte(data, at, byte):
@@ -170,11 +170,9 @@ def verdicts_on_others(text_and_code):
 
 def passwords(vector):
     """A text that is written for a password alone, and a verdict on one of libargon2's."""
-    text = ctypes.create_string_buffer(128)
-    PEER.argon2id_hash_encoded(vector.passes, vector.memory, vector.lanes, vector.password, SIZE(len(vector.password)),
-                               vector.salt, SIZE(len(vector.salt)), SIZE(vector.length), text, SIZE(len(text)))
+    text = of_libargon2(vector, letters(vector.salt))
     return [Question(PASSWORD_HASH, vector, open=len(vector.head())),
-            Question(PASSWORD_VERIFY, vector, verified=text.value, open=len(text.value))]
+            Question(PASSWORD_VERIFY, vector, verified=text, open=len(text))]
 
 
 # ---- vectors
