@@ -34,15 +34,12 @@ from toolchain import is_current
 BUILDS = machines()['x86_64'].proved
 # How long a run may take, and the numbers of search.c: bytes of a piece, and places.
 SECONDS, PIECE, PLACES = 600, 16, 1024
-# What runs a program with some environment, where its stack is at the same place each time.
-AT_ONE_PLACE = ('setarch', '-R', 'env')
-# What overwrites, and a call of it; of what computes over a memory; and of what ends a call that has one of its own.
+# The calls, jumps and returns in machine code: the place, and the function that they lead to, without its types.
+BRANCH = re.compile(r'^ +([0-9a-f]+):\t(call|jmp|ret)(?:[^<\n]*<([^+\n]*?)(?:::<[^+\n]*)?>$)?', re.M)
+# What overwrites; what computes over a memory; and what ends a call that has one of its own.
 OVERWRITING = ('argon2_blocks::blake2b::wipe', 'argon2_fill::stack_wiping::wipe_stack', 'proved_driver_overwrite',
                'clear_stack')
-WIPES = re.compile(rf'.*<({"|".join(OVERWRITING)})(?=::<|>)[^+]*>$')
-COMPUTES = re.compile(
-    r'\t(?:call|jmp) .*<argon2::(?:hashing|verifying)::(?:texts::)?\w+_in(?:_sequential)?(?:::<#[0-9a-f]+>)?>$')
-RELEASES = re.compile(r'\t(?:call|jmp) .*<argon2::ending::release>$')
+COMPUTING, ENDING = r'argon2::(hashing|verifying)::(texts::)?\w+_in(_sequential)?', 'argon2::ending::release'
 # A function that leaves nothing where it returns: what it leaves for some lanes alone is missed nowhere else.
 CLEAN = 'argon2_fill::fill::write_first_block'
 # What calls are given and write, which is anywhere; and what they may leave below them where nothing clears that.
@@ -53,8 +50,8 @@ MAY_BE_LEFT = ('H0', *OF_CALLER)
 TRIES, LOOKS = 9, 6
 # What c/clearing.c is linked with. Where names are bound late, the loader leaves registers on the stack, which the
 # driver alone clears there.
-WRAPPED = 'malloc calloc aligned_alloc free mmap munmap madvise pthread_create pthread_join explicit_bzero getrandom'
-LINKED = (FACE / 'c/clearing.c', *(f'-Wl,--wrap={name}' for name in WRAPPED.split()), '-Wl,-z,lazy', '-largon2')
+WRAPPED = {'getrandom', *re.findall(r'__wrap_(\w+)', (FACE / 'c/system.h').read_text(encoding='utf-8'))}
+LINKED = (FACE / 'c/clearing.c', *(f'-Wl,--wrap={name}' for name in WRAPPED), '-Wl,-z,lazy', '-largon2')
 # What is hashed: a password that fills the last block of what H0 is the hash of, with a salt of nine bytes.
 OURS = of.Vector(rfc9106.ID, 19, 2, 64, 4, 32, (b'the-password-that-is-sought,-' * 8)[:207], b'some-salt')
 OF_RFC = of.Vector(rfc9106.ID, 19, 3, 32, 4, 32, b'\1' * 32, b'\2' * 16, b'\3' * 8, b'\4' * 12)
@@ -63,21 +60,18 @@ OF_16_LANES = of.Vector(rfc9106.ID, 19, 2, 256, 16, 32, b'password', b'somesalt'
 OF_A_CHAIN, OF_9_LANES = OURS._replace(length=100), OURS._replace(memory=288, lanes=9, length=3000)
 OF_A_LONG_TAG = OF_9_LANES._replace(length=5000)
 DROPPED = OF_9_LANES._replace(passes=1, length=32, password=b'password')
-# Of one lane, which starts no worker; and a string of it and of a hash of zeros.
+# Of one lane, which starts no worker.
 IN_ONE_LANE, OF_A_CHAIN_IN_ONE_LANE = OURS._replace(lanes=1), OF_A_CHAIN._replace(lanes=1)
-STRING = IN_ONE_LANE._replace(tag=bytes(32)).text().decode()
-# Tests of each root call that takes no memory of the caller's, and of each that keeps one, which it drops; and how many
-# of the calls in their machine code are over a caller's memory, in its own function or in the test.
-TESTS, COUNT_OF_TESTS, OVER_CALLERS = re.compile(
+# Tests of each root call that takes no memory of the caller's, and of each that keeps one, which it drops.
+COUNT_OF_TESTS, TESTS = 25, re.compile(
     r'^(\S*\b(?:(?:hash_raw|hash_encoded|verify_raw)_(?:by(?:_two)?_workers|in_one_thread|sequential)(?:_argon2id)?'
-    r'|verify_encoded(?:_ext|_within)?(?:_sequential)?|\w+_in(?:_sequential)?_twice)_refused_in_turn): test$',
-    re.M), 25, {'argon2_tests': 15}
+    r'|verify_encoded(?:_ext|_within)?(?:_sequential)?|\w+_in(?:_sequential)?_twice)_refused_in_turn): test$', re.M)
 # Of each program, and of each function with what it calls: how many calls are missed, and how many are not.
 EXPECTED = defaultdict(dict)
-for programs, callee, place, missed, others, *why in rows_of(CALLS.parent / 'wipes.txt'):
-    assert len(why) == (others != '0'), f'{place} has no reason, or needs none'
-    for name in BUILDS if programs == 'builds' else programs.split(' '):
-        EXPECTED[name][callee, place] = int(missed), int(others)
+for programs, callee, functions, missed, others, *why in rows_of(CALLS.parent / 'wipes.txt'):
+    assert len(why) == (others != '0'), f'{functions} have no reason, or need none'
+    for name, function in product(BUILDS if programs == 'builds' else programs.split(' '), functions.split(', ')):
+        EXPECTED[name][callee, function] = int(missed), int(others)
 pool = ThreadPoolExecutor(os.cpu_count())
 
 
@@ -123,10 +117,6 @@ class Run(NamedTuple):
     status: int = 0
     may_be_left: tuple = OF_CALLER
 
-    def steady(self):
-        """What is the same whenever threads run."""
-        return [piece for piece in self.sought if not self.has_threads or piece[0] not in OF_CALLER]
-
 
 # ---- machine code
 
@@ -134,127 +124,129 @@ Site = namedtuple('Site', 'callee function at')
 
 
 class Program:
-    """A program, its calls of what overwrites, and its returns, each as its function and its place."""
+    """A program and what it is run for; of each function the places of its calls, jumps and returns; the calls of what
+    overwrites; and the returns, each as its function and its place."""
 
-    def __init__(self, name, path, preloaded):
-        self.name, self.path, self.preloaded, self.sites, self.returns, function = name, path, preloaded, [], [], ''
-        self.computing, self.releasing = Counter(), Counter()
-        for line in run('objdump', '-d', '--no-show-raw-insn', path).splitlines():
-            if line.endswith('>:'):
-                function = re.sub(r'::<#[0-9a-f]+>', '', line[line.index('<') + 1:-2])
-                # (by its name in every build)
-                function = re.sub(r'^proved_(?:x86_64_v\d)_', 'proved_argon2_', function)
-            found = re.match(r' +([0-9a-f]+):\t(call|jmp|ret)', line)
-            callee = found and WIPES.match(line)
-            self.computing[function] += bool(COMPUTES.search(line))
-            self.releasing[function] += bool(RELEASES.search(line))
-            if callee and not function.startswith(OVERWRITING[:2]):
-                self.sites.append(Site(callee[1].split('::')[-1], function, int(found[1], 16)))
-            elif found and found[2] == 'ret' and re.match(r'(proved_)?argon2(?!_blocks::blake2b::wipe)', function):
-                self.returns.append((function, int(found[1], 16)))
+    def __init__(self, name, path, preloaded, runs):
+        self.name, self.path, self.preloaded, self.runs, self.code = name, path, preloaded, runs, defaultdict(list)
+        for part in run('objdump', '-d', '--no-show-raw-insn', path).split('\n\n'):
+            head, _, lines = part.partition('>:\n')
+            function = re.sub('::<#[0-9a-f]+>', '', head.partition('<')[2])
+            function = re.sub(r'^proved_x86_64_v\d', 'proved_argon2', function)  # (by its name in every build)
+            self.code[function] += [(int(at, 16), kind, callee) for at, kind, callee in BRANCH.findall(lines)]
+        self.sites = [Site(callee.rpartition('::')[2], function, at) for function, places in self.code.items()
+                      for at, _, callee in places
+                      if callee in OVERWRITING and not function.startswith(OVERWRITING[:2])]
+        self.returns = [(function, at) for function, places in self.code.items() for at, kind, _ in places
+                        if kind == 'ret' and re.match(r'(proved_)?argon2(?!_blocks::blake2b::wipe)', function)]
 
     def calls(self, callee):
         return [site for site in self.sites if site.callee == callee]
 
     @contextmanager
     def planned(self, dropped=(), stops=(), sought=()):
-        """The command of the program by a plan of search.c."""
+        """The command of the program by a plan of search.c, where its stack is at the same place each time."""
         with tempfile.NamedTemporaryFile(dir=self.preloaded.parent) as plan:
+            plan.write(struct.pack('<I', len(sought)))
             for places in [site.at for site in dropped], [at for _, at in stops]:
                 plan.write(struct.pack(f'<{PLACES}I', *places, *[0] * (PLACES - len(places))))
             plan.write(b''.join(piece for _, piece in sought))
             plan.flush()
-            yield [*AT_ONE_PLACE, f'LD_PRELOAD={self.preloaded}', f'PLAN={plan.name}', self.path]
-
-    def found_in(self, one_run, dropped, stops):
-        """How often each is found in a run: at the end, in what is freed, above stops, and at these, by their
-        function."""
-        sought, where = one_run.steady(), ['left', 'freed', 'above', *(function for function, _ in stops)]
-        with self.planned(dropped, stops, sought) as command:
-            done = subprocess.run([*command, *one_run.words], input=one_run.input, capture_output=True, timeout=SECONDS)
-        said, found = done.stderr.decode(errors='replace'), Counter()
-        is_well = done.returncode == one_run.status and f'sought {len(sought)}' in said.splitlines()
-        assert is_well, f'{self.name} does not end well: {one_run.words}, {dropped}'
-        for row, piece, count in re.findall(r'^(\d+) (\d+) (\d+)$', said, re.MULTILINE):
-            found[where[int(row)], sought[int(piece)][0]] += int(count)
-        return found
+            yield ['setarch', '-R', 'env', f'LD_PRELOAD={self.preloaded}', f'PLAN={plan.name}', self.path]
 
     def found(self, runs, dropped=(), stops=()):
-        """What runs find where calls are left out, run by run."""
+        """How often each is found where calls are left out, run by run: at the end, in what is freed, above stops, and
+        at these, by their function."""
+        where = ['left', 'freed', 'above', *(function for function, _ in stops)]
         for number, one_run in enumerate(runs):
-            yield from (((number, *place), count) for place, count in self.found_in(one_run, dropped, stops).items())
+            # (where threads run, the caller's is not the same each time)
+            sought = [piece for piece in one_run.sought if not one_run.has_threads or piece[0] not in OF_CALLER]
+            with self.planned(dropped, stops, sought) as command:
+                done = subprocess.run([*command, *one_run.words], input=one_run.input, capture_output=True,
+                                      timeout=SECONDS)
+            said, found = done.stderr.decode(errors='replace'), Counter()
+            is_well = done.returncode == one_run.status and f'sought {len(sought)}' in said.splitlines()
+            assert is_well, f'{self.name} does not end well: {one_run.words}, {dropped}'
+            for row, piece, count in re.findall(r'^(\d+) (\d+) (\d+)$', said, re.MULTILINE):
+                found[number, where[int(row)], sought[int(piece)][0]] += int(count)
+            yield from found.items()
 
     def missed(self, sites, runs, others, stops):
         """Calls, and which of them are missed, each left out alone beside the others."""
+        runs = sorted(runs, key=lambda one_run: not one_run.has_threads)
+        tries = [runs] + [[one_run for one_run in runs if one_run.has_threads]] * (TRIES - 1)
         before = dict(self.found(runs, others, stops))
-        left = {place: count for place, count in before.items() if place[1] == CLEAN}
-        assert not left, f'where {CLEAN} returns'
-        tries = TRIES if any(one_run.has_threads for one_run in runs) else 1
+        assert not [place for place in before if place[1] == CLEAN], f'where {CLEAN} returns'
 
         def is_missed(site):  # (by one run, behind which no other is needed)
-            return any(count > before.get(place, 0) for place, count in self.found(runs, [*others, site], stops))
+            return any(count > before.get(place, 0)
+                       for these in tries for place, count in self.found(these, [*others, site], stops))
 
-        return [*zip(sites, pool.map(lambda site: any(is_missed(site) for _ in range(tries)), sites))]
+        return [*zip(sites, pool.map(is_missed, sites))]
 
-    def misses(self, runs):
-        stacks, alone = self.calls('wipe_stack'), [one_run for one_run in runs if not one_run.has_threads]
+    def misses(self):
+        """Each call, and whether it is missed; of the driver, by whether a check of c/clearing.c fails."""
+        if self.runs is None:
+            sites = [site for site in self.sites if not site.callee.startswith('wipe')]
+            return [*zip(sites, pool.map(self.fails, sites))]
+        stacks, alone = self.calls('wipe_stack'), [one_run for one_run in self.runs if not one_run.has_threads]
         ends = [stop for stop in self.returns if stop[0] in {site.function for site in stacks}]
-        return self.missed(self.calls('wipe'), alone, stacks, self.returns) + self.missed(stacks, runs, [], ends)
+        return self.missed(self.calls('wipe'), alone, stacks, self.returns) + self.missed(stacks, self.runs, [], ends)
 
-    def failure(self, *dropped):
-        """The first check of c/clearing.c that fails, or nothing."""
-        with self.planned(dropped) as command, subprocess.Popen(
-                command, stdout=subprocess.PIPE, stderr=subprocess.DEVNULL, text=True) as process:
-            failure = next((line for line in process.stdout if line.startswith('FAILED: ')), None)
-            process.kill()
-        return failure
+    def fails(self, *dropped):
+        with self.planned(dropped) as command:
+            until = ['sh', '-c', '"$@" 2>/dev/null | grep -q "^FAILED: "', 'sh']
+            return subprocess.run([*until, *command], check=False).returncode == 0
 
 
 # ---- the library for C: each proved call of a build
 
+def of_zeros(vector):
+    return vector._replace(tag=bytes(vector.length))
+
+
 def runs_of_library():
     calls = [(options, call) for options in (of.FRESH, of.CALLER) for call in range(of.WITHIN)]
-    over = (of.FRESH, of.HASH_OVER), (of.FRESH, of.VERIFY_OVER)
-    few = calls[of.HASH_RAW], calls[of.VERIFY_ENCODED]
+    over = [(of.FRESH, of.HASH_OVER), (of.FRESH, of.VERIFY_OVER)]
+    few = [calls[of.HASH_RAW], calls[of.VERIFY_ENCODED]]
     for vector, made in ((OURS, calls), (OF_A_CHAIN, calls), (OF_9_LANES, few)):
-        zeroed = vector._replace(tag=bytes(vector.length))
-        for options, call in (*made, *over):
-            verified = zeroed.text() if call == of.VERIFY_ENCODED else zeroed.tag
+        for options, call in made + over:
+            verified = of_zeros(vector).text() if call == of.VERIFY_ENCODED else of_zeros(vector).tag
             yield Run([], of.Question(call, vector, verified=verified, options=options).packed(), pieces(vector))
 
 
-def judge_library(program, runs):
+def judge_library(program):
     """Behind each call that computes its stack has nothing, and where that is not cleared no more than it may have."""
     stacks = program.calls('wipe_stack')
     computing = {site.function for site in stacks}
     assert len(computing) > 9
     for dropped, may_be_left in (((), ()), (stacks, MAY_BE_LEFT)):
-        found = program.found(runs, dropped, [stop for stop in program.returns if stop[0] in computing])
-        left = {place: count for place, count in found
-                if place[1] in (*computing, 'freed') and place[2] not in may_be_left}
+        found = program.found(program.runs, dropped, [stop for stop in program.returns if stop[0] in computing])
+        left = [place for place, _ in found if place[1] in (*computing, 'freed') and place[2] not in may_be_left]
         assert not left, f'{len(dropped)} calls are left out'
 
 
 # ---- Rattle's calls
 
+def row(call, vector, mode, *more):
+    """A row of the program that makes any call."""
+    settings = f'argon2id 19 {vector.passes} {vector.memory} {vector.lanes} {vector.length}'
+    inputs = f"'{vector.password.decode()} '{vector.salt.decode()} - -"
+    return ' '.join([call, settings, mode, inputs, *more]) + '\n'
+
+
 def rows():
-    """Rows of the program that makes any call, with a tag of one hash and of chains, in one thread and by workers: some
-    hash, and others verify, which leave no tag, two of them with one lane, which starts none. And a memory is dropped.
-    """
-    password, salt, every = OURS.password.decode(), OURS.salt.decode(), (OURS, OF_A_CHAIN, OF_A_LONG_TAG)
-    sought, others = pieces(*every), pieces(IN_ONE_LANE, OF_A_CHAIN_IN_ONE_LANE)
+    """Runs of that program, with a tag of one hash and of chains, in one thread and by workers: some hash, and others
+    verify, which leave no tag, two of them with one lane, which starts none. And a memory is dropped."""
+    every, in_one_lane = (OURS, OF_A_CHAIN, OF_A_LONG_TAG), (IN_ONE_LANE, OF_A_CHAIN_IN_ONE_LANE)
     for modes in (('seq',), ('par', 'max2')):
-        inputs = [(vector.length,
-                   f"argon2id 19 2 {vector.memory} {vector.lanes} {vector.length} {mode} '{password} '{salt} - -")
-                  for vector in every for mode in modes]
-        hashing = [f'{call} {words}\n' for _, words in inputs for call in ('hash_raw', 'hash_encoded')]
-        verdicts = [f'verify_raw {words} {"00" * length}\n' for length, words in inputs]
-        verdicts += [f"verify_encoded_ext '{password} - - {vector._replace(tag=bytes(vector.length)).text().decode()}\n"
-                     for vector in (IN_ONE_LANE, OF_A_CHAIN_IN_ONE_LANE)]
-        yield Run([], ''.join(hashing).encode(), sought, len(modes) > 1)
-        yield Run([], ''.join(verdicts).encode(), sought + others, len(modes) > 1, 0, OF_CALLER[1:])
-    words = f"argon2id 19 1 {DROPPED.memory} {DROPPED.lanes} {DROPPED.length} seq 'password '{salt} - -"
-    yield Run([], f'fill_sequential {words}\n'.encode(), blocks_of(DROPPED))
+        hashing = [row(call, *how) for how in product(every, modes) for call in ('hash_raw', 'hash_encoded')]
+        verdicts = [row('verify_raw', vector, mode, '00' * vector.length) for vector, mode in product(every, modes)]
+        verdicts += [f"verify_encoded_ext '{vector.password.decode()} - - {of_zeros(vector).text().decode()}\n"
+                     for vector in in_one_lane]
+        yield Run([], ''.join(hashing).encode(), pieces(*every), 'par' in modes)
+        yield Run([], ''.join(verdicts).encode(), pieces(*every, *in_one_lane), 'par' in modes, 0, OF_CALLER[1:])
+    yield Run([], row('fill_sequential', DROPPED, 'seq').encode(), blocks_of(DROPPED))
 
 
 def runs_of_tests():
@@ -277,73 +269,72 @@ def commands(hashing, salt, verifying):
         words, vector = [hashing, *f'argon2id {version} 2 64 4 32 {mode}'.split(), salt], OURS._replace(version=version)
         freed = blocks_of(vector) if mode == 'seq' else []
         yield Run(words, OURS.password, pieces(vector) + freed, mode != 'seq', 0, (*OF_CALLER, *dict(freed)))
-    yield Run([verifying, STRING], OURS.password, pieces(IN_ONE_LANE), status=1)
+    yield Run([verifying, of_zeros(IN_ONE_LANE).text().decode()], OURS.password, pieces(IN_ONE_LANE), status=1)
 
 
-# Of each program in Rattle, what it is run for.
-RATTLE = {'argon2_vectors': rows, 'argon2_tests': runs_of_tests,
-          'argon2_program': lambda: commands('hash', OURS.salt.decode(), 'verify'),
-          'argon2_tool': lambda: commands('new', OURS.salt.hex(), 'check')}
+# Of each program in Rattle, what it is run for, and how many of its calls are over a caller's memory, in its own
+# function or in the test.
+RATTLE = {'argon2_vectors': (rows, 0), 'argon2_tests': (runs_of_tests, 15),
+          'argon2_program': (lambda: commands('hash', OURS.salt.decode(), 'verify'), 0),
+          'argon2_tool': (lambda: commands('new', OURS.salt.hex(), 'check'), 0)}
 
 
 def program_of(crate):
     return TOP / 'crates' / crate / 'out' / crate.replace('_tests', '_tests_tests')
 
 
-def judge_program(program, runs):
+def judge_program(program):
     """What a program leaves as it is: nothing but tags and what it was given, and what it frees. Each call that has a
     memory of its own calls `release`, which is counted: what follows such a call may overwrite what it alone leaves on
     the stack."""
-    assert +program.releasing
-    assert (program.computing - program.releasing).total() == OVER_CALLERS.get(program.name, 0)
-    found = Counter(dict(program.found(runs)))
-    left = {(at, where, what): count for (at, where, what), count in found.items()
-            if what not in runs[at].may_be_left and (where == 'left' or what == 'the tag')}
-    assert not left and sum(found.values()) > 0
-    for at, one_run in enumerate(runs):
+    counts = [[sum(bool(re.fullmatch(name, callee)) for *_, callee in places) for name in (COMPUTING, ENDING)]
+              for places in program.code.values()]
+    assert any(ended for _, ended in counts)
+    assert sum(max(0, computed - ended) for computed, ended in counts) == RATTLE[program.name][1]
+    found = Counter(dict(program.found(program.runs)))
+    left = [(at, where, what) for at, where, what in found
+            if what not in program.runs[at].may_be_left and (where == 'left' or what == 'the tag')]
+    assert found and not left
+    for at, one_run in enumerate(program.runs):
         freed = [found[at, 'freed', what] for what in one_run.may_be_left if what not in OF_CALLER]
         assert any(freed) or not freed, f'{one_run.words} does not free its blocks as they are'
 
 
 # ---- all of them
 
-@pytest.fixture(scope='module', name='made', params=EXPECTED)
-def fixture_made(request, tmp_path_factory):
-    """A program, and what it is run for."""
+@pytest.fixture(scope='module', params=EXPECTED)
+def program(request, tmp_path_factory):
     name, folder = request.param, tmp_path_factory.mktemp('made')
     preloaded = Path(build_preloaded('secrets/search', folder))
     if name in RATTLE:
         assert is_current(name, program_of(name), says_why=True), f'{name} is of other sources'
-        return Program(name, program_of(name), preloaded), [*RATTLE[name]()]
-    objects, words = library(folder / 'objects', name if name in BUILDS else ''), [CALLS] if name in BUILDS else LINKED
-    program = Program(name, compiled(folder / name, *words, *objects.values()), preloaded)
-    return program, [*runs_of_library()] if name in BUILDS else None
+        return Program(name, program_of(name), preloaded, [*RATTLE[name][0]()])
+    words, cpu, runs = (CALLS,), name, [*runs_of_library()]
+    if name == 'driver':
+        words, cpu, runs = LINKED, '', None
+    made = compiled(folder / name, *words, *library(folder / 'objects', cpu).values())
+    return Program(name, made, preloaded, runs)
 
 
 def test_each_program_is_listed():
     assert {*EXPECTED} == {*BUILDS, *RATTLE, 'driver'}
 
 
-@pytest.mark.parametrize('made', [name for name in EXPECTED if name != 'driver'], indirect=True, scope='module')
-def test_what_is_left(made):
-    program, runs = made
-    (judge_program if program.name in RATTLE else judge_library)(program, runs)
+@pytest.mark.parametrize('program', [name for name in EXPECTED if name != 'driver'], indirect=True, scope='module')
+def test_what_is_left(program):
+    (judge_program if program.name in RATTLE else judge_library)(program)
 
 
 @pytest.mark.timeout(3600)
-def test_each_wipe_alone(made):
-    """How many calls of each function are missed, and are not, is in one of some looks as the list says. The driver's
-    calls are judged by what fails."""
-    program, runs = made
-    sites = [site for site in program.sites if not site.callee.startswith('wipe')]
-    expected, wrong = EXPECTED[program.name], None
+def test_each_wipe_alone(program):
+    """How many calls of each function are missed, and are not, is in one of some looks as the list says."""
+    expected = wrong = EXPECTED[program.name]
     for _ in range(LOOKS):
-        found = Counter((*site[:2], bool(is_missed)) for site, is_missed in (
-            program.misses(runs) if runs is not None else zip(sites, pool.map(program.failure, sites))))
-        counts = {place: (found[*place, True], found[*place, False]) for place in {key[:2] for key in found}}
-        others = {place: counts.get(place)
-                  for place in {*counts, *expected} if counts.get(place) != expected.get(place)}
-        wrong = others if wrong is None else {place: others[place] for place in wrong if place in others}
+        found = Counter((site.callee, site.function, is_missed) for site, is_missed in program.misses())
+        counts = {(callee, function): (found[callee, function, True], found[callee, function, False])
+                  for callee, function, _ in found}
+        assert counts.keys() == expected.keys()
+        wrong = {place: counts[place] for place in wrong if counts[place] != expected[place]}
         if not wrong:
             break
     assert not wrong, '(missed, not missed) as found, where it is not as in wipes.txt'
