@@ -17,7 +17,7 @@ def built():
     return TOP / 'bindings/out'
 
 
-@pytest.fixture
+@pytest.fixture(scope='session')
 def needs():
     """Skips a test where a program is not there: `needs('valgrind')`."""
     def check(*programs):

@@ -95,13 +95,11 @@ def test_instructions(tmp_path, cpu):
 # ---- ARM64
 
 @pytest.fixture(scope='module', name='arm64')
-def fixture_arm64(tmp_path_factory):
+def fixture_arm64(tmp_path_factory, needs):
     """What is proved, and calls.c over it, at fixed addresses, so that traces can be compared; and both with a division
     behind a branch."""
-    for command in (QEMU, f'{PREFIX}gcc'):
-        if not shutil.which(command):
-            pytest.skip(f'there is no {command}')
-    subprocess.run([TOP / 'build/all', 'aarch64'], check=True)
+    needs(QEMU, f'{PREFIX}gcc')
+    run(TOP / 'build/all', 'aarch64')
     folder = tmp_path_factory.mktemp('made')
     own = objects(TOP / 'bindings/out/aarch64/libproved_argon2.a', folder / 'objects', PREFIX)
     proved, planted = own['proved_argon2_armv8-a.o'], folder / 'planted.o'
@@ -112,8 +110,7 @@ def fixture_arm64(tmp_path_factory):
 
 
 def trace(program, call, variant, secret):
-    """The addresses of the instructions that a call over a secret takes: their number, their hash, and whether its code
-    is right."""
+    """A hash of the addresses of the instructions that a call over a secret takes, where its code is right."""
     vector = of.Vector(variant, version=19, passes=1, memory=16, lanes=2, length=16, password=bytes(16), salt=bytes(16))
     tag = bytes(one ^ other for one, other in zip(rfc9106.Setting(*vector[:-1]).tag(), secret))
     if call.startswith('hash'):
@@ -126,14 +123,8 @@ def trace(program, call, variant, secret):
                           input=of.Question(CALLED[call], vector, verified=verified).packed(), stdout=subprocess.PIPE,
                           check=True)
     addresses = subprocess.run(['cut', '-s', '-d/', '-f2', log], stdout=subprocess.PIPE, check=True).stdout
-    is_right = [answer.code for answer in of.answers(came.stdout)] == [code]
-    return addresses.count(b'\n'), hashlib.sha256(addresses).hexdigest(), is_right
-
-
-def traces(program, call, variant):
-    found = {trace(program, call, variant, secret) for secret in SECRETS}
-    assert all(number > LEAST and is_right for number, _, is_right in found)
-    return found
+    assert [answer.code for answer in of.answers(came.stdout)] == [code] and addresses.count(b'\n') > LEAST
+    return hashlib.sha256(addresses).digest()
 
 
 def test_instructions_of_arm64(arm64):
@@ -145,11 +136,11 @@ def test_instructions_of_arm64(arm64):
 @pytest.mark.parametrize('call', CALLED)
 @pytest.mark.parametrize('variant', range(len(of.VARIANTS)), ids=of.VARIANTS)
 def test_each_secret_takes_the_same(arm64, variant, call):
-    assert len(traces(arm64[0][1], call, variant)) == 1
+    assert len({trace(arm64[0][1], call, variant, secret) for secret in SECRETS}) == 1
 
 
 def test_a_planted_branch_is_seen(arm64):
-    assert len(traces(arm64[1][1], 'hash', 1)) > 1
+    assert len({trace(arm64[1][1], 'hash', 1, secret) for secret in SECRETS}) > 1
 
 
 # ---- Rattle's calls
