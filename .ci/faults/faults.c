@@ -17,18 +17,11 @@
 #include <pthread.h>
 #include <stdlib.h>
 #include <string.h>
-#include <sys/syscall.h>
 #include <unistd.h>
 
 /* The C library's own. */
 extern __typeof__(realloc) __libc_realloc;
 extern __typeof__(free) __libc_free;
-
-struct start {
-    void *(*run)(void *);
-    void *argument;
-    unsigned wait;
-};
 
 static unsigned long requests, starts;
 
@@ -81,6 +74,12 @@ void *realloc(void *block, size_t bytes)
     return request(block, bytes);
 }
 
+struct start {
+    void *(*run)(void *);
+    void *argument;
+    unsigned wait;
+};
+
 static void *run_late(void *argument)
 {
     const struct start start = *(struct start *)argument;
@@ -114,6 +113,5 @@ void _exit(int status)
     read(open("/proc/self/status", O_RDONLY), said, sizeof said - 1);
     const char *const line = strstr(said, "VmHWM:");
     if (line) write(STDERR_FILENO, line, strcspn(line, "\n") + 1);
-    syscall(SYS_exit_group, status);
-    __builtin_unreachable();
+    _Exit(status);
 }

@@ -1,7 +1,7 @@
 """Runs copies of the programs and the tests that the proofs leave in crates/*/out, over faults.c, and says what came of
 a run."""
 
-import ctypes
+import base64
 import functools
 import os
 import random
@@ -14,6 +14,7 @@ from concurrent.futures import ThreadPoolExecutor
 from pathlib import Path
 from typing import NamedTuple
 
+from argon2.low_level import Type, hash_secret
 from shared import TOP
 from shared.toolchain import build_preloaded
 from toolchain import is_current
@@ -23,10 +24,9 @@ PROCESSORS = sorted(os.sched_getaffinity(0))
 SECONDS = 600  # after which a run hangs
 TRIES = 100  # of a start, before it counts as refused (`TRIES` of argon2_fill/src/workers/crew.rt)
 SLICES = 4  # of a pass
-NOTE = re.compile(r'(request|freed|start|refused|denied|late|VmHWM:.*)\n')
+NOTE = re.compile(r'^(request|freed|start|refused|denied|late|VmHWM:.*)\n', re.M)
 VALUE, NO_MEMORY, NO_WORKER = 'value', 'Out of memory\n', 'A worker was refused\n'
 VARIANTS, VERSIONS = ('argon2d', 'argon2i', 'argon2id'), (16, 19)
-PEER = ctypes.CDLL('libargon2.so.1')
 SEED = os.environ.get('SEED') or str(random.randrange(1 << 32))
 # What is built here, and copies that a build beside these tests does not replace.
 FOLDER = tempfile.TemporaryDirectory()
@@ -45,18 +45,17 @@ def copy_of(name, suffix=''):
 
 class Came:
     """What came of a run: its status, its output, the notes of faults.c, how many there are of each, what else it said,
-    the KiB that were resident at most, or 0, and what was seen meanwhile."""
+    and what was seen meanwhile."""
 
     def __init__(self, status, output, errors, seen):
-        said = errors.decode(errors='replace').splitlines(keepends=True)
+        said = errors.decode(errors='replace')
         self.status, self.output, self.seen = status, output.decode(errors='replace'), seen
-        self.notes = [line.split()[0] for line in said if NOTE.fullmatch(line)]
-        self.met, self.errors = Counter(self.notes), ''.join(line for line in said if not NOTE.fullmatch(line))
-        self.peak = next((int(line.split()[1]) for line in said if line.startswith('VmHWM:')), 0)
+        self.notes, self.errors = NOTE.findall(said), NOTE.sub('', said)
+        self.met = Counter(self.notes)
 
-    def end(self, status, output):
+    def end(self, status, output, errors=''):
         """`VALUE` if it came to this, a refusal, or what else it came to."""
-        if (self.status, self.output, self.errors) == (status, output, ''):
+        if (self.status, self.output, self.errors) == (status, output, errors):
             return VALUE
         is_refused = (self.status, self.output) == (2, '') and self.errors in (NO_MEMORY, NO_WORKER)
         return self.errors if is_refused else f'status {self.status}, {self.output!r:.500}, {self.errors!r:.4000}'
@@ -72,9 +71,8 @@ def run(words, is_over_faults=True, meanwhile=lambda process: None, input_bytes=
         seen = beside.submit(meanwhile, process)
         try:
             said = process.communicate(input_bytes, timeout=SECONDS)
-        except subprocess.TimeoutExpired:
+        finally:
             process.kill()
-            said = process.communicate()
         return Came(process.returncode, *said, seen.result())
 
 
@@ -103,15 +101,11 @@ class Hash(NamedTuple):
         return SLICES * self.passes * workers if workers > 1 else 0
 
     @functools.cache
-    def output(self):
-        """What is written, by libargon2."""
-        room = 2 * (self.length + len(self.salt)) + 200
-        tag, text = ctypes.create_string_buffer(self.length), ctypes.create_string_buffer(room)
-        arguments = [argument for data in (self.password, self.salt, tag, text)
-                     for argument in (data, ctypes.c_size_t(len(data)))]
-        kind = VARIANTS.index(self.variant), self.version
-        code = PEER.argon2_hash(self.passes, self.memory, self.lanes, *arguments, *kind)
-        return f'{tag.raw.hex()}\n{text.value.decode()}\n' if code == 0 else f'libargon2 answers {code}'
-
     def text(self):
-        return self.output().split()[-1]
+        """What libargon2 makes."""
+        return hash_secret(self.password, self.salt, self.passes, self.memory, self.lanes, self.length,
+                           Type(VARIANTS.index(self.variant)), self.version).decode()
+
+    def output(self):
+        """What is written."""
+        return f'{base64.b64decode(self.text().rpartition("$")[2] + "==").hex()}\n{self.text()}\n'

@@ -32,12 +32,10 @@ def met(words, output, count=1, space=resource.RLIM_INFINITY, threads=None, **va
     own = {'user': USER, 'group': USER, 'extra_groups': []} if threads else {}
     how = {**own, 'preexec_fn': lambda: resource.setrlimit(limit, (most, most))}
     came = [run([copy_of('argon2_program'), *words], how=how, **variables) for _ in range(count)]
-    notes = [note for one in came for note in one.notes]
+    notes = [note.split()[0] for one in came for note in one.notes]
     again = sum(note == 'denied' for note, _ in groupby(note for note in notes if note in ('start', 'denied')))
-    ends = [one.end(0, output) for one in came]
-    found = Counter([*notes, *ends], again=again, peak=max(one.peak for one in came))
-    print(dict(found))
-    return found
+    peak = max(int(one.notes[-1].split()[1]) for one in came)  # (the line `VmHWM`)
+    return Counter([*notes, *(one.end(0, output) for one in came)], again=again, peak=peak)
 
 
 @pytest.mark.timeout(3600)

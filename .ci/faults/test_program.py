@@ -7,15 +7,14 @@ Rattle's calls: no resource error comes without a shortage.
 Where the environment has OVER, the path of another tool that has the same words, this is over it alone.
 """
 
-import base64
 import os
 import re
-import subprocess
 import sys
-from itertools import chain
 
 import pytest
-from runs import SEED, TOP, Hash, copy_of, run
+import vectors
+from runs import SEED, Hash, copy_of, run
+from shared import TOP, said
 
 OTHER, DRAWS = os.environ.get('OVER'), 1000
 BINARIES = ['argon2_tool'] if OTHER else ['argon2_program', 'argon2_tool']
@@ -25,9 +24,10 @@ LONGEST, LONGEST_OF_TOOL, BESIDE = (1 << 32) - 1, 1 << 16, 6 << 30 if OTHER else
 TRUE, FALSE, USAGE, INPUT = (0, 'true\n', ''), (1, 'false\n', ''), (3, '', 'usage\n'), (4, '', 'input\n')
 ABOVE, TOO_LONG = (5, '', 'The encoded hash is above the limits\n'), (2, '', 'Password is too long\n')
 NO_TEXT, SHORT_SALT = (2, '', 'Decoding failed\n'), (2, '', 'Salt is too short\n')
-# To which lines the tool adds one, and what it has of it.
-ADDED = {USAGE[2]: 'see --help\n|an argument is not UTF-8\n', NO_TEXT[2]: 'quotes\n',
-         ABOVE[2]: '2 GiB, 10 passes, 16 lanes and the work of 4 GiB in one pass\n'}
+# What the tool adds to some lines.
+ADDED = re.compile(
+    rf'(?<=^{USAGE[2]})(.*see --help|.*an argument is not UTF-8)\n$|(?<=^{NO_TEXT[2]}).*quotes\n$'
+    rf'|(?<=^{ABOVE[2]}).* 2 GiB, 10 passes, 16 lanes and the work of 4 GiB in one pass\n$')
 # Of two lanes; of one, whose text is stored; and of a salt that is no text.
 TWO, ONE = Hash('argon2d', 19, 2, 256, 2, 32, salt=b'somesalt'), Hash('argon2i', 19, 2, 256, 1, 32)
 NO_WORD = Hash('argon2id', 19, 1, 8, 1, 16, 0, bytes(range(240, 256)))
@@ -36,9 +36,10 @@ VERIFY, CHECK, REHASH = ['verify', STORED], ['check', STORED], ['rehash', *ONE.s
 COSTLY = [['check', '$argon2id$v=19$m=8,t=11,p=1$$c29tZWhhc2g'], ['new', *'argon2id 19 11 8 1 32 seq'.split(), '']]
 
 
-def answers():
-    """Statuses 0 and 1: the answer alone is written. Status 2: the refusal's line alone is. Status 5: above the tool's
-    limits, whatever else is wrong. Status 3: words of no command, to the last of 20,000."""
+def ends():
+    """What each run of some words comes to, and how it is run. Statuses 0 and 1: the answer alone is written. Status 2:
+    the refusal's line alone is. Status 5: above the tool's limits, whatever else is wrong. Status 3: words of no
+    command, to the last of 20,000."""
     yield (0, TWO.output(), ''), [HASH, NEW]
     yield (0, NO_WORD.output(), ''), [['new', *NO_WORD.settings(), NO_WORD.salt.hex()]]
     yield TRUE, [VERIFY, CHECK, [*REHASH[:3], '3', *REHASH[4:]]]
@@ -50,16 +51,13 @@ def answers():
     yield ABOVE, COSTLY
     yield USAGE, [[], ['verify'], [' '], [*HASH, 'more'], [*VERIFY, ''], ['word'] * 20000, [*VERIFY, *['word'] * 20000],
                   [b'verify', b'\xff'], [*HASH, b'\xc3('], ['check'], NEW[:-1], [b'check', b'\xff']]
-
-
-def streams():
-    """An input that is longer than any password is not read on, in address space that leaves little room beside the
-    longest: a program that read on would lack memory. Status 4: the input cannot be read, or the output cannot be
-    written. Errors may be read by nobody."""
+    # An input that is longer than any password is not read on, in address space that leaves little room beside the
+    # longest: a program that read on would lack memory.
     for space, every in ((LONGEST + BESIDE, [HASH, VERIFY]), (BESIDE, [NEW, CHECK])):
         yield TOO_LONG, every, {'by': f'exec prlimit --as={space} "$0" "$@" </dev/zero'}
     yield FALSE, [CHECK], {'input_bytes': b'x' * LONGEST_OF_TOOL}
     yield TOO_LONG, [CHECK, ['check', 'x']], {'input_bytes': b'x' * (LONGEST_OF_TOOL + 1)}
+    # Status 4: the input cannot be read, or the output cannot be written. Errors may be read by nobody.
     for expected, every in (INPUT, [VERIFY, *COSTLY]), (USAGE, [['verify'], [*NEW[:-1], '0']]), (FALSE, [REHASH]):
         yield expected, every, {'by': 'exec "$0" "$@" <.'}
     yield (4, '', ''), [VERIFY, HASH], {'by': 'exec "$0" "$@" >/dev/full'}
@@ -70,7 +68,7 @@ def streams():
 
 def rows():
     """Each row's binary, its words, how it is run, and what it comes to."""
-    for expected, every, *how in chain(answers(), streams()):
+    for expected, every, *how in ends():
         yield from ((name, words, dict(*how), expected) for words in every for name in BINARIES
                     if name == 'argon2_tool' or words[:1] not in (['new'], ['check'], [b'check']))
 
@@ -78,10 +76,7 @@ def rows():
 def come_to(name, words, by=None, **how):
     """What a run comes to, but for what the tool has to add to a line."""
     came = run([*(['bash', '-c', by] if by else []), OTHER or copy_of(name), *words], False, **how)
-    line, *others = came.errors.splitlines(keepends=True)[:3] or ['']
-    added = ADDED.get(line) if name == 'argon2_tool' else None
-    is_whole = len(others) == (added is not None) and re.search(added or '', ''.join(others))
-    return came.status, came.output, line if is_whole else came.errors
+    return came.status, came.output, ADDED.sub('', came.errors) if name == 'argon2_tool' else came.errors
 
 
 @pytest.mark.parametrize('name, words, how, expected', rows(), ids=lambda value: f'{value!r:.60}')
@@ -104,17 +99,16 @@ def test_words_of_each_length(name, size):
 
 
 @pytest.mark.skipif(bool(OTHER), reason="OVER has no calls of Rattle's")
-def test_drawn_hashes_by_the_calls():
+def test_drawn_hashes_by_the_calls(tmp_path):
     """Rattle's calls, in each thread mode: hashes in the form of bindings/vectors/raw.txt, and as encoded hashes."""
-    maker, rows = [sys.executable, TOP / 'bindings/vectors/drawn.py', SEED, str(DRAWS)], []
-    for line in subprocess.run(maker, check=True, capture_output=True, text=True).stdout.splitlines():
+    drawn = tmp_path / 'drawn.txt'
+    drawn.write_text(said(sys.executable, TOP / 'bindings/vectors/drawn.py', SEED, DRAWS), encoding='utf-8')
+    rows = [*vectors.tags(drawn)]
+    for line in vectors.lines_of(drawn):
         variant, version, passes, memory, lanes, _, password, salt, secret, data, tag = line.split(' ')
-        items = (base64.b64encode(bytes.fromhex(item)).decode().rstrip('=') for item in (salt, tag))
-        text = f'${variant}$v={version}$m={memory},t={passes},p={lanes}${"$".join(items)}'
-        settings, inputs = line.split(' ')[:6], f'{password} {salt} {secret} {data}'
-        rows += [(f'hash_raw {" ".join(settings)} all {inputs}', tag),
-                 (f'verify_encoded_ext {password} {secret} {data} {text}', 'true')]
+        text = vectors.spelled(variant, version, memory, passes, lanes, salt, tag)
+        rows.append((f'verify_encoded_ext {password} {secret} {data} {text}', 'true'))
     asked = ''.join(f'{question}\n' for question, _ in rows).encode()
     answered = run([copy_of('argon2_vectors')], False, input_bytes=asked).output.splitlines()
     assert len(answered) == len(rows) == 2 * DRAWS, f'seed {SEED}'
-    assert not [(row, answer) for row, answer in zip(rows, answered) if answer != row[1]]
+    assert not [(row, answer) for row, answer in zip(rows, answered) if answer != row[1]], f'seed {SEED}'

@@ -5,6 +5,7 @@ been refused. A label without a sweep fails, and so does a sweep without a label
 
 import re
 from itertools import accumulate, product
+from types import SimpleNamespace
 
 import pytest
 from runs import NO_MEMORY, NO_WORKER, PROCESSORS, TRIES, VALUE, Hash, copy_of, run
@@ -13,17 +14,17 @@ from shared import TOP, ahead
 AT_ONCE = 4 * len(PROCESSORS)  # a start that is refused sleeps between its tries
 IN_TURN = '_refused_in_turn'  # ends the names of tests that are swept
 ONE, TWO, MANY, MORE = (Hash('argon2i', 19, 2, 256, lanes, 32) for lanes in (1, 2, 16, 20))
-TRUE, FALSE = (0, 'true\n', ''), (1, 'false\n', '')
+TRUE, FALSE = (0, 'true\n'), (1, 'false\n')
 # Runs of the program and of its tool: the label, what they are to come to, and the words.
 RUNS = (
-    ('program_hash_by_workers', (0, TWO.output(), ''), TWO.words()),
-    ('program_hash_in_one_thread', (0, ONE.output(), ''), ONE._replace(most=0).words()),
+    ('program_hash_by_workers', (0, TWO.output()), TWO.words()),
+    ('program_hash_in_one_thread', (0, ONE.output()), ONE._replace(most=0).words()),
     ('program_verify', TRUE, ['verify', MANY.text()]),
     ('program_verify_in_one_thread', TRUE, ['verify', ONE.text()]),
     ('program_verify_of_another', FALSE, ['verify', ONE.text().replace('v=19', 'v=16')]),
     ('program_rehash', TRUE, ['rehash', *ONE._replace(passes=3).settings()[:-1], ONE.text()]),
     ('program_no_rehash', FALSE, ['rehash', *ONE.settings()[:-1], ONE.text()]),
-    ('tool_new', (0, ONE.output(), ''), ['new', *ONE.settings(), ONE.salt.hex()]),
+    ('tool_new', (0, ONE.output()), ['new', *ONE.settings(), ONE.salt.hex()]),
     ('tool_check', TRUE, ['check', MANY.text()]),
     ('tool_check_of_no_text',
      (2, '', 'Decoding failed\nan encoded hash begins with $argon2, and needs single quotes\n'),
@@ -47,53 +48,56 @@ def labels_of(patterns):
 # of how many it has held at most, and of the numbers of others by their labels.
 LABELS = {label: holds for patterns, *holds in (
     # Hashing, by the inputs of RFC 9106: 3 passes in 4 lanes. A slice by workers asks for its board.
-    ('hash_raw_by_workers_argon2{d,i,id}', 4 * 3 * 4, 'own == hash_raw_by_workers_argon2d >= finalize + 48 + 12'),
+    ('hash_raw_by_workers_argon2{d,i,id}', 4 * 3 * 4,
+     lambda of: of.own == of.hash_raw_by_workers_argon2d >= of.finalize + 48 + 12),
     ('hash_raw_by_two_workers_argon2{d,i,id}', 4 * 3 * 2,
-     'own == hash_raw_by_two_workers_argon2d >= finalize + 24 + 12'),
-    ('hash_raw_by_forty_workers', 4 * 1 * 40, 'own >= finalize + 160 + 4'),
-    ('hash_encoded_by_workers', 4 * 3 * 4, 'own == hash_raw_by_workers_argon2d + encode_string'),
-    ('hash_encoded_by_two_workers', 4 * 3 * 2, 'own == hash_raw_by_two_workers_argon2d + encode_string'),
-    ('hash_encoded_{in_one_thread,sequential}', 0, 'own == finalize + encode_string'),
-    ('hash_raw_{in_one_thread,sequential}_argon2{d,i,id} verify_raw_{in_one_thread,sequential}', 0, 'own == finalize'),
+     lambda of: of.own == of.hash_raw_by_two_workers_argon2d >= of.finalize + 24 + 12),
+    ('hash_raw_by_forty_workers', 4 * 1 * 40, lambda of: of.own >= of.finalize + 160 + 4),
+    ('hash_encoded_by_workers', 4 * 3 * 4, lambda of: of.own == of.hash_raw_by_workers_argon2d + of.encode_string),
+    ('hash_encoded_by_two_workers', 4 * 3 * 2,
+     lambda of: of.own == of.hash_raw_by_two_workers_argon2d + of.encode_string),
+    ('hash_encoded_{in_one_thread,sequential}', 0, lambda of: of.own == of.finalize + of.encode_string),
+    ('hash_raw_{in_one_thread,sequential}_argon2{d,i,id} verify_raw_{in_one_thread,sequential}', 0,
+     lambda of: of.own == of.finalize),
     # The matrix. A fill in one thread asks for nothing, and the tag is one request.
-    ('memory_new', 0, 'own > 0'),
-    ('memory_new_and_filled_argon2{d,i,id} fill_memory_blocks_in_one_thread', 0, 'own == memory_new'),
-    ('fill_memory_blocks_by_workers', 4 * 3 * 4, 'own == hash_raw_by_workers_argon2d - 1'),
-    ('fill_memory_blocks_by_two_workers', 4 * 3 * 2, 'own == hash_raw_by_two_workers_argon2d - 1'),
-    ('finalize', 0, 'own == memory_new + 1'),
-    ('board_new', 0, 'own > memory_new'),
-    ('fill_slice', 4, 'own >= board_new + 4'),
+    ('memory_new', 0, lambda of: of.own > 0),
+    ('memory_new_and_filled_argon2{d,i,id} fill_memory_blocks_in_one_thread', 0, lambda of: of.own == of.memory_new),
+    ('fill_memory_blocks_by_workers', 4 * 3 * 4, lambda of: of.own == of.hash_raw_by_workers_argon2d - 1),
+    ('fill_memory_blocks_by_two_workers', 4 * 3 * 2, lambda of: of.own == of.hash_raw_by_two_workers_argon2d - 1),
+    ('finalize', 0, lambda of: of.own == of.memory_new + 1),
+    ('board_new', 0, lambda of: of.own > of.memory_new),
+    ('fill_slice', 4, lambda of: of.own >= of.board_new + 4),
     # Verifying. A stored text is verified by 16 workers at most.
-    ('verify_raw_by_workers', 4 * 3 * 4, 'own == hash_raw_by_workers_argon2d'),
-    ('verify_raw_by_two_workers', 4 * 3 * 2, 'own == hash_raw_by_two_workers_argon2d'),
-    ('verify_encoded{,_of_another_password}', 4 * 2 * 16, 'own == verify_encoded'),
-    ('verify_encoded_ext_of_20_lanes', 4 * 2 * 16, 'own > 0'),
-    ('verify_encoded_{ext,within}', 4 * 3 * 4, 'own == hash_raw_by_workers_argon2d + decode_string'),
-    ('verify_encoded_{sequential,within_sequential}', 0, 'own == finalize + decode_string'),
+    ('verify_raw_by_workers', 4 * 3 * 4, lambda of: of.own == of.hash_raw_by_workers_argon2d),
+    ('verify_raw_by_two_workers', 4 * 3 * 2, lambda of: of.own == of.hash_raw_by_two_workers_argon2d),
+    ('verify_encoded{,_of_another_password}', 4 * 2 * 16, lambda of: of.own == of.verify_encoded),
+    ('verify_encoded_ext_of_20_lanes', 4 * 2 * 16, lambda of: of.own > 0),
+    ('verify_encoded_{ext,within}', 4 * 3 * 4, lambda of: of.own == of.hash_raw_by_workers_argon2d + of.decode_string),
+    ('verify_encoded_{sequential,within_sequential}', 0, lambda of: of.own == of.finalize + of.decode_string),
     # Twice over one memory. The second call asks for all but the memory. One of another shape is freed first, and then
     # held beside a tag; the room for all of it, a request of each memory, is given back at once.
-    ('{hash,verify}_raw_in_twice', 2 * 4 * 3 * 4, 'own == 2 * verify_raw_by_workers - memory_new'),
-    ('{hash,verify}_raw_in_sequential_twice', 0, 'own == finalize + 1'),
-    ('hash_encoded_in_twice', 2 * 4 * 3 * 4, 'own == 2 * hash_encoded_by_workers - memory_new'),
-    ('hash_encoded_in_sequential_twice', 0, 'own == 2 * hash_encoded_sequential - memory_new'),
-    ('verify_encoded_in_twice', 2 * 4 * 3 * 4, 'own == 2 * verify_encoded_ext - memory_new'),
-    ('verify_encoded_in_sequential_twice', 0, 'own == 2 * verify_encoded_sequential - memory_new'),
-    ('hash_raw_in_another_shape', 0, 'own == finalize + memory_new and held == memory_new'),
+    ('{hash,verify}_raw_in_twice', 2 * 4 * 3 * 4, lambda of: of.own == 2 * of.verify_raw_by_workers - of.memory_new),
+    ('{hash,verify}_raw_in_sequential_twice', 0, lambda of: of.own == of.finalize + 1),
+    ('hash_encoded_in_twice', 2 * 4 * 3 * 4, lambda of: of.own == 2 * of.hash_encoded_by_workers - of.memory_new),
+    ('hash_encoded_in_sequential_twice', 0, lambda of: of.own == 2 * of.hash_encoded_sequential - of.memory_new),
+    ('verify_encoded_in_twice', 2 * 4 * 3 * 4, lambda of: of.own == 2 * of.verify_encoded_ext - of.memory_new),
+    ('verify_encoded_in_sequential_twice', 0, lambda of: of.own == 2 * of.verify_encoded_sequential - of.memory_new),
+    ('hash_raw_in_another_shape', 0, lambda of: of.own == of.finalize + of.memory_new and of.held == of.memory_new),
     # Texts, each of which is one request, and so are a salt and a hash: a buffer that grows would leave copies of them.
     # And what is refused before anything is asked for.
-    ('encode_string', 0, 'own == 1'),
-    ('decode_string', 0, 'own == 2'),
-    ('needs_{rehash,no_rehash}', 0, 'own == decode_string'),
+    ('encode_string', 0, lambda of: of.own == 1),
+    ('decode_string', 0, lambda of: of.own == 2),
+    ('needs_{rehash,no_rehash}', 0, lambda of: of.own == of.decode_string),
     ('head_faults a_text_within_limits_is_judged a_costly_text_of_any_length_allocates_nothing '
      '{hashing,verifying_a_tag,verifying_an_empty_tag}_allocates_nothing '
-     '{an_unspelled,a_refused,a_costly}_text_allocates_nothing', 0, 'own == 0'),
+     '{an_unspelled,a_refused,a_costly}_text_allocates_nothing', 0, lambda of: of.own == 0),
     # Runs of the program, of 2 passes. What is no text and what is above the limits ask for as much, and start nothing.
-    ('program_hash_by_workers', 4 * 2 * 2, 'own > program_hash_in_one_thread + 16'),
-    ('program_{hash_in_one_thread,verify_in_one_thread,verify_of_another,rehash}', 0, 'own > 0'),
-    ('program_no_rehash', 0, 'own == program_rehash'),
-    ('tool_new', 0, 'own == program_hash_in_one_thread + 1'),
-    ('{program_verify,tool_check}', 4 * 2 * 16, 'own == program_verify'),
-    ('tool_check_of_{no_text,20_lanes}', 0, 'own == tool_check_of_no_text > 0'),
+    ('program_hash_by_workers', 4 * 2 * 2, lambda of: of.own > of.program_hash_in_one_thread + 16),
+    ('program_{hash_in_one_thread,verify_in_one_thread,verify_of_another,rehash}', 0, lambda of: of.own > 0),
+    ('program_no_rehash', 0, lambda of: of.own == of.program_rehash),
+    ('tool_new', 0, lambda of: of.own == of.program_hash_in_one_thread + 1),
+    ('{program_verify,tool_check}', 4 * 2 * 16, lambda of: of.own == of.program_verify),
+    ('tool_check_of_{no_text,20_lanes}', 0, lambda of: of.own == of.tool_check_of_no_text > 0),
 ) for label in labels_of(patterns)}
 
 
@@ -111,7 +115,7 @@ def sweeps():
 def end_of(came, expected):
     """What a run came to. A test, of which nothing is wanted, says it by its first line."""
     if expected:
-        return VALUE if (came.status, came.output, came.errors) == expected else came.end(*expected[:2])
+        return came.end(*expected)
     said = came.output.partition('\n')[0]
     said = {'OutOfMemory': NO_MEMORY, 'WorkerRefused': NO_WORKER}.get(said, said)
     return said if came.status == 0 else f'{said}, {came.end(0, "")}'
@@ -160,5 +164,5 @@ def test_refused_in_turn(came, label):
     requests, started, held, faults = came(label)
     assert not faults
     assert started == starts
-    others = {name: came(name)[0] for name in {*re.findall(r'[a-z]\w+', holds)} & {*LABELS}}
-    assert eval(holds, {**others, 'own': requests, 'held': held}), f'of {requests} requests, {held} held at once'
+    others = {name: came(name)[0] for name in {*holds.__code__.co_names} & {*LABELS}}
+    assert holds(SimpleNamespace(**others, own=requests, held=held)), f'of {requests} requests, {held} held at once'

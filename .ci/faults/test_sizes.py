@@ -46,11 +46,12 @@ def drawn(number, most_memory, most_lanes=MOST_LANES):
 
 
 HASHES = [drawn(number, MOST_MEMORY) for number in range(DRAWS)]
+COUNTED = [*(one for one in HASHES if one.memory * one.passes <= MOST_COUNTED), *LARGE]
 OF_MODES = [drawn(number, MOST_OF_MODES, MOST_FOR_A_TEXT) for number in range(DRAWS_OF_MODES)]
 
 
-def named(settings):
-    return '-'.join(settings.settings())
+def each(hashes):
+    return pytest.mark.parametrize('settings', hashes, ids=['-'.join(settings.settings()) for settings in hashes])
 
 
 def blocks(settings):
@@ -82,7 +83,7 @@ def growths(settings):
     return count
 
 
-@pytest.mark.parametrize('settings', HASHES, ids=named)
+@each(HASHES)
 def test_what_a_hash_takes(settings):
     """What it writes, starts, and asks for as with less memory; and that its text is verified."""
     program, least = copy_of('argon2_program'), settings._replace(memory=8 * settings.lanes)
@@ -95,13 +96,12 @@ def test_what_a_hash_takes(settings):
     assert verified.met['start'] == settings._replace(most=MOST_FOR_A_TEXT).starts()
 
 
-@pytest.mark.parametrize(
-    'settings', [*(one for one in HASHES if one.memory * one.passes <= MOST_COUNTED), *LARGE], ids=named)
+@each(COUNTED)
 def test_blocks_that_are_compressed(settings):
     assert compressed_by('argon2_program', *settings.words()) == (settings.output(), blocks(settings))
 
 
-@pytest.mark.parametrize('settings', OF_MODES, ids=named)
+@each(OF_MODES)
 def test_blocks_in_each_mode(settings):
     """The same of Rattle's calls in each mode, and in one thread."""
     tag, text = settings.output().split()

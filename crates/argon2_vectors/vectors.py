@@ -102,8 +102,8 @@ def references():
         yield f"reference_positions argon2i 19 2 4096 4 32 seq {inputs} 1 3 2 {first} {count}", answer
 
 
-def tags():
-    for line in lines_of(OUTSIDE / "raw.txt"):
+def tags(file=OUTSIDE / "raw.txt"):
+    for line in lines_of(file):
         *fields, answer = line.split(" ", 10)
         yield " ".join(["hash_raw", *fields[:6], "all", *fields[6:]]), answer
 
@@ -134,8 +134,13 @@ def outcome(variant, version, memory, time, lanes, salt, answer):
     """What comes of a run that hashes: status, output and error stream."""
     if answer.startswith("ERR "):
         return f'2 "" "{answer[4:]}\\n"'
-    items = "$".join(base64.b64encode(bytes.fromhex(digits)).decode().rstrip("=") for digits in (salt, answer))
-    return f'0 "{answer}\\n${variant}$v={version}$m={memory},t={time},p={lanes}${items}\\n" ""'
+    return f'0 "{answer}\\n{spelled(variant, version, memory, time, lanes, salt, answer)}\\n" ""'
+
+
+def spelled(variant, version, memory, time, lanes, salt, tag):
+    """An encoded text, of the digits of a salt and a tag."""
+    items = "$".join(base64.b64encode(bytes.fromhex(digits)).decode().rstrip("=") for digits in (salt, tag))
+    return f"${variant}$v={version}$m={memory},t={time},p={lanes}${items}"
 
 
 def written(text):
