@@ -18,10 +18,9 @@ USER = 60706 + os.getpid() % 478
 LITTLE = {'space': (MATRIX + BESIDE_THE_MATRIX) * 1024}
 
 
-def hashing(passes, memory, lanes):
-    """The words for a hash, and what is written."""
+def hashing(passes, memory, lanes, *count, **how):
     settings = Hash('argon2id', 19, passes, memory, lanes, 32)
-    return settings.words(), settings.output()
+    return met(settings.words(), settings.output(), *count, **how)
 
 
 def met(words, output, count=1, space=resource.RLIM_INFINITY, threads=None, **variables):
@@ -38,16 +37,15 @@ def met(words, output, count=1, space=resource.RLIM_INFINITY, threads=None, **va
     return Counter([*notes, *(one.end(0, output) for one in came)], again=again, peak=peak)
 
 
-@pytest.mark.timeout(3600)
 @pytest.mark.parametrize('workers', (2, 4, 8))
 def test_as_many_threads_as_are_needed(workers):
     """Hashes again and again with as many threads as the workers and their caller are, each of which is late. Where
     workers are not joined, or one more is started, each slice meets the limit, and a start is tried again; else a few
     do, since Linux counts a thread until a moment after its joiner goes on. With a thread fewer each slice has to meet
     the limit, or else it is none: a hash comes all the same, once a worker has ended."""
-    one_hash, slices = hashing(PASSES, 64, workers), SLICES * PASSES
-    enough = met(*one_hash, HASHES, threads=workers + 1, DELAY=LATE)
-    fewer = met(*one_hash, FEW, threads=workers, DELAY=LATE)
+    slices = SLICES * PASSES
+    enough = hashing(PASSES, 64, workers, HASHES, threads=workers + 1, DELAY=LATE)
+    fewer = hashing(PASSES, 64, workers, FEW, threads=workers, DELAY=LATE)
     assert enough[VALUE] >= LEAST and enough[VALUE] + enough[NO_WORKER] == HASHES
     assert enough['late'] >= enough[VALUE] * slices * workers
     assert enough['again'] < HASHES * slices // 2
@@ -57,9 +55,8 @@ def test_as_many_threads_as_are_needed(workers):
 def test_little_space_beside_a_matrix():
     """Sixteen workers in 16 MiB beside a matrix of 64 MiB, of which their stacks take 4, and those of all that are
     started 32."""
-    two = hashing(2, MATRIX, MANY)
-    assert met(*two, space=MATRIX * 1024)[NO_MEMORY] == 1
-    found = met(*two, **LITTLE)
+    assert hashing(2, MATRIX, MANY, space=MATRIX * 1024)[NO_MEMORY] == 1
+    found = hashing(2, MATRIX, MANY, **LITTLE)
     assert (found[VALUE], found['start']) == (1, 2 * SLICES * MANY) and found['peak'] >= MATRIX
 
 
@@ -70,7 +67,7 @@ def test_no_worker(how, denied, most):
     """Where the first start is refused, the others still fill the first slice, which is a quarter of the matrix, and no
     page beyond it was touched. Where there is no thread at all, the first start is tried again and again, and the
     others once, and no page of the matrix is touched before a worker begins."""
-    found = met(*hashing(2, MATRIX, MANY), **how)
+    found = hashing(2, MATRIX, MANY, **how)
     assert (found[NO_WORKER], found['denied']) == (1, denied) and 0 < found['peak'] <= most
 
 

@@ -90,7 +90,6 @@ def attempt(number, kind, program):
     return None if end == expected else f'{settings}: {end} in place of {expected}', has_met(came, settings.starts())
 
 
-@pytest.mark.timeout(3600)
 @pytest.mark.parametrize('kind', KINDS)
 def test_each_run_ends_well(kind):
     programs = [copy_of('argon2_program', suffix) for suffix in ('', '.by-rattle')]

@@ -157,7 +157,6 @@ def test_each_sweep_has_a_label(sweeps):
     assert sorted(label for label, *_ in sweeps) == sorted(LABELS)
 
 
-@pytest.mark.timeout(3600)
 @pytest.mark.parametrize('label', LABELS)
 def test_refused_in_turn(came, label):
     starts, holds = LABELS[label]

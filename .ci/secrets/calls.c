@@ -74,7 +74,6 @@ static const proved_argon2_options CALLER = {.size = sizeof CALLER,
     .tell = tell_here,
     .arg = &answer.calls_back};
 static const proved_argon2_options *const OPTIONS[] = {NULL, &REUSED, &PROGRESS, &THREADS, &CALLER};
-static const proved_argon2_settings LARGEST = {PROVED_ARGON2_ID, PROVED_ARGON2_VERSION_13, MAX_BLOCKS, 1, 1, 4};
 
 #define IN(field) question.fields[field].at, question.fields[field].length
 #define TEXT(field) (const char *)IN(field)
@@ -125,7 +124,8 @@ int pthread_attr_setguardsize(pthread_attr_t *attributes, size_t size)
 
 int main(void)
 {
-    if (proved_argon2_memory_new(&LARGEST, &REUSED.memory, &REUSED.memory_len) != PROVED_ARGON2_OK) abort();
+    const proved_argon2_settings largest = {PROVED_ARGON2_ID, PROVED_ARGON2_VERSION_13, MAX_BLOCKS, 1, 1, 4};
+    if (proved_argon2_memory_new(&largest, &REUSED.memory, &REUSED.memory_len) != PROVED_ARGON2_OK) abort();
     hide(blocks, sizeof blocks);
     while (fread(&question, sizeof question, 1, stdin) == 1) {
         answer = (__typeof__(answer)){.reports = VALGRIND_COUNT_ERRORS};

@@ -10,7 +10,7 @@ from collections import namedtuple
 from typing import NamedTuple
 
 from argon2.low_level import Type, hash_secret
-from shared import TOP
+from shared import TOP, lines
 
 CALLS = TOP / '.ci/secrets/calls.c'
 VARIANTS, VERSIONS = ('argon2d', 'argon2i', 'argon2id'), (16, 19)
@@ -178,8 +178,7 @@ def passwords(vector):
 # ---- vectors
 
 def rows_of(name):
-    lines = (TOP / 'bindings/vectors' / name).read_text(encoding='utf-8').splitlines()
-    return [line.split() for line in lines if line]
+    return [line.split() for line in lines(TOP / 'bindings/vectors' / name)]
 
 
 def vectors_of(variant, version):

@@ -114,13 +114,11 @@ def named(row):
     return '-'.join(map(str, (cpu, *filter(None, [leak]), case.__name__, options)))
 
 
-@pytest.mark.timeout(SECONDS)
 @pytest.mark.parametrize('row', [(cpu, None, *how) for cpu in READS for how in ASKED], ids=named)
 def test_nothing_else_depends_on_secrets(came, row):
     assert came(row).is_right, came(row).shown()
 
 
-@pytest.mark.timeout(SECONDS)
 @pytest.mark.parametrize('row', [(cpu, leak, case, options, ((variant, 19),)) for cpu in READS
                                  for leak, (case, options, variant) in LEAKS.items()], ids=named)
 def test_each_leak_is_seen(came, row):

@@ -170,7 +170,6 @@ def came(request):
     yield from ahead(request, 'case', lambda case: counts(*case))
 
 
-@pytest.mark.timeout(3600)
 @pytest.mark.parametrize('case', [(variant, length) for variant in of.VARIANTS for length in LENGTHS], ids=str)
 def test_as_many_instructions(came, case):
     hashing, verifying, longer = came(case)

@@ -325,7 +325,6 @@ def test_what_is_left(program):
     (judge_program if program.name in RATTLE else judge_library)(program)
 
 
-@pytest.mark.timeout(3600)
 def test_each_wipe_alone(program):
     """How many calls of each function are missed, and are not, is in one of some looks as the list says."""
     expected = wrong = EXPECTED[program.name]
