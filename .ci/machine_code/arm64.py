@@ -4,11 +4,10 @@ import functools
 import re
 from itertools import chain
 
-from machine import RETURN, Machine, add, computed, each, half_known, jump_if, left, register, right
+from machine import RETURN, Machine, add, computed, each, half_known, jump_if, left, parts, register, right
 from rfc9106 import MASK, rotated
 from terms import Fault, picked, variable
 
-PARTS = re.compile(r'(?:[^,\[]|\[[^\]]*\])+')
 REGISTER = re.compile(r'([xw])(\d+)|v(\d+)\.(?:2d|4s|2s|16b)|([xw]zr)')
 PLACE = re.compile(r'\[(x\d+|sp)(?:, #(-?\d+))?\](!?)')
 LOW = (1 << 32) - 1
@@ -183,7 +182,7 @@ def control(mnemonic, words):
 def decode(text):
     """The step that an instruction is."""
     mnemonic, _, rest = text.partition('\t')
-    words = [part.strip() for part in PARTS.findall(rest)]
+    words = parts(rest)
     if mnemonic == 'nop':
         return lambda machine: None
     if re.fullmatch('(ld|st)(p|u?r)', mnemonic) and words:

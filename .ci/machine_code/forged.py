@@ -5,10 +5,9 @@ import struct
 import subprocess
 
 from linked import need, run
-from mapped import HEADER_SIZE, members
 from validated import FUNCTIONS, code_of
 
-WORD = struct.Struct('<Q')
+WORD, HEADER = struct.Struct('<Q'), 60  # (the size of a member's header, which has that of the member)
 
 
 def flipped(content, place):
@@ -28,12 +27,11 @@ def lead_sections_to_a_copy(file, forged):
 def hide_a_member(file, forged):
     """The table of symbols leads into the last member, where another object is."""
     content = file.read_bytes()
-    found = [*members(content)]
-    (begin, _, body), (last, *_) = found[2], found[-1]
-    copy = flipped(content[begin:begin + HEADER_SIZE + len(body)], -9)
-    size = b'%-10d' % (len(content) + len(copy) - last - HEADER_SIZE)
-    table = content[:found[1][0]].replace(begin.to_bytes(4, 'big'), len(content).to_bytes(4, 'big'))
-    forged.write_bytes(table + content[len(table):last + 48] + size + content[last + 58:] + copy)
+    begin, end, *_, last = (int(at, 16) - HEADER for at in re.findall(r'0x(\w+)$', run('ar', 'tO', file), re.M))
+    copy = flipped(content[begin:end], -9)
+    size = b'%-10d' % (len(content) + len(copy) - last - HEADER)
+    table = content[:begin].replace(begin.to_bytes(4, 'big'), len(content).to_bytes(4, 'big'))
+    forged.write_bytes(table + content[begin:last + 48] + size + content[last + 58:] + copy)
 
 
 def redirect_a_call(file, forged):

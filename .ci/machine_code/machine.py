@@ -1,6 +1,7 @@
 """What the machines have in common: memory, and a function that is run over terms instead of numbers."""
 
 import operator
+import re
 
 from terms import BITS, MASK, Fault, joined, linear, variable
 
@@ -122,6 +123,11 @@ class Machine:
         return (f'{len(wrong)} of {len(words)} words are other ones' if wrong else
                 f'it clears {zeros} words of its frame, of {cleared}' if zeros < cleared else
                 f'it leaves another {", ".join(changed)}' if changed else None)
+
+
+def parts(text):
+    """The operands of an instruction: a comma within brackets divides none."""
+    return [part.strip() for part in re.findall(r'(?:[^,\[]|\[[^\]]*\])+', text)]
 
 
 def half_known(number):

@@ -17,7 +17,6 @@ from pathlib import Path
 
 import forged
 import pytest
-from linked import Missing
 from machines import machines
 from shared import TOP
 from terms import BITS, Fault, forget
@@ -34,18 +33,11 @@ WIDE = (re.compile('movabs .*'), 2, 10), (re.compile(r'movk\t.*|mov\tx\d+, #0x[0
     (re.compile(r'i64\.const -?\d{11,}'), 1, 11)
 # Each forgery is made of a file, and is found by what is said of it.
 FORGERIES = (
-    ('x86_64/libproved_argon2.so.1.0.0', forged.lead_sections_to_a_copy, 'a section of code is not what is mapped'),
-    ('x86_64/libproved_argon2.a', forged.hide_a_member, 'its table of symbols leads to what is no member'),
+    ('x86_64/libproved_argon2.so.1.0.0', forged.lead_sections_to_a_copy, 'the code that is read is not what is mapped'),
+    ('x86_64/libproved_argon2.a', forged.hide_a_member, 'it is not the archive that its members make'),
     ('x86_64/argon2', forged.redirect_a_call, 'fill_words .* instructions call it'),
     (f'{machines()["x86_64"].proved[-1]}/libargon2_c.a', forged.add_a_decoy, 'something else multiplies as they do'),
     ('wasm32/proved_argon2.wasm', forged.call_a_copy, 'fill_words .* instructions call it'))
-
-
-def code_in(name):
-    try:
-        return code_of(RELEASE / name)
-    except Missing as program:
-        pytest.skip(f'there is no {program}')
 
 
 def read_with(code, bits):
@@ -149,7 +141,7 @@ def without_collection():
 @pytest.mark.parametrize('function', FUNCTIONS, ids=lambda function: function.name)
 @pytest.mark.parametrize('name', FILES)
 def test_each_change_is_found(name, function):
-    code = code_in(name)
+    code = code_of(RELEASE / name)
     begins = code.begins(function)
     assert len(begins) == len(builds_of(RELEASE / name))
     for begin in begins:
@@ -167,7 +159,7 @@ def test_both_modules_have_the_same_instructions():
     """So one attack is on both."""
     texts = [[re.sub(r'^call .*', 'call', text) for function in FUNCTIONS for begin in code.begins(function)
               for text, _ in code.bodies[begin].values() if not text.startswith('local[')]
-             for code in map(code_in, (FILES[-1], SAME))]
+             for code in (code_of(RELEASE / name) for name in (FILES[-1], SAME))]
     assert texts[0] and texts[0] == texts[1]
 
 

@@ -123,36 +123,17 @@ class Wasm(Machine):
 
     def step(self, name, words):
         """What an instruction leaves, if anything, but for those that jump."""
-        if name in BINARY:
-            other = self.pop()
-            return BINARY[name](self, self.pop(), other)
         if name.partition('.')[0] in ('local', 'global'):
             return self.move(name, words[0])
-        match name:
-            case 'i64.const' | 'i32.const':
-                return int(words[0]) & MASK
-            case 'i64.load':
-                return self.load(add(self.pop(), int(words[1])), 1)[0]
-            case 'i64.store':
-                word = self.pop()
-                self.store(add(self.pop(), int(words[1])), [word])
-            case 'memory.fill':
-                size, byte, address = self.pop(), self.pop(), self.pop()
-                self.clear(address, byte, size)
-            case 'i32.wrap_i64':
-                return self.cut(self.pop())
-            case 'i32.add':
-                return self.cut(add(self.pop(), self.pop()))
-            case 'select':
-                chooses, other, one = self.pop(), self.pop(), self.pop()
-                return one if self.chosen(chooses) else other
-            case 'i64.eqz' | 'i32.eqz':
-                return self.compared(0, self.pop(), 'e')
-            case 'unreachable':
-                raise Fault('it traps')
-            case _ if name not in (*OPENS, 'end') or words:
-                raise Fault(f'the instruction {" ".join([name, *words])} is not known')
-        return None
+        if name in ('i64.const', 'i32.const'):
+            return int(words[0]) & MASK
+        if name in (*OPENS, 'end') and not words:
+            return None
+        if name not in OPERATIONS:
+            raise Fault(f'the instruction {" ".join([name, *words])} is not known')
+        count, function = OPERATIONS[name]
+        operands = [self.pop() for _ in range(count)]
+        return function(self, *operands[::-1], *map(int, words[1:]))
 
     def move(self, name, number):
         """What a variable has, or what is written to it."""
@@ -197,13 +178,23 @@ class Wasm(Machine):
         return to if self.chosen(chooses) else None
 
 
-BINARY = {f'i64.{name}': function for name, function in {
-    'add': lambda _, x, y: add(x, y), 'sub': lambda _, x, y: x - y & MASK, 'mul': lambda _, x, y: x * y & MASK,
-    'xor': lambda _, x, y: x ^ y, 'or': lambda _, x, y: x | y, 'and': Machine.masked,
-    'shl': lambda _, x, count: left(x, count % BITS), 'shr_u': lambda _, x, count: right(x, count % BITS),
-    'rotl': lambda _, x, count: rotated(x, -count % BITS), 'lt_s': lambda machine, x, y: machine.lacks_stack(y, x),
-    'lt_u': lambda machine, x, y: machine.compared(y, x, 'b'),
-    'gt_u': lambda machine, x, y: machine.compared(y, x, 'a')}.items()}
+# How many operands an instruction takes off, and what it makes of them, and of the offset that it may have.
+OPERATIONS = {
+    'i64.add': (2, lambda _, x, y: add(x, y)), 'i64.sub': (2, lambda _, x, y: x - y & MASK),
+    'i64.mul': (2, lambda _, x, y: x * y & MASK), 'i64.xor': (2, lambda _, x, y: x ^ y),
+    'i64.or': (2, lambda _, x, y: x | y), 'i64.and': (2, Machine.masked),
+    'i64.shl': (2, lambda _, x, count: left(x, count % BITS)),
+    'i64.shr_u': (2, lambda _, x, count: right(x, count % BITS)),
+    'i64.rotl': (2, lambda _, x, count: rotated(x, -count % BITS)),
+    'i64.lt_s': (2, lambda machine, x, y: machine.lacks_stack(y, x)),
+    'i64.lt_u': (2, lambda machine, x, y: machine.compared(y, x, 'b')),
+    'i64.gt_u': (2, lambda machine, x, y: machine.compared(y, x, 'a')),
+    **dict.fromkeys(('i64.eqz', 'i32.eqz'), (1, lambda machine, x: machine.compared(0, x, 'e'))),
+    'i32.wrap_i64': (1, Wasm.cut), 'i32.add': (2, lambda machine, x, y: machine.cut(add(x, y))),
+    'i64.load': (1, lambda machine, address, offset: machine.load(add(address, offset), 1)[0]),
+    'i64.store': (2, lambda machine, address, word, offset: machine.store(add(address, offset), [word])),
+    'memory.fill': (3, Machine.clear),
+    'select': (3, lambda machine, one, other, chooses: one if machine.chosen(chooses) else other)}
 
 
 def call(number):

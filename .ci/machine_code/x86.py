@@ -5,7 +5,8 @@ import functools
 import re
 from itertools import chain
 
-from machine import CONDITIONS, RETURN, WORD, Machine, add, computed, each, half_known, jump_if, left, register, right
+from machine import (CONDITIONS, RETURN, WORD, Machine, add, computed, each, half_known, jump_if, left, parts,
+                     register, right)
 from rfc9106 import MASK, rotated
 from terms import BITS, Fault, picked, variable
 
@@ -17,7 +18,6 @@ LOWER = dict(zip([*(f'e{name}' for name in OLD), *(f'r{number}d' for number in r
 VECTORS, OF_VEX, WIDEST = [f'mm{number}' for number in range(32)], 16, 8
 SIZES = {'x': 2, 'y': 4, 'z': 8, 'QWORD': 1, 'XMMWORD': 2, 'YMMWORD': 4, 'ZMMWORD': 8}
 PLACE = re.compile(r'(?:(\w+) PTR )?\[(\w+)(?:\+(\w+)\*(\d))?([+-]0x[0-9a-f]+)?\]')
-PARTS = re.compile(r'(?:[^,\[]|\[[^\]]*\])+')
 LOW, NAMES_OF_LOW = (1 << 32) - 1, {'mov', 'add', 'sub', 'xor', 'cmp', 'test'}
 
 
@@ -226,7 +226,7 @@ def decode(text):
     mnemonic, _, rest = text.partition(' ')
     if re.match('(data16 |cs )*(nop|endbr64)', text):
         return lambda machine: None
-    words = [part.strip() for part in PARTS.findall(rest)]
+    words = parts(rest)
     operands = [operand(word, mnemonic) for word in words]
     sources, target = [read for read, _ in operands], operands[0][1] if operands else None
     if mnemonic in VECTOR and any(word[1:] in VECTORS
