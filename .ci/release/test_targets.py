@@ -15,7 +15,6 @@ from shared import TOP, ready, run, said
 
 sys.path.insert(0, str(TOP / '.ci/machine_code'))
 from linked import Code  # noqa: E402
-from same_on_windows import Carried  # noqa: E402
 
 BUILDS, TOOLS, PAGE = machines()['x86_64'].builds, 'x86_64-w64-mingw32-', 4096
 WINDOWS, DLL, ARCHIVE = 'windows-x86_64', 'proved_argon2.dll', 'libproved_argon2.a'
@@ -88,18 +87,39 @@ def test_crate_passes_its_tests_on_arm64(tmp_path, needs):
 
 # ---- the machine code for Windows
 
-def others(folder, code, build):
-    """The sections of a build that are in a file otherwise."""
-    content = said(f'{TOOLS}ar', 'p', folder / build / 'libargon2_c.a', 'argon2_c.o', text=False)
-    carried = Carried(content, code, f'proved_{build.replace("-", "_")}_')
-    assert carried.sections
-    return carried.differences()
+# The code and the constants of all builds, with what assembler and linker put between them for Windows.
+LAID_OUT = """SECTIONS {{
+    code {code:#x} : {{ {each} }}
+    constants {constants:#x} : {{ INPUT_SECTION_FLAGS (SHF_ALLOC & !SHF_EXECINSTR) *(*) }}
+    /DISCARD/ : {{ *(*) }}
+}}"""
+EACH = 'FILL(0xcccccccc) INPUT_SECTION_FLAGS (SHF_EXECINSTR) *{}.o(*) FILL(0x90909090) . = ALIGN(16);\n'
+
+
+def others(made, folder, code):
+    """What a file for Windows has otherwise than the objects of the library for Linux have it, which are linked here
+    to be where it has them: in code, or in constants."""
+    objects = [folder / f'proved_argon2_{build}.o' for build in BUILDS]
+    said('ar', 'x', '--output', folder, made / 'x86_64' / ARCHIVE)
+    for file in objects:  # (of equal constants a linker would make one)
+        said('objcopy', '--set-section-flags', '.rodata*=alloc,readonly,data', file)
+    begins = {'code': code.code[0][1], 'constants': code.data[0][1]}
+    (folder / 'script').write_text(LAID_OUT.format(each=''.join(map(EACH.format, BUILDS)), **begins), encoding='utf-8')
+    outside = [f'--defsym=proved_driver_{name.removeprefix("proved_sysv_")}={at}' for at, name in code.names.items()
+               if name.startswith('proved_sysv_')]
+    said('ld', '-T', folder / 'script', *outside, *objects, '-o', folder / 'linked')
+    for name, begin in begins.items():
+        said('objcopy', '-O', 'binary', '-j', name, folder / 'linked', folder / name)
+    linked = {name: (folder / name).read_bytes() for name in begins}
+    assert all(linked.values())
+    return [name for name, content in linked.items()
+            if content != code.content[code.place(begins[name]):][:len(content)]]
 
 
 @pytest.mark.parametrize('name', [DLL, ARCHIVE])
-def test_machine_code_is_that_for_linux_and_spares_the_stack(made, name):
+def test_machine_code_is_that_for_linux_and_spares_the_stack(made, tmp_path, name):
     code = Code(made / WINDOWS / name)
-    assert not [build for build in BUILDS if others(made, code, build)]
+    assert not others(made, tmp_path, code)
     texts = [text for text, _ in code.instructions.values()]
     assert texts and not [text for text in texts
                           if re.search(r'\[rsp-0x|\[rsp[^]]*-0x', text) and not text.startswith('lea')]
@@ -135,7 +155,7 @@ def linked_with(made, folder, file, old, new):
 ], ids=['another last byte', 'a reference to what is beside'])
 def test_finds_other_code(made, old, new, tmp_path):
     other = Code(linked_with(made, tmp_path, 'build/coff', old, new) / DLL)
-    assert all(others(made, other, build) for build in BUILDS)
+    assert others(made, tmp_path, other)
 
 
 @pytest.mark.parametrize('convention', ['sysv_abi', 'ms_abi'])
