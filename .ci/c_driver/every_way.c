@@ -85,7 +85,7 @@ static struct run {
     bool is_finished, is_dirty, is_forked, is_caller_saved, is_pool_wrong;
     uint32_t switches; /* how often another thread went on than had to */
     size_t there;      /* bytes that were populated */
-    struct {
+    struct taken {
         void *at;
         size_t len;
         enum kind kind;
@@ -245,13 +245,6 @@ void proved_driver_await(team *own, uint32_t number)
     self->waited++;
 }
 
-/* All are woken for each step and at the end. */
-static void look_at_member(const struct thread *thread)
-{
-    must(thread->state == DONE, "all threads are joined");
-    must(run.code != PROVED_ARGON2_OK || thread->woken == 4 * asked.passes + 2, "a thread is woken for each step");
-}
-
 void proved_driver_end_team(team *own)
 {
     must(own == NULL || is_team, "a team ends once");
@@ -264,7 +257,8 @@ void proved_driver_end_team(team *own)
                 threads[0].state = WAITING;
                 go_on();
             }
-            look_at_member(&threads[i]);
+            must(run.code != PROVED_ARGON2_OK || threads[i].woken == 4 * asked.passes + 2,
+                "a thread is woken for each step, and at the end");
         }
     }
     is_team = false;
@@ -287,10 +281,7 @@ void proved_driver_restore_caller(caller saved)
 static void *take(void *at, size_t len, enum kind kind)
 {
     must(run.count < MOST_TAKEN, "few things are taken");
-    run.taken[run.count].at = at;
-    run.taken[run.count].len = len;
-    run.taken[run.count].kind = kind;
-    run.taken[run.count++].is_live = true;
+    run.taken[run.count++] = (struct taken){at, len, kind, true};
     return at;
 }
 
@@ -345,16 +336,12 @@ void proved_driver_overwrite(void *bytes, size_t len)
         run.is_dirty = false;
     } else if (bytes != arena) {
         memset(bytes, 0, len);
-        __asm__ volatile("" : : "r"(bytes) : "memory");
     }
 }
 
 void *__real_malloc(size_t len);
-void *__wrap_malloc(size_t len);
 void *__real_calloc(size_t count, size_t len);
-void *__wrap_calloc(size_t count, size_t len);
 void __real_free(void *at);
-void __wrap_free(void *at);
 
 void *__wrap_malloc(size_t len)
 {
@@ -432,9 +419,16 @@ uint32_t proved_argon2_job_fill(const proved_argon2_job *passed_job, uint32_t pa
     return fails(PROVED_ARGON2_NO_PLACE) ? PROVED_ARGON2_NO_PLACE : PROVED_ARGON2_OK;
 }
 
-static uint32_t finish(bool has_tag, uint8_t *tag, size_t len, uint32_t failure)
+static const uint8_t hash[TAG] = {1, 2, 3, 4};
+
+/* The end of a hash, or of a verdict on what is verified, over blocks that are as they have to be. */
+static uint32_t finish(
+    const proved_argon2_job *passed_job, const uint8_t *verified, bool are_blocks, uint8_t *tag, size_t len)
 {
-    must(len == TAG && has_tag && !run.is_finished && current == 0, "a tag of its length, once");
+    const uint32_t failure = verified == NULL ? PROVED_ARGON2_WRONG_LENGTH : PROVED_ARGON2_MISMATCH;
+    look_at_job(passed_job);
+    must(verified == (asked.is_verdict ? hash : NULL), "the hash that is verified");
+    must(len == TAG && are_blocks && !run.is_finished && current == 0, "a tag of its length, once");
     run.is_finished = true;
     if (fails(failure)) {
         return failure;
@@ -443,48 +437,40 @@ static uint32_t finish(bool has_tag, uint8_t *tag, size_t len, uint32_t failure)
     return PROVED_ARGON2_OK;
 }
 
-static bool is_filled(const block *last, size_t last_len)
+static bool are_filled(const block *last, size_t last_len)
 {
     return run.stage == 4 * (uint64_t)asked.passes && run.filled == all_lanes() && last == SLICE(3)
         && last_len == slice_len();
 }
 
-uint32_t proved_argon2_job_finish(
-    const proved_argon2_job *passed_job, const block *last, size_t last_len, uint8_t *out, size_t out_len)
-{
-    look_at_job(passed_job);
-    return finish(!asked.is_verdict && is_filled(last, last_len), out, out_len, PROVED_ARGON2_WRONG_LENGTH);
-}
-
-static const uint8_t hash[TAG] = {1, 2, 3, 4};
-
-uint32_t proved_argon2_job_verify(const proved_argon2_job *passed_job, const block *last, size_t last_len,
-    const uint8_t *verified, size_t verified_len, uint8_t *tag, size_t tag_len)
-{
-    look_at_job(passed_job);
-    must(verified == hash && verified_len == TAG, "the hash that is verified");
-    return finish(asked.is_verdict && is_filled(last, last_len), tag, tag_len, PROVED_ARGON2_MISMATCH);
-}
-
-static bool is_whole(const block *blocks, size_t blocks_len)
+static bool are_whole(const block *blocks, size_t blocks_len)
 {
     run.is_dirty = true;
     return run.begun == 0 && blocks == arena && blocks_len == 4 * slice_len();
 }
 
+uint32_t proved_argon2_job_finish(
+    const proved_argon2_job *passed_job, const block *last, size_t last_len, uint8_t *out, size_t out_len)
+{
+    return finish(passed_job, NULL, are_filled(last, last_len), out, out_len);
+}
+
+uint32_t proved_argon2_job_verify(const proved_argon2_job *passed_job, const block *last, size_t last_len,
+    const uint8_t *verified, size_t verified_len, uint8_t *tag, size_t tag_len)
+{
+    return finish(passed_job, verified, verified_len == TAG && are_filled(last, last_len), tag, tag_len);
+}
+
 uint32_t proved_argon2_job_hash_over(
     const proved_argon2_job *passed_job, block *blocks, size_t blocks_len, uint8_t *out, size_t out_len)
 {
-    look_at_job(passed_job);
-    return finish(!asked.is_verdict && is_whole(blocks, blocks_len), out, out_len, PROVED_ARGON2_WRONG_LENGTH);
+    return finish(passed_job, NULL, are_whole(blocks, blocks_len), out, out_len);
 }
 
 uint32_t proved_argon2_job_verify_over(const proved_argon2_job *passed_job, block *blocks, size_t blocks_len,
     const uint8_t *verified, size_t verified_len, uint8_t *tag, size_t tag_len)
 {
-    look_at_job(passed_job);
-    must(verified == hash && verified_len == TAG, "the hash that is verified");
-    return finish(asked.is_verdict && is_whole(blocks, blocks_len), tag, tag_len, PROVED_ARGON2_MISMATCH);
+    return finish(passed_job, verified, verified_len == TAG && are_whole(blocks, blocks_len), tag, tag_len);
 }
 
 /* ---- the caller's callbacks */
@@ -575,8 +561,6 @@ static uint64_t run_all(void)
     do {
         uint8_t tag[TAG] = {9, 9, 9, 9};
         run = (struct run){0};
-        is_team = false;
-        one_team.members = 0;
         errno = ERROR_BEFORE;
         const uint32_t code = make_call(tag);
         look_at_end(code, tag);
@@ -585,8 +569,8 @@ static uint64_t run_all(void)
     return runs;
 }
 
-/* A kind of call: large or not, over the caller's memory or its own, a verdict or a hash, with progress or not, by a
- * pool or not, and by threads in long parts or not. */
+/* A kind of call, a bit each: large, over the caller's memory, a verdict in place of a hash, with progress, by a pool,
+ * and by threads in long parts. */
 static uint64_t run_kind(unsigned kind)
 {
     asked.is_large = kind & 1;

@@ -20,10 +20,13 @@ WRAPPED = [f'-Wl,--wrap={name}' for name in ('malloc', 'calloc', 'free')]
 CASES = list(itertools.product((1, 2, 3), (1, 2, 3), (1, 2)))
 # By threads and passes, how often another thread goes on than has to at most.
 SWITCHES = {(1, 1): 0, (1, 2): 0, (2, 1): 2, (2, 2): 2, (3, 1): 2, (3, 2): 1}
-RUNS = {tuple(map(int, case.split())): f'{runs} runs' for case, runs in rows(HERE / 'runs.txt')}
+# By lanes and threads, how many runs there are over all kinds of call, of one pass and of two.
+RUNS = {(1, 1): (4652, 73836), (1, 2): (4652, 73836), (1, 3): (4652, 73836),
+        (2, 1): (5684, 90260), (2, 2): (81184, 521800), (2, 3): (81184, 135152),
+        (3, 1): (6716, 106684), (3, 2): (137172, 877380), (3, 3): (1130424, 298356)}
 # Each by its name, with what it takes the place of; the lines of a piece stand apart by @.
 FAULTS = {name: [piece.replace('@', '\n') for piece in pieces] for name, *pieces in rows(HERE / 'faults.txt')}
-FAULTS_IN_ALL = 39
+assert len(FAULTS) == 39
 
 
 def compiled(source, made):
@@ -69,13 +72,9 @@ def found(request, program_over):
     yield from ahead(request, 'name', first_fault)
 
 
-def test_the_lists_are_whole():
-    assert [*RUNS] == CASES and len(FAULTS) == FAULTS_IN_ALL
-
-
 @pytest.mark.parametrize('case', CASES, ids=str)
 def test_nothing_goes_wrong(came, case):
-    assert came(case) == (0, RUNS[case])
+    assert came(case) == (0, f'{RUNS[case[:2]][case[2] - 1]} runs')
 
 
 @pytest.mark.parametrize('name', FAULTS)
