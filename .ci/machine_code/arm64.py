@@ -4,7 +4,7 @@ import functools
 import re
 from itertools import chain
 
-from machine import RETURN, Machine, add, computed, each, half_known, jump_if, left, parts, register, right
+from machine import RETURN, Machine, add, computed, each, half_known, jump_if, known, left, parts, register, right
 from rfc9106 import MASK, rotated
 from terms import Fault, picked, variable
 
@@ -126,18 +126,13 @@ def call(to):
 
 def jump_if_zero(source, to):
     """Leaves the flags as they are."""
-    def step(machine):
-        if not isinstance(number := source(machine), int):
-            raise Fault('it branches on data')
-        return None if number else to(machine)
-    return step
+    return lambda machine: None if known(source(machine), 'it branches on data') else to(machine)
 
 
 def in_part(read, write, number, shift):
     """movk, which writes 16 bits of a number."""
     def step(machine):
-        if not isinstance(word := read(machine), int):
-            raise Fault('it writes a part of data')
+        word = known(read(machine), 'it writes a part of data')
         write(machine, word & ~(0xffff << shift) | number(machine) << shift)
     return step
 

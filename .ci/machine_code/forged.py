@@ -2,7 +2,6 @@
 
 import re
 import struct
-import subprocess
 
 from linked import need, run
 from validated import FUNCTIONS, code_of
@@ -46,7 +45,7 @@ def redirect_a_call(file, forged):
 def add_a_decoy(file, forged):
     """The function that has the name is called by nothing that is called."""
     objects = [forged.with_name(name) for name in ('argon2_c.o', 'decoy.o')]
-    objects[0].write_bytes(subprocess.run([need('ar'), 'p', file], capture_output=True, check=True).stdout)
+    run(need('ar'), 'x', f'--output={forged.parent}', file)
     fill, compress = (name for function in FUNCTIONS for name in code_of(file).names.values()
                       if name.endswith(f'::{function.name}'))
     run(need('objcopy'), '--prefix-symbols=decoy::', f'--redefine-sym={compress}=decoy', *objects)

@@ -130,6 +130,13 @@ def parts(text):
     return [part.strip() for part in re.findall(r'(?:[^,\[]|\[[^\]]*\])+', text)]
 
 
+def known(word, fault):
+    """A number, where data would be a fault."""
+    if not isinstance(word, int):
+        raise Fault(fault)
+    return word
+
+
 def half_known(number):
     """A register of whose upper half nothing is known."""
     return joined((number, 0, BITS // 2), (variable('upper half'), 0, BITS // 2))

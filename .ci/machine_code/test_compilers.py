@@ -6,14 +6,14 @@ return and write, of settings and inputs drawn from a seed (SEED of the environm
 import os
 import random
 import shutil
-import subprocess
 import sys
+from pathlib import Path
 
 import pytest
 from machines import machines
-from shared import TOP
+from shared import TOP, said
 from shared.toolchain import has_processor
-from toolchain import is_current, load_rt, locked, mark, stamp
+from toolchain import is_current, load, load_rt, mark, stamp
 
 MACHINE, CRATE, ARCHIVE = machines()['x86_64'], 'argon2_c', 'libargon2_c.a'
 LIBRARY, OTHER = f'{MACHINE.name}/libproved_argon2.so', TOP / 'out/compilers'
@@ -28,14 +28,10 @@ def build(processor):
         return
     made.parent.mkdir(parents=True, exist_ok=True)
     line, crate = stamp(CRATE), next(crate for crate in load_rt().rtlib.crates_below(str(TOP)) if crate.name == CRATE)
-    with open(f'{made}.said', 'w+', encoding='utf-8') as crate.out, locked(crate):
-        status = crate.build_static(['--cpu', processor, '--backend', 'rattle'])
-        if status == 0:
-            shutil.copy(f'{crate.folder}/out/{ARCHIVE}', made)
-        crate.out.seek(0)
-        said = crate.out.read()
-    assert status == 0 and 'backend=rattle' in said, said
-    assert mark(CRATE, line, made)
+    proved = load(f'{TOP}/build/proved')
+    is_built = proved.is_built(crate, proved.archive, ['--cpu', processor, '--backend', 'rattle'], made)
+    told = Path(f'{made}.said').read_text(encoding='utf-8')
+    assert is_built and 'backend=rattle' in told and mark(CRATE, line, made), told
 
 
 @pytest.fixture(scope='module')
@@ -46,25 +42,21 @@ def libraries(built):
     # (a kernel takes its place in what LLVM made)
     for kernel in MACHINE.builds[len(MACHINE.proved):]:
         shutil.copytree(built / kernel, OTHER / kernel, dirs_exist_ok=True)
-    subprocess.run(['build/link', MACHINE.name, OTHER, OTHER], cwd=TOP, check=True)
+    said('build/link', MACHINE.name, OTHER, OTHER)
     return built, OTHER
 
 
 def said_by(folder, processor, *words):
     """What Python says over a library."""
-    variables = {'PROVED_ARGON2_LIBRARY': str(folder / LIBRARY), 'PROVED_ARGON2_CPU': processor,
-                 'PYTHONPATH': 'bindings/python/src', 'PYTHONDONTWRITEBYTECODE': '1'}
-    ran = subprocess.run([sys.executable, *words], cwd=TOP, env={**os.environ, **variables}, check=False,
-                         stdin=subprocess.DEVNULL, stdout=subprocess.PIPE, stderr=subprocess.STDOUT, text=True)
-    assert ran.returncode == 0, ran.stdout
-    return ran.stdout
+    return said('env', f'PROVED_ARGON2_LIBRARY={folder / LIBRARY}', f'PROVED_ARGON2_CPU={processor}',
+                'PYTHONPATH=bindings/python/src', sys.executable, '-B', *words)
 
 
 @pytest.mark.parametrize('processor', MACHINE.proved)
 def test_both_give_the_same(libraries, processor):
     if not has_processor(processor):
         pytest.skip(f'the processor is older than {processor}')
-    one, other = (said_by(folder, processor, '.ci/release/drawn_calls.py', SEED, str(DRAWN)).splitlines()
+    one, other = (said_by(folder, processor, '.ci/release/drawn_calls.py', SEED, DRAWN).splitlines()
                   for folder in libraries)
     assert len(one) == len(other) == DRAWN
     differing = [pair for pair in zip(one, other) if pair[0] != pair[1]]

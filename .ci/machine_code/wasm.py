@@ -4,7 +4,7 @@ import functools
 import re
 
 from linked import need, run
-from machine import RETURN, Machine, add, left, right
+from machine import RETURN, Machine, add, known, left, right
 from rfc9106 import MASK, rotated
 from terms import BITS, Fault, variable
 
@@ -165,17 +165,12 @@ class Wasm(Machine):
         self.compare(one, other)
         return int(self.holds(condition))
 
-    def chosen(self, chooses):
-        if not isinstance(chooses, int):
-            raise Fault('it chooses by data')
-        return chooses
-
     def jump(self, to):
         """Whether it jumps, which it would to a trap if the stack had no room."""
         chooses = self.pop()
         if chooses is NO_STACK and self.code.traps(to):
             return None
-        return to if self.chosen(chooses) else None
+        return to if known(chooses, 'it chooses by data') else None
 
 
 # How many operands an instruction takes off, and what it makes of them, and of the offset that it may have.
@@ -194,7 +189,7 @@ OPERATIONS = {
     'i64.load': (1, lambda machine, address, offset: machine.load(add(address, offset), 1)[0]),
     'i64.store': (2, lambda machine, address, word, offset: machine.store(add(address, offset), [word])),
     'memory.fill': (3, Machine.clear),
-    'select': (3, lambda machine, one, other, chooses: one if machine.chosen(chooses) else other)}
+    'select': (3, lambda _, one, other, chooses: one if known(chooses, 'it chooses by data') else other)}
 
 
 def call(number):
