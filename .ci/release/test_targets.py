@@ -1,26 +1,34 @@
-"""What the tests in C (bindings/c) leave out of targets that wine or qemu runs, and of those that nothing runs here:
-the crate's own tests; the machine code of the library for Windows (build/link), which has to be what the toolchain made
-for Linux, to touch nothing below the stack pointer, and to come down a stack page by page; and of the library as C what
-docs/INSTALL.md says of its systems, those of which only a compiler is here, and what ./install compiles of it.
+"""Targets that wine or qemu runs, and those that nothing runs here, beside the tests in C (bindings/c):
+
+- What is for ARM64 is run by qemu over Debian's C library, Python and libargon2 (aarch64_root): calls that are drawn
+  (SEED, or any) beside x86-64's, the shell's commands, libargon2's place beside Debian's, the crate's tests, packages.
+- The machine code of the library for Windows (build/link) has to be what the toolchain made for Linux, to touch nothing
+  below the stack pointer, and to come down a stack page by page. The crate passes its tests.
+- Of the library as C docs/INSTALL.md says where it runs; where only a compiler is here, it compiles; ./install does so.
 """
 import os
 import re
+import secrets
 import shutil
 import sys
 
 import pytest
 from machines import machines
-from running import CRATES_OF_DEBIAN
-from shared import TOP, ready, run, said
+from running import CRATES_OF_DEBIAN, VERSION, first_lines
+from shared import TOP, exports, ready, run, said
 
 sys.path.insert(0, str(TOP / '.ci/machine_code'))
 from linked import Code  # noqa: E402
 
-BUILDS, TOOLS, PAGE = machines()['x86_64'].builds, 'x86_64-w64-mingw32-', 4096
-WINDOWS, DLL, ARCHIVE = 'windows-x86_64', 'proved_argon2.dll', 'libproved_argon2.a'
-# What a copy has that is linked anew, with a fault.
+SEED, WARNINGS = os.environ.get('SEED', str(secrets.randbits(32))), ('-O2', '-Wall', '-Wextra', '-Werror')
+ARCHIVE, DLL, INCLUDE = 'libproved_argon2.a', 'proved_argon2.dll', TOP / 'crates/argon2_c/include'
+# ARM64
+CC, QEMU, ROOT = 'aarch64-linux-gnu-gcc', 'qemu-aarch64-static', TOP / 'out/aarch64/root'
+SHARED, LIBARGON2 = f'libproved_argon2.so.{VERSION}', TOP / 'bindings/libargon2/tests'
+TAG = '6d093c501fd5999645e0ea3bf620d7b8be7fd2db59c20d9fff9539da2bf57037'
+# Windows; and what a copy has that is linked anew, with a fault.
+BUILDS, WINDOWS, TOOLS, PAGE = machines()['x86_64'].builds, 'windows-x86_64', 'x86_64-w64-mingw32-', 4096
 SOURCES = 'VERSION', 'build', 'bindings/c', 'bindings/kernels', 'bindings/windows', 'crates/argon2_c/include'
-WARNINGS = '-O2', '-Wall', '-Wextra', '-Werror'
 # The files of bindings/c/targets, with what the page says of each, by what runs them.
 EMULATED = {'qemu': {'i686': 'i386 (32 bits)', 'aarch64': 'ARM64', 'armhf': 'ARMv7 (32 bits)', 'ppc64el': 'POWER',
                      'riscv64': 'RISC-V', 's390x': 's390x (big-endian)'}, 'wine': {'windows': 'Windows'}}
@@ -34,6 +42,47 @@ DECLARED = {
     'sys/random.h': 'int getentropy(void *, size_t);'}
 
 
+def named(**variables):
+    return ['env', *(f'{name}={value}' for name, value in variables.items())]
+
+
+def arm(*command, **variables):
+    """A command for ARM64."""
+    return [*named(**variables), QEMU, '-L', ROOT, *command]
+
+
+def compile_for_arm(source, program, *words):
+    said(CC, '-std=gnu11', '-O1', '-I', INCLUDE, source, *words, '-o', program)
+
+
+@pytest.fixture(scope='module')
+def on_arm():
+    """The folder with what is linked for ARM64, beside that with what is for x86-64."""
+    if not shutil.which(QEMU) or not shutil.which(CC):
+        pytest.skip(f'there is no {QEMU}, {CC}')
+    root = run('.ci/release/aarch64_root', ROOT)
+    if root.returncode != 0:
+        pytest.skip(f"Debian's packages for ARM64 cannot be had: {root.stdout[-200:]}")
+    return ready('x86_64', 'aarch64') / 'aarch64'
+
+
+@pytest.fixture(scope='module')
+def packages(on_arm, tmp_path_factory):
+    folder = tmp_path_factory.mktemp('packages')
+    said(*named(MACHINES='aarch64'), './package', folder)
+    return folder
+
+
+@pytest.fixture(scope='module')
+def python(packages):
+    """Debian's Python, with the wheel as pip there installs it."""
+    site = packages / 'site'
+    command = arm(ROOT / 'usr/bin/python3', PYTHONDONTWRITEBYTECODE=1, PYTHONPATH=site)
+    said(*command, '-m', 'pip', 'install', '--no-index', '--no-deps', '--no-compile', '--disable-pip-version-check',
+         '--quiet', '--target', site, *packages.glob('proved_argon2-*_aarch64.whl'))
+    return command
+
+
 @pytest.fixture(scope='module')
 def made():
     """The folder with all that is linked for Windows and what it is linked of."""
@@ -44,45 +93,132 @@ def made():
 
 @pytest.fixture
 def wine(tmp_path):
-    """The environment of wine with a folder of its own, and nothing that fetches what it lacks or writes menus."""
+    """What runs a program by wine with a folder of its own, and nothing that fetches what it lacks or writes menus."""
     if not shutil.which('wine'):
         pytest.skip('there is no wine')
-    how = {**os.environ, 'WINEPREFIX': str(tmp_path / 'wine'), 'WINEDEBUG': '-all',
-           'WINEDLLOVERRIDES': 'mscoree,mshtml,winemenubuilder.exe='}
-    run('wine', 'wineboot', env=how)
-    yield how
-    run('wineserver', '--kill', env=how)
+    how = named(WINEPREFIX=tmp_path / 'wine', WINEDEBUG='-all', WINEDLLOVERRIDES='mscoree,mshtml,winemenubuilder.exe=')
+    run(*how, 'wine', 'wineboot')
+    yield [*how, 'wine']
+    run(*how, 'wineserver', '--kill')
+
+
+# ---- the commands of the shell
+
+def is_tool(*command):
+    """Whether it hashes, and verifies."""
+    text = said(*command, *'new argon2id 19 1 64 2 16 par'.split(), input='password').rstrip('\n')
+    answers = [run(*command, 'check', text, input=word).stdout for word in ('password', 'passwort')]
+    return answers == ['true\n', 'false\n']
+
+
+def write_program(file, *command):
+    file.write_text(f'#!/bin/sh\n{" ".join(map(str, command))}\n', encoding='utf-8')
+    file.chmod(0o755)
+    return file
+
+
+@pytest.mark.timeout(2400)
+def test_commands_over_pipes_on_arm(on_arm, tmp_path):
+    tool = write_program(tmp_path / 'argon2_tool', 'exec', *arm(on_arm / 'argon2_tool'), '"$@"')
+    said(*named(OVER=tool), '/usr/bin/python3', '-B', '-m', 'pytest', '-q', '.ci/faults/test_program.py')
+
+
+def test_launcher_takes_the_programs_for_arm(on_arm, tmp_path):
+    """(where `uname` names that machine)"""
+    said(*named(MACHINE='aarch64', DESTDIR=tmp_path), './install', '/usr')
+    write_program(tmp_path / 'uname', 'echo', 'aarch64')
+    tool = tmp_path / 'usr/libexec/proved-argon2/aarch64/argon2_tool'
+    write_program(tool, 'exec', *arm(on_arm / 'argon2_tool'), '"$@"')
+    assert is_tool(*named(PATH=f'{tmp_path}:{os.environ["PATH"]}'), tmp_path / 'usr/bin/proved-argon2')
+
+
+def test_what_is_compiled_as_c_is_installed(tmp_path):
+    said(*named(MACHINE='portable', DESTDIR=tmp_path), './install', '/usr')
+    assert is_tool(tmp_path / 'usr/bin/proved-argon2')
+
+
+# ---- libargon2's place, and Node's addon
+
+def test_libargon2_on_arm_has_its_names_and_returns_the_same(on_arm):
+    """In drawn calls of its whole interface."""
+    libraries = ROOT / 'usr/lib/aarch64-linux-gnu/libargon2.so.1', on_arm / 'libargon2.so.1'
+    assert exports(libraries[0]) == exports(libraries[1]) and len(exports(libraries[0])) == 22
+    assert '[libargon2.so.1]' in said('readelf', '-dW', libraries[1])
+    said(*arm(ROOT / 'usr/bin/python3', '-B', LIBARGON2 / 'fuzz.py', SEED, 2000, *libraries))
+
+
+@pytest.mark.parametrize('words', ['somesalt -e', 'somesalt -id -t 2 -k 256 -p 4 -l 24 -r'])
+def test_command_on_arm_prints_the_same(on_arm, words):
+    """Debian's command over either library, and ours."""
+    theirs, ours = ([folder / 'argon2', *words.split()] for folder in (ROOT / 'usr/bin', on_arm))
+    expected, *others = (said(*command, input='password')
+                         for command in (arm(*theirs), arm(*theirs, LD_LIBRARY_PATH=on_arm), arm(*ours)))
+    assert expected and others == [expected] * 2
+
+
+def test_addon_hashes_on_arm(on_arm, tmp_path):
+    """With as much of Node as a hash takes."""
+    compile_for_arm(TOP / 'bindings/tests/addon.c', tmp_path / 'addon', '-I', TOP / 'bindings/javascript/addon',
+                    '-rdynamic')
+    assert said(*arm(tmp_path / 'addon', on_arm / 'proved_argon2.node')).strip() == f'0 0 8 {TAG}'
+
+
+# ---- packages
+
+def test_first_lines_of_python_run_on_arm(python):
+    said(*python, '-c', first_lines('PYTHON.md'))
+
+
+def test_drawn_calls_return_on_arm_what_they_do_on_x86_64(on_arm, python):
+    words = TOP / '.ci/release/drawn_calls.py', SEED, 1000
+    drawn = said(*named(PROVED_ARGON2_LIBRARY=on_arm.parent / 'x86_64' / SHARED,
+                        PYTHONPATH=TOP / 'bindings/python/src'), '/usr/bin/python3', '-B', *words)
+    assert drawn.count('\n') == 1000
+    assert said(*named(PROVED_ARGON2_LIBRARY=on_arm / SHARED), *python, *words) == drawn
+
+
+def test_packages_of_debian_for_arm(packages, tmp_path):
+    """dpkg installs them over a state of its own, programs are built with them, and purged they leave nothing."""
+    there, program = tmp_path / 'there', tmp_path / 'quick_start'
+    libraries, state = there / 'usr/lib/aarch64-linux-gnu', there / 'var/lib/dpkg'
+    files = [*packages.glob('*_arm64.deb')]
+    said('mkdir', '-p', state / 'info', state / 'updates')
+    said('touch', state / 'status', state / 'available')
+    dpkg = 'dpkg', f'--root={there}', f'--log={there}.log', *(f'--force-{of}' for of in ('depends', 'architecture'))
+    said(*dpkg, '--install', *files)
+    compile_for_arm(TOP / 'crates/argon2_c/c/quick_start.c', program, '-I', there / 'usr/include', '-L', libraries,
+                    '-lproved_argon2')
+    said(*arm(program, LD_LIBRARY_PATH=libraries))
+    hashed = said(*arm(ROOT / 'usr/bin/argon2', 'somesalt', '-e', LD_LIBRARY_PATH=libraries), input='password')
+    assert hashed.startswith('$argon2i$v=19$')
+    said(*dpkg, '--purge', *(f'{file.name.partition("_")[0]}:arm64' for file in files))
+    assert len(files) == 5 and not [path for path in there.rglob('*') if path.is_file() and state not in path.parents]
 
 
 # ---- Rust
 
-def passes_its_tests(target, made, folder, linker, runner, flags='', env=os.environ):
+def passes_its_tests(target, made, folder, linker, runner, flags=''):
     """(Debian's cargo, over Debian's crates. Where a panic is shown with what led to it, wine's dbghelp fails.)"""
     (folder / 'cargo').mkdir()
     (folder / 'cargo/config.toml').write_text(CRATES_OF_DEBIAN, encoding='utf-8')
     of, crate = f'CARGO_TARGET_{target.upper().replace("-", "_")}', TOP / 'bindings/rust'
-    how = {'PATH': f'/usr/bin:{os.environ["PATH"]}', 'RUST_BACKTRACE': '0', 'CARGO_TARGET_DIR': str(folder / 'target'),
-           f'{of}_LINKER': linker, f'{of}_RUNNER': runner, f'{of}_RUSTFLAGS': flags,
-           'PROVED_ARGON2_LIB_DIR': str(made), 'CARGO_HOME': str(folder / 'cargo')}
-    shown = said('cargo', 'test', '--offline', '--target', target, '--no-fail-fast', cwd=crate, env={**env, **how})
+    how = {'PATH': f'/usr/bin:{os.environ["PATH"]}', 'RUST_BACKTRACE': '0', 'CARGO_TARGET_DIR': folder / 'target',
+           f'{of}_LINKER': linker, f'{of}_RUNNER': ' '.join(map(str, runner)), f'{of}_RUSTFLAGS': flags,
+           'PROVED_ARGON2_LIB_DIR': made, 'CARGO_HOME': folder / 'cargo'}
+    shown = said(*named(**how), 'cargo', 'test', '--offline', '--target', target, '--no-fail-fast', cwd=crate)
     expected = sum(len(re.findall(r'^ *#\[test\]', path.read_text(encoding='utf-8'), re.M))
                    for part in ('src', 'tests') for path in (crate / part).rglob('*.rs'))
     assert sum(map(int, re.findall(r'^test result: ok\. (\d+) passed; 0 failed', shown, re.M))) == expected > 0
 
 
 def test_crate_passes_its_tests_on_windows(made, tmp_path, wine):
-    passes_its_tests('x86_64-pc-windows-gnu', made / WINDOWS, tmp_path, f'{TOOLS}gcc-posix', 'wine', env=wine)
+    passes_its_tests('x86_64-pc-windows-gnu', made / WINDOWS, tmp_path, f'{TOOLS}gcc-posix', wine)
 
 
-def test_crate_passes_its_tests_on_arm64(tmp_path, needs):
+def test_crate_passes_its_tests_on_arm(on_arm, tmp_path):
     """Among them are the outside vectors."""
-    needs('aarch64-linux-gnu-gcc', 'qemu-aarch64-static')
-    root, target = TOP / 'out/aarch64/root', 'aarch64-unknown-linux-gnu'
-    fetched = run('.ci/release/aarch64_root', root)
-    if fetched.returncode != 0:
-        pytest.skip(f"Debian's packages for ARM64 cannot be had: {fetched.stdout[-200:]}")
-    passes_its_tests(target, ready('aarch64') / 'aarch64', tmp_path, 'aarch64-linux-gnu-gcc',
-                     f'qemu-aarch64-static -L {root}', f'-L {root}/usr/lib/rustlib/{target}/lib')
+    target = 'aarch64-unknown-linux-gnu'
+    passes_its_tests(target, on_arm, tmp_path, CC, arm(), f'-L {ROOT}/usr/lib/rustlib/{target}/lib')
 
 
 # ---- the machine code for Windows
@@ -164,9 +300,9 @@ def test_finds_calls_in_the_convention_of_windows(made, tmp_path, wine, conventi
     program = tmp_path / 'lines.exe'
     library = linked_with(made, tmp_path, 'bindings/c/builds.h', '__attribute__((sysv_abi))',
                           f'__attribute__(({convention}))')
-    said(f'{TOOLS}gcc-posix', '-O2', '-I', TOP / 'crates/argon2_c/include', TOP / 'bindings/portable/tests/lines.c',
-         library / ARCHIVE, '-static', '-o', program)
-    done = run('wine', program, 'raw', TOP / 'bindings/vectors/raw.txt', 240, env=wine)
+    said(f'{TOOLS}gcc-posix', '-O2', '-I', INCLUDE, TOP / 'bindings/portable/tests/lines.c', library / ARCHIVE,
+         '-static', '-o', program)
+    done = run(*wine, program, 'raw', TOP / 'bindings/vectors/raw.txt', 240)
     assert (done.returncode == 0) == (convention == 'sysv_abi'), done.stdout
 
 
@@ -193,11 +329,3 @@ def test_compiles_for(target, tmp_path):
     for file in files:
         said('clang', f'--target={target}', '-nostdlibinc', '-isystem', tmp_path, *WARNINGS, '-c', file, '-o',
              '/dev/null')
-
-
-def test_installs(tmp_path):
-    said('./install', '/usr', env={**os.environ, 'MACHINE': 'portable', 'DESTDIR': str(tmp_path)})
-    command = tmp_path / 'usr/bin/proved-argon2'
-    text = said(command, *'new argon2id 19 1 64 2 16 par'.split(), input='password').rstrip('\n')
-    answers = [run(command, 'check', text, input=word).stdout for word in ('password', 'passwort')]
-    assert answers == ['true\n', 'false\n']
