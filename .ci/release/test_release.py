@@ -15,6 +15,7 @@ from machines import machines
 from running import VERSION
 from shared import TOP, in_namespace, refuses, run, said
 from shared.toolchain import has_processor
+from test_packages import copy_tree
 
 pytestmark = pytest.mark.timeout(5400)
 needs_root = pytest.mark.skipif(os.geteuid() != 0, reason='that takes root, and namespaces')
@@ -56,12 +57,7 @@ def test_the_program_verifies_the_outside_strings(compared, cpu):
 
 @pytest.fixture
 def copy(tmp_path):
-    """What a user has of the repository, as git has it, without what was built."""
-    listed = run('git', 'ls-files', '-z', '--cached', '--others', '--exclude-standard').stdout.split('\0')
-    for name in (name for name in listed if name and (TOP / name).exists()):
-        (tmp_path / 'copy' / name).parent.mkdir(parents=True, exist_ok=True)
-        shutil.copy2(TOP / name, tmp_path / 'copy' / name, follow_symlinks=False)
-    yield tmp_path / 'copy'
+    yield copy_tree(tmp_path / 'copy')
     shutil.rmtree(tmp_path / 'copy')
 
 
@@ -167,10 +163,7 @@ FORGERIES = {
     'a list that lacks a file': (edit(LIST, f'^.*  {SHARED}\n', ''), [INSTALL, PACKAGE],
                                  [f'{LIST} does not name {SHARED}']),
 }
-
-
-def test_the_list_of_forgeries_is_whole():
-    assert len(FORGERIES) == 13
+assert len(FORGERIES) == 13
 
 
 @needs_root
