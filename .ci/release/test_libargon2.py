@@ -8,6 +8,7 @@ import secrets
 import shutil
 
 import pytest
+from running import fetch
 from shared import TOP, exports, ready, run, said
 
 HERE, FACE, BUILT = TOP / 'bindings/libargon2', TOP / 'crates/argon2_c', ready('x86_64') / 'x86_64'
@@ -31,7 +32,8 @@ int main(void)
     return printf("%d %d %s", made, read, argon2_error_message(made)) < 0;
 }
 """
-FAULTS = re.findall(r'^(?!#)(.*)\nold: (.*)\nnew: (.*)$', (TESTS / 'faults.txt').read_text(encoding='utf-8'), re.M)
+FAULTS = {name: [text.replace('\\n', '\n') for text in pair] for name, *pair in re.findall(
+    r'^(?!#)(.*)\nold: (.*)\nnew: (.*)$', (TESTS / 'faults.txt').read_text(encoding='utf-8'), re.M)}
 assert len(FAULTS) == 18
 
 
@@ -113,16 +115,15 @@ def test_vectors(folder):
     said(*over(folder, '/usr/bin/python3', '-B', TESTS / 'vectors.py'))
 
 
-def fetched(kind, release, package, folder):
-    """The source of a package of Debian, or the package, where it can be had."""
-    done = run('bash', '-c', '. bindings/tests/fetching.bash; "$@"', '-', f'fetch_{kind}', release, package, folder)
-    if done.returncode != 0:
-        pytest.skip(f'{package} cannot be had: {done.stdout[-200:]}')
+def fetched(kind, package, folder):
+    """The source of Debian's newest package, or the package, where it can be had."""
+    if not fetch(f'fetch_{kind}', package, folder):
+        pytest.skip(f'{package} cannot be had')
     return folder
 
 
 def test_own_tests_of_libargon2(work, tmp_path):
-    source = fetched('source', 'trixie', 'argon2', tmp_path / 'source')
+    source = fetched('source', 'argon2', tmp_path / 'source')
     said('gcc', '-std=gnu99', '-O1', '-I', HERE, source / 'src/test.c', '-L', work / 'lib', '-largon2', '-o',
          tmp_path / 'test')
     said(*over(work / 'lib', tmp_path / 'test'), cwd=tmp_path)
@@ -132,8 +133,8 @@ def test_own_tests_of_argon2_cffi(work, tmp_path):
     """Of the newest source that Debian has, over Debian's bindings of it, which are built with the system's library.
     (Those of its packaging look for the files of an installed one; and an older Python looks for the other name.)"""
     pytest.importorskip('hypothesis')
-    source = fetched('source', 'sid', 'python-argon2', tmp_path / 'cffi')
-    bindings = fetched('package', 'sid', 'python3-argon2-cffi-bindings', tmp_path / 'bindings')
+    source = fetched('source', 'python-argon2', tmp_path / 'cffi')
+    bindings = fetched('package', 'python3-argon2-cffi-bindings', tmp_path / 'bindings')
     site = bindings / 'usr/lib/python3/dist-packages'
     module, = site.glob('_argon2_cffi_bindings/_ffi.abi3-*.so')
     module = shutil.copy(module, str(module).partition('-x86')[0] + '.so')
@@ -168,13 +169,12 @@ def test_finds_none_where_there_is_none(work):
     assert is_right(work, work / 'lib')
 
 
-@pytest.mark.parametrize('name,old,new', FAULTS, ids=[name for name, *_ in FAULTS])
-def test_finds(work, tmp_path, name, old, new):
+@pytest.mark.parametrize('name', FAULTS)
+def test_finds(work, tmp_path, name):
     """A text is there once, in the source or in what links it. The fault has to be built, and then to be found."""
     texts = {path.name: path.read_text(encoding='utf-8') for path in (HERE / 'libargon2.c', TOP / 'build/link')}
-    old, new = old.replace('\\n', '\n'), new.replace('\\n', '\n')
-    found, = [file for file, text in texts.items() if text.count(old) == 1]
-    texts[found] = texts[found].replace(old, new)
+    found, = [file for file, text in texts.items() if text.count(FAULTS[name][0]) == 1]
+    texts[found] = texts[found].replace(*FAULTS[name])
     (tmp_path / 'libargon2.c').write_text(texts['libargon2.c'], encoding='utf-8')
     soname = re.search(r'^ *make_library libargon2\.a libargon2\.so\.1 (\S+) ', texts['link'], re.M)[1]
     interface(tmp_path / 'libargon2.c', tmp_path / 'libargon2.so.1', f'-Wl,-soname,{soname}')
