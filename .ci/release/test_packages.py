@@ -179,33 +179,28 @@ def test_a_package_for_debian_asks_for_what_it_needs_alone(packages, unpacked, n
 
 # ---- where neither the kit nor the repository can be seen
 
-# Over a copy of this system that is gone afterwards. /new has what was written since, and /former all that was there
-# before: nothing may be there now that was not, and nothing be gone, but for what the system notes for itself.
+# Over a copy of this system that is gone afterwards.
 ALONE = '''
 mount -t tmpfs none "$1" && mkdir "$1"/{new,work,all,hidden} && all=$1/all
 mount -t overlay overlay -o "lowerdir=/,upperdir=$1/new,workdir=$1/work" "$all"
-mkdir -p "$all"/{packages,new,former} && cp -r "$2/." "$all/packages"
-mount --bind "$1/new" "$all/new" && mount --bind / "$all/former"
+cp -r "$2" "$all/packages"
 for hidden in /opt/rattle "$3"; do [[ ! -d $hidden ]] || mount --bind "$1/hidden" "$all$hidden"; done
 mount --rbind /dev "$all/dev" && mount -t proc proc "$all/proc"
 exec chroot "$all" env -i HOME=/root PATH=/usr/local/bin:/usr/sbin:/usr/bin:/sbin:/bin bash -Eeuo pipefail -c "$4"'''
+# Nothing may be there in the end that was not, and nothing be gone, but for what the system notes for itself.
 BEFORE = '''
 trap 'echo "status $?: $BASH_COMMAND" >&2' ERR
 cd /packages; scratch=$(mktemp -d)
 [[ ! -e /opt/rattle/bin && ! $(command -v rt) && $(ldconfig -p) != *proved_argon2* ]]
 installed_of() { dpkg-query -W -f '${Package}\\n' "$@" 2>/dev/null || true; }
-leaves_nothing() {
-    local kind path changes=
-    while read -r kind path; do
-        if [[ $kind == c && -e /former/$path ]]; then changes+="gone: $path "; fi
-        if [[ $kind != c && ! -e /former/$path && ! -L /former/$path ]]; then changes+="left: $path "; fi
-    done < <(find /new -mindepth 1 -printf '%y %P\\n' \\
-        | grep -vE '^. (packages|new|former|tmp|root/\\.c|var/log/|var/cache/|var/lib/dpkg/.*-old)')
-    printf %s "$changes"; [[ -z $changes ]]
+all_files() {
+    { find / -maxdepth 1; find /etc /home /opt /root /srv /usr /var -xdev -ignore_readdir_race; } \\
+        | grep -vE '^/(root/\\.c|var/(log|cache)/|var/lib/dpkg/.*-old$)' | sort
 }
+all_files >/tmp/before
+leaves_nothing() { diff /tmp/before <(all_files); }
 '''
-NEEDS = {'tarball': [], 'debian': [], 'wheel': [], 'crate': ['cargo'], 'javascript': ['npm', 'node'],
-         'libargon2': ['php', '/usr/sbin/cryptsetup']}
+NEEDS = {'crate': ['cargo'], 'javascript': ['npm', 'node'], 'libargon2': ['php', '/usr/sbin/cryptsetup']}
 FROM = {
     'tarball': '''tar -C / -xzf *-x86_64.tar.gz; ldconfig
         debian/tests/command; debian/tests/library; /usr/local/share/proved-argon2/uninstall; leaves_nothing''',
@@ -260,7 +255,7 @@ def with_pages(packages, tmp_path_factory):
 
 @pytest.mark.parametrize('name', FROM)
 def test_from_the_package_alone(with_pages, tmp_path, needs, name):
-    needs(*NEEDS[name])
+    needs(*NEEDS.get(name, []))
     if name == 'libargon2' and not any((with_pages / 'theirs').iterdir()):
         pytest.skip('there is no package of Debian for the way back')
     said(*in_namespace(ALONE, tmp_path, with_pages, TOP, BEFORE + FROM[name]))
@@ -297,28 +292,22 @@ UPGRADE = '''swaps "$ours" proved-libargon2-1 libargon2-dev; former=$(dpkg-query
 sed -i s/bookworm/trixie/ /etc/apt/sources.list; apt-get update -qq; apt-get full-upgrade -qq -y >/dev/null
 grep -qx VERSION_CODENAME=trixie /etc/os-release; swaps php-cli proved-libargon2-1 libargon2-dev
 [[ $(dpkg-query -W -f '${Version}' libargon2-dev) != "$former" ]]; swaps libargon2-1 libargon2-1 libargon2-dev'''
+INSTALLS = '/tree/install; proved-argon2 --version; /tree/install --remove'
+# What is done in a system, by its release.
+FRESH = {'bookworm': [INSTALLS, SWAPS, THERE_AND_BACK, UPGRADE, INSTALLS, THERE_AND_BACK],
+         'noble': [INSTALLS, SWAPS, THERE_AND_BACK]}
 
 
-def make_system(release, folder):
-    """Debian 12's debootstrap knows Ubuntu's newer releases by an older name. Its mirror is beside that of Debian."""
-    mirror = said('bash', '-c', '. bindings/tests/fetching.bash; mirror_of ubuntu').strip()
-    of_ubuntu = [mirror, '/usr/share/debootstrap/scripts/gutsy']
-    made = run('debootstrap', '--variant=minbase', release, folder, *(of_ubuntu if release == 'noble' else []))
+@pytest.mark.parametrize('release', FRESH)
+def test_a_fresh_system(packages, tmp_path, needs, release):
+    """(Ubuntu's mirror is beside that of Debian, which has no keys of it.)"""
+    needs('mmdebstrap')
+    system, (of, how) = tmp_path / 'system', ('ubuntu', '[trusted=yes]') if release == 'noble' else ('debian', '')
+    mirror = said('bash', '-c', f'. bindings/tests/fetching.bash; mirror_of {of}').strip()
+    sources = f'deb {how} {mirror} {release} main'
+    made = run('mmdebstrap', '--quiet', '--variant=minbase', '--include=apt', release, system, sources)
     if made.returncode:
         pytest.skip(f'{release} cannot be had: {made.stdout.splitlines()[-1:]}')
-    copy_tree(folder / 'tree')
-
-
-@pytest.mark.parametrize('release', ['bullseye', 'bookworm', 'trixie', 'noble'])
-def test_a_fresh_system(packages, tmp_path, needs, release):
-    """The first has an older C library, and the installation says so."""
-    needs('debootstrap')
-    make_system(release, tmp_path / 'system')
-    there = in_namespace(THERE, tmp_path / 'system')
-    if release == 'bullseye':
-        refuses(1, 'install: it needs the GNU C library 2.34 or newer, and here is 2.31: ', *there, '/tree/install')
-        assert not (tmp_path / 'system/usr/local/bin/proved-argon2').exists()
-        return
-    said(*there, '/tree/install && proved-argon2 --version && /tree/install --remove')
-    shutil.copytree(packages, tmp_path / 'system/packages')
-    said(*there, '\n'.join([SWAPS, THERE_AND_BACK, *[UPGRADE] * (release == 'bookworm')]))
+    copy_tree(system / 'tree')
+    shutil.copytree(packages, system / 'packages')
+    said(*in_namespace(THERE, system, '\n'.join(FRESH[release])))
