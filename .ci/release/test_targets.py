@@ -1,7 +1,7 @@
 """Targets that wine or qemu runs, and those that nothing runs here, beside the tests in C (bindings/c):
 
-- What is for ARM64 is run by qemu over Debian's C library, Python and libargon2 (aarch64_root): calls that are drawn
-  (SEED, or any) beside x86-64's, the shell's commands, libargon2's place beside Debian's, the crate's tests, packages.
+- What is for ARM64 is run by qemu over Debian's C library, Python and libargon2 (aarch64_root): the shell's commands,
+  calls of libargon2's place that are drawn (SEED, or any) beside Debian's, the crate's tests, packages.
 - The machine code of the library for Windows (build/link) has to be what the toolchain made for Linux, to touch nothing
   below the stack pointer, and to come down a stack page by page. The crate passes its tests.
 - Of the library as C docs/INSTALL.md says where it runs; where only a compiler is here, it compiles; ./install does so.
@@ -14,7 +14,7 @@ import sys
 
 import pytest
 from machines import machines
-from running import CRATES_OF_DEBIAN, VERSION, first_lines
+from running import CRATES_OF_DEBIAN, first_lines
 from shared import TOP, exports, ready, run, said
 
 sys.path.insert(0, str(TOP / '.ci/machine_code'))
@@ -24,7 +24,7 @@ SEED, WARNINGS = os.environ.get('SEED', str(secrets.randbits(32))), ('-O2', '-Wa
 ARCHIVE, DLL, INCLUDE = 'libproved_argon2.a', 'proved_argon2.dll', TOP / 'crates/argon2_c/include'
 # ARM64
 CC, QEMU, ROOT = 'aarch64-linux-gnu-gcc', 'qemu-aarch64-static', TOP / 'out/aarch64/root'
-SHARED, LIBARGON2 = f'libproved_argon2.so.{VERSION}', TOP / 'bindings/libargon2/tests'
+FUZZ = TOP / 'bindings/libargon2/tests/fuzz.py'
 TAG = '6d093c501fd5999645e0ea3bf620d7b8be7fd2db59c20d9fff9539da2bf57037'
 # Windows; and what a copy has that is linked anew, with a fault.
 BUILDS, WINDOWS, TOOLS, PAGE = machines()['x86_64'].builds, 'windows-x86_64', 'x86_64-w64-mingw32-', 4096
@@ -144,7 +144,7 @@ def test_libargon2_on_arm_has_its_names_and_returns_the_same(on_arm):
     libraries = ROOT / 'usr/lib/aarch64-linux-gnu/libargon2.so.1', on_arm / 'libargon2.so.1'
     assert exports(libraries[0]) == exports(libraries[1]) and len(exports(libraries[0])) == 22
     assert '[libargon2.so.1]' in said('readelf', '-dW', libraries[1])
-    said(*arm(ROOT / 'usr/bin/python3', '-B', LIBARGON2 / 'fuzz.py', SEED, 2000, *libraries))
+    said(*arm(ROOT / 'usr/bin/python3', '-B', FUZZ, SEED, 2000, *libraries))
 
 
 @pytest.mark.parametrize('words', ['somesalt -e', 'somesalt -id -t 2 -k 256 -p 4 -l 24 -r'])
@@ -167,14 +167,6 @@ def test_addon_hashes_on_arm(on_arm, tmp_path):
 
 def test_first_lines_of_python_run_on_arm(python):
     said(*python, '-c', first_lines('PYTHON.md'))
-
-
-def test_drawn_calls_return_on_arm_what_they_do_on_x86_64(on_arm, python):
-    words = TOP / '.ci/release/drawn_calls.py', SEED, 1000
-    drawn = said(*named(PROVED_ARGON2_LIBRARY=on_arm.parent / 'x86_64' / SHARED,
-                        PYTHONPATH=TOP / 'bindings/python/src'), '/usr/bin/python3', '-B', *words)
-    assert drawn.count('\n') == 1000
-    assert said(*named(PROVED_ARGON2_LIBRARY=on_arm / SHARED), *python, *words) == drawn
 
 
 def test_packages_of_debian_for_arm(packages, tmp_path):
