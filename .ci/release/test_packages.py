@@ -302,10 +302,10 @@ FRESH = {'bookworm': [INSTALLS, SWAPS, THERE_AND_BACK, UPGRADE, INSTALLS, THERE_
 def test_a_fresh_system(packages, tmp_path, needs, release):
     """(Ubuntu's mirror is beside that of Debian, which has no keys of it.)"""
     needs('mmdebstrap')
-    system, (of, how) = tmp_path / 'system', ('ubuntu', '[trusted=yes]') if release == 'noble' else ('debian', '')
+    system, of, sources = tmp_path / 'system', *(
+        ('ubuntu', 'deb [trusted=yes] {} noble main') if release == 'noble' else ('debian', '{}'))
     mirror = said('bash', '-c', f'. bindings/tests/fetching.bash; mirror_of {of}').strip()
-    sources = f'deb {how} {mirror} {release} main'
-    made = run('mmdebstrap', '--quiet', '--variant=minbase', '--include=apt', release, system, sources)
+    made = run('mmdebstrap', '--quiet', '--variant=minbase', '--include=apt', release, system, sources.format(mirror))
     if made.returncode:
         pytest.skip(f'{release} cannot be had: {made.stdout.splitlines()[-1:]}')
     copy_tree(system / 'tree')

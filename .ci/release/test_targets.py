@@ -14,8 +14,8 @@ import sys
 
 import pytest
 from machines import machines
-from running import CRATES_OF_DEBIAN, first_lines
-from shared import TOP, exports, ready, run, said
+from running import CRATES_OF_DEBIAN, exports, first_lines
+from shared import TOP, ready, run, said
 
 sys.path.insert(0, str(TOP / '.ci/machine_code'))
 from linked import Code  # noqa: E402

@@ -46,12 +46,6 @@ def in_namespace(script, *words):
     return ['unshare', '--mount', '--propagation', 'private', 'bash', '-euc', script, 'bash', *words]
 
 
-def exports(file):
-    """The names that a shared object has for programs."""
-    rows = [line.split() for line in said('readelf', '--dyn-syms', '-W', file).splitlines()]
-    return sorted(row[7].partition('@')[0] for row in rows if len(row) > 7 and row[4] == 'GLOBAL' and row[6].isdigit())
-
-
 # ---- lists: lines, and rows
 
 def lines(path):

@@ -90,6 +90,12 @@ def built(part=MACHINE):
     return pathlib.Path(run("build/ready", part, timeout=4800).strip())
 
 
+def exports(file):
+    """The names that a shared object has for programs."""
+    rows = [line.split() for line in run("readelf", "--dyn-syms", "-W", file).splitlines()]
+    return sorted(row[7].partition("@")[0] for row in rows if len(row) > 7 and row[4] == "GLOBAL" and row[6].isdigit())
+
+
 def flags_of(prefix):
     """What pkg-config says that a compiler needs for the library in a prefix."""
     said = run("pkg-config", "--cflags", "--libs", "proved_argon2", env={"PKG_CONFIG_PATH": prefix / "lib/pkgconfig"})
