@@ -88,29 +88,15 @@ is_built() {
 
 # ---- release/
 
-# What a folder of release/ is built from beside proved crates: `others_of FOLDER` leaves the paths in `others`.
+# What a folder of release/ is built from beside proved crates, by the toolchain alone or by a C compiler too:
+# `others_of FOLDER` leaves the paths in `others`.
 others_of() {
-    others=''
-    case $1 in
-    wasm32) others='build/link_wasm bindings/wasm/instance.s' ;;
-    windows-x86_64)
-        others='build/link build/coff build/machines.txt bindings/c bindings/kernels bindings/windows
-            crates/argon2_c/include'
-        ;;
-    portable)
-        others='build/portable bindings/wasm/instance.s bindings/portable/translate.py bindings/portable/module.h
-            bindings/portable/platform_other.c bindings/portable/proved_argon2_module.c bindings/c bindings/windows
-            crates/argon2_c/include'
-        ;;
-    *)
-        if grep -q "^$1 " "$root/build/machines.txt"; then
-            others='VERSION build/link build/library.map build/machines.txt bindings/c bindings/kernels
-                bindings/javascript/addon crates/argon2_c/include bindings/libargon2/argon2.h
-                bindings/libargon2/command.c bindings/libargon2/libargon2.c bindings/libargon2/libargon2.map
-                bindings/shell/words.c'
-        elif [ -e "$root/bindings/kernels/$1.c" ]; then
-            others="build/kernel build/machines.txt bindings/kernels/$1.c"
-        fi
+    others='build/kernel build/link_wasm build/machines.txt bindings/kernels bindings/wasm/instance.s'
+    case $1:$(sed -n "s/^$1 .*/machine/p" "$root/build/machines.txt") in
+    windows-x86_64: | portable: | *:machine)
+        others="$others VERSION build/link build/coff build/library.map build/portable bindings/c
+            bindings/javascript/addon bindings/shell/words.c crates/argon2_c/include
+            $(cd "$root" && echo bindings/libargon2/*.[chm]* bindings/portable/*.* bindings/windows/*.c)"
         ;;
     esac
 }
