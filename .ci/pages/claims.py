@@ -1,5 +1,5 @@
-"""What pages claim of the sources and of the toolchain: how many mutants there are, what depends on secrets
-(.ci/secrets/depends.txt), what the prover takes without proof, and the hash of each group of files of verdicts.txt.
+"""What pages claim of the sources and of the toolchain: what depends on secrets (.ci/secrets/depends.txt), what the
+prover takes without proof, and the hash of each group of files of verdicts.txt.
 
 No test finds that those files accept one password more than the proved calls do, so each change of them has to be seen.
 """
@@ -9,12 +9,11 @@ import json
 import re
 import shutil
 import textwrap
-from collections import Counter
 from pathlib import Path
 
 from common import REPORTS, TOP, files, fill, need, quoted, read, row, rows, run, write
 from machines import machines
-from shared.sources import Sources, crates, edits
+from shared.sources import crates
 from toolchain import is_current
 
 CLAIMS, VERDICTS = 'docs/CLAIMS.md', '.ci/pages/verdicts.txt'
@@ -103,9 +102,7 @@ def with_hash(patterns, reason, *_):
 
 
 def write_all():
-    counts = Counter(edit.is_equal for edit in edits(Sources()))
     depends = [row(call, words) for _, call, words in rows('.ci/secrets/depends.txt')]
-    fill(CLAIMS, 'mutants', [f'{counts[False]} mutants and {counts[True]} equivalent mutants.'], 'claims')
     fill(CLAIMS, 'secrets', ['| Call | What depends on these |', '|---|---|', *depends], 'claims')
     if shutil.which('rt'):
         write_reports(Path(shutil.which('rt')).resolve().parent.parent)
