@@ -1,5 +1,5 @@
 # Whether what was built, and what release/ has, is of the sources as they are: functions for sh, for the repository
-# `root`. Each leaves in `why` what is wrong.
+# `root`. What is found wrong is left in `why`.
 # shellcheck shell=sh disable=SC2034,SC2154
 
 # crates.txt and the sources (src, specs, proofs) of crates and of those below them: `find_sources NAME..` leaves them
@@ -13,6 +13,9 @@ find_sources() {
         for kind in src specs proofs; do
             [ ! -d "$root/crates/$crate/$kind" ] || sources="$sources crates/$crate/$kind"
         done
+    done
+    for crate; do
+        case $sources in *" crates/$crate/src"*) ;; *) why="crates.txt has no $crate" && return 1 ;; esac
     done
 }
 
@@ -61,9 +64,8 @@ list_packages() {
 # What a build of crates is made from, in a line: `line_of NAME..` leaves it in `line`, with the kit that is here, if
 # there is one, as `rt version` says it.
 line_of() {
-    find_sources "$@"
     # shellcheck disable=SC2086 # they are words
-    sum_files $sources || return
+    find_sources "$@" && sum_files $sources || return
     line=$sum rt=$(PATH=$PATH:/opt/rattle/bin && command -v rt) || return 0
     rt=$(readlink -f -- "$rt")
     [ ! -e "${rt%/*}/../KIT-ID" ] || line="$sum $(paste -s -d ' ' -- "${rt%/*}/../KIT-ID")"
@@ -103,8 +105,7 @@ others_of() {
 
 # The hash of all that a folder of release/ is built from: `sum_part FOLDER`.
 sum_part() {
-    find_sources argon2_c argon2_program argon2_tool
-    others_of "$1"
+    find_sources argon2_c argon2_program argon2_tool && others_of "$1" || return
     # shellcheck disable=SC2086 # they are words
     sum_files $sources $others
 }
@@ -121,8 +122,8 @@ is_of_sources() {
 is_listed() {
     why="release/MANIFEST names no file of $1"
     listed=$(grep -E "^[^#].*  $1(/|\$)" "$root/release/MANIFEST") || return
-    other=$(cd "$root/release" && { echo "$listed" && find "$1" ! -type d -exec sha256sum -- {} + 2>/dev/null; } \
-        | LC_ALL=C sort -k 2 | uniq -u | sed -n '1s/^.*  //p')
+    other=$(cd "$root/release" && { echo "$listed" | sort -u && find "$1" \( -type f -exec sha256sum -- {} + \) \
+        -o ! -type d -printf '-  %p\n' 2>/dev/null; } | LC_ALL=C sort -k 2 | uniq -u | sed -n '1s/^.*  //p')
     case $listed in
     *"  $other"*) why="release/$other is not the file that release/MANIFEST names: it was changed, or is not there" ;;
     *) why="release/MANIFEST does not name $other" ;;

@@ -28,8 +28,9 @@ TYPES = {
 }
 # What may stand for the value of a mark, of some by the mark; and between two words.
 VALUE, BLANK = r'\d(?:[\d_,]*\d)?(?: [KMG]iB)?', r'\s+(?:(?:///|//|#|\*|--) )?'
-OF_MARK = {'.': r'[^\d().]{1,40}', 'v': r'\d+\.\d+\.\d+', **dict.fromkeys('ngh', r'[\d_]+'), 'Name': '[^\n"]*?',
-           'Publisher': '[^\n"<]*?', 'Contact': r'[^\s"<]+@[\w.-]+\w', 'Address': 'https://[^\\s"`]*'}
+OF_MARK = {'.': r'[^\d().]{1,40}', 'v': r'\d+\.\d+\.\d+', **dict.fromkeys('ngh', r'[\d_]+'),
+           **dict.fromkeys(('memory', 'work'), r'\d+ [KMG]iB'), 'Name': '[^\n"]*?', 'Publisher': '[^\n"<]*?',
+           'Contact': r'[^\s"<]+@[\w.-]+\w', 'Address': 'https://[^\\s"`]*'}
 
 
 def one_line(text):

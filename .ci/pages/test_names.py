@@ -36,8 +36,9 @@ NAME = re.compile(r'(?=.*(?:[a-z]_|::))\w+(?:::\w+)*')
 COMMAND = re.compile(r'(?:rt|(?:proved-)?argon2)(?: |$)|\.ci|\./|bench/|bindings/|crates/')
 SEPARATOR = re.compile(r'(?:&&|[|;()]|sudo |^)\s*')
 HELP = {'rt': run('rt', 'help').stdout if shutil.which('rt') else '',
-        **dict.fromkeys(('./argon2', 'argon2', 'proved-argon2'), ''.join(map(read, (
-            'argon2', 'bindings/shell/commands.sh', 'crates/argon2_commands/src/command.rt'))))}
+        **dict.fromkeys(('argon2', 'proved-argon2'), ''.join(map(read, (
+            'bindings/shell/commands.sh', 'crates/argon2_commands/src/command.rt'))))}
+HELP['./argon2'] = read('argon2') + HELP['argon2']
 # How a word of a command stands where it is told: after `rt`, as a label of a shell's `case`, between quotes.
 WORD_IN_HELP = r'(?:\brt |\||\b\d:|#     \./argon2 |"){}(?![\w-])'
 # A link with its words, its path and its heading; a page's name; and the pages that are packed without the others.
@@ -108,7 +109,7 @@ def faults(page, text, is_code):
     """What a paragraph or a line of code names that is not there, and its words that are avoided."""
     quoted = [' '.join(quote.split()) for quote in re.findall(r'`([^`]+)`', text)]
     paths = {*(path for _, path, _ in LINK.findall(text) if path), *filter(PATH.fullmatch, ' '.join(quoted).split()),
-             *re.findall(r'\.ci/[\w./]*\w', text)}
+             *re.findall(r'\.ci/[\w./]*\w', text), *PAGE.findall(text)}
     yield from (path for path in paths if is_lost_path(path, page))
     yield from (word for word in quoted if NAME.fullmatch(word) and is_lost_name(word))
     for part in SEPARATOR.split(text) if is_code else (part for one in quoted for part in SEPARATOR.split(one)):
@@ -137,8 +138,9 @@ def test_what_a_page_names_is_there(page):
     'in [a page](NOTHING.md)', '[it](docs/USE.md#nothing)', 'see docs/C.md', '`it`, of LIBARGON2.md',
     '[it](USE.md), and\n(USE.md)', 'run `.ci/pages/nothing`', 'run .ci/nothing', 'a row of `nothing.txt`',
     'it is `crates/argon2/src/nothing.rt`', 'the folder `argon2_text/specs/Nothing`', '    .ci/pages/write --nothing',
-    '    ./argon2 nothing', 'a `hash_of_nothing`', 'a `Config::nothing_of`',
-    '[`blake2b`](crates/argon2/src/hashing.rt)', 'the Refusals of a call', 'it spells\na value',
+    '    ./argon2 nothing', '    proved-argon2 prove', '    cat docs/NOTHING.md', 'a `hash_of_nothing`',
+    'a `Config::nothing_of`', '[`blake2b`](crates/argon2/src/hashing.rt)', 'the Refusals of a call',
+    'it spells\na value',
     *['    rt nothing NAME'] * bool(shutil.which('rt'))])
 def test_a_wrong_text_is_found(text):
     assert [*faults_of('README.md', text)]

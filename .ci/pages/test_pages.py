@@ -72,6 +72,7 @@ def test_each_layer_of_the_picture_is_shown():
     ways = {int(x) - 27: begun.split() for begun, x in WAY.findall(picture)}
     layers = [(shown.split(), re.findall(r'#(\w+)" x="(\d+)"', words)) for shown, words in LAYER.findall(picture)]
     assert len(ways) == picture.count('"head"') and len(layers) == picture.count('"own"') > 10
+    assert sum(len(words) for _, words in layers) == 86
     for shown, words in layers:
         calls, said = [path for path in shown if '::' in path], {word for word, _ in words}
         assert there.issuperset(shown) and all(f'<g id="{word}">' in picture for word in said)

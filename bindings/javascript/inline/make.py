@@ -3,7 +3,7 @@
 
 Into the folder SOURCES it writes `inline.js`, an ES module, and `inline.cjs`, which is CommonJS. Each has all of the
 package in it: its code, that of the worker, and both WebAssembly modules of the folder MODULES. The package's files
-come one behind another, without what they import and export: no two of them declare the same name, as engines check.
+come one behind another, without what they import and export: no two of them may declare the same name.
 """
 import base64
 import json
@@ -18,6 +18,7 @@ IMPORT = re.compile(r"^(?:import (?:\{[^}]*\}|\* as (\w+))|export \*) from '\./(
 EXPORT = re.compile(r"^export (?=(?:async )?(?:const|let|function|class) (\w+))", re.M)
 LISTED = re.compile(r"^export \{([^}]*)\};\n", re.M)
 LEFT = re.compile(r"^(?:import|export)\b.*", re.M)
+DECLARED = re.compile(r"^(?:async )?(?:function|const|let|class) (\w+)", re.M)
 
 
 class Bundle:
@@ -42,9 +43,18 @@ class Bundle:
         return names and f"const {names} = {{ {', '.join(self.exports[other])} }};\n"
 
 
+def checked(text):
+    """A text, in which nothing is imported or exported, and no name is declared twice."""
+    names = DECLARED.findall(text)
+    faults = [*LEFT.findall(text), *{name for name in names if names.count(name) > 1}]
+    if faults:
+        sys.exit(f"make.py: not known, or declared twice: {faults}")
+    return text
+
+
 def inlined(folder, modules):
     """The code in front of the package's: what its assets are."""
-    assets = {"WORKER": f"(() => {{\n'use strict';\n{Bundle(folder).text('worker')}}})();\n"}
+    assets = {"WORKER": f"(() => {{\n'use strict';\n{checked(Bundle(folder).text('worker'))}}})();\n"}
     for name, file in MODULES.items():
         assets[name] = base64.b64encode((modules / file).read_bytes()).decode()
     return "".join(f"const {name} = {json.dumps(value)};\n" for name, value in assets.items())
@@ -55,9 +65,7 @@ def main():
     package = Bundle(folder, (HERE / "assets.js").read_text(encoding="utf-8"))
     text = package.text("index").replace("export default", "const all =")
     names = ", ".join([*package.exports["errors"], *re.split(r",\s+", LISTED.search(text)[1].strip(" ,\n"))])
-    text = LISTED.sub("", text)
-    if LEFT.search(text):
-        sys.exit(f"make.py: a line is not known: {LEFT.search(text)[0]}")
+    text = checked(LISTED.sub("", text))
     body = ("// The package proved-argon2 as one file, made of its sources by bindings/javascript/inline/make.py.\n"
             f"{inlined(folder, modules)}{text}")
     (folder / "inline.js").write_text(f"{body}export {{ {names}, all as default }};\n", encoding="utf-8")

@@ -1,6 +1,6 @@
 // Chromium, Firefox and WebKit without a window, each with the page of a folder and the package that is installed. No
 // protocol of theirs is needed: the page is in a frame, and what is around it asks a server here what to do.
-import { execFileSync, spawn, spawnSync } from 'node:child_process';
+import { spawn, spawnSync } from 'node:child_process';
 import { EventEmitter, once } from 'node:events';
 import { createReadStream, existsSync, mkdtempSync, rmSync, writeFileSync } from 'node:fs';
 import { createServer } from 'node:http';
@@ -141,12 +141,6 @@ class Browser {
     /** The bytes that its processes keep. */
     memoryInUse() {
         return memoryBelow(this.#process.pid);
-    }
-
-    version() {
-        const { command: [program, ...words], name } = this.constructor;
-        const said = execFileSync(program, [...words, '--version'], { encoding: 'utf8' });
-        return `${name} ${said.match(/\d[\d.]*\d/)[0]}`;
     }
 
     /** What an expression gives, or the promise that it is. */

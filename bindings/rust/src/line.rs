@@ -154,10 +154,12 @@ impl<'a> Future for Enter<'a> {
             None if state.free > 0 => state.free -= 1,
             None if state.line.len() >= line.waiting => return Poll::Ready(Err(Busy)),
             None => {
+                // (a waker that panics as it is cloned leaves no ticket, whose place nobody would give)
                 let ticket = state.next_ticket;
-                self.ticket = Some(ticket);
-                state.next_ticket += 1;
                 state.line.push_back((ticket, context.waker().clone()));
+                state.next_ticket += 1;
+                drop(state);
+                self.ticket = Some(ticket);
                 return Poll::Pending;
             }
         }
