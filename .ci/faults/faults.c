@@ -1,10 +1,10 @@
 /* What goes wrong in a program that this is preloaded into. It says on standard error what it met, a line each, so that
-   a run that met nothing is seen to have tested nothing, and at the end how much memory was resident at most: the line
-   `VmHWM` of /proc/self/status. What no variable asks for is left alone.
+   a run that met nothing is seen to have tested nothing: each request for memory says `request` or `refused`, each
+   block that is freed `freed`, each start of a thread `start`, `refused` or, by the system, `denied`; and the end how
+   much memory was resident at most: the line `VmHWM` of /proc/self/status.
 
-   REFUSE_REQUEST N  refuses the N-th request for memory, none for 0: each says `request` or `refused`, and each block
-                     that is freed `freed`
-   REFUSE_START N    the same of starts of threads: each says `start`, `refused` or, by the system, `denied`
+   REFUSE_REQUEST N  refuses the N-th request for memory
+   REFUSE_START N    the same of starts of threads
    REFUSE_TRIES N    refuses so many in a row, since what is refused is tried again; else one
    DELAY N           each new thread waits before it begins, and as long before it ends, up to so many microseconds,
                      another time for each: `late`
@@ -46,21 +46,16 @@ static int is_refused(const char *name, unsigned long *count)
     return 1;
 }
 
-static void tell_of_memory(const char *line)
-{
-    if (getenv("REFUSE_REQUEST")) say(line);
-}
-
 void free(void *block)
 {
-    if (block) tell_of_memory("freed\n");
+    if (block) say("freed\n");
     __libc_free(block);
 }
 
 static void *request(void *block, size_t bytes)
 {
     if (is_refused("REFUSE_REQUEST", &requests)) return NULL;
-    tell_of_memory(block ? "request\nfreed\n" : "request\n");
+    say(block ? "request\nfreed\n" : "request\n");
     return __libc_realloc(block, bytes);
 }
 

@@ -133,7 +133,7 @@ def sweep(words, expected):
     """Refuses each request in turn, and each start: how many there were of each, how many requests were held at most,
     and what is wrong. A request right before a start is the start's own, and no other is to come out as a refused
     worker. What was granted is to be freed; what the C library frees of a thread's is beside it."""
-    first = run(words, REFUSE_REQUEST=0)
+    first = run(words)
     notes = ' '.join(note for note in first.notes
                      if note in ('request', 'start')).replace('request start', 'start').split()
     requests, starts = [NO_WORKER if note == 'start' else NO_MEMORY for note in notes], first.met['start']

@@ -87,7 +87,7 @@ def growths(settings):
 def test_what_a_hash_takes(settings):
     """What it writes, starts, and asks for as with less memory; and that its text is verified."""
     program, least = copy_of('argon2_program'), settings._replace(memory=8 * settings.lanes)
-    came, other = (run([program, *of.words()], REFUSE_REQUEST=0) for of in (settings, least))
+    came, other = (run([program, *of.words()]) for of in (settings, least))
     verified = run([program, 'verify', settings.text()])
     assert came.end(0, settings.output()) == VALUE
     assert came.met['start'] == settings.starts()
