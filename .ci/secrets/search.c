@@ -40,9 +40,6 @@ static unsigned found[(AT_STOPS + MOST_PLACES) * MOST_PIECES];
 static uint8_t begins[1 << 16]; /* whether a piece begins with two bytes, so that few places are compared */
 static char maps[MOST_OF_MAPS];
 
-/* The end of a stack to look from. It is shared memory, of which the program has none, and so is no memory of it. */
-static uint8_t *own_stack __attribute__((used));
-
 static void look(const uint8_t *from, const uint8_t *to, size_t row)
 {
     for (; from + sizeof(piece) <= to; from++) {
@@ -68,13 +65,21 @@ static void look_everywhere(void)
     }
 }
 
-__attribute__((noreturn, used)) static void tell_and_exit(int status)
+__attribute__((noreturn)) static void tell_and_exit(int status)
 {
     look_everywhere();
     dprintf(STDERR_FILENO, "sought %u\n", plan->count);
     for (size_t at = 0; at < sizeof found / sizeof *found; at++)
         if (found[at]) dprintf(STDERR_FILENO, "%zu %zu %u\n", at / MOST_PIECES, at % MOST_PIECES, found[at]);
     _Exit(status);
+}
+
+/* The program ends: a breakpoint, so that this is looked at from the signal's stack, whose frames do not stand where
+   those of the program stood. */
+__attribute__((noreturn, naked)) void _exit(int status)
+{
+    (void)status;
+    __asm__("int3");
 }
 
 /* Looks, in the first thread, and returns as the program does in place of the breakpoint. */
@@ -85,6 +90,7 @@ static void stop(int signal, siginfo_t *information, void *context)
     size_t number = 0;
     (void)signal;
     (void)information;
+    if (words[REG_RIP] == (greg_t)_exit + 1) tell_and_exit((int)words[REG_RDI]);
     while (program + plan->stops[number] != (uint8_t *)words[REG_RIP] - 1)
         number += 1;
     if (gettid() == getpid()) {
@@ -113,6 +119,7 @@ static void change_program(void)
     close(memory);
 }
 
+/* The signal's stack is shared memory, of which the program has none, and so is no memory of it. */
 __attribute__((constructor)) static void begin(void)
 {
     const int file = open(getenv("PLAN"), O_RDONLY);
@@ -122,16 +129,7 @@ __attribute__((constructor)) static void begin(void)
         begins[(uint16_t)plan->pieces[i].low] = 1;
     program = (const uint8_t *)_r_debug.r_map->l_addr; /* (the first is the program) */
     change_program();
-    uint8_t *const lowest = mmap(NULL, STACK_SIZE, PROT_READ | PROT_WRITE, MAP_SHARED | MAP_ANONYMOUS, -1, 0);
-    own_stack = lowest + STACK_SIZE;
-    sigaltstack(&(stack_t){.ss_sp = lowest, .ss_size = STACK_SIZE}, NULL);
+    void *const stack = mmap(NULL, STACK_SIZE, PROT_READ | PROT_WRITE, MAP_SHARED | MAP_ANONYMOUS, -1, 0);
+    sigaltstack(&(stack_t){.ss_sp = stack, .ss_size = STACK_SIZE}, NULL);
     sigaction(SIGTRAP, &(struct sigaction){.sa_sigaction = stop, .sa_flags = SA_ONSTACK | SA_SIGINFO}, NULL);
-}
-
-/* Goes on over a stack of its own, since its frames would stand where those of the program stood. */
-__attribute__((noreturn, naked)) void _exit(int status)
-{
-    (void)status;
-    __asm__("mov own_stack(%rip), %rsp\n"
-            "call tell_and_exit");
 }
