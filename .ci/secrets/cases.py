@@ -11,6 +11,7 @@ from typing import NamedTuple
 
 from argon2.low_level import Type, hash_secret
 from shared import TOP, lines
+from vectors import spelled
 
 CALLS = TOP / '.ci/secrets/calls.c'
 VARIANTS, VERSIONS = ('argon2d', 'argon2i', 'argon2id'), (16, 19)
@@ -45,13 +46,13 @@ class Vector(NamedTuple):
     data: bytes = b''
     tag: bytes = b''
 
+    def text(self):
+        return spelled(VARIANTS[self.variant], self.version, self.memory, self.passes, self.lanes, self.salt.hex(),
+                       self.tag.hex()).encode()
+
     def head(self):
         """Its text up to its hash."""
-        numbers = f'v={self.version}$m={self.memory},t={self.passes},p={self.lanes}'
-        return f'${VARIANTS[self.variant]}${numbers}$'.encode() + letters(self.salt) + b'$'
-
-    def text(self):
-        return self.head() + letters(self.tag)
+        return self._replace(tag=b'').text()
 
     def blocks(self):
         return self.passes * self.memory
@@ -102,11 +103,6 @@ class Question(NamedTuple):
 def answers(said):
     """What calls.c wrote."""
     return [Answer(*parts) for parts in ANSWERED.iter_unpack(said)]
-
-
-def letters(data):
-    """Unpadded base64."""
-    return base64.b64encode(data).rstrip(b'=')
 
 
 def of_libargon2(vector, salt):
@@ -170,7 +166,7 @@ def verdicts_on_others(text_and_code):
 
 def passwords(vector):
     """A text that is written for a password alone, and a verdict on one of libargon2's."""
-    text = of_libargon2(vector, letters(vector.salt))
+    text = of_libargon2(vector, vector.text().split(b'$')[4])
     return [Question(PASSWORD_HASH, vector, open=len(vector.head())),
             Question(PASSWORD_VERIFY, vector, verified=text, open=len(text))]
 
