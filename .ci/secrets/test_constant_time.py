@@ -95,14 +95,11 @@ class Came:
         self.is_ended = ran.returncode == 0 and len(answers) == len(questions) > 0
         self.wrong = [answer[:4] for question, answer in zip(questions, answers)
                       if not question.is_right(answer, READS[cpu])]
-        self.is_right = self.is_ended and not self.wrong and self.are_expected(
-            sum(one.branches for one in questions), sum(one.references() for one in questions), READS[cpu])
-
-    def are_expected(self, branches, references, reads):
-        """Whether places are those of so many branches in all, and of so many references, each found and read by
-        addresses at so many places, at each once, and no other."""
-        return (self.places.keys() <= {BRANCH, ADDRESS} and sum(self.places[BRANCH]) == branches
-                and self.places[ADDRESS] == [references] * (reads if references else 0))
+        # (of references each is found and read by addresses at so many places, at each once)
+        references = sum(one.references() for one in questions)
+        self.is_right = (self.is_ended and not self.wrong and self.places.keys() <= {BRANCH, ADDRESS}
+                         and sum(self.places[BRANCH]) == sum(one.branches for one in questions)
+                         and self.places[ADDRESS] == [references] * (READS[cpu] if references else 0))
 
     def shown(self):
         functions = sorted(set(re.findall(r'^==\d+==    at 0x[0-9A-F]+: (\S+) ', self.log, re.M)))

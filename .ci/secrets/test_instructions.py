@@ -75,10 +75,6 @@ def unsteady(path, steady, prefix=''):
     return Counter({of: count for of, count in found.items() if not steady.fullmatch(of[1])})
 
 
-def divisions_of(division):
-    return Counter({(function, division): count for function, count in DIVIDING.items()})
-
-
 def test_no_division_is_on_a_list():
     assert not [kind for kind in NEVER_STEADY if X86.fullmatch(kind) or ARM64.fullmatch(kind)]
 
@@ -88,7 +84,7 @@ def test_instructions(tmp_path, cpu):
     """A build divides where it is named alone, and a division by a byte of a tag is seen."""
     own, divided = library(tmp_path / 'objects')[f'proved_argon2_{cpu}.o'], tmp_path / 'divided.o'
     plant_leak.main(own, 'division_by_a_byte', divided)
-    assert unsteady(own, X86) == divisions_of('div')
+    assert unsteady(own, X86) == {(function, 'div'): count for function, count in DIVIDING.items()}
     assert unsteady(divided, X86) - unsteady(own, X86) == Counter({('proved_argon2_encode', 'div'): 1})
 
 
@@ -129,7 +125,7 @@ def trace(program, call, variant, secret):
 
 def test_instructions_of_arm64(arm64):
     found, planted = (unsteady(path, ARM64, PREFIX) for path, _ in arm64)
-    assert found == divisions_of('udiv')
+    assert found == {(function, 'udiv'): count for function, count in DIVIDING.items()}
     assert ('fill_words', 'udiv') in planted
 
 
