@@ -15,8 +15,7 @@ from pathlib import Path
 from typing import NamedTuple
 
 from argon2.low_level import Type, hash_secret
-from shared import TOP
-from shared.toolchain import build_preloaded
+from shared import TOP, build_preloaded
 from toolchain import is_current
 
 PASSWORD = b'password'

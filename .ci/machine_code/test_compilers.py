@@ -10,8 +10,7 @@ import sys
 
 import pytest
 from machines import machines
-from shared import TOP, said
-from shared.toolchain import has_processor
+from shared import TOP, has_processor, said
 
 MACHINE, ARCHIVE, OTHER = machines()['x86_64'], 'libargon2_c.a', TOP / 'out/rattle'
 THEIRS = '/usr/lib/x86_64-linux-gnu/libargon2.so.1'

@@ -13,8 +13,7 @@ import time
 import pytest
 from machines import machines
 from running import VERSION
-from shared import TOP, in_namespace, refuses, run, said
-from shared.toolchain import has_processor
+from shared import TOP, has_processor, in_namespace, refuses, run, said
 from test_packages import copy_tree
 
 pytestmark = pytest.mark.timeout(5400)

@@ -26,14 +26,13 @@ import rfc9106
 from cases import CALLS
 from machines import machines
 from plant_leak import FACE, compiled, library, run
-from shared import TOP
+from shared import TOP, build_preloaded
 from shared import rows as rows_of
-from shared.toolchain import build_preloaded
 from toolchain import is_current
 
 BUILDS = machines()['x86_64'].proved
 # How long a run may take, and the numbers of search.c: bytes of a piece, and places.
-SECONDS, PIECE, PLACES = 600, 16, 1024
+SECONDS, PIECE, PIECES, PLACES = 600, 16, 512, 1024
 # The calls, jumps and returns in machine code: the place, and the function that they lead to, without its types.
 BRANCH = re.compile(r'^ +([0-9a-f]+):\t(call|jmp|ret)(?:[^<\n]*<([^+\n]*?)(?:::<[^+\n]*)?>$)?', re.M)
 # What overwrites; what computes over a memory; and what ends a call that has one of its own.
@@ -147,6 +146,7 @@ class Program:
     def planned(self, dropped=(), stops=(), sought=()):
         """The command of the program by a plan of search.c, where its stack is at the same place each time."""
         with tempfile.NamedTemporaryFile(dir=self.preloaded.parent) as plan:
+            assert len(sought) <= PIECES
             plan.write(struct.pack('<I', len(sought)))
             for places in [site.at for site in dropped], [at for _, at in stops]:
                 plan.write(struct.pack(f'<{PLACES}I', *places, *[0] * (PLACES - len(places))))

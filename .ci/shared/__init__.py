@@ -46,6 +46,27 @@ def in_namespace(script, *words):
     return ['unshare', '--mount', '--propagation', 'private', 'bash', '-euc', script, 'bash', *words]
 
 
+# ---- the machine, and libraries of our own
+
+def has_processor(build):
+    """Whether the processor runs a build of build/machines.txt for x86-64."""
+    return f'{build} (supported, searched)' in said('/lib64/ld-linux-x86-64.so.2', '--help')
+
+
+def checks_at_once(rt):
+    """As many as memory holds: one of the largest crate was seen to take four fifths of 3 GB."""
+    return max(1, min(rt.processors(), int(rt.free() / 3_000_000_000)))
+
+
+def build_preloaded(name, folder):
+    """Builds a library to be preloaded (`faults/faults`), and gives its path. What it calls is bound at once, since
+    what binds it later saves the program's registers on the stack."""
+    made = os.path.join(folder, f'{os.path.basename(name)}.so')
+    said('gcc', '-std=gnu11', '-O1', '-Wall', '-Wextra', '-Werror', '-D_GNU_SOURCE', '-shared', '-fPIC', '-nostdlib',
+         '-Wl,-z,now', '-o', made, f'.ci/{name}.c')
+    return made
+
+
 # ---- lists: lines, and rows
 
 def lines(path):
