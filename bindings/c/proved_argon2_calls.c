@@ -152,6 +152,12 @@ uint32_t proved_argon2_verify_encoded_within(STORED, const proved_argon2_limits 
     return proved_argon2_verify_encoded_with(limits == NULL ? NULL : &with, OF_STORED);
 }
 
+/* A copy goes through registers, which a callback's signal would leave on its stack if other threads took all parts. */
+static CLEARS_REGISTERS void take_job(struct call *call, const proved_argon2_job *job)
+{
+    call->job = *job;
+}
+
 /* A run of a job. */
 static uint32_t run(const options *with, const proved_argon2_job *job, const uint8_t *hash, uint8_t *tag, size_t len)
 {
@@ -160,7 +166,7 @@ static uint32_t run(const options *with, const proved_argon2_job *job, const uin
     if (code != PROVED_ARGON2_OK) {
         goto end;
     }
-    call.job = *job;
+    take_job(&call, job);
     code = proved_argon2_job_check(&call.job);
     if (code == PROVED_ARGON2_OK && len != call.job.hash_length) {
         code = PROVED_ARGON2_WRONG_LENGTH;

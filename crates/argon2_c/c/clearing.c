@@ -317,16 +317,48 @@ static int signals_behind(void *pool, uint32_t tasks, void (*task)(void *, uint3
     return 0;
 }
 
+/* A pool with a thread of its own, which is handed all tasks and counts them down: where others take all parts of the
+ * caller's thread, that holds in its registers what it held before. */
+static void (*volatile task_of_pool)(void *, uint32_t);
+static void *volatile arg_of_pool;
+static atomic_uint tasks_of_pool;
+
+static void *run_tasks(void *is_over)
+{
+    while (!atomic_load((atomic_bool *)is_over)) {
+        for (uint32_t left = atomic_load(&tasks_of_pool); left > 0; left = atomic_fetch_sub(&tasks_of_pool, 1) - 1) {
+            task_of_pool(arg_of_pool, left - 1);
+        }
+    }
+    return NULL;
+}
+
+static int runs_elsewhere(void *pool, uint32_t tasks, void (*task)(void *, uint32_t), void *arg)
+{
+    (void)pool;
+    task_of_pool = task;
+    arg_of_pool = arg;
+    atomic_store(&tasks_of_pool, tasks);
+    while (atomic_load(&tasks_of_pool) > 0) {
+    }
+    return 0;
+}
+
 static void check_signals(size_t name)
 {
-    bool good = has_handler();
-    for (size_t n = 0; n < MEMORIES * 4; n++) {
+    static proved_argon2_run *const pools[] = {NULL, signals_behind, runs_elsewhere};
+    atomic_bool is_over = false;
+    pthread_t thread;
+    bool good = has_handler() && __real_pthread_create(&thread, NULL, run_tasks, &is_over) == 0;
+    for (size_t n = 0; n < MEMORIES * 6; n++) {
         refuse_nothing();
-        struct trial trial = trial_of(name, n / 4, n % 2 == 0 ? 1 : 4);
+        struct trial trial = trial_of(name, n / 6, n % 2 == 0 ? 1 : 4);
         trial.with.tell = signals;
-        trial.with.run = n / 2 % 2 == 0 ? NULL : signals_behind;
+        trial.with.run = pools[n / 2 % 3];
         good = good && is_cleared(name, &trial);
     }
+    is_over = true;
+    good = __real_pthread_join(thread, NULL) == 0 && good;
     check_cleared(name, good, "signals have a stack of their own");
 }
 
