@@ -15,6 +15,8 @@ const BESIDES = 96 * MIB;
 /** How long workers stay, in milliseconds. */
 const LONG = 1000;
 const SOON = 50;
+/** So many passes that a call is killed long before it could end. */
+const ENDLESS = 2 ** 20;
 
 os.availableParallelism = () => WORKERS;
 
@@ -44,7 +46,8 @@ const killer = () => {
 async function hashOrDie(call) {
     const isKilled = call % 5 === 4;
     const onProgress = isKilled ? killer() : undefined;
-    const made = argon2.hash('password', { ...settingsOf(call), timeCost: 3, onProgress });
+    const timeCost = isKilled ? ENDLESS : 3;
+    const made = argon2.hash('password', { ...settingsOf(call), timeCost, onProgress });
     assert.equal(await made.then(() => 'made', (error) => error.name), isKilled ? 'WorkerRefused' : 'made');
 }
 
