@@ -10,7 +10,8 @@ PASSES, SKIPS = 'judge(one QUICK COMMAND true)\n', 'judge(two QUICK COMMAND sh -
 # What CTest is to run | what .ci/run has to end with.
 RUNS = {
     'all pass': (PASSES, '1 passed, 0 failed, 0 skipped'),
-    'one fails': (f'{PASSES}judge(two QUICK COMMAND false)', '1 passed, 1 failed, 0 skipped'),
+    'one fails': (f'{PASSES}judge(two QUICK COMMAND sh -c "echo SKIP_RETURN_CODE; echo SKIP_RETURN_CODE; exit 1")',
+                  '1 passed, 1 failed, 0 skipped'),
     'one is skipped': (PASSES + SKIPS, '1 passed, 0 failed, 1 skipped'),
     'nothing passes': (SKIPS, '0 passed, 1 failed, 1 skipped'),
     'nothing is there': ('', '0 passed, 1 failed, 0 skipped'),
@@ -20,13 +21,12 @@ RUNS = {
     'a module of pytest has no test': ('judge(test_none.py QUICK)', '0 passed, 1 failed, 0 skipped'),
     'a table of tests is empty': ('judge(test_empty.py QUICK)', '0 passed, 1 failed, 0 skipped'),
     'one of its tests is skipped': ('judge(test_lacks.py QUICK)', '1 passed, 0 failed, 0 skipped'),
-    'it lacks a program that is there': ('judge(test_lacks_sh.py QUICK)', '0 passed, 1 failed, 0 skipped'),
-    'it is skipped for another reason': ('judge(test_idle.py QUICK)', '0 passed, 1 failed, 0 skipped'),
+    'one is skipped for another reason': ('judge(test_idle.py QUICK)', '1 passed, 1 failed, 0 skipped'),
 }
 MODULES = {
     'none': '',
     **{name: f'@pytest.mark.skip(reason="{why}")\ndef test_it(): pass\ndef test_more(): pass' for name, why in (
-        ('lacks', 'there is no such_program'), ('lacks_sh', 'there is no such_program, sh'), ('idle', 'it is late'))},
+        ('lacks', 'there is no such_program'), ('idle', 'it is late'))},
     'empty': '@pytest.mark.parametrize("row", [])\ndef test_it(row): pass\ndef test_more(): pass',
 }
 
@@ -36,7 +36,7 @@ def tree(tmp_path):
     """A repository of CI alone, where nothing has to be installed or taken away."""
     (tmp_path / '.ci/gate').mkdir(parents=True)
     (tmp_path / 'build').mkdir()
-    for file in ('.ci/run', '.ci/gate/closing', 'setup.cfg'):
+    for file in ('.ci/run', 'setup.cfg'):
         shutil.copy(TOP / file, tmp_path / file)
     for file in ('build/clean', '.ci/gate/packages'):
         (tmp_path / file).write_text('#!/bin/sh\n', encoding='utf-8')
