@@ -2,6 +2,7 @@
 
 import re
 import shutil
+import time
 from pathlib import Path
 
 import pytest
@@ -59,3 +60,12 @@ def test_others(top, judged):
     assert status == 0 and good == {'sample/good': judged[1]['sample/good']}
     assert wrong == 1 and none['no_such_edit'].startswith('FAILED: ')
     assert before and files_of(top / 'crates/sample/out/incremental') == before
+
+
+def test_what_was_judged_well_is_known_until_something_changes(top, judged):
+    """Not so what was not. (The change is one of no run before.)"""
+    good, harmless = ({name: judged[1][name]} for name in ('sample/good', 'sample/harmless'))
+    source = top / 'crates/sample/src/lib.rt'
+    source.write_text(f'{source.read_text(encoding="utf-8")}\n// {time.time_ns()}\n', encoding='utf-8')
+    assert [run(top, *words, 'good') for words in (['--kept'], ['--kept'], [])] == [(0, good), (0, {}), (0, good)]
+    assert run(top, '--kept', 'harmless') == run(top, '--kept', 'harmless') == (1, harmless)

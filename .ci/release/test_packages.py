@@ -12,7 +12,7 @@ from pathlib import Path
 import pytest
 from machines import machines
 from running import CRATES_OF_DEBIAN, VERSION, first_lines, project
-from shared import TOP, in_namespace, refuses, run, said
+from shared import TOP, in_namespace, run, said
 
 PROJECT = dict(re.findall(r'^(\w+): (.+)$', (TOP / 'PROJECT').read_text(encoding='utf-8'), re.M))
 DEBS = {  # what each asks for, and the page that it has beside those of all
@@ -96,9 +96,9 @@ def test_what_is_lacking_is_named_at_once(tmp_path):
     for name in ('bash', 'env', 'sed', 'date', 'dirname', 'readlink', 'realpath'):
         (tmp_path / name).symlink_to(shutil.which(name))
     (tmp_path / 'python3').symlink_to('/usr/bin/python3')
-    refuses(1, 'package: it needs what is in the packages binutils '
-            'binutils-aarch64-linux-gnu debhelper dpkg-dev cargo npm\n',
-            'bash', './package', tmp_path / 'none', env={'PATH': str(tmp_path)})
+    came = run('bash', './package', tmp_path / 'none', env={'PATH': str(tmp_path)})
+    assert (came.returncode, came.stdout) == (1, 'package: it needs what is in the packages binutils '
+                                              'binutils-aarch64-linux-gnu debhelper dpkg-dev cargo npm\n')
 
 
 # ---- what is in them

@@ -16,12 +16,12 @@ echo "$*" >>"$RUNS"
 echo 'the stand-in says why' >&2
 [ ! -e "$RUNS.refuse" ] || exit 1
 cd "$(dirname "$0")/.." || exit
-crate=${1#*/} line=$(build/stamp "${1#*/}")
+crate=${1#*/} root=$PWD && . build/current.sh && line_of "${1#*/}"
 [ ! -e "$RUNS.change" ] || echo more >>"crates/$crate/src/file"
 mkdir -p "bindings/out/${1%/*}"
 printf '#!/bin/sh\\necho "the program: $*"\\n' >"bindings/out/$1"
 chmod +x "bindings/out/$1"
-build/stamp --mark "$crate" "$line" "bindings/out/$1" 2>/dev/null || :
+note_built "$crate" "$line" "bindings/out/$1" || :
 """
 BELOW = {line.split(":")[0]: [name for name in line.split(":")[1].split() if (TOP / "crates" / name).is_dir()]
          for line in (TOP / "crates.txt").read_text().splitlines() if re.match(r"\w+:", line)}
