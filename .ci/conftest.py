@@ -7,21 +7,18 @@ from pathlib import Path
 import pytest
 
 sys.path.insert(0, str(Path(__file__).resolve().parent))
-from shared import TOP, said  # noqa: E402
+from shared import ready  # noqa: E402
 
 
 @pytest.fixture(scope='session')
 def built():
-    """The folder that has what this machine's build/all links."""
-    said('build/all')
-    return TOP / 'bindings/out'
+    return ready()
 
 
 @pytest.fixture(scope='session')
 def needs():
     """Skips a test where a program is not there: `needs('valgrind')`."""
     def check(*programs):
-        for program in programs:
-            if not shutil.which(program):
-                pytest.skip(f'there is no {program}')
+        for program in (program for program in programs if not shutil.which(program)):
+            pytest.skip(f'there is no {program}')
     return check

@@ -61,8 +61,8 @@ list_packages() {
 
 # ---- what is built here
 
-# What a build of crates is made from, in a line: `line_of NAME..` leaves it in `line`, with the kit that is here, if
-# there is one, as `rt version` says it.
+# What a build of crates is made from: `line_of NAME..` leaves it in `line`, the hash of their sources, and the kit that
+# is here, if there is one, as `rt version` says it.
 line_of() {
     # shellcheck disable=SC2086 # they are words
     find_sources "$@" && sum_files $sources || return
@@ -76,6 +76,15 @@ line_of() {
 find_note() {
     note=$1/sources of=folder
     [ -d "$1" ] || { note=$1.sources && of=$(sha256sum <"$1"); }
+}
+
+# Notes that a file, or what a folder has, is built of the sources of a crate: `note_built CRATE LINE FILE`. Fails where
+# LINE, which was taken before the build, is another by now.
+note_built() {
+    why="$3 cannot be noted"
+    find_note "$3" && rm -f -- "$note" && line_of "$1" || return
+    why="$3: a source has changed since its build began"
+    [ "$line" = "$2" ] && printf '%s\n' "$line" "$of" >"$note.$$" && mv -f -- "$note.$$" "$note"
 }
 
 # Whether a file, or what a folder has, is what was noted beside it, and was built of these sources of a crate, and by

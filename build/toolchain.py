@@ -37,20 +37,27 @@ def locked(crate):
             os.close(descriptor)
 
 
+def shell(script, *words, check=False, **how):
+    """Runs functions of build/current.sh, which are no Python, since ./argon2 and ./install need none."""
+    begin = 'root=$1 why="" && shift && . "$root/build/current.sh" && '
+    return subprocess.run(["sh", "-uc", begin + script, "sh", os.path.dirname(HERE), *words], check=check, text=True,
+                          stdout=subprocess.PIPE, **how)
+
+
 def stamp(crate):
-    """What the sources of a crate and of those below it are, in one line: `build/stamp` says how it is made."""
-    return subprocess.check_output([f"{HERE}/stamp", crate], text=True).strip()
+    """What the sources of a crate and of those below it are, in one line (`line_of`)."""
+    return shell('line_of "$1" && echo "$line" || ! echo "$why" >&2', crate, check=True).stdout.strip()
 
 
 def mark(crate, line, file):
     """Notes of a file that it is built from these sources of a crate; gives whether these are still the same."""
-    return subprocess.call([f"{HERE}/stamp", "--mark", crate, line, file]) == 0
+    return shell('note_built "$@" || ! echo "$why" >&2', crate, line, file).returncode == 0
 
 
 def is_current(crate, *files, says_why=False):
     """Whether files of a crate's build are what they were when they were marked, and the crate's sources as well."""
-    return subprocess.call([f"{HERE}/stamp", "--check", crate, *files],
-                           stderr=None if says_why else subprocess.DEVNULL) == 0
+    script = 'crate=$1 && shift && for file; do is_built "$crate" "$file" || { echo "$why" >&2; exit 1; }; done'
+    return shell(script, crate, *files, stderr=None if says_why else subprocess.DEVNULL).returncode == 0
 
 
 def build_below(crate):

@@ -102,9 +102,9 @@ def with_hash(patterns, reason, *_):
 
 
 def write_all():
-    depends = [row(call, words) for _, call, words in rows('.ci/secrets/depends.txt')]
+    depends = [row(call, words) for _, call, words in rows(TOP / '.ci/secrets/depends.txt')]
     fill(CLAIMS, 'secrets', ['| Call | What depends on these |', '|---|---|', *depends], 'claims')
     if shutil.which('rt'):
         write_reports(Path(shutil.which('rt')).resolve().parent.parent)
     heads = [line for line in read(VERDICTS).splitlines() if line[0] == '#']
-    write(VERDICTS, '\n'.join([*heads, *(with_hash(*cells) for cells in rows(VERDICTS)), '']))
+    write(VERDICTS, '\n'.join([*heads, *(with_hash(*cells) for cells in rows(TOP / VERDICTS)), '']))

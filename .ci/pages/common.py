@@ -7,7 +7,7 @@ import textwrap
 from pathlib import Path
 
 sys.path.insert(0, str(Path(__file__).resolve().parents[1]))
-from shared import TOP, lines, run, said  # noqa: E402
+from shared import TOP, lines, rows, run, said  # noqa: E402, F401
 from parts import filled, marked  # noqa: E402
 
 os.environ['PATH'] += ':/opt/rattle/bin'
@@ -34,11 +34,6 @@ def fill(file, name, part, by):
     text, script = read(file), f'.ci/pages/{by}'
     need(marked(text, name, script), f'{file} has no part {name}, by {script}')
     write(file, filled(text, name, script, '\n'.join(part)))
-
-
-def rows(file, fields=0):
-    """The lines of a table, as what stands between ` | `: so many fields, or all."""
-    return [line.split(' | ', fields - 1) for line in lines(TOP / file)]
 
 
 def files(*patterns):

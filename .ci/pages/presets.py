@@ -1,36 +1,36 @@
 """The facts that several files have, in each place of presets.txt: presets (crates/argon2_standard/src/config.rt),
 default limits (crates/argon2/src/limits.rt), the most threads of a stored string (stored.rt beside it), errors
-(errors.txt), the fields of settings, limits and options (the header), the version (VERSION) and who publishes this
-(PROJECT)."""
+(errors.txt), the options of C (the header), the version (VERSION), who publishes this (PROJECT), the versions of the
+toolchain (build/kits.txt), and what runs the library as C (bindings/c/targets)."""
 
 import itertools
 import re
 import textwrap
 
-from common import fill, need, read, rows, write
+from common import TOP, files, fill, lines, need, read, write
 
-TABLE = '.ci/pages/presets.txt'
+TABLE = TOP / '.ci/pages/presets.txt'
 PRESET = re.compile(r"[{}] (?P<what>[^{}]*?): Argon2\w+, [^{}]*? pub fn (?P<name>\w+)\(\) -> Config<'a> "
                     r'ensures \{ IsPreset (?P<variant>\w+) (?P<m>\d+) (?P<t>\d+) result \}')
 # The preset whose promise the calls for C of the other ones share.
 WITH_PROMISE = 'owasp1'
 OPTION = re.compile(r'^    /\* [^/]* \*/\n    ((.*?)(\w+));', re.M)
-# A type of an option: its bytes, its type and a zero of it in Rust, and its type in Python.
+# A type of an option: its type and a zero of it in Rust, and its type in Python.
 TYPES = {
-    'size_t': (8, 'usize', '0', 'ctypes.c_size_t'),
-    'uint32_t': (4, 'u32', '0', 'ctypes.c_uint32'),
-    'uint64_t': (8, 'u64', '0', 'ctypes.c_uint64'),
-    'void *': (8, '*mut c_void', 'null_mut()', 'ctypes.c_void_p'),
-    'const proved_argon2_limits *': (8, '*const Limits', 'null()', 'ctypes.POINTER(NumberLimits)'),
-    'const proved_argon2_settings *': (8, '*const Settings', 'null()', 'ctypes.POINTER(Settings)'),
-    'proved_argon2_run *': (8, '*const c_void', 'null()', 'ctypes.c_void_p'),
-    'proved_argon2_tell *': (8, 'Option<extern "C" fn(*mut c_void, u64, u64) -> c_int>', 'None', '_Tell'),
+    'size_t': ('usize', '0', 'ctypes.c_size_t'),
+    'uint32_t': ('u32', '0', 'ctypes.c_uint32'),
+    'uint64_t': ('u64', '0', 'ctypes.c_uint64'),
+    'void *': ('*mut c_void', 'null_mut()', 'ctypes.c_void_p'),
+    'const proved_argon2_limits *': ('*const Limits', 'null()', 'ctypes.POINTER(NumberLimits)'),
+    'const proved_argon2_settings *': ('*const Settings', 'null()', 'ctypes.POINTER(Settings)'),
+    'proved_argon2_run *': ('*const c_void', 'null()', 'ctypes.c_void_p'),
+    'proved_argon2_tell *': ('Option<extern "C" fn(*mut c_void, u64, u64) -> c_int>', 'None', '_Tell'),
 }
 # What may stand for the value of a mark, of some by the mark; and between two words.
 VALUE, BLANK = r'\d(?:[\d_,]*\d)?(?: [KMG]iB)?', r'\s+(?:(?:///|//|#|\*|--) )?'
-OF_MARK = {'.': r'[^\d().]{1,40}', 'v': r'\d+\.\d+\.\d+', **dict.fromkeys('ngh', r'[\d_]+'),
+OF_MARK = {'.': r'[^\d().]{1,40}', 'v': r'\d+\.\d+\.\d+', **dict.fromkeys('ngh', r'[\d_]+'), 'logic': r'\w+',
            **dict.fromkeys(('memory', 'work'), r'\d+ [KMG]iB'), 'Name': '[^\n"]*?', 'Publisher': '[^\n"<]*?',
-           'Contact': r'[^\s"<]+@[\w.-]+\w', 'Address': 'https://[^\\s"`]*'}
+           'Contact': r'[^\s"<]+@[\w.-]+\w', 'Address': 'https://[^\\s"`]*', 'kits': r'rattle-kit-[\w\s`-]*\w'}
 
 
 def one_line(text):
@@ -75,22 +75,16 @@ def project():
 
 
 def options():
-    """The same by a field of the options for C, and of all of them the bytes."""
+    """The same by a field of the options for C."""
     header = read('crates/argon2_c/include/proved_argon2_threads.h')
     inside = re.search(r'struct proved_argon2_options \{\n(.*?)^\}', header, re.S | re.M)[1]
-    found, end = [], 0
-    for declared, kind, name in OPTION.findall(inside):
-        size, *types = TYPES[kind.strip()]
-        place = -(-end // size) * size
-        end = place + size
-        found.append({'name': name, 'declared': declared, 'place': str(place), 'bytes': str(size),
-                      **dict(zip(('rust', 'zero', 'python'), types))})
-    return found, [{'name': 'options', 'bytes': str(-(-end // 8) * 8)}]
+    return [{'name': name, 'declared': declared, **dict(zip(('rust', 'zero', 'python'), TYPES[kind.strip()]))}
+            for declared, kind, name in OPTION.findall(inside)]
 
 
 def errors():
     """The same by an error; <pad> stands before the comments of the header, which are below one another in a list."""
-    found = rows('.ci/pages/errors.txt', 4)
+    found = [line.split(' | ', 3) for line in lines(TOP / '.ci/pages/errors.txt')]
     snake = {name: re.sub(r'(?<!^)(?=[A-Z])', '_', name) for _, name, *_ in found}
     for number, name, message, words in found:
         wide = max(len(n + snake[other]) for n, other, *_ in found if (int(n) < 128) == (int(number) < 128))
@@ -98,29 +92,25 @@ def errors():
                'words': words, 'pad': ' ' * (wide - len(number + snake[name]) + 1)}
 
 
-def fields(name):
-    """The same by a field."""
-    inside = re.search(rf'pub struct {name} \{{\n(.*?)\n\}}', read(f'crates/argon2_c/src/{name.lower()}.rt'), re.S)[1]
-    return [{'name': field, 'type': kind} for field, kind in re.findall(r'pub (\w+): (\w+),', inside)]
-
-
 def lists():
     """Each list by the name that places call it."""
-    (original, *recommended), every, (fields_of_options, size) = presets(), [*errors()], options()
+    (original, *recommended), every = presets(), [*errors()]
     most = re.search(r'MAX_WORKERS: u32 = (\d+);', read('crates/argon2/src/stored.rt'))
+    kits = [line.split(' logic ') for line in read('build/kits.txt').splitlines()]
+    need(len({logic for _, logic in kits}) == 1, 'build/kits.txt has kits of several logics')
+    targets = re.findall('# (.*, by (?:qemu|wine))$', ''.join(map(read, files('bindings/c/targets/*'))), re.M)
     return {
         'presets': [original, *recommended],
         'recommended': recommended,
         'others': [preset for preset in recommended if preset['name'] != WITH_PROMISE],
         **{f'errors {first}-{end}': [error for error in every if first <= int(error['n']) < end]
            for first, end in itertools.combinations((0, 64, 128, 256), 2)},
-        'settings': fields('Settings'),
-        'limits': fields('Limits'),
         'default limits': [default_limits()],
         'most threads of a string': [{'name': 'most', 'n': most[1]}],
-        'options': fields_of_options,
-        'size of options': size,
+        'options': options(),
         'project': [project()],
+        'targets': [{'name': name} for name in targets],
+        'kits': [{'name': 'kits', 'kits': '` and `'.join(kit for kit, _ in kits), 'logic': kits[0][1]}],
     }
 
 
@@ -170,6 +160,6 @@ def write_place(file, what, items, mark, form):
 
 def write_all():
     known = lists()
-    for places, what, mark, form in rows(TABLE, 4):
+    for places, what, mark, form in (line.split(' | ', 3) for line in lines(TABLE)):
         for file in places.split():
             write_place(file, what, known[what], mark, form.replace('\\n', '\n'))

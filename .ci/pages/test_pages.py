@@ -5,11 +5,9 @@ import shutil
 from pathlib import Path
 
 import pytest
-from common import FIRST, PROMISES, REPORTS, TOP, Copy, files, read, rows, run
+from common import FIRST, PROMISES, REPORTS, TOP, Copy, files, read, rows
 from shared.sources import Sources, edits
 
-# A phone's pixels, and those of the smallest letter there.
-PHONE, LEAST = 400, 10.8
 BLOCK = re.compile(r'^```(rust|antt)\n(.*?)^```$', re.M | re.S)
 # Of the picture of the layers: a way in, and a layer.
 WAY = re.compile(r'<!-- (.*) -->\n<text x="(\d+)\.5" y="\d+" class="head">')
@@ -51,24 +49,9 @@ def test_the_oldest_c_library_is_the_newest_that_release_asks_for(page):
     assert {*map(int, named)} == {max(asked)}
 
 
-def test_pages_name_the_same_versions_of_the_toolchain():
-    assert run('build/kits').stdout and run('build/kits').stdout == run('build/kits', 'docs/CLAIMS.md').stdout
-
-
-def test_no_tag_while_there_are_placeholders():
-    said = run('.ci/release/tag').stdout if re.search(r'\.example(/|$)', read('PROJECT'), re.M) else None
-    assert said is None or 'PROJECT has placeholders' in said
-
-
-@pytest.mark.parametrize('picture', files('docs/*.svg'))
-def test_the_letters_of_a_picture_can_be_read_on_a_phone(picture):
-    width = int(re.search(r'viewBox="0 0 (\d+) ', read(picture))[1])
-    assert min(map(int, re.findall(r'(?:font|font-size): (\d+)px', read(picture)))) * min(1, PHONE / width) >= LEAST
-
-
 def test_each_layer_of_the_picture_is_shown():
     """Where it is proved by a call that this way makes, and where it is checked or tested by a file."""
-    picture, there = read('docs/what-is-proved.svg'), {*files(), *(path for path, *_ in rows(PROMISES))}
+    picture, there = read('docs/what-is-proved.svg'), {*files(), *(path for path, *_ in rows(TOP / PROMISES))}
     ways = {int(x) - 27: begun.split() for begun, x in WAY.findall(picture)}
     layers = [(shown.split(), re.findall(r'#(\w+)" x="(\d+)"', words)) for shown, words in LAYER.findall(picture)]
     assert len(ways) == picture.count('"head"') and len(layers) == picture.count('"own"') > 10
@@ -89,7 +72,7 @@ def test_each_mutant_fits_and_names_what_it_breaks():
 
 
 def test_each_public_call_has_a_promise_and_what_shows_it():
-    sources, lines = Sources(), [line for line in rows(PROMISES) if len(line) > 1]
+    sources, lines = Sources(), [line for line in rows(TOP / PROMISES) if len(line) > 1]
     calls = {function.path for function in sources.functions if function.path and function.crate in PROMISED}
     derived = {f'{what} for {"::".join(path)}' for at, path in sources.places.items() if at[:-1] in sources.modules
                for what in sources.modules[at[:-1]].types.get(at[-1], '').split(', ')}
@@ -104,7 +87,7 @@ def test_each_public_call_has_a_promise_and_what_shows_it():
 
 
 def test_each_open_promise_has_its_tests():
-    opened = rows('docs/promises-open.txt')
+    opened = rows(TOP / 'docs/promises-open.txt')
     assert len(opened) > 40 and not [row for row in opened if len(row) != 2 or not all(row)]
 
 

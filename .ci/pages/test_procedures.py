@@ -16,24 +16,21 @@ PRESET = '''    /// libsodium's {0} settings: Argon2id, {2} MiB, {3} passes.
 '''
 ROW = 'Config::{0}\tConfig {{ ad: [], hash_length: 32, lanes: 1, mem_cost: {1}, secret: [], thread_mode: Sequential, ' \
       'time_cost: {3}, variant: Argon2id, version: Version13 }} true\n'
-FIRST_PRESET, MIDDLE_PRESET = ('interactive', 65536, 64, 2), ('moderate', 262144, 256, 3)
+LIBSODIUM = 'interactive', 65536, 64, 2
 CONFIG, ROWS = 'crates/argon2_standard/src/config.rt', 'crates/argon2_vectors/rows.txt'
 HEADER, ERRORS = 'crates/argon2_c/include/proved_argon2', '.ci/pages/errors.txt'
 CHANGED = ('CHANGELOG.md', '\nUnreleased', '\nWhat is new.\n\nUnreleased')
 # The edits of each procedure: a file, a text of it, and what stands in its place; of a new file no text.
 PROCEDURES = {
     'a preset, before the others': [
-        (CONFIG, "    /// OWASP's first", PRESET.format(*FIRST_PRESET) + "    /// OWASP's first"),
-        (ROWS, '\nConfig::owasp1\t', f'\n{ROW.format(*FIRST_PRESET)}Config::owasp1\t'), CHANGED],
-    'a preset, between two others': [
-        (CONFIG, "    /// OWASP's third", PRESET.format(*MIDDLE_PRESET) + "    /// OWASP's third"),
-        (ROWS, '\nConfig::owasp3\t', f'\n{ROW.format(*MIDDLE_PRESET)}Config::owasp3\t'), CHANGED],
+        (CONFIG, "    /// OWASP's first", PRESET.format(*LIBSODIUM) + "    /// OWASP's first"),
+        (ROWS, '\nConfig::owasp1\t', f'\n{ROW.format(*LIBSODIUM)}Config::owasp1\t'), CHANGED],
     'an error of the calls for C': [
         (ERRORS, '\n128 |', '\n73 | NoReason | There is no reason | no call has a reason\n128 |'),
         ('crates/argon2_c/src/errors.rt', '    WrongBlocks,\n', '    WrongBlocks,\n\n    /// There is no reason.\n'
          '    NoReason,\n'), CHANGED],
     'an option of the calls for C': [
-        (f'{HEADER}_threads.h', '    void *arg;\n', '    void *arg;\n    /* the flags */\n    uint32_t flags;\n'),
+        (f'{HEADER}_threads.h', ' *today;\n', ' *today;\n    /* the flags */\n    uint32_t flags;\n'),
         (f'{HEADER}_threads.h', 'NULL, NULL}', 'NULL, NULL, 0}')],
     'a default limit': [('crates/argon2/src/limits.rt', 'mem_cost: 2_097_152', 'mem_cost: 1_048_576'),
                         ('crates/argon2/src/limits.rt', 'lanes: 16', 'lanes: 32')],

@@ -1,11 +1,9 @@
 """Whether sources are laid out, named and documented by the rules, as the tools of each language judge it."""
 
-import graphlib
 import re
 
 import pytest
 from common import TOP, files, read, run
-from shared.sources import Sources, crates
 
 LONGEST = 120
 # A language: the ends of names and the first lines that its files have, and what judges them.
@@ -17,11 +15,6 @@ LANGUAGES = {
     'C': (r'\.[ch]', '//!$^', 'clang-format --dry-run -Werror --ferror-limit=0'),
     'Rattle': (r'crates/.*/(src|specs|proofs)/.*\.(rt|antt)', '//!$^', 'rattle fmt --check'),
 }
-NO_USE = re.compile(r'//.*|^ *(?:pub|ghost) use [^;]*;|^ *(?:pub(?:\([a-z]+\))? )?mod \w+;', re.M)
-HEAD = r'(?:\b(crate|super|self)(?=::)|^ *use (?!crate|super|self)(\w+))'
-PATH = re.compile(HEAD + r'((?:::\w+)*)(?:::\{([^}]*)\})?', re.M)
-# Crates whose code nobody gets who uses the library.
-OF_TESTS = {'argon2_tests', 'argon2_layer_tests', 'argon2_vectors', 'argon2_examples'}
 # An item of the types for JavaScript, and the end of a comment above it.
 ITEM_OF_TYPES = re.compile(r'(\*/\n)?^((?:export (?!default)|declare | {4}(?:readonly )?\w+\??: (?!typeof)).*)', re.M)
 OF_CI = re.compile(r'\.ci\b(?!/pages/\w+(?: (?:\*/|-->))?$)')
@@ -38,36 +31,6 @@ def test_files_are_laid_out(language, needs):
     needs(judge.split()[0])
     came = run(*judge.split(), *own)
     assert came.returncode == 0, came.stdout
-
-
-def cycle_of(modules):
-    """The files of a cycle, each of which uses the one before it by the paths that its code names; or nothing. No use
-    are ghost imports, the declaration of a module, and names that a file passes on (`pub use`)."""
-    uses = {}
-    for module, text in modules.items():
-        heads = {'crate': (), 'super': module[:-1], 'self': module, '': module}
-        named = ((*heads[head], *re.findall(r'\w+', used + inside), *re.findall(r'\w+', name)[:1])
-                 for head, used, inside, names in PATH.findall(NO_USE.sub('', text)) for name in names.split(','))
-        uses[module] = {next(path[:cut] for cut in range(len(path), -1, -1) if path[:cut] in modules or not cut)
-                        for path in named} - {module}
-    try:
-        graphlib.TopologicalSorter(uses).prepare()
-    except graphlib.CycleError as found:
-        return found.args[1]
-    return []
-
-
-@pytest.mark.parametrize('crate', sorted({*crates()} - OF_TESTS))
-def test_no_files_of_a_crate_use_each_other(crate):
-    """A reader who follows what a file uses comes to an end."""
-    modules = {module.path[1:]: module.text for module in Sources().modules.values()
-               if module.file and not module.is_test and module.path[0] == crate}
-    assert modules and not cycle_of(modules)
-
-
-def test_a_planted_cycle_is_found():
-    assert len(cycle_of({('a',): 'use crate::b::it;', ('b',): 'fn it() { super::c::it() }',
-                         ('c',): 'use crate::{a::it};', (): 'use a::it;'})) == 4
 
 
 def test_each_item_for_javascript_has_a_comment():

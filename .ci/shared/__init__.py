@@ -27,16 +27,8 @@ def said(*words, **how):
     return done.stdout
 
 
-def refuses(status, text, *words, **how):
-    """A command has to end with a status, and to say a text."""
-    done = run(*words, **how)
-    assert done.returncode == status and text in done.stdout, (words, done.stdout[-4000:])
-
-
 def ready(*parts):
-    """The folder that has parts of what is released: release/ where it is of these sources, or what they build."""
-    if run('build/released', *parts).returncode == 0:
-        return TOP / 'release'
+    """The folder that has what build/all links: parts of what is released, or those of this machine."""
     said('build/all', *parts)
     return TOP / 'bindings/out'
 

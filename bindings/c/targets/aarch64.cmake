@@ -1,6 +1,6 @@
 # ARM64, under qemu. With AARCH64_ROOT in the environment, a folder with Debian's packages for it, programs run over that.
 set(CMAKE_SYSTEM_NAME Linux)
-set(CMAKE_SYSTEM_PROCESSOR aarch64)
+set(CMAKE_SYSTEM_PROCESSOR aarch64) # ARM64, by qemu
 set(CMAKE_C_COMPILER aarch64-linux-gnu-gcc)
 set(ROOT /usr/aarch64-linux-gnu)
 if(DEFINED ENV{AARCH64_ROOT})

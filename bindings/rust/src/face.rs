@@ -40,14 +40,12 @@ const ALL_THREADS: u32 = u32::MAX;
 #[repr(C)]
 #[derive(Default)]
 pub struct Settings {
-    // settings, by .ci/pages/presets
     pub variant: u32,
     pub version: u32,
     pub mem_cost: u32,
     pub time_cost: u32,
     pub lanes: u32,
     pub hash_length: u32,
-    // end
 }
 
 /// `proved_argon2_stored` of the header.
