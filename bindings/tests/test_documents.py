@@ -1,15 +1,14 @@
 """The lines of the pages do what they say: those with which they begin, of docs/USE.md for PHP, and docs/examples,
-under more logins at once than they have places for. Each place of the version has that of VERSION. The manual pages and
-the help have what the header, the library and the program have; a script writes their errors and limits."""
+under more logins at once than they have places for. The manual pages and the help have what the header, the library and
+the program have; a script writes their errors and limits."""
 import os
 import re
 import shutil
 
 import pytest
 from commands import COSTLY, STORED, TOOL, clock, piped, preset
-from running import CC, MACHINE, TOP, VERSION, first_lines, flags_of, needs, project, run, start
+from running import CC, MACHINE, TOP, first_lines, flags_of, needs, project, run, start
 
-MAJOR, MINOR, PATCH = map(int, VERSION.split("."))
 SERVICE, EXAMPLES = TOP / "bindings/tests/service", TOP / "docs/examples"
 # A hash of bcrypt, and one of Argon2 with other settings, are renewed at a login with the right password alone.
 PHP = """<?php
@@ -26,20 +25,6 @@ foreach ($olds as $old) {
     echo $moves ? "moves\\n" : "$old $new\\n";
 }
 """
-
-
-@pytest.mark.parametrize("file, line", [
-    ("crates/argon2_c/include/proved_argon2.h", f'#define PROVED_ARGON2_LIBRARY_VERSION "{VERSION}"'),
-    ("crates/argon2_c/include/proved_argon2.h",
-     f"#define PROVED_ARGON2_LIBRARY_VERSION_NUMBER UINT32_C({MAJOR * 1000000 + MINOR * 1000 + PATCH})"),
-    ("bindings/rust/Cargo.toml", f'version = "{VERSION}"'),
-    ("bindings/rust/password_hash/Cargo.toml", f'version = "{VERSION}"'),
-    ("bindings/rust/password_hash/Cargo.toml", f'proved-argon2 = {{ path = "..", version = "={VERSION}" }}'),
-    ("bindings/python/pyproject.toml", f'version = "{VERSION}"'),
-    ("bindings/python/src/proved_argon2/_library.py", f'SONAME = "libproved_argon2.so.{MAJOR}"'),
-])
-def test_each_place_has_the_version(file, line):
-    assert line in (TOP / file).read_text().splitlines()
 
 
 def test_the_lines_for_c_run(installed, tmp_path):
