@@ -13,32 +13,46 @@ NAMES = re.compile(r'has no field|is not in scope|has no `|was not admitted|^(?:
 # author. So the answers of a wrong body get a fault, and the body is judged by the goals that are left.
 NO_OFFERS = 'no_offers'
 FAULT = f'\n{NO_OFFERS} : NoOffers\n{NO_OFFERS} = {NO_OFFERS}\n'
+# A clause with a name; and an answer to the goal of one, or of all.
+CLAUSE = re.compile(r'\n *ensures (\w+) \{.*?\}(?=\n *(?:ensures|requires|\{))', re.S)
+ANSWER = re.compile(r'(?:^|\n\n)(?:pub )?returns(?:-\S*?)??(?:-clause-(\w+))? :(?:.|\n(?!\n))*')
 
 
 class Copy:
-    """A body under another name beside its function, and the function's proofs renamed with it."""
+    """A body under another name beside its function, and the function's proofs renamed with it. A wrong body has the
+    clauses at which it has to be refused, and one other, so that goals are named as where there are several: all take
+    minutes. Where one answer is to all of them it has all."""
 
-    def __init__(self, edit):
+    def __init__(self, edit, folder):
         self.edit, self.function, self.module = edit, edit.function, edit.function.module
         self.name = f'{self.function.name}_{"as" if edit.is_equal else "but"}_{re.sub("[^a-zA-Z0-9_]", "_", edit.name)}'
         text = '\n'.join(self.module.text.split('\n')[self.function.begin - 1:self.function.last])
         for _, old, new in edit.pairs:
             text = text.replace(old, new)
-        self.text = re.sub(rf'\bfn {self.function.name}\b', f'fn {self.name}', text, count=1)
+        text = re.sub(rf'\bfn {self.function.name}\b', f'fn {self.name}', text, count=1)
+        self.proofs = folder.joinpath('proofs', *self.function.folders, self.function.name)
+        named = {goal.partition('returns-clause-')[2] for goal in edit.goals}
+        answers = [answer for file in self.proofs.glob('Answers.antt') for answer in ANSWER.findall(file.read_text())]
+        is_whole = edit.is_equal or not named or '' in [*named, *answers]
+        self.left_out = [] if is_whole else [name for name in CLAUSE.findall(text) if name not in named][:-1]
+        self.text = CLAUSE.sub(self.if_judged, text)
+
+    def if_judged(self, found):
+        """A clause or an answer, unless the copy is not judged by it."""
+        return '' if found[1] in self.left_out else found[0]
 
     def is_called(self, place):
         """Whether the checker calls it so, or a closure in it."""
         return self.name in place.split('::')
 
-    def proofs(self, folder):
+    def texts(self):
         """The texts of its proofs by their paths in the crate, made from those of its function."""
         begin, name = self.function.folders, self.function.name
-        found = folder.joinpath('proofs', *begin, name)
         old, new = ('.'.join([rf'Rattle.{self.edit.crate}.proofs', *begin, part, '']) for part in (name, self.name))
         texts = {}
-        for path in sorted(found.rglob('*.antt')):
-            text = path.read_text(encoding='utf-8').replace(old, new)
-            texts[path.relative_to(found).as_posix()] = re.sub(rf'\b{name}_spec\b', f'{self.name}_spec', text)
+        for path in sorted(self.proofs.rglob('*.antt')):
+            text = ANSWER.sub(self.if_judged, path.read_text(encoding='utf-8')).replace(old, new)
+            texts[path.relative_to(self.proofs).as_posix()] = re.sub(rf'\b{name}_spec\b', f'{self.name}_spec', text)
         if not self.edit.is_equal and 'Proof.antt' not in texts:
             texts['Answers.antt'] = texts.get('Answers.antt', '') + FAULT
         return {'/'.join(['proofs', *begin, self.name, path]): text for path, text in texts.items()}
@@ -55,7 +69,7 @@ def can_be_copied(edit, folder):
 
 def texts_with(copies, folder):
     """The texts of a crate's files with copies in them, by their paths in the crate."""
-    texts = {path: text for copy in copies for path, text in copy.proofs(folder).items()}
+    texts = {path: text for copy in copies for path, text in copy.texts().items()}
     for copy in sorted(copies, key=lambda copy: -copy.function.last):
         path = copy.module.file.relative_to(folder).as_posix()
         lines = texts.get(path, copy.module.text).split('\n')
