@@ -1,10 +1,7 @@
-"""Attacks what test_machine_code.py judges by: of the machine code of both functions, one bit at a time is another one.
-Each change has to be found, or else to compute the same. And each forgery of forged.py has to be, which runs another
-compression than the one that tools print. What is drawn is by SEED of the environment, or else by one that is printed.
-
-For each build these are a bit of every byte of the constants, those that instructions have in them too, and bits of
-instructions drawn from each function, until `DRAWN` have become others of the same length. What a change leaves that is
-not found is compared for drawn numbers besides.
+"""Attacks what test_machine_code.py judges by: of both functions of each build a bit of every byte of the constants,
+and bits of drawn instructions until `DRAWN` are others of the same length. Each change has to be found, or else to
+compute the same, for drawn numbers too; and each forgery of forged.py has to be, which runs another compression than
+tools print. What is drawn is by SEED of the environment, or else by one that is printed.
 """
 
 import copy
@@ -28,7 +25,7 @@ FILES = 'x86_64/libproved_argon2.a', 'aarch64/libproved_argon2.a', 'wasm32/prove
 # This module has the same instructions, but for the numbers of the functions that are called.
 SAME = 'wasm32/proved_argon2_shared.wasm'
 DRAWN, UNTIL_FORGOTTEN = 300, 100
-# The instructions that have constants of the definitions in them, and of which bytes to which these are.
+# The instructions that have constants of the definitions in them, and in which bytes.
 WIDE = (re.compile('movabs .*'), 2, 10), (re.compile(r'movk\t.*|mov\tx\d+, #0x[0-9a-f]{3,}'), 0, 4), \
     (re.compile(r'i64\.const -?\d{11,}'), 1, 11)
 # Each forgery is made of a file, and is found by what is said of it.

@@ -14,7 +14,7 @@ from shared import TOP, has_processor, said
 
 MACHINE, ARCHIVE, OTHER = machines()['x86_64'], 'libargon2_c.a', TOP / 'out/rattle'
 THEIRS = '/usr/lib/x86_64-linux-gnu/libargon2.so.1'
-# Of four kinds of calls so many each, the same for both compilers.
+# Of four kinds of calls so many each.
 DRAWN, SEED = 4 * 10_000, os.environ.get('SEED') or str(random.randrange(1 << 32))
 
 
@@ -39,9 +39,9 @@ def python(request):
     return ['env', f'PROVED_ARGON2_CPU={request.param}', 'PYTHONPATH=bindings/python/src', sys.executable, '-B']
 
 
-@pytest.mark.parametrize('compiler', ['LLVM', 'the other'])
-def test_drawn_calls_are_answered_as_by_libargon2(libraries, python, compiler):
-    said(*python, 'bindings/libargon2/tests/fuzz.py', SEED, DRAWN, THEIRS, libraries[compiler] / 'libargon2.so.1')
+def test_drawn_calls_are_answered_as_by_libargon2(libraries, python):
+    said(*python, 'bindings/libargon2/tests/fuzz.py', SEED, DRAWN, THEIRS,
+         *(folder / 'libargon2.so.1' for folder in libraries.values()))
 
 
 def test_the_other_gives_the_vectors(libraries, python):

@@ -1,8 +1,7 @@
-"""What is seen of secrets from instructions alone, where memcheck does not look. First, what is proved of the library
-for C is made of instructions of a list, whose time does not depend on what they compute with, but for divisions that
-are named. Then calls take the same instructions for each secret that is tried, so that no branch depends on it, and no
-comparison stops at the first difference: those for ARM64 as qemu runs them one by one, Rattle's as many in the caller's
-thread as callgrind counts. Nothing is said of addresses. A planted branch to a division has to be seen.
+"""What is seen of secrets from instructions alone, where memcheck does not look; not of addresses. What is proved of
+the library for C is made of instructions of a list, whose time does not depend on what they compute with, but for named
+divisions. Calls take the same instructions for each secret that is tried: those for ARM64 as qemu runs them one by
+one, Rattle's as many in the caller's thread as callgrind counts. A planted branch to a division has to be seen.
 """
 
 import hashlib
