@@ -1,6 +1,6 @@
-"""Makes the packages, here and elsewhere as somebody else, and looks into each. Goes from each alone through the first
-lines of the pages (debian/tests), where neither the kit nor this repository can be seen, removes it, and looks for what
-is left. Installs in fresh systems of other years, and switches them to libargon2's place and back."""
+"""Makes the packages, here and elsewhere as somebody else, and looks into each. From each alone, without the kit and
+this repository, the first lines of the pages run (debian/tests), and once it is removed nothing is left. Fresh systems
+of other years install, and change to libargon2's place and back."""
 
 import fnmatch
 import os
@@ -90,15 +90,6 @@ def test_elsewhere_by_somebody_else_they_are_the_same_bytes(packages, there):
 def test_lintian_finds_nothing(packages, needs):
     needs('lintian')
     said('lintian', '--allow-root', '--fail-on', 'error,warning', *(packages / name for name in ASKS))
-
-
-def test_what_is_lacking_is_named_at_once(tmp_path):
-    for name in ('bash', 'env', 'sed', 'date', 'dirname', 'readlink', 'realpath'):
-        (tmp_path / name).symlink_to(shutil.which(name))
-    (tmp_path / 'python3').symlink_to('/usr/bin/python3')
-    came = run('bash', './package', tmp_path / 'none', env={'PATH': str(tmp_path)})
-    assert (came.returncode, came.stdout) == (1, 'package: it needs what is in the packages binutils '
-                                              'binutils-aarch64-linux-gnu debhelper dpkg-dev cargo npm\n')
 
 
 # ---- what is in them

@@ -1,7 +1,6 @@
-"""Compares release/ with what is built here from these sources (build/release), and verifies strings by its programs:
-the libraries, which have the same bytes as those that are built, are tested as these by other tests. In a copy of this
-repository, without the kit, hashes and installs as each processor takes it. What is changed, forged, of other sources
-or for another machine has to be refused by name, and nothing be installed."""
+"""Compares release/ with what is built here from these sources (build/release), and verifies strings by its programs.
+In a copy of this repository, without the kit, hashes and installs as each processor takes it. What is changed, forged,
+of other sources or for another machine has to be refused by name, and nothing be installed."""
 
 import hashlib
 import os

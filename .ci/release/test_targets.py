@@ -140,7 +140,7 @@ def test_libargon2_on_arm_has_its_names_and_returns_the_same(on_arm):
     libraries = ROOT / 'usr/lib/aarch64-linux-gnu/libargon2.so.1', on_arm / 'libargon2.so.1'
     assert exports(libraries[0]) == exports(libraries[1]) and len(exports(libraries[0])) == 22
     assert '[libargon2.so.1]' in said('readelf', '-dW', libraries[1])
-    said(*arm(ROOT / 'usr/bin/python3', '-B', FUZZ, SEED, 2000, *libraries))
+    said(*arm(ROOT / 'usr/bin/python3', '-B', FUZZ, SEED, 500, *libraries))
 
 
 @pytest.mark.parametrize('words', ['somesalt -e', 'somesalt -id -t 2 -k 256 -p 4 -l 24 -r'])
@@ -192,7 +192,7 @@ def passes_its_tests(target, made, folder, linker, runner, flags=''):
     of, crate = f'CARGO_TARGET_{target.upper().replace("-", "_")}', TOP / 'bindings/rust'
     how = {'PATH': f'/usr/bin:{os.environ["PATH"]}', 'RUST_BACKTRACE': '0', 'CARGO_TARGET_DIR': folder / 'target',
            f'{of}_LINKER': linker, f'{of}_RUNNER': ' '.join(map(str, runner)), f'{of}_RUSTFLAGS': flags,
-           'PROVED_ARGON2_LIB_DIR': made, 'CARGO_HOME': folder / 'cargo'}
+           'PROVED_ARGON2_LIB_DIR': made, 'CARGO_HOME': folder / 'cargo', 'CARGO_PROFILE_DEV_DEBUG': '0'}
     shown = said(*named(**how), 'cargo', 'test', '--offline', '--target', target, '--no-fail-fast', cwd=crate)
     expected = sum(len(re.findall(r'^ *#\[test\]', path.read_text(encoding='utf-8'), re.M))
                    for part in ('src', 'tests') for path in (crate / part).rglob('*.rs'))

@@ -25,14 +25,15 @@ def cargo(tmp_path_factory):
     """The variables by which cargo takes Debian's crates, and compiles into one folder."""
     home = tmp_path_factory.mktemp("cargo")
     (home / "config.toml").write_text(running.CRATES_OF_DEBIAN)
-    return {"CARGO_HOME": home, "CARGO_TARGET_DIR": home / "target"}
+    cheap = {"CARGO_INCREMENTAL": 0, "CARGO_PROFILE_DEV_DEBUG": 0}
+    return {"CARGO_HOME": home, "CARGO_TARGET_DIR": home / "target", **cheap}
 
 
 @pytest.fixture(scope="session")
 def drawn(tmp_path_factory):
-    """The variable that names a file of 2,000 hashes of libargon2, drawn anew each time."""
+    """The variable that names a file of 800 hashes of libargon2, drawn anew each time."""
     file = tmp_path_factory.mktemp("drawn") / "random.txt"
-    file.write_text(running.run("python3", "bindings/vectors/drawn.py", random.SystemRandom().getrandbits(32), 2000))
+    file.write_text(running.run("python3", "bindings/vectors/drawn.py", random.SystemRandom().getrandbits(32), 800))
     return {"RANDOM_HASHES": file}
 
 

@@ -58,11 +58,10 @@ def system(tmp_path_factory):
 
 
 @needs("debootstrap")
-@pytest.mark.parametrize("engine, names", [({}, OWN), (WEBASSEMBLY, BOTH)], ids=["the addon", "WebAssembly"])
-def test_its_own_tests_pass_in_the_node_of_debian_s_sid(site, named, system, engine, names):
-    # (the hashes that were drawn are beside the site)
+def test_its_own_tests_pass_in_the_node_of_debian_s_sid(site, named, system):
+    """(those by workers are of WebAssembly; the hashes that were drawn are beside the site)"""
     words = "unshare", "--mount", "--propagation", "private", "bash", "-euc", OTHER_NODE, "bash"
-    judge(site, {**named, **engine}, names, *words, system, site.parent, TOP)
+    judge(site, named, OWN, *words, system, site.parent, TOP)
 
 
 @needs("npm")

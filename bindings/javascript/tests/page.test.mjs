@@ -145,8 +145,8 @@ function tests(isIsolated) {
 
     pageTest('the outside hashes', () => compare(hashesOf(`${VECTORS}/raw.txt`, 240), WORKERS));
 
-    pageTest('2,000 random hashes of libargon2, by 1 to 8 workers', async () => {
-        const hashes = hashesOf(RANDOM_HASHES, 2000);
+    pageTest('800 random hashes of libargon2, by 1 to 8 workers', async () => {
+        const hashes = hashesOf(RANDOM_HASHES, 800);
         for (let threads = 1; threads <= WORKERS; threads++) {
             await compare(hashes.filter((_, i) => i % WORKERS === threads - 1), threads);
         }

@@ -10,7 +10,7 @@ import * as argon2 from 'proved-argon2';
 
 /** No byte of a secret is in the process that looks: it has them changed by this. */
 const MASK = 0x5a;
-const ROUNDS = 60;
+const ROUNDS = 24;
 /** Bytes of a secret that are enough to know it by. */
 const KNOWN_BY = 16;
 const CHUNK = 2 ** 24;

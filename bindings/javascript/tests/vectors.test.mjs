@@ -1,4 +1,4 @@
-// The outside vectors, and 2,000 random hashes beside libargon2's (both of bindings/vectors), as bytes and as strings.
+// The outside vectors, and 800 random hashes beside libargon2's (both of bindings/vectors), as bytes and as strings.
 import assert from 'node:assert/strict';
 import { randomInt } from 'node:crypto';
 import os from 'node:os';
@@ -66,8 +66,8 @@ for (const [way, running] of Object.entries(WAYS)) {
     });
 }
 
-test('2,000 random hashes of libargon2, by 1 to 8 workers, and strings of some', async () => {
-    for (const [i, one] of hashesOf(process.env.RANDOM_HASHES, 2000).entries()) {
+test('800 random hashes of libargon2, by 1 to 8 workers, and strings of some', async () => {
+    for (const [i, one] of hashesOf(process.env.RANDOM_HASHES, 800).entries()) {
         const compare = i % 10 === 0 ? compareString : compareRaw;
         await compare(one, { threads: 1 + i % WORKERS, worker: i % 20 !== 0 });
     }

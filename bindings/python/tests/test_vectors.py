@@ -37,7 +37,7 @@ def answer_of(call, *arguments, **named):
 
 
 def test_all_are_there():
-    assert (len(LINES), len(TEXTS)) == (240 if len(FILES) == 1 else 2240, 147)
+    assert (len(LINES), len(TEXTS)) == (240 if len(FILES) == 1 else 1040, 147)
 
 
 @pytest.mark.parametrize("memory", [None, Memory()], ids=["own memory", "one memory"])

@@ -18,7 +18,7 @@ fn bytes_of(field: &str) -> Vec<u8> {
 fn lines() -> Vec<String> {
     let drawn = std::env::var("RANDOM_HASHES").map(|file| std::fs::read_to_string(file).unwrap());
     let lines: Vec<_> = RAW.lines().chain(drawn.as_deref().unwrap_or("").lines()).map(str::to_owned).collect();
-    assert_eq!(lines.len(), if drawn.is_ok() { 2240 } else { 240 });
+    assert_eq!(lines.len(), if drawn.is_ok() { 1040 } else { 240 });
     lines
 }
 

@@ -13,7 +13,7 @@
 #include <time.h>
 
 enum {
-    DRAWS = 30,
+    DRAWS = 15,
     MOST_LANES = 400,
     MOST_PASSES = 8,
     MOST_TAG = 1 << 20,

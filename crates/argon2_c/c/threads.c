@@ -271,7 +271,7 @@ int main(int argc, char **argv)
         check_at_once_over_pools();
         return finish(2);
     }
-    check_tags(1000, 100);
+    check_tags(400, 100);
     check_at_once();
     check_at_once_over_pools();
     check_options();
