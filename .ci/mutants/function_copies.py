@@ -12,30 +12,33 @@ NAMES = re.compile(r'has no field|is not in scope|has no `|was not admitted|^(?:
 # For a function with an open goal and no fault in its answers the checker searches once more, for proofs to offer to an
 # author. So the answers of a wrong body get a fault, and the body is judged by the goals that are left.
 NO_OFFERS = 'no_offers'
-FAULT = f'\n{NO_OFFERS} : NoOffers\n{NO_OFFERS} = {NO_OFFERS}\n'
+FAULT = f'\n\n{NO_OFFERS} : NoOffers\n{NO_OFFERS} = {NO_OFFERS}\n'
 # A clause with a name; and an answer to the goal of one, or of all.
 CLAUSE = re.compile(r'\n *ensures (\w+) \{.*?\}(?=\n *(?:ensures|requires|\{))', re.S)
-ANSWER = re.compile(r'(?:^|\n\n)(?:pub )?returns(?:-\S*?)??(?:-clause-(\w+))? :(?:.|\n(?!\n))*')
+ANSWER = re.compile(r'^(?:pub )?returns(?:-\S*?)??(?:-clause-(\w+))? :(?:.|\n(?!\n))*', re.M)
 
 
 class Copy:
     """A body under another name beside its function, and the function's proofs renamed with it. A wrong body has the
     clauses at which it has to be refused, and one other, so that goals are named as where there are several: all take
-    minutes. Where one answer is to all of them it has all."""
+    minutes. Where one answer is to all of them it has all. Its function's `own` body has to be proved with the same."""
 
-    def __init__(self, edit, folder):
+    def __init__(self, edit, folder, own=False):
         self.edit, self.function, self.module = edit, edit.function, edit.function.module
-        self.name = f'{self.function.name}_{"as" if edit.is_equal else "but"}_{re.sub("[^a-zA-Z0-9_]", "_", edit.name)}'
+        kind, self.is_right = 'own' if own else 'as' if edit.is_equal else 'but', own or edit.is_equal
+        self.name = f'{self.function.name}_{kind}_{re.sub("[^a-zA-Z0-9_]", "_", edit.name)}'
         text = '\n'.join(self.module.text.split('\n')[self.function.begin - 1:self.function.last])
-        for _, old, new in edit.pairs:
+        for _, old, new in edit.pairs * (not own):
             text = text.replace(old, new)
         text = re.sub(rf'\bfn {self.function.name}\b', f'fn {self.name}', text, count=1)
-        self.proofs = folder.joinpath('proofs', *self.function.folders, self.function.name)
+        proofs = folder.joinpath('proofs', *self.function.folders, self.function.name)
+        self.proofs = {path.relative_to(proofs).as_posix(): path.read_text(encoding='utf-8')
+                       for path in sorted(proofs.rglob('*.antt'))}
         named = {goal.partition('returns-clause-')[2] for goal in edit.goals}
-        answers = [answer for file in self.proofs.glob('Answers.antt') for answer in ANSWER.findall(file.read_text())]
-        is_whole = edit.is_equal or not named or '' in [*named, *answers]
-        self.left_out = [] if is_whole else [name for name in CLAUSE.findall(text) if name not in named][:-1]
-        self.text = CLAUSE.sub(self.if_judged, text)
+        is_whole = edit.is_equal or not named or '' in [*named, *ANSWER.findall(self.proofs.get('Answers.antt', ''))]
+        head, *body = text.partition('\n' + re.match(' *', text)[0] + '{\n')
+        self.left_out = [] if is_whole else [name for name in CLAUSE.findall(head + '\n{') if name not in named][:-1]
+        self.text = CLAUSE.sub(self.if_judged, head + '\n{')[:-2] + ''.join(body)
 
     def if_judged(self, found):
         """A clause or an answer, unless the copy is not judged by it."""
@@ -50,10 +53,10 @@ class Copy:
         begin, name = self.function.folders, self.function.name
         old, new = ('.'.join([rf'Rattle.{self.edit.crate}.proofs', *begin, part, '']) for part in (name, self.name))
         texts = {}
-        for path in sorted(self.proofs.rglob('*.antt')):
-            text = ANSWER.sub(self.if_judged, path.read_text(encoding='utf-8')).replace(old, new)
-            texts[path.relative_to(self.proofs).as_posix()] = re.sub(rf'\b{name}_spec\b', f'{self.name}_spec', text)
-        if not self.edit.is_equal and 'Proof.antt' not in texts:
+        for path, text in self.proofs.items():
+            text = ANSWER.sub(self.if_judged, text) if path == 'Answers.antt' else text
+            texts[path] = re.sub(rf'\b{name}_spec\b', f'{self.name}_spec', text.replace(old, new))
+        if not self.is_right and 'Proof.antt' not in texts:
             texts['Answers.antt'] = texts.get('Answers.antt', '') + FAULT
         return {'/'.join(['proofs', *begin, self.name, path]): text for path, text in texts.items()}
 
