@@ -72,7 +72,8 @@ const KINDS = {
     '.. and so do calls at the same time, by all workers': [CALLS / 10, LONG, WORKERS, hashTogether],
     '.. and where workers end between calls': [CALLS / 10, 1, WORKERS, hashAndRest],
     '.. and where workers die in a call': [CALLS / 5, LONG, WORKERS, hashOrDie],
-    'threads of the addon leave no memory': [10 * CALLS, LONG, 0, hashWith({ native: true, memoryCost: 1024 })],
+    'threads of the addon leave no memory': [CALLS, LONG, 0, hashWith({ native: true })],
+    '.. and ten times as many do not': [10 * CALLS, LONG, 0, hashWith({ native: true, memoryCost: 1024 })],
     'calls in place take one memory, however many wait': [40, LONG, 1, hashInTurn],
 };
 
