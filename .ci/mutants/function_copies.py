@@ -12,51 +12,34 @@ NAMES = re.compile(r'has no field|is not in scope|has no `|was not admitted|^(?:
 # For a function with an open goal and no fault in its answers the checker searches once more, for proofs to offer to an
 # author. So the answers of a wrong body get a fault, and the body is judged by the goals that are left.
 NO_OFFERS = 'no_offers'
-FAULT = f'\n\n{NO_OFFERS} : NoOffers\n{NO_OFFERS} = {NO_OFFERS}\n'
-# A clause with a name; and an answer to the goal of one, or of all.
-CLAUSE = re.compile(r'\n *ensures (\w+) \{.*?\}(?=\n *(?:ensures|requires|\{))', re.S)
-ANSWER = re.compile(r'^(?:pub )?returns(?:-\S*?)??(?:-clause-(\w+))? :(?:.|\n(?!\n))*', re.M)
+FAULT = f'\n{NO_OFFERS} : NoOffers\n{NO_OFFERS} = {NO_OFFERS}\n'
 
 
 class Copy:
-    """A body under another name beside its function, and the function's proofs renamed with it. A wrong body has the
-    clauses at which it has to be refused, and one other, so that goals are named as where there are several: all take
-    minutes. Where one answer is to all of them it has all. Its function's `own` body has to be proved with the same."""
+    """A body under another name beside its function, and the function's proofs renamed with it."""
 
-    def __init__(self, edit, folder, own=False):
+    def __init__(self, edit):
         self.edit, self.function, self.module = edit, edit.function, edit.function.module
-        kind, self.is_right = 'own' if own else 'as' if edit.is_equal else 'but', own or edit.is_equal
-        self.name = f'{self.function.name}_{kind}_{re.sub("[^a-zA-Z0-9_]", "_", edit.name)}'
+        self.name = f'{self.function.name}_{"as" if edit.is_equal else "but"}_{re.sub("[^a-zA-Z0-9_]", "_", edit.name)}'
         text = '\n'.join(self.module.text.split('\n')[self.function.begin - 1:self.function.last])
-        for _, old, new in edit.pairs * (not own):
+        for _, old, new in edit.pairs:
             text = text.replace(old, new)
-        text = re.sub(rf'\bfn {self.function.name}\b', f'fn {self.name}', text, count=1)
-        proofs = folder.joinpath('proofs', *self.function.folders, self.function.name)
-        self.proofs = {path.relative_to(proofs).as_posix(): path.read_text(encoding='utf-8')
-                       for path in sorted(proofs.rglob('*.antt'))}
-        named = {goal.partition('returns-clause-')[2] for goal in edit.goals}
-        is_whole = edit.is_equal or not named or '' in [*named, *ANSWER.findall(self.proofs.get('Answers.antt', ''))]
-        head, *body = text.partition('\n' + re.match(' *', text)[0] + '{\n')
-        self.left_out = [] if is_whole else [name for name in CLAUSE.findall(head + '\n{') if name not in named][:-1]
-        self.text = CLAUSE.sub(self.if_judged, head + '\n{')[:-2] + ''.join(body)
-
-    def if_judged(self, found):
-        """A clause or an answer, unless the copy is not judged by it."""
-        return '' if found[1] in self.left_out else found[0]
+        self.text = re.sub(rf'\bfn {self.function.name}\b', f'fn {self.name}', text, count=1)
 
     def is_called(self, place):
         """Whether the checker calls it so, or a closure in it."""
         return self.name in place.split('::')
 
-    def texts(self):
+    def proofs(self, folder):
         """The texts of its proofs by their paths in the crate, made from those of its function."""
         begin, name = self.function.folders, self.function.name
+        found = folder.joinpath('proofs', *begin, name)
         old, new = ('.'.join([rf'Rattle.{self.edit.crate}.proofs', *begin, part, '']) for part in (name, self.name))
         texts = {}
-        for path, text in self.proofs.items():
-            text = ANSWER.sub(self.if_judged, text) if path == 'Answers.antt' else text
-            texts[path] = re.sub(rf'\b{name}_spec\b', f'{self.name}_spec', text.replace(old, new))
-        if not self.is_right and 'Proof.antt' not in texts:
+        for path in sorted(found.rglob('*.antt')):
+            text = path.read_text(encoding='utf-8').replace(old, new)
+            texts[path.relative_to(found).as_posix()] = re.sub(rf'\b{name}_spec\b', f'{self.name}_spec', text)
+        if not self.edit.is_equal and 'Proof.antt' not in texts:
             texts['Answers.antt'] = texts.get('Answers.antt', '') + FAULT
         return {'/'.join(['proofs', *begin, self.name, path]): text for path, text in texts.items()}
 
@@ -72,7 +55,7 @@ def can_be_copied(edit, folder):
 
 def texts_with(copies, folder):
     """The texts of a crate's files with copies in them, by their paths in the crate."""
-    texts = {path: text for copy in copies for path, text in copy.texts().items()}
+    texts = {path: text for copy in copies for path, text in copy.proofs(folder).items()}
     for copy in sorted(copies, key=lambda copy: -copy.function.last):
         path = copy.module.file.relative_to(folder).as_posix()
         lines = texts.get(path, copy.module.text).split('\n')
