@@ -1,8 +1,8 @@
 """Has `.ci/mutants/edits` judge edits of each kind, right and wrong, in small crates (tests.txt)."""
 
+import os
 import re
 import shutil
-import time
 from pathlib import Path
 
 import pytest
@@ -16,7 +16,7 @@ FILES = re.findall(r'^=== (\S+)\n(.*?)(?=^===|\Z)', TESTS.read_text(encoding='ut
 
 
 def run(top, *words):
-    ran = shared.run(top / '.ci/mutants/edits', *words)
+    ran = shared.run(top / '.ci/mutants/edits', *words, env={**os.environ, 'XDG_CACHE_HOME': f'{top}/cache'})
     return ran.returncode, dict(re.findall(r'^(\S+): (.*)$', ran.stdout, re.M))
 
 
@@ -63,9 +63,10 @@ def test_others(top, judged):
 
 
 def test_what_was_judged_well_is_known_until_something_changes(top, judged):
-    """Not so what was not. (The change is one of no run before.)"""
+    """Not so what was not."""
     good, harmless = ({name: judged[1][name]} for name in ('sample/good', 'sample/harmless'))
-    source = top / 'crates/sample/src/lib.rt'
-    source.write_text(f'{source.read_text(encoding="utf-8")}\n// {time.time_ns()}\n', encoding='utf-8')
     assert [run(top, *words, 'good') for words in (['--kept'], ['--kept'], [])] == [(0, good), (0, {}), (0, good)]
     assert run(top, '--kept', 'harmless') == run(top, '--kept', 'harmless') == (1, harmless)
+    with (top / 'crates/sample/src/lib.rt').open('a', encoding='utf-8') as source:
+        source.write('\n// another line\n')
+    assert run(top, '--kept', 'good') == (0, good)
