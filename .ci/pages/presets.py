@@ -102,6 +102,7 @@ def lists():
     return {
         'presets': [original, *recommended],
         'recommended': recommended,
+        'default preset': [preset for preset in recommended if preset['name'] == 'owasp2'],
         'others': [preset for preset in recommended if preset['name'] != WITH_PROMISE],
         **{f'errors {first}-{end}': [error for error in every if first <= int(error['n']) < end]
            for first, end in itertools.combinations((0, 64, 128, 256), 2)},

@@ -60,6 +60,8 @@ def test_each_layer_of_the_picture_is_shown():
         calls, said = [path for path in shown if '::' in path], {word for word, _ in words}
         assert there.issuperset(shown) and all(f'<g id="{word}">' in picture for word in said)
         assert bool(calls) == ('proved' in said) and (calls != shown or said.isdisjoint({'checked', 'tested'}))
+        assert 'checked' not in said or '.ci/machine_code/test_machine_code.py' in shown
+        assert (said == {'trusted'}) == (shown == ['docs/CLAIMS.md'])
         assert all(any(call.startswith((*ways[int(x)], 'argon2::parts::')) for call in calls)
                    for word, x in words if word == 'proved')
 
@@ -96,6 +98,8 @@ def test_callers_are_told_to_clear_what_the_proved_calls_write():
     written = {*re.findall(r'(?<!const )(?:proved_argon2_\w+|uint8_t) \*(job|blocks|tag)\b', jobs)}
     stated, = re.findall(r'^\| C, the proved calls made directly \|.* \| (.*) \|$', read('SECURITY.md'), re.M)
     assert len(written) == 3 and all(word in stated for word in ('also', *written))
+    told = re.findall(r'^\| (?:C|Rattle|JavaScript)\b.* \| (.*) \|$', read('SECURITY.md'), re.M)
+    assert len(told) == 4 and all(re.match('also |(?:the|a) password', cell) for cell in told)
 
 
 def test_the_table_for_c_has_each_call_and_the_definitions_that_its_clause_names():

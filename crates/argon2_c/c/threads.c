@@ -224,11 +224,15 @@ static void check_options(void)
     check_refused(&with, PROVED_ARGON2_WRONG_LENGTH, "options of no size");
     with.size = SIZE_MAX;
     check_refused(&with, PROVED_ARGON2_WRONG_LENGTH, "options of any size");
-    struct {
+    struct longer {
         proved_argon2_options known;
         uint64_t later;
-    } longer = {by(4), 1};
-    longer.known.size = sizeof longer;
+        uint8_t zeros[4096];
+    } longer = {by(4), 0, {0}};
+    longer.known.size = 4097;
+    check_refused(&longer.known, PROVED_ARGON2_WRONG_LENGTH, "options that are longer than any, of zeros");
+    longer.later = 1;
+    longer.known.size = offsetof(struct longer, zeros);
     check_refused(&longer.known, PROVED_ARGON2_WRONG_LENGTH, "options of a later version");
     longer.later = 0;
     check_code(hash_raw(&longer.known, &sample, tag), PROVED_ARGON2_OK, "options of a later version with nothing more");
@@ -276,5 +280,5 @@ int main(int argc, char **argv)
     check_at_once_over_pools();
     check_options();
     check_limits();
-    return finish(27);
+    return finish(29);
 }

@@ -41,8 +41,9 @@ typedef int proved_argon2_tell(void *arg, uint64_t done, uint64_t all);
 
 /* How a call computes. A field that is left out of an initializer is 0, and then the call chooses. */
 typedef struct proved_argon2_options {
-    /* sizeof(proved_argon2_options), set by PROVED_ARGON2_OPTIONS. Longer options, of a later version, are taken if
-     * what they have more is zero. Otherwise, and for a size of 0, the call returns PROVED_ARGON2_WRONG_LENGTH. */
+    /* sizeof(proved_argon2_options), set by PROVED_ARGON2_OPTIONS. Longer options, of a later version and of up to 4096
+     * bytes, are taken if what they have more is zero. Otherwise, and for a size of 0, the call returns
+     * PROVED_ARGON2_WRONG_LENGTH. */
     size_t size;
     /* the maximum number of threads, or of tasks of run, capped at the number of lanes, and at
      * PROVED_ARGON2_MAX_VERIFYING_THREADS when verifying an encoded hash. 0 is 1. Without run, one is the calling
