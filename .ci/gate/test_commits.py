@@ -8,9 +8,11 @@ import pytest
 from shared import run
 
 BEGUN, OPEN = '9eef5786', 'docs/promises-open.txt'
-# A line that makes a check, in what a commit takes away or adds: of pytest, of C, of Node, or of CTest.
-CHECK = r'^{} *(?:(?:async )?def test_|assert\b|check\w*\(|test\(|judge\w*\(|in_c\(|test_of\w*\(|planted\()'
-PLACES = '.ci', 'bindings', 'crates/argon2_c'
+# A line that makes a check, in what a commit takes away or adds: of pytest, of C, of Node, of CTest, or of Rattle: a
+# test, a mutant, or a row, which has a tab.
+CHECK = r'^{} *(?:(?:async )?def test_|assert\b|check\w*\(|test\(|judge\w*\(|in_c\(|test_of\w*\(|planted\(' \
+        r'|#\[test\]|refused \w+$|\S.*\t)'
+PLACES = '.ci', 'bindings', 'crates'
 # A verb that is an imperative, in a short subject; and words that only look like other forms of one.
 SUBJECT = re.compile(r'(?=.{1,72}$)(?:(?:fix|features?|figures?):? )?'
                      r'(?!(?!(?:bring|embed|need|feed|focus)\b)\w+(?:ing|ed|[^s]s) )\S+ \S', re.I)

@@ -67,6 +67,7 @@ def test_what_was_judged_well_is_known_until_something_changes(top, judged):
     good, harmless = ({name: judged[1][name]} for name in ('sample/good', 'sample/harmless'))
     assert [run(top, *words, 'good') for words in (['--kept'], ['--kept'], [])] == [(0, good), (0, {}), (0, good)]
     assert run(top, '--kept', 'harmless') == run(top, '--kept', 'harmless') == (1, harmless)
-    with (top / 'crates/sample/src/lib.rt').open('a', encoding='utf-8') as source:
-        source.write('\n// another line\n')
-    assert run(top, '--kept', 'good') == (0, good)
+    for file, sign in (('crates/sample/src/lib.rt', '//'), ('.ci/mutants/edits', '#')):
+        with (top / file).open('a', encoding='utf-8') as changed:
+            changed.write(f'\n{sign} another line\n')
+        assert [run(top, '--kept', 'good') for _ in range(2)] == [(0, good), (0, {})]
