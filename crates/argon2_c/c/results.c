@@ -346,7 +346,8 @@ static uint32_t within(uint32_t mem_cost, uint32_t time_cost, uint32_t lanes)
 
 static void check_limits(void)
 {
-    const char *const passes = "$argon2i$v=19$m=0,t=1,p=0$$";
+    const char *const passes = "$argon2i$v=19$m=0,t=1,p=0$$", *const lanes = "$argon2i$v=19$m=0,t=0,p=4294967295$$";
+    const proved_argon2_limits many = {0, 0, 4294967294, 0};
     const proved_argon2_limits none = {0, 0, 0, 0}, one_pass = {0, 1, 0, 0}, limits = proved_argon2_default_limits();
     const size_t len = strlen(text_of_rfc);
     uint32_t code = proved_argon2_verify_encoded_within(text_of_rfc, len, pwd, 32, secret, 8, ad, 12, &limits);
@@ -358,6 +359,8 @@ static void check_limits(void)
     check_code(within(4294967295, 0, 6), PROVED_ARGON2_TIME_TOO_SMALL, "numbers at their limits");
     check_code(within(4294967294, 4294967295, 4294967295), PROVED_ARGON2_TOO_COSTLY, "memory above its limit");
     check_code(within(4294967295, 4294967295, 5), PROVED_ARGON2_TOO_COSTLY, "lanes above their limit");
+    code = proved_argon2_verify_encoded_within(lanes, strlen(lanes), NULL, 0, NULL, 0, NULL, 0, &many);
+    check_code(code, PROVED_ARGON2_TOO_COSTLY, "very many lanes above their limit");
     code = proved_argon2_verify_encoded_within(passes, strlen(passes), NULL, 0, NULL, 0, NULL, 0, &none);
     check_code(code, PROVED_ARGON2_TOO_COSTLY, "passes above their limit");
     code = proved_argon2_verify_encoded_within(passes, strlen(passes), NULL, 0, NULL, 0, NULL, 0, &one_pass);
@@ -491,5 +494,5 @@ int main(void)
     check_null_buffers();
     check_buffers();
     check(proved_argon2_library_version() == 1000000, "the version of the library");
-    return finish(123);
+    return finish(124);
 }

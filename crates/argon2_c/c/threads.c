@@ -33,7 +33,9 @@ static bool agrees(const struct call *call, uint32_t threads, uint32_t kind)
     bool same = peer(call, expected) && hash_raw(&with, call, tag) == PROVED_ARGON2_OK
         && memcmp(tag, expected, len) == 0;
     same = same && verify_raw(&with, call, expected) == PROVED_ARGON2_OK;
-    expected[below((uint32_t)len)] ^= (uint8_t)(1 << below(8));
+    expected[kind < 2 ? len - 1 : below((uint32_t)len)] ^= (uint8_t)(1 << below(8));
+    same = same && verify_raw(&with, call, expected) == PROVED_ARGON2_MISMATCH;
+    with.tell = goes_on;
     same = same && verify_raw(&with, call, expected) == PROVED_ARGON2_MISMATCH;
     same = same && hash_encoded(&with, call, text, sizeof text) == PROVED_ARGON2_OK;
     same = same && verify_encoded(&with, call, text) == PROVED_ARGON2_OK;
