@@ -13,10 +13,10 @@ from proved_argon2 import PasswordHasher, Type
 from proved_argon2.low_level import Memory, hash_secret, hash_secret_raw, verify_secret
 
 # A hash that takes more than a minute, in slices of a millisecond.
-LONG = {"time_cost": 20000, "memory_cost": 8192}
+LONG = {"time_cost": 200000, "memory_cost": 8192}
 # So many seconds may a call take to stop on a machine with other work.
 PATIENCE = 20
-TEXT = "$argon2id$v=19$m=8192,t=20000,p=2$c29tZXNhbHQ$AAAAAAAAAAAAAAAAAAAAAA"
+TEXT = "$argon2id$v=19$m=8192,t=200000,p=2$c29tZXNhbHQ$AAAAAAAAAAAAAAAAAAAAAA"
 PROGRAM = f"""
 import threading, time
 from proved_argon2 import PasswordHasher

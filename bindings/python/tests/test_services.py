@@ -27,7 +27,8 @@ from proved_argon2.exceptions import (
 
 SMALL = {"time_cost": 1, "memory_cost": 64, "parallelism": 2}
 OTHER = {"time_cost": 2, "memory_cost": 64, "parallelism": 2}
-LONG = {"time_cost": 50, "memory_cost": 65536, "parallelism": 1, "limits": None}
+# A hash that takes more than a minute.
+LONG = {"time_cost": 200000, "memory_cost": 8192, "parallelism": 1, "limits": None}
 HASHER = PasswordHasher(**SMALL)
 OWN, OLD = HASHER.hash("password"), PasswordHasher(**OTHER).hash("password")
 TUNINGS = (Path(__file__).resolve().parents[2] / "tests/tunings.txt").read_text().splitlines()
@@ -135,10 +136,7 @@ def test_a_cancelled_call_leaves_its_place():
         assert HASHER.verify(await hasher.hash("password"), "password")
         return time.monotonic() - begun
 
-    began = time.monotonic()
-    PasswordHasher(**LONG).hash("password")
-    alone = time.monotonic() - began
-    assert asyncio.run(run()) < alone / 2 + 0.2
+    assert asyncio.run(run()) < 20
 
 
 @pytest.mark.parametrize("cost, lanes, most", [
