@@ -29,7 +29,8 @@ directory = "/usr/share/cargo/registry"
 # call returns.
 HEADER = {name: int(number, 0) for name, number in re.findall(
     r"^ *PROVED_ARGON2_(\w+) = (\w+)", (TOP / "crates/argon2_c/include/proved_argon2.h").read_text(), re.M)}
-NUMBERS = [*range(23), 63, *range(64, 76), *range(127, 132), 255, 256, 999, 0x7FFFFFFF, 0x80000000, 0xFFFFFFFF]
+NUMBERS = sorted({*range(23), 255, 256, 999, 0x7FFFFFFF, 0x80000000, 0xFFFFFFFF,
+                  *(at for number in HEADER.values() if number > 22 for at in range(number - 1, number + 2))})
 
 
 class Codes:

@@ -285,15 +285,18 @@ def listed(kind, names):
 
 
 def surface_in(folder):
-    """The public items of each kind, and the parts that each item has: newer versions of rustdoc show those of an alias
-    too."""
-    items, parts = {}, {}
+    """The public items of each kind, and the parts that each item has, but presets: newer versions of rustdoc show
+    those of an alias too."""
+    items, parts = {}, {"Config, method": set()}
     for kind, name in ITEM.findall((folder / "all.html").read_text()):
         items.setdefault(kind, []).append(name)
         page = (folder / f"{kind}.{name}.html").read_text() if kind != "type" else ""
         for part, of_part, marks in PART.findall(page):
             if "trait-impl" not in marks:
                 parts.setdefault(f"{name}, {part}", set()).add(of_part)
+    presets = re.findall(r"pub fn (\w+)\(\) -> Config", (TOP / "crates/argon2_standard/src/config.rt").read_text())
+    assert parts["Config, method"].issuperset(presets)
+    parts["Config, method"].difference_update(presets)
     return [listed(kind, sorted(names)) for kind, names in [*items.items(), *sorted(parts.items())]]
 
 
