@@ -141,10 +141,11 @@ def test_a_planted_branch_is_seen(arm64):
 # ---- Rattle's calls
 
 def taken_by(function, line):
-    """How many instructions the program takes in a function for a line, and what it answers."""
+    """How many instructions the program takes in a function for a line, and what it answers. (The environment, of which
+    pytest changes a variable meanwhile, moves the stack, and what a copy takes depends on its place.)"""
     ran = subprocess.run(
         ['valgrind', '--tool=callgrind', '--callgrind-out-file=/dev/null', f'--toggle-collect={function}', PROGRAM],
-        input=f'{line}\n', capture_output=True, text=True, check=True, timeout=SECONDS)
+        input=f'{line}\n', capture_output=True, text=True, check=True, timeout=SECONDS, env={})
     return int(re.search(r'Collected : (\d+)$', ran.stderr, re.M)[1]), ran.stdout.rstrip('\n')
 
 
