@@ -33,7 +33,7 @@ TWO, ONE = Hash('argon2d', 19, 2, 256, 2, 32, salt=b'somesalt'), Hash('argon2i',
 NO_WORD = Hash('argon2id', 19, 1, 8, 1, 16, 0, bytes(range(240, 256)))
 HASH, STORED, NEW = TWO.words(), ONE.text(), ['new', *TWO.settings(), '736f6D6573616c74']
 VERIFY, CHECK, REHASH = ['verify', STORED], ['check', STORED], ['rehash', *ONE.settings()[:-1], STORED]
-COSTLY = [['check', '$argon2id$v=19$m=8,t=11,p=1$$c29tZWhhc2g'], ['new', *'argon2id 19 11 8 1 32 seq'.split(), '']]
+COSTLY = [['check', '$argon2id$v=19$m=8,t=1000,p=1$$c29tZWhhc2g'], ['new', *'argon2id 19 1000 8 1 32 seq'.split(), '']]
 
 
 def ends():
@@ -43,7 +43,7 @@ def ends():
     yield (0, TWO.output(), ''), [HASH, NEW]
     yield (0, NO_WORD.output(), ''), [['new', *NO_WORD.settings(), NO_WORD.salt.hex()]]
     yield TRUE, [VERIFY, CHECK, [*REHASH[:3], '3', *REHASH[4:]]]
-    yield FALSE, [REHASH, ['verify', '$argon2id$v=19$m=8,t=11,p=1$c29tZXNhbHQ$c29tZWhhc2g']]
+    yield FALSE, [REHASH, ['verify', '$argon2id$v=19$m=8,t=1000,p=1$c29tZXNhbHQ$c29tZWhhc2g']]
     yield FALSE, [VERIFY, CHECK], {'input_bytes': b'password\n'}
     yield from ((FALSE, [VERIFY], {'input_bytes': input_bytes}) for input_bytes in (b'', b'\xff\0' * (1 << 20)))
     yield NO_TEXT, [[*words, text] for words in (['verify'], REHASH[:-1], ['check']) for text in ('', '$' * 100000)]

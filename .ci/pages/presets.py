@@ -1,7 +1,7 @@
 """The facts that several files have, in each place of presets.txt: presets (crates/argon2_standard/src/config.rt),
 default limits (crates/argon2/src/limits.rt), the most threads of a stored string (stored.rt beside it), errors
-(errors.txt), the options of C (the header), the version (VERSION), who publishes this (PROJECT), the versions of the
-toolchain (build/kits.txt), and what runs the library as C (bindings/c/targets)."""
+(.ci/pages/errors.txt), the options of C (the header), the version (VERSION), who
+publishes this (PROJECT), the kits (build/kits.txt), and what runs the library as C (bindings/c/targets)."""
 
 import itertools
 import re
@@ -12,8 +12,6 @@ from common import TOP, files, fill, lines, need, read, write
 TABLE = TOP / '.ci/pages/presets.txt'
 PRESET = re.compile(r"[{}] (?P<what>[^{}]*?): Argon2\w+, [^{}]*? pub fn (?P<name>\w+)\(\) -> Config<'a> "
                     r'ensures \{ IsPreset (?P<variant>\w+) (?P<m>\d+) (?P<t>\d+) result \}')
-# The preset whose promise the calls for C of the other ones share.
-WITH_PROMISE = 'owasp1'
 OPTION = re.compile(r'^    /\* [^/]* \*/\n    ((.*?)(\w+));', re.M)
 # A type of an option: its type and a zero of it in Rust, and its type in Python.
 TYPES = {
@@ -55,12 +53,16 @@ def memory_of(kib):
 
 
 def default_limits():
-    """The same by the default limits."""
+    """The same by the default limits, <q> the most passes with all memory and <k> the most memory with all passes. A
+    capital letter is one more."""
     text = read('crates/argon2/src/limits.rt').partition('fn default() -> Limits')[2]
     grouped = dict(zip('mtpw', re.findall(r': (\d[\d_]*),', text)))
-    plain = {mark: value.replace('_', '') for mark, value in grouped.items()}
-    return {**plain, **{f'{mark}_': value for mark, value in grouped.items()}, 'name': 'default',
-            'memory': memory_of(plain['m']), 'work': memory_of(plain['w'])}
+    m, t, p, w = (int(value.replace('_', '')) for value in grouped.values())
+    plain = {'m': m, 't': t, 'p': p, 'w': w, 'q': min(t, w // m), 'k': min(m, w // t)}
+    return {**{f'{mark}_': value for mark, value in grouped.items()},
+            **{mark: str(value) for mark, value in plain.items()},
+            **{mark.upper(): str(value + 1) for mark, value in plain.items()},
+            'name': 'default', 'memory': memory_of(m), 'work': memory_of(w)}
 
 
 def project():
@@ -103,7 +105,7 @@ def lists():
         'presets': [original, *recommended],
         'recommended': recommended,
         'default preset': [preset for preset in recommended if preset['name'] == 'owasp2'],
-        'others': [preset for preset in recommended if preset['name'] != WITH_PROMISE],
+        'others': [preset for preset in recommended if preset['name'] != 'owasp1'],  # (which share its promise)
         **{f'errors {first}-{end}': [error for error in every if first <= int(error['n']) < end]
            for first, end in itertools.combinations((0, 64, 128, 256), 2)},
         'default limits': [default_limits()],

@@ -32,8 +32,8 @@ PROCEDURES = {
     'an option of the calls for C': [
         (f'{HEADER}_threads.h', ' *today;\n', ' *today;\n    /* the flags */\n    uint32_t flags;\n'),
         (f'{HEADER}_threads.h', 'NULL, NULL}', 'NULL, NULL, 0}')],
-    'a default limit': [('crates/argon2/src/limits.rt', 'mem_cost: 2_097_152', 'mem_cost: 1_048_576'),
-                        ('crates/argon2/src/limits.rt', 'lanes: 16', 'lanes: 32')],
+    'a default limit': [('crates/argon2/src/limits.rt', '2_097_152,\n            time_cost: 10,\n            lanes: 16',
+                         '1_048_576,\n            time_cost: 12,\n            lanes: 32')],
     'a border of the settings': [
         ('crates/argon2_standard/specs/Standard/SettingsTable.antt', 'min_salt_length = 8', 'min_salt_length = 9'),
         ('crates/argon2_blocks/src/common.rt', 'MIN_SALT_LENGTH: u32 = 8', 'MIN_SALT_LENGTH: u32 = 9'),

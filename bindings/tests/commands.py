@@ -18,8 +18,8 @@ LIBRARY = running.built() / running.MACHINE / f"libproved_argon2.so.{running.VER
 COMMAND = []
 SMALL = "argon2id 19 1 8 1 16 seq".split()
 STORED = "$argon2i$v=19$m=256,t=2,p=1$c29tZXNhbHQ$iekCn0Y3spW+sCcFanM2xBT63UP2sghkUoHLIUpWRS8"
-# A text above a limit of `check`, which names 11 passes.
-COSTLY = "$argon2id$v=19$m=8,t=11,p=1$c29tZXNhbHQ$c29tZWhhc2g"
+# A text above a limit of `check`.
+COSTLY = "$argon2id$v=19$m=8,t=1000,p=1$c29tZXNhbHQ$c29tZWhhc2g"
 # What is said of it.
 ABOVE = b"""The encoded hash is above the limits
 check and new take at most 2 GiB, 10 passes, 16 lanes and the work of 4 GiB in one pass
@@ -60,8 +60,12 @@ class Settings(ctypes.Structure):
     _fields_ = [(name, ctypes.c_uint32) for name in "variant version mem_cost time_cost lanes hash_length".split()]
 
 
-def preset(name):
-    """Settings that the library recommends."""
+class Limits(ctypes.Structure):
+    _fields_ = [*((name, ctypes.c_uint32) for name in ("mem_cost", "time_cost", "lanes")), ("work", ctypes.c_uint64)]
+
+
+def numbers(name, kind=Settings):
+    """What a call of the library without arguments returns: a preset, or the default limits."""
     call = getattr(ctypes.CDLL(str(LIBRARY)), f"proved_argon2_{name}")
-    call.argtypes, call.restype = [], Settings
+    call.argtypes, call.restype = [], kind
     return call()

@@ -6,7 +6,7 @@ import re
 import shutil
 
 import pytest
-from commands import COSTLY, STORED, TOOL, clock, piped, preset
+from commands import COSTLY, STORED, TOOL, clock, numbers, piped
 from running import CC, MACHINE, TOP, first_lines, flags_of, needs, project, run, start
 
 SERVICE, EXAMPLES = TOP / "bindings/tests/service", TOP / "docs/examples"
@@ -188,7 +188,7 @@ def test_the_script_does_what_the_manual_says_alone():
 
 
 def test_each_page_names_the_settings_that_the_library_recommends():
-    of = preset("owasp2")
+    of = numbers("owasp2")
     variant = ("argon2d", "argon2i", "argon2id")[of.variant]
     right = f"{variant} {of.version} {of.time_cost} {of.mem_cost} {of.lanes} {of.hash_length} seq"
     named = {page: {*re.findall(r"argon2id \d+ \d+ \d+ \d+ \d+ seq", plain((TOP / page).read_text()))} for page in (

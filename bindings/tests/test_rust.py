@@ -42,7 +42,7 @@ fn main() {
     let text = argon2::hash_encoded(b"password", b"somesalt", &Config::owasp5()).unwrap();
     assert_eq!(verify(&text, &AtomicBool::new(false)), Ok(true));
     assert_eq!(verify(&text, &AtomicBool::new(true)), Err(Unverified::Refused(Error::Stopped)));
-    assert_eq!(verify(&text.replace("t=5", "t=11"), &AtomicBool::new(true)), Err(Unverified::TooCostly));
+    assert_eq!(verify(&text.replace("t=5", "t=1000"), &AtomicBool::new(true)), Err(Unverified::TooCostly));
 }
 """
 # A program of rust-argon2, by the name of that crate. With an argument it asks for more memory than it may have, which

@@ -22,10 +22,11 @@ from commands import (  # noqa: F401
     SMALL,
     STORED,
     TOOL,
+    Limits,
     clock,
     each_command,
+    numbers,
     piped,
-    preset,
     verifies,
 )
 from running import PROVED, VERSION
@@ -35,6 +36,11 @@ TUNINGS = [line.split() for line in (ROOT / "bindings/tests/tunings.txt").read_t
 WORDS = "new", "check", "tune", "hash", "verify", "rehash"
 HASH = ["hash", *SMALL, "somesalt"]
 REHASH = "rehash argon2i 19 3 256 1 32".split()
+
+
+@pytest.fixture(scope="module")
+def limits():
+    return numbers("default_limits", Limits)
 
 
 # ---- piped
@@ -278,21 +284,21 @@ exit 1
 
 
 @pytest.mark.parametrize("load, is_busy", [("1000.25", True), ("0.00", False)])
-def test_tune_says_where_the_machine_was_busy(run_script, load, is_busy):
-    words = f"echo {load} 0 0 1/2 3 >\"$FOLDER/load\"; main tune 250 7168"
+def test_tune_says_where_the_machine_was_busy(run_script, limits, load, is_busy):
+    words = f"echo {load} 0 0 1/2 3 >\"$FOLDER/load\"; main tune 250 8192"
     status, output, errors = run_script("cat >/dev/null", "eval", words, date=STILL)
-    assert (status, output) == (0, b"argon2id 19 10 7168 1 32 seq\n")
+    assert (status, output) == (0, b"argon2id 19 %d 8192 1 32 seq\n" % limits.time_cost)
     assert (b"the load is 1000.25 on" in errors, bool(errors)) == (is_busy, is_busy)
 
 
 @pytest.mark.parametrize("row", TUNINGS, ids=" ".join)
-def test_tune_finds_what_the_table_says(run_script, tmp_path, row):
+def test_tune_finds_what_the_table_says(run_script, limits, tmp_path, row):
     """Each hash moves the clock on, by a nanosecond less than is rounded up."""
     milliseconds, kib, power, *found = row
     (tmp_path / "clock").write_text("1700000000000000000")
     cost = " * ".join(["3000000 * $5", *["$4"] * int(power)])
     program = f"""cat >/dev/null
-[ $(($4 * $5)) -le 4194304 ] || exit 5
+[ $(($4 * $5)) -le {limits.work} ] || exit 5
 echo $(($(cat "$FOLDER/clock") + {cost} / 1024 - 1)) >"$FOLDER/clock"
 """
     status, output, errors = run_script(program, "main", "tune", milliseconds, kib, date='cat "$FOLDER/clock"')
@@ -310,7 +316,7 @@ def test_tune_ends_where_check_takes_no_hash(run_script):
 
 def test_the_least_passes_are_those_that_owasp_advises(run_script):
     """Of each of its choices, as the library has them, whose least memory and least work are the bounds."""
-    presets = [preset(f"owasp{number}") for number in range(1, 6)]
+    presets = [numbers(f"owasp{number}") for number in range(1, 6)]
     for found in presets:
         done = run_script("cat >/dev/null", "main", "tune", "1", str(found.mem_cost), date=STILL)
         assert done == (0, b"argon2id 19 %d %d 1 32 seq\n" % (found.time_cost, found.mem_cost), b"")

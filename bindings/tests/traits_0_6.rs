@@ -73,7 +73,7 @@ fn rejects_what_is_wrong() {
 
 /// What RustCrypto's computes, or reads as of another version.
 fn differs() {
-    let costly = Argon2::from(Config { mem_cost: 8, time_cost: 11, ..Config::default() });
+    let costly = Argon2::from(Config { mem_cost: 8, time_cost: 1000, ..Config::default() });
     let stored = costly.hash_password(b"password").unwrap().to_string();
     assert_eq!(verdict(&costly, &stored, b"password"), Ok(()));
     for text in [stored, STORED[0].replacen("m=256", "m=4294967295", 1)] {

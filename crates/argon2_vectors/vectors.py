@@ -1,14 +1,12 @@
 #!/usr/bin/env python3
 """Writes this crate's files stdin and stdout: questions, and their answers from outside.
 
-usage: vectors.py [--check]
-
 The questions are those of rows.txt, each a line with its answer behind a tab; those that are made here
-from BLAKE2b of hashlib and from rfc9106.py; and those of bindings/vectors. Its raw.txt has a line for each
-tag: variant, version, t, m, p, tag length, password, salt, secret and associated data (the last four in
-hexadecimal, - for empty), with single blanks between them, and behind the tenth blank the answer; the tool is
-asked too where the salt is no text. Its texts.txt has an encoded text, a tab, and the verdict on it for the
-password `password`. Nothing here runs the library. With --check it writes nothing and fails where a file is another.
+from BLAKE2b of hashlib, from rfc9106.py and around the default limits; and those of bindings/vectors. Its
+raw.txt has a line for each tag: variant, version, t, m, p, tag length, password, salt, secret and associated
+data (the last four in hexadecimal, - for empty), with single blanks between them, and behind the tenth blank
+the answer; the tool is asked too where the salt is no text. Its texts.txt has an encoded text, a tab, and the
+verdict on it for the password `password`. Nothing here runs the library.
 """
 import base64
 import re
@@ -27,7 +25,8 @@ SPELLED = re.compile(
 # Byte number i is 7i + 3, modulo 251.
 MESSAGE = bytes((7 * i + 3) % 251 for i in range(300))
 INPUTS = "'password 'somesalt - -"
-# What the tool says of settings above its limits.
+# The tool's limits, the default ones: memory in KiB, passes, lanes, and memory times passes. And what it says of more.
+MEMORY, PASSES, LANES, WORK = 2097152, 10, 16, 4194304
 ABOVE = r"The encoded hash is above the limits\ncheck and new take at most " \
     r"2 GiB, 10 passes, 16 lanes and the work of 4 GiB in one pass\n"
 
@@ -117,10 +116,26 @@ def runs():
             count += 1
             digits = salt.upper() if count % 2 else salt
             words = f"new {variant} {version} {time} {memory} {lanes} {length} seq {digits}"
-            if int(time) > 10 or int(memory) > 2097152 or int(lanes) > 16 or int(memory) * int(time) > 4194304:
+            if int(time) > PASSES or int(memory) > MEMORY or int(lanes) > LANES or int(memory) * int(time) > WORK:
                 yield f"tool {password} {words}", f'5 "" "{ABOVE}"'
                 continue
             yield f"tool {password} {words}", outcome(variant, version, memory, time, lanes, salt, answer)
+
+
+def limits():
+    """The tool at its limits, and just above each, with a salt that is too short."""
+    passes, memory = min(PASSES, WORK // MEMORY), min(MEMORY, WORK // PASSES)
+    for costs in ((MEMORY, passes, LANES), (memory, PASSES, LANES), (f"+000{MEMORY}", f"+00{passes}", f"+0{LANES}")):
+        yield from of_costs(*costs, r'2 "" "Salt is too short\n"')
+    for costs in ((MEMORY + 1, 1, LANES), (f"+{MEMORY + 1}", "01", 1), (8, PASSES + 1, LANES), (MEMORY, passes + 1, 1),
+                  (MEMORY, passes, LANES + 1), (memory + 1, PASSES, 1), (WORK // 3 + 1, "+03", 1)):
+        yield from of_costs(*costs, f'5 "" "{ABOVE}"')
+
+
+def of_costs(memory, time, lanes, answer):
+    """Both of the tool's commands that have limits."""
+    yield f"tool 'password new argon2id 19 {time} {memory} {lanes} 32 seq 00", answer
+    yield f"tool 'password check $argon2id$v=19$m={memory},t={time},p={lanes}$$c29tZWhhc2g", answer
 
 
 def is_text(salt):
@@ -159,22 +174,14 @@ def verdicts():
         yield f"verify_encoded {text}", answer
 
 
-def main(words):
+def main():
     rfc9106.check()
-    makers = (rows, hashes, stretched_hashes, first_inputs, references, tags, runs, verdicts)
+    makers = (rows, limits, hashes, stretched_hashes, first_inputs, references, tags, runs, verdicts)
     pairs = [pair for maker in makers for pair in maker()]
-    stale = []
     for name, lines in zip(("stdin", "stdout"), zip(*pairs)):
-        text = "".join(f"{line}\n" for line in lines)
-        if words != ["--check"]:
-            (HERE / name).write_text(text, encoding="utf-8")
-        elif (HERE / name).read_text(encoding="utf-8") != text:
-            stale.append(name)
-    for name in stale:
-        print(f"vectors: {name} is stale: run crates/argon2_vectors/vectors.py")
+        (HERE / name).write_text("".join(f"{line}\n" for line in lines), encoding="utf-8")
     print(f"vectors: {len(pairs)} questions")
-    return bool(stale)
 
 
 if __name__ == "__main__":
-    sys.exit(main(sys.argv[1:]))
+    main()

@@ -8,14 +8,15 @@ import { countWorkers, outputOf } from './watching.mjs';
 import * as argon2 from 'proved-argon2';
 
 const MOST = 0xffffffff;
+const { memoryCost, timeCost, parallelism, work } = argon2.defaultLimits;
 const ENCODED = '$argon2id$v=19$m=256,t=2,p=1$c29tZXNhbHQ$nf65EOgLrQMR/uIPnA4rEsF5h7TKyQwu9U1bMCHGi/4';
 
 const stringOf = (memory, time, lanes) =>
     `$argon2id$v=19$m=${memory},t=${time},p=${lanes}$c29tZXNhbHQ$nf65EOgLrQMR/uIPnA4rEsF5h7TKyQwu9U1bMCHGi/4`;
 
-/** A string of so many characters, filled by its salt: its 11 passes are one above the default limit. */
+/** A string of so many characters, filled by its salt, with a pass above the default limit. */
 const stringOfLength = (length) => {
-    const [beginning, end] = ['$argon2id$v=19$m=8,t=11,p=1$', '$AAAAAAA'];
+    const [beginning, end] = [`$argon2id$v=19$m=8,t=${timeCost + 1},p=1$`, '$AAAAAAA'];
     return beginning + 'A'.repeat(length - beginning.length - end.length) + end;
 };
 
@@ -69,14 +70,14 @@ const VERIFYING = [
     ['TooCostly', ENCODED, { limits: { timeCost: 1 } }],
     ['TooCostly', stringOf(256, 1, 2), { limits: { parallelism: 1 } }],
     ['TooCostly', ENCODED, { limits: { work: 511 } }],
-    ['TooCostly', stringOf(2097153, 1, 1)],
-    ['TooCostly', stringOf(256, 11, 1)],
-    ['TooCostly', stringOf(256, 1, 17)],
-    ['TooCostly', stringOf(1048576, 5, 1)],
-    ['TooCostly', stringOf(0, 11, 1)],
+    ['TooCostly', stringOf(memoryCost + 1, 1, 1)],
+    ['TooCostly', stringOf(256, timeCost + 1, 1)],
+    ['TooCostly', stringOf(256, 1, parallelism + 1)],
+    ['TooCostly', stringOf(memoryCost, Math.floor(work / memoryCost) + 1, 1)],
+    ['TooCostly', stringOf(0, timeCost + 1, 1)],
     ...[200, 1000, 100000].flatMap((length) => [
         ['TooCostly', stringOfLength(length)],
-        ['TooCostly', stringOfLength(length), { limits: { memoryCost: 7, timeCost: 11 } }],
+        ['TooCostly', stringOfLength(length), { limits: { memoryCost: 7, timeCost: timeCost + 1 } }],
     ]),
     ['LanesTooMany', stringOf(MOST, 1, 0x1000000), { limits: null }],
     ['LanesTooMany', stringOf(MOST, MOST, 0x1000000), { limits: null }],

@@ -85,7 +85,7 @@ const REFUSED_IN_PAGE = `
         () => argon2.hash('password', { memoryCost: 4294967295, parallelism: 4 }),
         () => argon2.hash('password', { memoryCost: 4294967295, worker: false }),
         () => argon2.hash('password', { timeCost: 0 }),
-        () => argon2.verify('$argon2id$v=19$m=4194304,t=1,p=1$c29tZXNhbHQ$nf65EOgLrQM', 'password'),
+        () => argon2.verify('$argon2id$v=19$m=4294967295,t=1,p=1$c29tZXNhbHQ$nf65EOgLrQM', 'password'),
         () => argon2.hash('password', { signal: AbortSignal.abort() }),
     ];
     const line = new argon2.Line({ memoryCost: 1024, waiting: 0 });
@@ -172,9 +172,9 @@ function tests(isIsolated) {
         assert.match(await submit(browser, 'verifying'), /^The password is wrong /);
         await set(browser, 'encoded', encoded.slice(1));
         assert.match(await submit(browser, 'verifying'), /^This is no encoded hash of Argon2/);
-        await set(browser, 'encoded', encoded.replace('m=4096', 'm=4194304'));
-        assert.match(await submit(browser, 'verifying'), /^This encoded hash is above a limit of the page: 2 GiB/);
-        await set(browser, 'passes', '11');
+        await set(browser, 'encoded', encoded.replace('m=4096', 'm=4294967295'));
+        assert.match(await submit(browser, 'verifying'), /^This encoded hash is above a limit of the page: /);
+        await set(browser, 'passes', argon2.defaultLimits.timeCost + 1);
         assert.match(await submit(browser, 'hashing'), /^Hashed in .* It is above the limits for verifying\.$/);
         assert.match(await submit(browser, 'verifying'), /: 2 GiB, 10 passes, 16 lanes, 4 GiB filled in all passes/);
         await set(browser, 'encoded', ' ');

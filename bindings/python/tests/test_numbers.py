@@ -15,6 +15,7 @@ from proved_argon2 import (
     hash_password_raw,
     profiles,
 )
+from proved_argon2._library import default_limits
 from proved_argon2.exceptions import HashingError, TooCostlyError, VerifyMismatchError
 from proved_argon2.low_level import error_to_str, hash_secret, hash_secret_raw, verify_secret
 
@@ -22,7 +23,7 @@ NO_NUMBERS = (True, 64.0, "64", None)
 # Each but the first three with 64 more, so that what is cut off leaves settings of which none is refused.
 TOO_MUCH = (-1, 1 << 32, 1 << 64, 64 - (1 << 32), (1 << 32) + 64, (1 << 64) + 64, 64 - (1 << 64), (1 << 1000) + 64)
 SETTINGS = {"time_cost": 1, "memory_cost": 1024, "parallelism": 1, "hash_len": 16}
-LARGE = {"time_cost": 11, "memory_cost": 1360, "parallelism": 17}
+LARGE = {"time_cost": DEFAULT_LIMITS.time_cost + 1, "memory_cost": 1360, "parallelism": DEFAULT_LIMITS.parallelism + 1}
 TEXT = "$argon2id$v=19$m=64,t=4,p=1$c29tZXNhbHQ$AAAAAAAAAAAAAAAAAAAAAA"
 of_each_limit = pytest.mark.parametrize("name, most", [
     ("memory_cost", 0xFFFFFFFF), ("time_cost", 0xFFFFFFFF), ("parallelism", 0xFFFFFFFF), ("work", 0xFFFFFFFFFFFFFFFF)])
@@ -128,21 +129,21 @@ def test_a_hasher_has_other_limits_where_they_are_set():
     hasher.limits = Limits(time_cost=3)
     with pytest.raises(TooCostlyError):
         hasher.verify(TEXT, "password")
-    assert PasswordHasher().limits.time_cost == 10
+    assert PasswordHasher().limits == DEFAULT_LIMITS
     hasher.limits = None
     assert hasher.limits is None
 
 
 @pytest.mark.parametrize("length", [200, 1000, 100000])
 def test_limits_hold_for_strings_of_any_length(length):
-    text = "$argon2id$v=19$m=8,t=11,p=1$" + "A" * (length - 36) + "$AAAAAAA"
+    text = "$argon2id$v=19$m=8,t=1000,p=1$" + "A" * (length - 38) + "$AAAAAAA"
     for verify in (lambda: PasswordHasher().verify(text, "password"),
-                   lambda: PasswordHasher(limits=Limits(memory_cost=7, time_cost=11)).verify(text, "password"),
+                   lambda: PasswordHasher(limits=Limits(memory_cost=7, time_cost=1000)).verify(text, "password"),
                    lambda: verify_secret(text.encode(), b"password", Type.ID, limits=DEFAULT_LIMITS)):
         with pytest.raises(TooCostlyError):
             verify()
     with pytest.raises(VerifyMismatchError):
-        PasswordHasher(limits=Limits(time_cost=11)).verify(text, "password")
+        PasswordHasher(limits=Limits(time_cost=1000)).verify(text, "password")
 
 
 @pytest.mark.parametrize("settings", [LARGE, {**LARGE, "time_cost": 1}, {**LARGE, "parallelism": 1}])
@@ -153,7 +154,8 @@ def test_a_hasher_verifies_what_it_hashes(settings):
 
 
 def test_the_default_limits_are_the_library_s_or_the_settings():
-    defaults = Limits(2097152, 10, 16, 4194304)
+    number = default_limits()
+    defaults = Limits(number.mem_cost, number.time_cost, number.lanes, number.work)
     assert DEFAULT_LIMITS == defaults
     small = {"memory_cost": 8, "time_cost": 1, "parallelism": 1}
     for name in small:
@@ -161,10 +163,13 @@ def test_the_default_limits_are_the_library_s_or_the_settings():
         for number, expected in ((1, limit), (limit, limit), (limit + 1, limit + 1), (most, most), (1 << 40, most)):
             limits = PasswordHasher(**{**small, name: number}).limits
             assert limits == dataclasses.replace(defaults, **{name: expected}, work=limits.work)
+    for time_cost in (1, 2, 3, defaults.time_cost):
+        within = defaults.work // time_cost
+        for memory_cost, work in ((within, defaults.work), (within + 1, (within + 1) * time_cost)):
+            assert PasswordHasher(memory_cost=memory_cost, time_cost=time_cost).limits.work == work
     for memory_cost, time_cost, work in (
-        (419430, 10, 4194304), (419431, 10, 4194310), (2097152, 2, 4194304), (2097152, 3, 6291456),
         (0xFFFFFFFF, 0xFFFFFFFF, 0xFFFFFFFF ** 2), (1 << 40, 1 << 1000, 0xFFFFFFFF ** 2),
-        (-(1 << 40), -(1 << 40), 4194304),
+        (-(1 << 40), -(1 << 40), defaults.work),
     ):
         assert PasswordHasher(memory_cost=memory_cost, time_cost=time_cost).limits.work == work
 

@@ -127,7 +127,7 @@ mod tests {
             assert_eq!(verify_password(text, b"password"), Ok(true));
             assert_eq!(verify_password(text, b"Password"), Ok(false));
         }
-        let costly = Config { time_cost: 11, mem_cost: 8, ..Config::default() };
+        let costly = Config { time_cost: 1000, mem_cost: 8, ..Config::default() };
         let text = hash_password_with(b"password", &costly).unwrap();
         assert_eq!(verify_password(&text, b"password"), Err(Unverified::TooCostly));
     }

@@ -28,7 +28,7 @@ impl Limits {
     /// ```
     /// use proved_argon2::{self as argon2, Config, Limits};
     ///
-    /// let config = Config { time_cost: 11, ..Config::owasp5() };
+    /// let config = Config { time_cost: 100, mem_cost: 1024, ..Config::default() };
     /// let text = argon2::hash_encoded(b"password", b"somesalt", &config)?;
     /// assert!(argon2::verify_encoded_within(&text, b"password", &[], &[], &Limits::at_least(&config))?);
     /// # Ok::<(), argon2::Unverified>(())

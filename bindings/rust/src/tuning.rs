@@ -94,7 +94,7 @@ fn load() -> Option<f64> {
 #[cfg(test)]
 mod tests {
     use super::{load, search, tune};
-    use crate::{Config, Error, Result};
+    use crate::{Config, Error, Limits, Result};
     use std::path::Path;
     use std::time::Duration;
 
@@ -112,17 +112,15 @@ mod tests {
     #[test]
     fn there_is_as_much_memory_as_there_is_time_for_and_then_passes() {
         let linear = |memory, passes| memory * passes;
-        for (within, memory, passes) in [
-            (70_000, 65536, 1),
-            (140_000, 65536, 2),
-            (65_600, 65536, 1),
-            (65_000, 16384, 3),
-            (41_000, 8192, 5),
-            (10_000_000, 65536, 10),
-        ] {
+        let limits = Limits::default();
+        for (within, memory, passes) in
+            [(70_000, 65536, 1), (140_000, 65536, 2), (65_600, 65536, 1), (65_000, 16384, 3), (41_000, 8192, 5)]
+        {
             assert_eq!(found(within, MOST, linear), Ok(Some((memory, passes))), "{within}");
         }
-        assert_eq!(found(10_000_000, 1 << 21, linear), Ok(Some((1 << 21, 2))));
+        let by_work = limits.time_cost.min((limits.work / u64::from(limits.mem_cost)) as u32);
+        assert_eq!(found(1 << 40, limits.mem_cost, linear), Ok(Some((limits.mem_cost, by_work))));
+        assert_eq!(found(1 << 40, 8192, linear), Ok(Some((8192, limits.time_cost))));
         assert_eq!(found(350_000, MOST, |memory, passes| memory * passes * passes), Ok(Some((MOST, 2))));
         assert_eq!(found(10_000, MOST, linear), Ok(None));
         assert_eq!(found(5000, MOST, |memory, _| memory), Ok(None));

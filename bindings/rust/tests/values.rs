@@ -133,14 +133,21 @@ fn limits_are_raised_to_settings() {
     let default = Limits::default();
     assert_eq!(default, Limits { lanes: 16, mem_cost: 2_097_152, time_cost: 10, work: 4_194_304 });
     let (most, square) = (u32::MAX, u64::from(u32::MAX) * u64::from(u32::MAX));
+    let (lanes, mem_cost, passes) = (default.lanes + 1, default.mem_cost + 1, default.time_cost);
+    let of_work = u32::try_from(default.work / u64::from(passes)).unwrap_or(most).min(default.mem_cost);
+    let raised = Limits {
+        mem_cost: default.mem_cost.max(of_work + 1),
+        work: default.work.max(u64::from(of_work + 1) * u64::from(passes)),
+        ..default
+    };
     for (config, limits) in [
         (small, default),
-        (Config { mem_cost: 2_097_153, ..small }, Limits { mem_cost: 2_097_153, ..default }),
+        (Config { mem_cost, ..small }, Limits { mem_cost, ..default }),
         (Config { mem_cost: most, ..small }, Limits { mem_cost: most, work: most.into(), ..default }),
         (Config { lanes: most, ..small }, Limits { lanes: most, ..default }),
-        (Config { time_cost: 11, ..small }, Limits { time_cost: 11, ..default }),
-        (Config { mem_cost: 419_430, time_cost: 10, ..small }, default),
-        (Config { mem_cost: 419_431, time_cost: 10, ..small }, Limits { work: 4_194_310, ..default }),
+        (Config { time_cost: passes + 1, ..small }, Limits { time_cost: passes + 1, ..default }),
+        (Config { mem_cost: of_work, time_cost: passes, ..small }, default),
+        (Config { mem_cost: of_work + 1, time_cost: passes, ..small }, raised),
         (
             Config { mem_cost: most, time_cost: most, ..small },
             Limits { mem_cost: most, time_cost: most, work: square, ..default },
@@ -148,10 +155,10 @@ fn limits_are_raised_to_settings() {
     ] {
         assert_eq!(Limits::at_least(&config), limits);
     }
-    let config = Config { time_cost: 12, lanes: 18, ..small };
+    let config = Config { time_cost: passes + 1, lanes, ..small };
     let text = hash_encoded(b"password", b"somesalt", &config).unwrap();
     assert_eq!(is_of(&text, b"password", &default), Err(Unverified::TooCostly));
-    assert_eq!(is_of(&text, b"password", &Limits::at_least(&config)), Ok((true, 18)));
+    assert_eq!(is_of(&text, b"password", &Limits::at_least(&config)), Ok((true, lanes)));
 }
 
 #[test]

@@ -27,6 +27,7 @@ static void check_password(void)
 {
     static const char beginning[] = "$argon2id$v=19$m=19456,t=2,p=1$gIGCg4SFhoeIiYqLjI2Ojw$";
     const proved_argon2_settings settings = proved_argon2_owasp2();
+    const proved_argon2_limits most = proved_argon2_default_limits();
     char text[PROVED_ARGON2_TEXT_SIZE], other[PROVED_ARGON2_TEXT_SIZE];
     uint8_t salt[16];
     memset(text, 7, sizeof text);
@@ -41,10 +42,13 @@ static void check_password(void)
     check_code(proved_argon2_password_verify(text, "pass", 4), PROVED_ARGON2_MISMATCH, "its beginning does not");
     check_code(proved_argon2_password_verify(text, NULL, 0), PROVED_ARGON2_MISMATCH, "no password does not");
     check_code(proved_argon2_password_verify("x", "pass", 4), PROVED_ARGON2_DECODING_FAIL, "what is no text");
-    check_code(proved_argon2_password_verify("$argon2id$v=19$m=2097152,t=2,p=16$AAAAAAA$AAAAAAA", "pass", 4),
-        PROVED_ARGON2_SALT_TOO_SHORT, "a text at the default limits");
-    check_code(proved_argon2_password_verify("$argon2id$v=19$m=2097152,t=3,p=1$AAAAAAA$AAAAAAA", "pass", 4),
-        PROVED_ARGON2_TOO_COSTLY, "a text above them");
+    const uint64_t by_work = most.work / most.mem_cost, passes = by_work < most.time_cost ? by_work : most.time_cost;
+    for (unsigned above = 0; above < 2; above++) {
+        snprintf(other, sizeof other, "$argon2id$v=19$m=%u,t=%u,p=%u$AAAAAAA$AAAAAAA", most.mem_cost,
+            (unsigned)passes + above, most.lanes);
+        check_code(proved_argon2_password_verify(other, "pass", 4),
+            above ? PROVED_ARGON2_TOO_COSTLY : PROVED_ARGON2_SALT_TOO_SHORT, "a text at the default limits, one above");
+    }
     code = proved_argon2_password_hash(text, NULL, 0);
     check(code == PROVED_ARGON2_OK && proved_argon2_password_verify(text, "", 0) == PROVED_ARGON2_OK, "the empty one");
     memcpy(other, text, sizeof text);

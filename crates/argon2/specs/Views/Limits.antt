@@ -5,7 +5,7 @@ use Rattle.argon2.specs.declared.limits.Limits.{Limits}
 use Rattle.argon2.specs.declared.limits.Unverified.{Unverified}
 use Rattle.argon2.specs.declared.limits.Unverified.TheVariants.{TooCostly, Refused}
 
--- 2 GiB, 10 passes, 16 lanes, and the work of 4 GiB in one pass: both recommendations fit (RFC 9106, 4)
+-- KiB, passes, lanes, and KiB times passes: both recommendations fit (RFC 9106, 4)
 abbrev pub default_limits : Limits
 default_limits = record { mem_cost = 2097152; time_cost = 10; lanes = 16; work = 4194304 }
 

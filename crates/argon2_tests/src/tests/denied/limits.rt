@@ -36,9 +36,8 @@ fn limits_of((mem_cost, time_cost, lanes, work): Costs) -> Limits {
 }
 
 // Encoded hashes of the two recommendations of RFC 9106, the five of OWASP, libsodium's three for
-// Argon2id and its greatest for Argon2i, and Django's; and one at all default limits but that of
-// the passes.
-const WITHIN: [&str; 13] = [
+// Argon2id and its greatest for Argon2i, and Django's.
+const WITHIN: [&str; 12] = [
     "$argon2id$v=19$m=2097152,t=1,p=4$AAAAAAA$AAAAAAA",
     "$argon2id$v=19$m=65536,t=3,p=4$AAAAAAA$AAAAAAA",
     "$argon2id$v=19$m=47104,t=1,p=1$AAAAAAA$AAAAAAA",
@@ -51,23 +50,33 @@ const WITHIN: [&str; 13] = [
     "$argon2id$v=19$m=1048576,t=4,p=1$AAAAAAA$AAAAAAA",
     "$argon2i$v=19$m=524288,t=8,p=1$AAAAAAA$AAAAAAA",
     "$argon2id$v=19$m=102400,t=2,p=8$AAAAAAA$AAAAAAA",
-    "$argon2id$v=19$m=2097152,t=2,p=16$AAAAAAA$AAAAAAA",
 ];
 
-// Encoded hashes above one default limit, above all, and above that of the memory without passes.
-const ABOVE: [&str; 8] = [
+// Encoded hashes at all default limits but that of the passes or of the memory, and above one.
+// limits, by .ci/pages/presets
+const AT_LIMITS: [&str; 2] = [
+    "$argon2id$v=19$m=2097152,t=2,p=16$AAAAAAA$AAAAAAA",
+    "$argon2id$v=19$m=419430,t=10,p=16$AAAAAAA$AAAAAAA",
+];
+
+const ABOVE_A_LIMIT: [&str; 6] = [
     "$argon2id$v=19$m=2097153,t=1,p=4$AAAAAAA$AAAAAAA",
     "$argon2id$v=19$m=65536,t=11,p=4$AAAAAAA$AAAAAAA",
     "$argon2id$v=19$m=65536,t=3,p=17$AAAAAAA$AAAAAAA",
     "$argon2id$v=19$m=2097152,t=3,p=4$AAAAAAA$AAAAAAA",
-    "$argon2id$v=19$m=2097152,t=10,p=16$AAAAAAA$AAAAAAA",
+    "$argon2id$v=19$m=2097152,t=11,p=16$AAAAAAA$AAAAAAA",
     "$argon2id$v=19$m=419431,t=10,p=1$AAAAAAA$AAAAAAA",
+];
+// end
+
+// Encoded hashes above all default limits, and above that of the memory without passes.
+const ABOVE: [&str; 2] = [
     "$argon2id$v=19$m=4294967295,t=4294967295,p=16777215$c29tZXNhbHQ$iekCn0Y3spW+sCcFanM2xBT63UP2sghkUoHLIUpWRS8",
     "$argon2d$m=4294967295,t=0,p=0$$",
 ];
 
 // Above the default limit of the passes, in as many characters as there may be.
-const LONG: &str = "$argon2id$v=19$m=8,t=11,p=1$AAAAAAAAAAA$\
+const LONG: &str = "$argon2id$v=19$m=8,t=4294967295,p=1$AAAAAAAAAAA$\
     AAAAAAAAAAAAAAAAAAAAAAAAAAAAAAAAAAAAAAAAAAAAAAAAAAAAAAAAAAAAAAAAAAAAAAAAAAAAAAAAAAAAAAAAAAAA\
     AAAAAAAAAAAAAAAAAAAAAAAAAAAAAAAAAAAAAAAAAAAAAAAAAAAAAAAAAAAAAAAAAAAAAAAAAAAAAAAAAAAAAAAAAAAA\
     AAAAAAAAAAAAAAAAAAAAAAAAAAAAAAAAAAAAAAAAAAAAAAAAAAAAAAAAAAAAAAAAAAAAAAAAAAAAAAAAAAAAAAAAAAAA\
@@ -129,7 +138,7 @@ fn a_costly_text_allocates_nothing_refused_in_turn(rt: HostRuntime) -> Result<()
         let is_costly = both_answer(&rt, alloc, TEXT, &limits_of(costs), &Unverified::TooCostly);
         assert!(rt; is_costly, "{costs:?}");
     }
-    for text in ABOVE {
+    for text in ABOVE_A_LIMIT.into_iter().chain(ABOVE) {
         let is_costly = both_answer(&rt, alloc, text, &Limits::default(), &Unverified::TooCostly);
         assert!(rt; is_costly, "{text}");
     }
@@ -142,7 +151,7 @@ fn a_costly_text_of_any_length_allocates_nothing_refused_in_turn(
     rt: HostRuntime,
 ) -> Result<(), Fail> {
     let (alloc, limits) = (rt.alloc(), Limits::default());
-    for groups in 10..LONG.len() / 4 {
+    for groups in 12..LONG.len() / 4 {
         let text = LONG.get(..4 * groups).unwrap_or("");
         let is_costly = both_answer(&rt, alloc, text, &limits, &Unverified::TooCostly);
         assert!(rt; is_costly, "{text}");
@@ -155,7 +164,7 @@ fn a_costly_text_of_any_length_allocates_nothing_refused_in_turn(
 fn a_text_within_limits_is_judged_refused_in_turn(rt: HostRuntime) -> Result<(), Fail> {
     let (alloc, limits) = (rt.alloc(), Limits::default());
     let short = Unverified::Refused(Error::SaltTooShort);
-    for text in WITHIN {
+    for text in AT_LIMITS.into_iter().chain(WITHIN) {
         assert!(rt; both_answer(&rt, alloc, text, &limits, &short), "{text}");
     }
     let (none, unspelled) = (limits_of(NONE), Unverified::Refused(Error::DecodingFail));
