@@ -32,7 +32,7 @@ sum_files() {
 find_machine() {
     while read -r machine number target tool_prefix base builds; do
         case $machine:" $machine $builds " in
-        '#'*) ;;
+        [#+]*) ;;
         *" $1 "*)
             tool_prefix=${tool_prefix#-} base=${base%:} proved=${builds%% + *} kernels=''
             [ "$proved" = "$builds" ] || kernels=${builds#* + } builds="$proved $kernels"
@@ -46,7 +46,7 @@ find_machine() {
 
 # The names of all machines, into `machines`.
 find_machines() {
-    machines=$(sed -n 's/^\([^# ]*\) .*/\1/p' "$root/build/machines.txt" | tr '\n' ' ')
+    machines=$(sed -n 's/^\([^#+ ]*\) .*/\1/p' "$root/build/machines.txt" | tr '\n' ' ')
 }
 
 # Prints the release of Debian and the packages of the tools here that link release/, as its list names them,

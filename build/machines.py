@@ -1,5 +1,6 @@
 """The machines that the libraries are built for (build/machines.txt)."""
 import os
+import re
 from typing import NamedTuple
 
 HERE = os.path.dirname(os.path.realpath(__file__))
@@ -15,12 +16,25 @@ class Machine(NamedTuple):
     proved: list  # those that the toolchain makes, which come first
 
 
+def lines(begin):
+    """Those of the table that begin with one of some characters."""
+    with open(f"{HERE}/machines.txt", encoding="utf-8") as table:
+        return [line for line in table if re.match(begin, line)]
+
+
 def machines():
     found = {}
-    with open(f"{HERE}/machines.txt", encoding="utf-8") as lines:
-        for line in (line for line in lines if not line.startswith("#")):
-            head, builds = line.split(":")
-            name, number, target, prefix, base = head.split()
-            proved, kernels = (part.split() for part in builds.partition("+")[::2])
-            found[name] = Machine(name, int(number), target, prefix.removeprefix("-"), base, proved + kernels, proved)
+    for line in lines("[^#+]"):
+        head, builds = line.split(":")
+        name, number, target, prefix, base = head.split()
+        proved, kernels = (part.split() for part in builds.partition("+")[::2])
+        found[name] = Machine(name, int(number), target, prefix.removeprefix("-"), base, proved + kernels, proved)
+    return found
+
+
+def flags_of_builds():
+    """What a processor has for each build of several, beside what it has for the one before."""
+    found = {build: flags for _, build, *flags in map(str.split, lines("[+]"))}
+    several = [build for machine in machines().values() if machine.builds[1:] for build in machine.builds]
+    assert [*found] == several, f"machines.txt says what these ask for: {[*found]}, and has {several}"
     return found

@@ -1,6 +1,6 @@
 """The facts that several files have, in each place of presets.txt: presets (crates/argon2_standard/src/config.rt),
 default limits (crates/argon2/src/limits.rt), the most threads of a stored string (stored.rt beside it), errors
-(.ci/pages/errors.txt), the options of C (the header), the version (VERSION), who
+(crates/argon2_c/errors.txt), the options of C (the header), builds (build/machines.txt), the version (VERSION), who
 publishes this (PROJECT), the kits (build/kits.txt), and what runs the library as C (bindings/c/targets)."""
 
 import itertools
@@ -8,6 +8,7 @@ import re
 import textwrap
 
 from common import TOP, files, fill, lines, need, read, write
+from machines import flags_of_builds, machines
 
 TABLE = TOP / '.ci/pages/presets.txt'
 PRESET = re.compile(r"[{}] (?P<what>[^{}]*?): Argon2\w+, [^{}]*? pub fn (?P<name>\w+)\(\) -> Config<'a> "
@@ -84,9 +85,18 @@ def options():
             for declared, kind, name in OPTION.findall(inside)]
 
 
+def builds():
+    """The same by all builds of which one is chosen at run time, and by each, the oldest first."""
+    each = [{'name': build, 'word': build.replace('-', '_'), 'WORD': build.replace('-', '_').upper(),
+             'FLAGS': ', '.join(flags).upper(), 'flags': ' '.join(flags)} for build, flags in flags_of_builds().items()]
+    programs = [put_in(build, '<name>: <flags>') for build in each if build['name'] in machines()['x86_64'].proved]
+    macro = ' \\\n'.join(put_in(build, '    each(<WORD>, <word>, __VA_ARGS__)') for build in each)
+    return [{'name': 'all', 'oldest': each[0]['name'], 'programs': '\n'.join(programs), 'macro': macro}], each
+
+
 def errors():
     """The same by an error; <pad> stands before the comments of the header, which are below one another in a list."""
-    found = [line.split(' | ', 3) for line in lines(TOP / '.ci/pages/errors.txt')]
+    found = [line.split(' | ', 3) for line in lines(TOP / 'crates/argon2_c/errors.txt')]
     snake = {name: re.sub(r'(?<!^)(?=[A-Z])', '_', name) for _, name, *_ in found}
     for number, name, message, words in found:
         wide = max(len(n + snake[other]) for n, other, *_ in found if (int(n) < 128) == (int(number) < 128))
@@ -111,6 +121,7 @@ def lists():
         'default limits': [default_limits()],
         'most threads of a string': [{'name': 'most', 'n': most[1]}],
         'options': options(),
+        **dict(zip(('builds', 'each build'), builds())),
         'project': [project()],
         'targets': [{'name': name} for name in targets],
         'kits': [{'name': 'kits', 'kits': '` and `'.join(kit for kit, _ in kits), 'logic': kits[0][1]}],

@@ -6,25 +6,24 @@ import re
 import pytest
 from common import FIRST, HOW_TO_CHANGE, Copy, read, run
 
-PRESET = '''    /// libsodium's {0} settings: Argon2id, {2} MiB, {3} passes.
-    pub fn {0}() -> Config<'a>
-        ensures {{ IsPreset Argon2id {1} {3} result }}
-    {{
-        preset(Variant::Argon2id, {1}, {3})
-    }}
+PRESET = '''    /// libsodium's interactive settings: Argon2id, 64 MiB, 2 passes.
+    pub fn interactive() -> Config<'a>
+        ensures { IsPreset Argon2id 65536 2 result }
+    {
+        preset(Variant::Argon2id, 65536, 2)
+    }
 
 '''
-ROW = 'Config::{0}\tConfig {{ ad: [], hash_length: 32, lanes: 1, mem_cost: {1}, secret: [], thread_mode: Sequential, ' \
-      'time_cost: {3}, variant: Argon2id, version: Version13 }} true\n'
-LIBSODIUM = 'interactive', 65536, 64, 2
+ROW = 'Config::interactive\tConfig { ad: [], hash_length: 32, lanes: 1, mem_cost: 65536, secret: [], thread_mode: ' \
+      'Sequential, time_cost: 2, variant: Argon2id, version: Version13 } true\n'
 CONFIG, ROWS = 'crates/argon2_standard/src/config.rt', 'crates/argon2_vectors/rows.txt'
-HEADER, ERRORS = 'crates/argon2_c/include/proved_argon2', '.ci/pages/errors.txt'
+HEADER, ERRORS = 'crates/argon2_c/include/proved_argon2', 'crates/argon2_c/errors.txt'
 CHANGED = ('CHANGELOG.md', '\nUnreleased', '\nWhat is new.\n\nUnreleased')
 # The edits of each procedure: a file, a text of it, and what stands in its place; of a new file no text.
 PROCEDURES = {
     'a preset, before the others': [
-        (CONFIG, "    /// OWASP's first", PRESET.format(*LIBSODIUM) + "    /// OWASP's first"),
-        (ROWS, '\nConfig::owasp1\t', f'\n{ROW.format(*LIBSODIUM)}Config::owasp1\t'), CHANGED],
+        (CONFIG, "    /// OWASP's first", PRESET + "    /// OWASP's first"),
+        (ROWS, '\nConfig::owasp1\t', f'\n{ROW}Config::owasp1\t'), CHANGED],
     'an error of the calls for C': [
         (ERRORS, '\n128 |', '\n73 | NoReason | There is no reason | no call has a reason\n128 |'),
         ('crates/argon2_c/src/errors.rt', '    WrongBlocks,\n', '    WrongBlocks,\n\n    /// There is no reason.\n'
@@ -49,11 +48,12 @@ PROCEDURES = {
     'a page': [('docs/EXAMPLE.md', None, '# An example\n\n[Using it](USE.md) has more.\n'),
                (FIRST, '- How do I change it? ', '- What is an example? [An example](docs/EXAMPLE.md)\n'
                 '- How do I change it? ')],
-    'a build for a processor': [('build/machines.txt', 'x86-64: x86-64-v2 ', 'x86-64: x86-64-v1 x86-64-v2 ')],
+    'a build for a processor': [('build/machines.txt', 'x86-64: x86-64-v2 ', 'x86-64: x86-64-v1 x86-64-v2 '),
+                                ('build/machines.txt', '+ x86-64-v2 ', '+ x86-64-v1 ssse3\n+ x86-64-v2 ')],
 }
-STEPS = ('.ci/pages/write', 'gcc -std=c99 -I crates/argon2_c/include -fsyntax-only crates/argon2_c/c/results.c',
-         'cmake -S .ci -B out/ci',
-         'ctest --test-dir out/ci --label-regex quick --tests-regex .ci/pages --no-tests=error --output-on-failure -j3')
+STEPS = ('.ci/pages/write',
+         'gcc -I crates/argon2_c/include -fsyntax-only crates/argon2_c/c/results.c bindings/c/proved_argon2_builds.c',
+         '.ci/quick --documents')
 
 
 @pytest.fixture
@@ -62,7 +62,7 @@ def copy(tmp_path):
 
 
 def test_the_procedures_end_well(copy):
-    """In a copy the edits by hand of all are made, and then all checks of pages and sources run, without exception."""
+    """In a copy the edits by hand of all are made, and then all quick tests run, without exception."""
     for file, old, new in (edit for edits in PROCEDURES.values() for edit in edits):
         copy.change(file, old, new)
         assert file.rpartition('/')[2] in (copy.top / HOW_TO_CHANGE).read_text() or old is None

@@ -6,47 +6,97 @@
 #include <stdlib.h>
 #include <string.h>
 
-/* What x86-64-v2, -v3 and -v4 have more than the one before (x86-64 psABI, 3.1.1), in the registers of cpuid. */
-#define LEAF_1_OF_V2 (bit_SSE3 | bit_SSSE3 | bit_CMPXCHG16B | bit_SSE4_1 | bit_SSE4_2 | bit_POPCNT)
-#define LEAF_1_OF_V3 (bit_FMA | bit_MOVBE | bit_OSXSAVE | bit_AVX | bit_F16C)
-#define LEAF_7_OF_V3 (bit_BMI | bit_AVX2 | bit_BMI2)
-#define LEAF_7_OF_V4 (bit_AVX512F | bit_AVX512DQ | bit_AVX512CD | bit_AVX512BW | bit_AVX512VL)
-#define LEAF_80000001_OF_V2 bit_LAHF_LM
-#define LEAF_80000001_OF_V3 (1u << 5) /* LZCNT, which compilers name differently */
-#define VECTORS_OF_V3 0x6u            /* the system keeps XMM and YMM registers for each thread */
-#define VECTORS_OF_V4 0xE6u           /* those of masks and ZMM too */
+/* Where cpuid says what a processor has, 32 bits each, numbered from 32 on so that 0 ends a list; and those bits that
+ * builds ask for, as Linux names them. */
+enum { LEAF_1 = 32, LEAF_7 = 64, LEAF_80000001 = 96, END = 128 };
+#define BIT(leaf, bit) ((leaf) + __builtin_ctz(bit))
+enum {
+    PNI = BIT(LEAF_1, bit_SSE3),
+    SSSE3 = BIT(LEAF_1, bit_SSSE3),
+    FMA = BIT(LEAF_1, bit_FMA),
+    CX16 = BIT(LEAF_1, bit_CMPXCHG16B),
+    SSE4_1 = BIT(LEAF_1, bit_SSE4_1),
+    SSE4_2 = BIT(LEAF_1, bit_SSE4_2),
+    MOVBE = BIT(LEAF_1, bit_MOVBE),
+    POPCNT = BIT(LEAF_1, bit_POPCNT),
+    AVX = BIT(LEAF_1, bit_AVX),
+    F16C = BIT(LEAF_1, bit_F16C),
+    BMI1 = BIT(LEAF_7, bit_BMI),
+    AVX2 = BIT(LEAF_7, bit_AVX2),
+    BMI2 = BIT(LEAF_7, bit_BMI2),
+    AVX512F = BIT(LEAF_7, bit_AVX512F),
+    AVX512DQ = BIT(LEAF_7, bit_AVX512DQ),
+    AVX512CD = BIT(LEAF_7, bit_AVX512CD),
+    AVX512BW = BIT(LEAF_7, bit_AVX512BW),
+    AVX512VL = BIT(LEAF_7, bit_AVX512VL),
+    LAHF_LM = BIT(LEAF_80000001, bit_LAHF_LM),
+    ABM = BIT(LEAF_80000001, 1u << 5), /* which compilers name differently */
+};
+
+/* What a build asks for that the one before does not, and then zeros. */
+enum { MOST_BITS = 16 };
+/* clang-format off */
+static const struct {
+    const char *name;
+    unsigned char bits[MOST_BITS];
+} builds[] = {
+    /* builds, by .ci/pages/presets */
+    [X86_64_V2] = {"x86-64-v2", {CX16, LAHF_LM, POPCNT, PNI, SSE4_1, SSE4_2, SSSE3}},
+    [X86_64_V3] = {"x86-64-v3", {ABM, AVX, AVX2, BMI1, BMI2, F16C, FMA, MOVBE}},
+    [X86_64_V4] = {"x86-64-v4", {AVX512BW, AVX512CD, AVX512DQ, AVX512F, AVX512VL}},
+    /* end */
+};
+/* clang-format on */
+
+/* The registers that the system has to keep for each thread: XMM and YMM, or those of masks and ZMM too. */
+enum { OF_YMM = 0x6, OF_ZMM = 0xE6 };
 
 _Atomic int proved_driver_build;
 
-static int has(unsigned word, unsigned bits)
+/* What there is here. Where the system does not keep the registers of AVX or AVX-512 it is lacking, as Linux has it. */
+static void find_bits(unsigned words[END / 32])
 {
-    return (word & bits) == bits;
+    unsigned eax, ebx, ecx, edx, saved = 0;
+    if (__get_cpuid(1, &eax, &ebx, &words[LEAF_1 / 32], &edx) && (words[LEAF_1 / 32] & bit_OSXSAVE) != 0) {
+        __asm__ volatile("xgetbv" : "=a"(saved), "=d"(edx) : "c"(0));
+    }
+    __get_cpuid_count(7, 0, &eax, &words[LEAF_7 / 32], &ecx, &edx);
+    __get_cpuid(0x80000001, &eax, &ebx, &words[LEAF_80000001 / 32], &edx);
+    if ((saved & OF_YMM) != OF_YMM) {
+        words[LEAF_1 / 32] &= ~bit_AVX;
+    }
+    if ((saved & OF_ZMM) != OF_ZMM) {
+        words[LEAF_7 / 32] &= ~bit_AVX512F;
+    }
+}
+
+static int has_all(const unsigned *words, const unsigned char *bits)
+{
+    for (int i = 0; i < MOST_BITS && bits[i] != 0; i++) {
+        if ((words[bits[i] / 32] >> bits[i] % 32 & 1) == 0) {
+            return 0;
+        }
+    }
+    return 1;
 }
 
 static int newest_build(void)
 {
-    unsigned eax, ebx, ecx, edx, leaf_1 = 0, leaf_7 = 0, leaf_80000001 = 0, saved = 0;
-    if (!__get_cpuid(1, &eax, &ebx, &leaf_1, &edx) || !has(leaf_1, LEAF_1_OF_V2)
-        || !__get_cpuid(0x80000001, &eax, &ebx, &leaf_80000001, &edx) || !has(leaf_80000001, LEAF_80000001_OF_V2)) {
-        return NO_BUILD;
+    const int count = sizeof builds / sizeof *builds;
+    unsigned words[END / 32] = {0};
+    int build = NO_BUILD;
+    find_bits(words);
+    while (build + 1 < count && has_all(words, builds[build + 1].bits)) {
+        build++;
     }
-    if (has(leaf_1, LEAF_1_OF_V3) && has(leaf_80000001, LEAF_80000001_OF_V3)
-        && __get_cpuid_count(7, 0, &eax, &leaf_7, &ecx, &edx)) {
-        __asm__ volatile("xgetbv" : "=a"(saved), "=d"(edx) : "c"(0));
-    }
-    if (!has(leaf_7, LEAF_7_OF_V3) || !has(saved, VECTORS_OF_V3)) {
-        return X86_64_V2;
-    }
-    return has(leaf_7, LEAF_7_OF_V4) && has(saved, VECTORS_OF_V4) ? X86_64_V4 : X86_64_V3;
+    return build;
 }
 
 int proved_driver_choose_build(void)
 {
-    static const char *const names[] = {
-        [X86_64_V2] = "x86-64-v2", [X86_64_V3] = "x86-64-v3", [X86_64_V4] = "x86-64-v4"};
     const char *const named = secure_getenv("PROVED_ARGON2_CPU"); /* that build, or none */
     int build = newest_build();
-    while (named != NULL && named[0] != 0 && build != NO_BUILD && strcmp(named, names[build]) != 0) {
+    while (named != NULL && named[0] != 0 && build != NO_BUILD && strcmp(named, builds[build].name) != 0) {
         build--;
     }
     atomic_store_explicit(&proved_driver_build, build, memory_order_relaxed);

@@ -32,9 +32,13 @@ tuned_salt=736f6d6573616c74
 # Where Linux says how many programs have run at once in the last minute.
 loads=/proc/loadavg
 
-# What the processors of a build have, as Linux names it, beside what every one of 64 bits has.
-flags_of_v2='cx16 lahf_lm popcnt pni sse4_1 sse4_2 ssse3'
-flags_of_v3='avx avx2 bmi1 bmi2 f16c fma abm movbe'
+# The builds that have programs, and what a processor has for each, beside what it has for the one before, as Linux
+# names it.
+# builds, by .ci/pages/presets
+oldest_build=x86-64-v2
+flags_of_builds='x86-64-v2: cx16 lahf_lm popcnt pni sse4_1 sse4_2 ssse3
+x86-64-v3: abm avx avx2 bmi1 bmi2 f16c fma movbe'
+# end
 
 # What the program's C library is told, where the user tells it nothing: to ask for huge pages.
 tunables=glibc.malloc.hugetlb=1
@@ -143,26 +147,28 @@ find_builds_of_x86() {
     while [ ! "$flags" ] && read -r field line; do
         case $field in flags*) flags=" ${line#: } " ;; esac
     done 2>/dev/null </proc/cpuinfo
-    # shellcheck disable=SC2086 # they are words
-    ! has_flags $flags_of_v2 $flags_of_v3 || builds='x86-64-v3 '
-    # (where the system does not say what the processor has, it is taken to be one)
-    # shellcheck disable=SC2086
-    [ "$flags" ] && ! has_flags $flags_of_v2 || builds=${builds}x86-64-v2
-}
-
-has_flags() {
-    for flag in "$@"; do
-        case $flags in
-        *" $flag "*) ;;
-        *) return 1 ;;
+    # (where the system does not say what the processor has, the oldest runs)
+    [ "$flags" ] || { builds=$oldest_build && return; }
+    build=
+    for word in $flags_of_builds end:; do
+        case $word in
+        *:) builds=${build:+$build }$builds build=${word%:} ;; # (all that the one before asks for is there)
+        *) has_flag "$word" || return 0 ;;
         esac
     done
 }
 
+has_flag() {
+    case $flags in
+    *" $1 "*) ;;
+    *) return 1 ;;
+    esac
+}
+
 # Ends where no build runs here.
 refuse_processor() {
-    fail 70 "this processor is older than x86-64-v2, or neither x86-64 nor ARM64, for which the programs are built: \
-see /proc/cpuinfo"
+    fail 70 "this processor is older than $oldest_build, or neither x86-64 nor ARM64, for which the programs are \
+built: see /proc/cpuinfo"
 }
 
 # ---- passwords

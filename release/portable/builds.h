@@ -27,20 +27,31 @@
 
 #else
 
+/* What each build is for, the newest last, by its number and what its calls are named by. */
+/* clang-format off */
+/* builds, by .ci/pages/presets */
+#define EACH_BUILD(each, ...) \
+    each(X86_64_V2, x86_64_v2, __VA_ARGS__) \
+    each(X86_64_V3, x86_64_v3, __VA_ARGS__) \
+    each(X86_64_V4, x86_64_v4, __VA_ARGS__)
+/* end */
+/* clang-format on */
+
 /* (in Linux's convention for calls, which a compiler for Windows has beside its own) */
-#define DECLARED(name) \
-    __attribute__((sysv_abi)) __typeof__(proved_argon2_##name) IN_BUILD(x86_64_v2, name), IN_BUILD(x86_64_v3, name), \
-        IN_BUILD(x86_64_v4, name);
+#define DECLARED(name) EACH_BUILD(DECLARED_IN, name)
+#define DECLARED_IN(number, build, name) \
+    __attribute__((sysv_abi)) __typeof__(proved_argon2_##name) IN_BUILD(build, name);
 #define MADE_BY(answer, name, arguments, otherwise) \
     switch (build_here()) { \
-    case X86_64_V4: answer(IN_BUILD(x86_64_v4, name) arguments); \
-    case X86_64_V3: answer(IN_BUILD(x86_64_v3, name) arguments); \
-    case X86_64_V2: answer(IN_BUILD(x86_64_v2, name) arguments); \
+        EACH_BUILD(MADE_IN, answer, name, arguments) \
     default: return otherwise; \
     }
+#define MADE_IN(number, build, answer, name, arguments) \
+    case number: \
+        answer(IN_BUILD(build, name) arguments);
 
-/* The builds, the newest last. */
-enum build { NOT_CHOSEN, NO_BUILD, X86_64_V2, X86_64_V3, X86_64_V4 };
+#define NUMBER(number, build, ...) number,
+enum build { NOT_CHOSEN, NO_BUILD, EACH_BUILD(NUMBER, ) };
 
 #pragma GCC visibility push(hidden)
 

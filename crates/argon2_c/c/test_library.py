@@ -46,11 +46,11 @@ OF_SYSTEM = set("""_GLOBAL_OFFSET_TABLE_ __errno_location __stack_chk_fail align
     getpid getrandom madvise malloc mmap munmap pthread_attr_destroy pthread_attr_init pthread_attr_setdetachstate
     pthread_attr_setguardsize pthread_attr_setstacksize pthread_create pthread_join pthread_setcancelstate
     pthread_sigmask secure_getenv sem_destroy sem_init sem_post sem_wait sigfillset strcmp strlen sysconf""".split())
-# What x86-64-v2 and x86-64-v3 ask for, but what an older qemu or glibc needs itself, as bindings/c and as qemu name it,
+# What x86-64-v2 and x86-64-v3 ask for, but what an older qemu or glibc needs itself, as the driver and as qemu name it,
 # and the processors of qemu that have it; and what x86-64-v4 does.
-OF_V2 = dict(CMPXCHG16B='cx16', SSE4_2='sse4.2', POPCNT='popcnt', LAHF_LM='lahf-lm')
-OF_V3 = dict(FMA='fma', MOVBE='movbe', OSXSAVE='xsave', AVX='avx', F16C='f16c', BMI='bmi1', AVX2='avx2', BMI2='bmi2',
-             LZCNT='abm')
+OF_V2 = dict(CX16='cx16', SSE4_2='sse4.2', POPCNT='popcnt', LAHF_LM='lahf-lm')
+OF_V3 = dict(FMA='fma', MOVBE='movbe', bit_OSXSAVE='xsave', AVX='avx', F16C='f16c', BMI1='bmi1', AVX2='avx2',
+             BMI2='bmi2', ABM='abm')
 OF_V4 = [f'AVX512{part}' for part in ('F', 'DQ', 'CD', 'BW', 'VL')]
 LACKING = [*((f'Nehalem,-{name}', '1 of 1') for name in OF_V2.values()),
            *((f'Haswell,-{name}', '2 of 2') for name in OF_V3.values())]
@@ -213,10 +213,11 @@ def test_takes_the_build_for(cpu, build):
 
 
 @needs_qemu
-@pytest.mark.parametrize('feature', sorted({*OF_V2, *OF_V3} - {'AVX', 'LAHF_LM', 'LZCNT'}))
+@pytest.mark.parametrize('feature', sorted({*OF_V2, *OF_V3} - {'AVX'}))
 def test_finds_what_is_not_asked_for(feature, objects):
-    """(What has AVX2 has AVX. The last two of the leaf 80000001 are asked for alone.)"""
-    program, cpu = planted(objects, rf'bit_{feature} \| | \| bit_{feature}\b', ''), 'Haswell'
+    """(What has AVX2 has AVX.)"""
+    asked = rf'(?<=[{{ ]){feature}(, |(?=}}))| && \(\S+ / 32\] & {feature}\) != 0'
+    program, cpu = planted(objects, asked, ''), 'Haswell'
     if feature in OF_V2:
         cpu = 'Nehalem'
     name = {**OF_V2, **OF_V3}[feature]
@@ -248,7 +249,8 @@ def test_finds_a_jump_to_a_newer_build(objects):
 
 
 @pytest.mark.parametrize('old,new', [
-    *((re.escape('has(leaf_7, LEAF_7_OF_V4)'), f'has(leaf_7 & ~bit_{feature}, LEAF_7_OF_V4)') for feature in OF_V4),
+    *((re.escape('&words[LEAF_7 / 32], &ecx, &edx);'), rf'\g<0> words[LEAF_7 / 32] &= ~bit_{feature};')
+      for feature in OF_V4),
     *((re.escape(SAVED[:-2]) + '.*', f'saved = {saved};') for saved in ('0xC6', '0xA6', '0x66'))])
 def test_asks_for_all_of_v4(old, new, objects):
     """The build for x86-64-v3 on a processor that has all, where one thing lacks: qemu has no such processor."""
