@@ -10,10 +10,11 @@ from types import SimpleNamespace
 import pytest
 from runs import NO_MEMORY, NO_WORKER, PROCESSORS, TRIES, VALUE, Hash, copy_of, run
 from shared import TOP, ahead
+from vectors import LANES
 
 AT_ONCE = 4 * len(PROCESSORS)  # a start that is refused sleeps between its tries
 IN_TURN = '_refused_in_turn'  # ends the names of tests that are swept
-ONE, TWO, MANY, MORE = (Hash('argon2i', 19, 2, 256, lanes, 32) for lanes in (1, 2, 16, 20))
+ONE, TWO, MANY, MORE = (Hash('argon2i', 19, 2, max(256, 8 * p), p, 32) for p in (1, 2, 16, LANES + 1))
 TRUE, FALSE = (0, 'true\n'), (1, 'false\n')
 # Runs of the program and of its tool: the label, what they are to come to, and the words.
 RUNS = (
@@ -29,7 +30,7 @@ RUNS = (
     ('tool_check_of_no_text',
      (2, '', 'Decoding failed\nan encoded hash begins with $argon2, and needs single quotes\n'),
      ['check', f'{MANY.text()}=']),
-    ('tool_check_of_20_lanes',
+    ('tool_check_of_more_lanes',
      (5, '', 'The encoded hash is above the limits\ncheck and new take at most '
              '2 GiB, 10 passes, 16 lanes and the work of 4 GiB in one pass\n'),
      ['check', MORE.text()]),
@@ -97,7 +98,7 @@ LABELS = {label: holds for patterns, *holds in (
     ('program_no_rehash', 0, lambda of: of.own == of.program_rehash),
     ('tool_new', 0, lambda of: of.own == of.program_hash_in_one_thread + 1),
     ('{program_verify,tool_check}', 4 * 2 * 16, lambda of: of.own == of.program_verify),
-    ('tool_check_of_{no_text,20_lanes}', 0, lambda of: of.own == of.tool_check_of_no_text > 0),
+    ('tool_check_of_{no_text,more_lanes}', 0, lambda of: of.own == of.tool_check_of_no_text > 0),
 ) for label in labels_of(patterns)}
 
 

@@ -1,6 +1,7 @@
 """What the generators and the tests of this folder share: how they read and write files, and a copy to do so in."""
 
 import os
+import re
 import shutil
 import sys
 import textwrap
@@ -77,10 +78,10 @@ class Copy:
         return said(*words, cwd=self.top)
 
     def change(self, file, old, new):
-        """Puts another text in the place of one, or makes a file."""
-        text = (self.top / file).read_text(encoding='utf-8') if old else ''
-        assert not old or text.count(old) == 1, f'{file} has {old} {text.count(old)} times'
-        (self.top / file).write_text(text.replace(old, new) if old else new, encoding='utf-8')
+        """Puts a text in the place of what fits a pattern, or makes a file."""
+        text, count = re.subn(old, lambda _: new, (self.top / file).read_text(encoding='utf-8')) if old else (new, 1)
+        assert count == 1, f'{file} has {old} {count} times'
+        (self.top / file).write_text(text, encoding='utf-8')
 
     def assert_is_current(self):
         """What scripts write is as they write it."""
