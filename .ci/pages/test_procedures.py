@@ -19,8 +19,7 @@ ROW = 'Config::example\tConfig { ad: [], hash_length: 32, lanes: 1, mem_cost: 65
 CONFIG, ROWS = 'crates/argon2_standard/src/config.rt', 'crates/argon2_vectors/rows.txt'
 HEADER, ERRORS = 'crates/argon2_c/include/proved_argon2', 'crates/argon2_c/errors.txt'
 CHANGED = ('CHANGELOG.md', '\nUnreleased', '\nWhat is new.\n\nUnreleased')
-# The edits of each procedure: a file, what fits a text of it before and after such a change, and what stands in its
-# place; of a new file nothing.
+# The edits of each procedure: a file, a pattern that also fits after such a change (of a new file none), and a text.
 PROCEDURES = {
     'a preset, before the others': [
         (CONFIG, "    /// OWASP's first", PRESET + "    /// OWASP's first"),
