@@ -23,6 +23,10 @@ RUNS = {
     'a table of tests is empty': ('judge(test_empty.py QUICK)', '0 passed, 1 failed, 0 skipped'),
     'one of its tests is skipped': ('judge(test_lacks.py QUICK)', '1 passed, 0 failed, 0 skipped'),
     'one is skipped for another reason': ('judge(test_idle.py QUICK)', '1 passed, 1 failed, 0 skipped'),
+    'one of CTest within a test is': ('judge(one QUICK COMMAND echo "1/1 Test #1: a ..***Skipped 0.0 sec")',
+                                      '1 passed, 1 failed, 0 skipped'),
+    'one within it needs another processor': ('judge(one QUICK COMMAND echo "1/1 a ..***Not Run (Disabled) 0.0 sec")',
+                                              '1 passed, 0 failed, 0 skipped'),
     'one of each module is': ('judge(one QUICK COMMAND cat skips)', f'1 passed, {len(NAMES)} failed, 0 skipped'),
 }
 MODULES = {

@@ -151,7 +151,7 @@ def test_drawn_calls_with_sanitizers(work):
 
 def test_programs_of_debian(work):
     shown = run("env", f"LIBARGON2={work}/lib", "/usr/bin/python3", "-B", "-m", "pytest", "-q", TESTS / "programs.py")
-    assert " passed" in shown, shown
+    assert " passed" in shown and "skipped" not in shown, shown
 
 
 # ---- planted faults
