@@ -14,7 +14,7 @@ CHECK = r'^{} *(?:(?:async )?def test_|assert\b|check\w*\(|test\(|judge\w*\(|in_
         r'|#\[test\]|refused \w+$|\S.*\t)'
 PLACES = '.ci', 'bindings', 'crates'
 # A verb that is an imperative, in a short subject; and words that only look like other forms of one.
-SUBJECT = re.compile(r'(?=.{1,72}$)(?:(?:fix|features?|figures?):? )?'
+SUBJECT = re.compile(r'(?=.{1,72}$)(?!(?:fix|features?|figures?)\b)'
                      r'(?!(?!(?:bring|embed|need|feed|focus)\b)\w+(?:ing|ed|[^s]s) )\S+ \S', re.I)
 
 
@@ -41,6 +41,7 @@ def test_each_commit_says_what_and_why():
 
 
 @pytest.mark.parametrize('parents, subject, body', [
-    ('a b', 'Merge it', 'Why'), ('a', 'Add it', ''), ('a', 'Added it', 'Why'), ('a', f'Add {"it" * 40}', 'Why')])
+    ('a b', 'Merge it', 'Why'), ('a', 'Add it', ''), ('a', 'Added it', 'Why'), ('a', f'Add {"it" * 40}', 'Why'),
+    ('a', 'Fix: add it', 'Why')])
 def test_a_wrong_message_is_found(parents, subject, body):
     assert is_well(['a'], 'Add it', 'Why') and not is_well(parents.split(), subject, body)

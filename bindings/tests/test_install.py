@@ -104,7 +104,7 @@ def test_the_shared_object_exports_what_the_headers_declare_and_is_bound_at_once
 def test_registers_of_256_and_512_bits_are_in_the_builds_for_their_processors_alone(built, installed):
     programs = installed / "libexec/proved-argon2"
     for file, expected in (
-        *((file, registers) for build, registers in zip(PROVED, (set(), {"ymm"}), strict=True)
+        *((file, set() if build == "x86-64-v2" else {"ymm"}) for build in PROVED
           for file in (built / build / "libargon2_c.a", programs / build / "argon2_tool")),
         (installed / f"lib/{LIBRARY}.1", {"ymm", "zmm"}), (installed / "lib/libproved_argon2.a", {"ymm", "zmm"}),
     ):
