@@ -179,7 +179,7 @@ def test_new_takes_any_bytes_and_tells_of_a_newline_at_the_end(password, ends_wi
 
 @pytest.mark.parametrize("settings, password, status, errors", [
     (SMALL, b"", 2, b"empty"), ("argon2id 19 1 7 1 16 seq".split(), b"x", 2, b"Memory cost is too small\n"),
-    ("argon2id 19 11 8 1 16 seq".split(), b"x", 5, ABOVE), (SMALL, b"x" * 65537, 2, b"Password is too long\n")])
+    ("argon2id 19 1000000 8 1 16 seq".split(), b"x", 5, ABOVE), (SMALL, b"x" * 65537, 2, b"Password is too long\n")])
 def test_new_makes_no_text_of_what_is_rejected(settings, password, status, errors):
     ended, output, said = piped(["new", *settings], password)
     assert (ended, output) == (status, b"") and errors in said and (settings == SMALL or errors == said)
