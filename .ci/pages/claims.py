@@ -86,7 +86,7 @@ def write_reports(top):
     reports = {name: report_of(*which) for name, which in BUILT.items()}
     lacking = [name for name, report in reports.items() if not report]
     if lacking:
-        return print(f'not built here of these sources: {", ".join(lacking)}')
+        return print(f'left as it is, since not built of these sources: {", ".join(lacking)}')
     taken = re.findall(r'^ +(\S+) +reached$', reports[PROGRAM], re.M)
     lists = (line for name, which in BUILT.items() for line in (f'{name}:', '', *lines_of(*which, reports[name]), ''))
     fill(REPORTS, 'the reports', [*lists, 'The contracts of the functions of C of the programs:', '',
