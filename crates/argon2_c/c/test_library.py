@@ -73,6 +73,8 @@ def said(*command, **how):
 @cache
 def checks_of(program):
     """What a program's checks say."""
+    if not (TESTS / program).exists():
+        pytest.skip('there is no libargon2')
     return re.findall(r'^passed: (.*)$', said(TESTS / program, cwd=TESTS), re.M)
 
 
