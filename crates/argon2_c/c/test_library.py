@@ -73,7 +73,7 @@ def said(*command, **how):
 @cache
 def checks_of(program):
     """What a program's checks say."""
-    if not (TESTS / program).exists():
+    if os.environ.get('PEER') == '0' and not (TESTS / program).exists():
         pytest.skip('there is no libargon2')
     return re.findall(r'^passed: (.*)$', said(TESTS / program, cwd=TESTS), re.M)
 
