@@ -1,5 +1,6 @@
 #!/usr/bin/env python3
-"""Writes this crate's files stdin and stdout: questions, and their answers from outside.
+"""Writes this crate's files stdin and stdout, which `rt ci` reads, and which git ignores: questions, and
+their answers from outside. Without them `rt ci` would ask nothing, so CI writes them first.
 
 The questions are those of rows.txt, each a line with its answer behind a tab; those that are made here
 from BLAKE2b of hashlib, from rfc9106.py and around the default limits; and those of bindings/vectors. Its
@@ -174,10 +175,15 @@ def verdicts():
         yield f"verify_encoded {text}", answer
 
 
+def questions():
+    """All questions, each with its answer."""
+    makers = (rows, limits, hashes, stretched_hashes, first_inputs, references, tags, runs, verdicts)
+    return [pair for maker in makers for pair in maker()]
+
+
 def main():
     rfc9106.check()
-    makers = (rows, limits, hashes, stretched_hashes, first_inputs, references, tags, runs, verdicts)
-    pairs = [pair for maker in makers for pair in maker()]
+    pairs = questions()
     for name, lines in zip(("stdin", "stdout"), zip(*pairs)):
         (HERE / name).write_text("".join(f"{line}\n" for line in lines), encoding="utf-8")
     print(f"vectors: {len(pairs)} questions")

@@ -47,7 +47,7 @@ impl Limits {
             || time_cost > self.time_cost
             || lanes > self.lanes
             // In 64 bits, which hold the product of any two numbers of 32 bits.
-            || u64::from(mem_cost) * u64::from(time_cost) > self.work
+            || mem_cost as u64 * time_cost as u64 > self.work
     }
 }
 

@@ -43,8 +43,8 @@ pub mod fill {
 /// Encoded hashes (PHC strings), written and decoded.
 pub mod encoding {
     pub use argon2_text::encoding::{
-        Head, base64_len, decode_string, encode_string, encoded_len, item_len, num_len, read_hash,
-        read_salt, spelling_of, write_encoded,
+        Head, base64_len, decode_string, encode_string, encoded_len, item_len, num_len, read_item,
+        read_salt, spelling_of, write_encoded, write_encoded_by_sums,
     };
 }
 

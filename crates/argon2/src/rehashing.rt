@@ -39,5 +39,5 @@ pub fn agrees(numbers: &Numbers, config: &Config) -> bool
         && numbers.time_cost == config.time_cost
         && numbers.parallelism == config.lanes
         // The configuration's length is made wider, since the hash's need not fit 32 bits.
-        && numbers.hash_len == u64::from(config.hash_length)
+        && numbers.hash_len == config.hash_length as u64
 }

@@ -30,7 +30,7 @@ pub fn numbers_of_text(encoded: &str) -> Result<Numbers>
     ensures unspelled { SpellsNothing encoded.now → result ≡ Err Error.DecodingFail }
     ensures spelled { (d : Spelled) → Spells encoded.now d → result ≡ Ok (numbers_of d) }
 {
-    match spelling_of(encoded) {
+    match spelling_of(encoded.as_bytes()) {
         Some(head) => Ok(head.numbers()),
         None => Err(Error::DecodingFail),
     }
@@ -54,7 +54,9 @@ pub fn accepted_spelling<'a>(
         → IsItem head.hash.now hash
         → IsAccepted (spelled_with head salt hash) pwd_len secret.now ad.now) }
 {
-    let head = spelling_of(encoded).ok_or(Error::DecodingFail)?;
+    let Some(head) = spelling_of(encoded.as_bytes()) else {
+        return Err(Error::DecodingFail);
+    };
     match refusal(&head, pwd_len, secret, ad) {
         None => Ok(head),
         Some(refusal) => Err(refusal),
@@ -108,7 +110,11 @@ pub fn config_of_numbers<'a>(numbers: &Numbers, secret: &'a [u8], ad: &'a [u8]) 
         → IsConfigOf d secret.entry.now ad.entry.now result }
 {
     // No accepted hash is longer. Any other may be here, and its length would be cut by the cast.
-    let hash_length = numbers.hash_len.min(u64::from(MAX_HASH_LENGTH)) as u32;
+    let hash_length = if numbers.hash_len < MAX_HASH_LENGTH as u64 {
+        numbers.hash_len as u32
+    } else {
+        MAX_HASH_LENGTH
+    };
     let thread_mode = if numbers.parallelism > 1 {
         ThreadMode::AtMost(MAX_WORKERS)
     } else {

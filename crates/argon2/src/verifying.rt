@@ -28,13 +28,16 @@ pub use texts::{
 };
 
 /// The bits in which two hashes of one length differ at any place. They are gathered by `|`, so
-/// that no branch looks at a place alone. `zip` would leave out what only one of them has.
+/// that no branch looks at a place alone.
 fn difference(one: &[u8], other: &[u8]) -> u8
+    requires { length one.now ≡ length other.now }
     ensures { result ≡ difference_of one.now other.now }
 {
-    one.iter()
-        .zip(other)
-        .fold(0, |difference, (a, b)| difference | (a ^ b))
+    let mut difference = 0;
+    for at in 0..one.len() {
+        difference |= one[at] ^ other[at];
+    }
+    difference
 }
 
 /// Whether two hashes of one length are equal. It goes on to the last byte, where `==` may stop at

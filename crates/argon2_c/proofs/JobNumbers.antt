@@ -1,6 +1,6 @@
 -- The numbers of calls and jobs.
 use Rattle.std.proofs.Common.{◌≡◌, ℕ, None, Some, refl, sym, subst, inl, inr, ◌*◌, ◌^◌, ◌<◌, ◌≤◌, Bool, false, true, List, length, arith, Option, Ok}
-use Rattle.std.proofs.Common.{Err, ap, ◌∙◌, Bor, Result, IsErr, IsErrAnd}
+use Rattle.std.proofs.Common.{Err, ap, ◌∙◌, Bor, Result}
 use Rattle.std.proofs.lemmas.Bool.Decides.{eqb_tells}
 use Rattle.argon2_standard.specs.declared.variant.Variant.{Variant}
 use Rattle.argon2_standard.specs.declared.variant.Variant.TheVariants.{Argon2d, Argon2i, Argon2id}
@@ -201,25 +201,24 @@ accepted_salt config p s h none = (accepted config p s h (rw none refl)).salt_fi
 -- ---- from the head of a string to what is said of the string
 
 -- a string without a head is rejected
-pub no_head : {A : Type 0} (text : List ℕ) (error : CallError) (answer : Result (Unit {0}) CallError) (old : A) (Done : Spelled → Type 0)
-    → IsErr answer × IsErrAnd answer (λ other. other ≡ error) → HasNone text error → OfText text old old answer Done
-no_head text error (Ok _) old Done h none = absurd h.1
-no_head text error (Err other) old Done h (inl (is, not_text)) = record {
-  not_utf8 = λ no. (ap Err (h.1 ∙ is), refl);
-  unspelled = λ utf8 none. absurd (not_text utf8);
-  spelled = λ utf8 d s. absurd (not_text utf8);
+pub no_head : {A : Type 0} (text : List ℕ) (error : CallError) (old : A) (Done : Spelled → Type 0)
+    → HasNone text error → OfText text old old (Err error) Done
+no_head text error old Done (inl (is, not_ascii)) = record {
+  not_ascii = λ no. (ap Err is, refl);
+  unspelled = λ ascii none. absurd (not_ascii ascii);
+  spelled = λ ascii d s. absurd (not_ascii ascii);
 }
-no_head text error (Err other) old Done h (inr (is, utf8, none)) = record {
-  not_utf8 = λ no. absurd (no utf8);
-  unspelled = λ _ _. (ap Err (h.1 ∙ is), refl);
+no_head text error old Done (inr (is, ascii, none)) = record {
+  not_ascii = λ no. absurd (no ascii);
+  unspelled = λ _ _. (ap Err is, refl);
   spelled = λ _ d s. absurd (none d s);
 }
 
 -- what is done with any salt and hash behind a head is done with what the string decodes to
 pub by_head : {A : Type 0} (text : List ℕ) (h : Head) (old new : A) (answer : Result (Unit {0}) CallError) (Done : Spelled → Type 0) → HasHead text h
     → ((salt hash : List ℕ) → IsItem h.salt.now salt → IsItem h.hash.now hash → Done (spelled_with h salt hash)) → OfText text old new answer Done
-by_head text h old new answer Done (utf8, s) done = record {
-  not_utf8 = λ no. absurd (no utf8);
+by_head text h old new answer Done (ascii, s) done = record {
+  not_ascii = λ no. absurd (no ascii);
   unspelled = λ _ none. absurd (none (spelled_with h s.0 s.1) s.2.spells);
   spelled = λ _ d spells. subst Done (sym (spelled_at text h d s spells)) (done s.0 s.1 s.2.salt_item s.2.hash_item);
 }

@@ -168,7 +168,7 @@ module _ (pwd salt : List ℕ) (config : Config) (len : ℕ) where
 -- ---- from turns to a run
 
 -- where two lists without their element at i are the same, so are all others of their elements
-same_at : (xs ys : List (List (List ℕ))) (i k : ℕ) → i < length xs → i < length ys → k ≢ i → remove ys i ≡ remove xs i → get_or ys k [] ≡ get_or xs k []
+pub same_at : (xs ys : List (List (List ℕ))) (i k : ℕ) → i < length xs → i < length ys → k ≢ i → remove ys i ≡ remove xs i → get_or ys k [] ≡ get_or xs k []
 same_at xs ys i k in_xs in_ys ne same = elim (cases_lt k i) [
   | inl w ↦ sym (get_or-remove_below ys i [] k w in_ys) ∙ ap (λ (zs : List (List (List ℕ))). get_or zs k []) same ∙ get_or-remove_below xs i [] k w in_xs
   | inr w ↦

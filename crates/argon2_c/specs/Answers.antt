@@ -1,24 +1,19 @@
 -- What the calls answer, and what a string leaves in a buffer.
-use Rattle.std.specs.Prelude.{◌≡◌, ℕ, ◌-◌, ◌<◌, ◌≤◌, List, ◌++◌, length, replicate, Result, Ok, Err, Bool, true, false, Option, Some, None, IsUtf8}
+use Rattle.std.specs.Prelude.{◌≡◌, ℕ, ◌-◌, ◌<◌, ◌≤◌, List, ◌++◌, length, replicate, Result, Ok, Err, Bool, true, false, Option, Some, None}
+use Rattle.std.specs.Str.{IsAscii}
 use Rattle.argon2_c.specs.declared.errors.CallError.{CallError}
-use Rattle.argon2_c.specs.declared.errors.CallError.TheVariants.{WrongLength, Library, Mismatch, NotUtf8, UnknownNumber}
+use Rattle.argon2_c.specs.declared.errors.CallError.TheVariants.{WrongLength, Library, Mismatch, NotAscii}
 use Rattle.argon2_standard.specs.declared.config.Config.{Config}
 use Rattle.argon2_standard.specs.declared.error.Error.{Error}
 use Rattle.argon2_standard.specs.declared.error.Error.TheVariants.{DecodingFail}
 use Rattle.argon2_standard.specs.Standard.Grammar.{Spells, SpellsNothing}
 use Rattle.argon2_standard.specs.Standard.Text.{Spelled, spelled_of, text_of}
-use Rattle.argon2_c.specs.ErrorTable.{message_of, number_of, IsNoNumber}
 
 -- ---- what a string leaves in a caller's buffer
 
 -- the string, and zeros up to the buffer's length
 abbrev pub padded : ℕ → List ℕ → List ℕ
 padded len text = text ++ replicate (len - length text) 0
-
--- the buffer has the string, where there is room for it and a zero; else the buffer is as it was
-pub record WritesText (text old new : List ℕ) (answer : Result (Unit {0}) CallError) : Type 0 where
-  pub fits : length text < length old → (answer ≡ Ok tt) × (new ≡ padded (length old) text)
-  pub wrong_length : length old ≤ length text → (answer ≡ Err WrongLength) × (new ≡ old)
 
 -- ---- what the calls return. The definitions take the configuration of the settings, or the error of their numbers,
 -- and are made of the words of the library's own contract
@@ -30,11 +25,11 @@ abbrev pub OrError : {A : Type 0} → Option Error → A → A → Result (Unit 
 OrError (Some e) old new answer Done = (answer ≡ Err (Library e)) × (new ≡ old)
 OrError None old new answer Done = Done
 
--- a string that is not UTF-8 or decodes to nothing is rejected with all as it was; else what is done with what it decodes to
+-- a string that is not ASCII or decodes to nothing is rejected with all as it was; else what is done with what it decodes to
 pub record OfText {A : Type 0} (text : List ℕ) (old new : A) (answer : Result (Unit {0}) CallError) (Done : Spelled → Type 0) : Type 0 where
-  pub not_utf8 : (IsUtf8 text → ⊥) → (answer ≡ Err NotUtf8) × (new ≡ old)
-  pub unspelled : IsUtf8 text → SpellsNothing text → (answer ≡ Err (Library DecodingFail)) × (new ≡ old)
-  pub spelled : IsUtf8 text → (d : Spelled) → Spells text d → Done d
+  pub not_ascii : (IsAscii text → ⊥) → (answer ≡ Err NotAscii) × (new ≡ old)
+  pub unspelled : IsAscii text → SpellsNothing text → (answer ≡ Err (Library DecodingFail)) × (new ≡ old)
+  pub spelled : IsAscii text → (d : Spelled) → Spells text d → Done d
 
 -- what is made, where the buffers have the lengths for it; else they are as they were
 pub record WritesWhere {A : Type 0} (Fit : Type 0) (made old new : A) (answer : Result (Unit {0}) CallError) : Type 0 where
@@ -62,10 +57,3 @@ abbrev pub IsTextLength : Result Config Error → ℕ → ℕ → Type 0
 IsTextLength (Err e) salt_len len = len ≡ 0
 IsTextLength (Ok config) salt_len len = (salt hash : List ℕ) → length salt ≡ salt_len → length hash ≡ config.hash_length
     → len ≡ length (text_of (spelled_of config salt hash))
-
--- ---- messages
-
--- the message of the error with this number; a number that no error has is rejected
-pub record WritesMessage (number : ℕ) (old new : List ℕ) (answer : Result (Unit {0}) CallError) : Type 0 where
-  pub known : (error : CallError) → number_of error ≡ number → WritesText (message_of error) old new answer
-  pub unknown : IsNoNumber number → (answer ≡ Err UnknownNumber) × (new ≡ old)

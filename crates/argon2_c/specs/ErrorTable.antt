@@ -1,13 +1,12 @@
--- The errors of the calls for C: their numbers and messages, and what a call returns.
-use Rattle.std.specs.Prelude.{ℕ, List, codes, ◌≡◌, Result, Ok, Err}
+-- The errors of the calls for C: their numbers, and what a call returns.
+use Rattle.std.specs.Prelude.{ℕ, ◌≡◌, Result, Ok, Err}
 use Rattle.argon2_standard.specs.declared.error.Error.{Error}
-use Rattle.argon2_standard.specs.Views.Messages.{message_of as library_message}
 use Rattle.argon2_c.specs.declared.errors.CallError.{CallError}
 use Rattle.argon2_standard.specs.declared.error.Error.TheVariants as error
 use Rattle.argon2_c.specs.declared.errors.CallError.TheVariants as call
 
--- ---- the code's own table: the numbers and the messages of the errors. A caller of C compares a number with the header,
--- and no definition beside `code_of`, `IsNoNumber` and `WritesMessage` looks into the table
+-- ---- the code's own table: the numbers of the errors. A caller of C compares a number with the header, and no definition
+-- beside `code_of` looks into the table
 
 -- the numbers of the library's errors, from 1 in their order
 abbrev pub library_number : Error → ℕ
@@ -42,7 +41,7 @@ number_of (call.Library e) = library_number e
 -- errors of C, by .ci/pages/presets
 number_of call.Mismatch = 64
 number_of call.WrongLength = 65
-number_of call.NotUtf8 = 66
+number_of call.NotAscii = 66
 number_of call.UnknownNumber = 67
 number_of call.NeedsRehash = 68
 number_of call.TooCostly = 69
@@ -52,27 +51,7 @@ number_of call.WrongBlocks = 72
 
 -- end
 
--- the messages
-abbrev pub message_of : CallError → List ℕ
-message_of (call.Library e) = library_message e
--- messages of C, by .ci/pages/presets
-message_of call.Mismatch = codes "The password does not match"
-message_of call.WrongLength = codes "The buffer has the wrong length"
-message_of call.NotUtf8 = codes "The encoded hash is not UTF-8"
-message_of call.UnknownNumber = codes "There is no error of this number"
-message_of call.NeedsRehash = codes "The encoded hash was made with other settings"
-message_of call.TooCostly = codes "The encoded hash is above the limits"
-message_of call.NoJob = codes "The job is of no accepted call"
-message_of call.NoPlace = codes "The job has no such pass, slice or lane"
-message_of call.WrongBlocks = codes "There are too many or too few blocks"
-
--- end
-
 -- ---- the number that a call returns to C, for an answer
-
--- no error has the number
-abbrev pub IsNoNumber : ℕ → Type 0
-IsNoNumber number = (error : CallError) → number_of error ≡ number → ⊥
 
 -- what a call returns to C: 0, or the number of the error
 abbrev pub code_of : Result (Unit {0}) CallError → ℕ

@@ -7,3 +7,6 @@ pub mod Jobs
 pub mod Steps
 pub mod CallerBlocks
 pub mod Runs
+pub mod Team
+pub mod Threads
+pub mod Driver

@@ -1,5 +1,6 @@
 -- What an encoded hash decodes to, whole and by its head.
-use Rattle.std.specs.Prelude.{◌≡◌, ℕ, Bool, true, false, List, length, min, Result, Ok, Err, ◌⊎◌, IsUtf8}
+use Rattle.std.specs.Prelude.{◌≡◌, ℕ, Bool, true, false, List, length, min, Result, Ok, Err, ◌⊎◌}
+use Rattle.std.specs.Str.{IsAscii}
 use Rattle.argon2_standard.specs.declared.config.Config.{Config}
 use Rattle.argon2_standard.specs.declared.error.Error.{Error}
 use Rattle.argon2.specs.Standard.Limits.{is_too_costly}
@@ -12,7 +13,7 @@ use Rattle.argon2.specs.declared.limits.Limits.{Limits as LibraryLimits}
 use Rattle.argon2_c.specs.Answers.{OfText, WritesWhere}
 use Rattle.argon2_c.specs.declared.reading.Stored.{Stored}
 use Rattle.argon2_c.specs.declared.errors.CallError.{CallError}
-use Rattle.argon2_c.specs.declared.errors.CallError.TheVariants.{Library, NeedsRehash, TooCostly, NotUtf8}
+use Rattle.argon2_c.specs.declared.errors.CallError.TheVariants.{Library, NeedsRehash, TooCostly, NotAscii}
 use Rattle.argon2_standard.specs.declared.error.Error.TheVariants.{DecodingFail}
 use Rattle.argon2_standard.specs.Standard.Grammar.{SpellsNothing}
 use Rattle.argon2_text.specs.Views.Texts.{IsSpellingOf}
@@ -86,8 +87,8 @@ ComparesSettings (Ok config) text answer = OfText text (tt {0}) (tt {0}) answer 
 
 -- the string decodes to a value with this head
 abbrev pub HasHead : List ℕ → Head → Type 0
-HasHead text h = IsUtf8 text × IsSpellingOf text h
+HasHead text h = IsAscii text × IsSpellingOf text h
 
 -- why the string has no head
 abbrev pub HasNone : List ℕ → CallError → Type 0
-HasNone text error = ((error ≡ NotUtf8) × (IsUtf8 text → ⊥)) ⊎ ((error ≡ Library DecodingFail) × IsUtf8 text × SpellsNothing text)
+HasNone text error = ((error ≡ NotAscii) × (IsAscii text → ⊥)) ⊎ ((error ≡ Library DecodingFail) × IsAscii text × SpellsNothing text)

@@ -34,8 +34,14 @@ pub fn hash(
         (record { blocks = blocks.old; tag = out.old })
         (record { blocks = blocks.new; tag = out.new }) result }
 {
-    let config = settings.config(secret, ad)?;
-    let context = Context::new(config, pwd, salt)?;
+    let config = match settings.config(secret, ad) {
+        Ok(config) => config,
+        Err(error) => return Err(CallError::Library(error)),
+    };
+    let context = match Context::new(config, pwd, salt) {
+        Ok(context) => context,
+        Err(error) => return Err(CallError::Library(error)),
+    };
     hash_context(&context, blocks, out)
 }
 
@@ -78,8 +84,14 @@ pub fn verify(
         (record { blocks = blocks.old; tag = tag.old })
         (record { blocks = blocks.new; tag = tag.new }) (judgement_of result) }
 {
-    let config = settings.config(secret, ad)?;
-    let context = context_of_hash(config, pwd, salt, hash)?;
+    let config = match settings.config(secret, ad) {
+        Ok(config) => config,
+        Err(error) => return Err(CallError::Library(error)),
+    };
+    let context = match context_of_hash(config, pwd, salt, hash) {
+        Ok(context) => context,
+        Err(error) => return Err(CallError::Library(error)),
+    };
     verify_context(&context, blocks, hash, tag)
 }
 
@@ -109,7 +121,10 @@ pub fn hash_job(numbers: &CallerJob, blocks: &mut [Block], out: &mut [u8]) -> Re
         (record { blocks = blocks.old; tag = out.old })
         (record { blocks = blocks.new; tag = out.new }) result }
 {
-    let job = numbers.job()?;
+    let job = match numbers.job() {
+        Ok(job) => job,
+        Err(error) => return Err(error),
+    };
     if !is_memory(&job, blocks) {
         return Err(CallError::WrongBlocks);
     }
@@ -132,7 +147,10 @@ pub fn verify_job(
         (record { blocks = blocks.old; tag = tag.old })
         (record { blocks = blocks.new; tag = tag.new }) (judgement_of result) }
 {
-    let job = numbers.job()?;
+    let job = match numbers.job() {
+        Ok(job) => job,
+        Err(error) => return Err(error),
+    };
     if !is_memory(&job, blocks) {
         return Err(CallError::WrongBlocks);
     }

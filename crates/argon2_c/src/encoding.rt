@@ -10,7 +10,8 @@ ghost use Rattle.argon2_c.specs.Settings.{config_of};
 use crate::errors::CallError;
 use crate::settings::{Settings, settings_error, text_len};
 use argon2::Config;
-use argon2_text::encoding::write_encoded;
+use argon2_blocks::basics::{fill, split_at_mut};
+use argon2_text::encoding::write_encoded_by_sums;
 
 /// Writes the encoded hash of a given tag, and zeros behind it, to a buffer that is longer. The
 /// numbers of variant and version are checked first, then the settings table. Then a tag of another
@@ -26,7 +27,10 @@ pub fn encode(
         → WritesTagText (config_of settings.now secret ad) salt.now tag.now text.old text.new
         result }
 {
-    let config = settings.config(&[], &[])?;
+    let config = match settings.config(&[], &[]) {
+        Ok(config) => config,
+        Err(error) => return Err(CallError::Library(error)),
+    };
     match settings_error(&config, salt.len() as u64) {
         Some(error) => Err(CallError::Library(error)),
         None => write_tag_text(&config, salt, tag, text),
@@ -53,8 +57,8 @@ fn write_tag_text(
     if text.len() as u64 <= len {
         return Err(CallError::WrongLength);
     }
-    let (written, rest) = text.split_at_mut(len as usize);
-    write_encoded(config, salt, tag, written);
-    rest.fill(0);
+    let (written, rest) = split_at_mut(text, len as usize);
+    write_encoded_by_sums(config, salt, tag, written);
+    fill(rest, 0);
     Ok(())
 }

@@ -7,6 +7,8 @@ ghost use Rattle.argon2_c.specs.Checks.{ChecksJob};
 ghost use Rattle.argon2_c.specs.Jobs.{MakesJob, MakesStoredJob, WritesTagText, setting_of_job};
 ghost use Rattle.argon2_c.specs.Steps.{Begins, Fills, Finishes, Verifies};
 ghost use Rattle.argon2_c.specs.CallerBlocks.{HashesJob, JudgesJob};
+ghost use Rattle.argon2_c.specs.Driver.{EveryTeamGivesTheTag, EveryTeamGivesTheVerdict};
+ghost use Rattle.argon2_c.specs.Driver.{NoThreadWorksAfterTheEnd, EveryPoolRanEachTaskOnce, EveryCallReturns};
 ghost use Rattle.argon2_c.specs.ErrorTable.{IsCodeOf};
 ghost use Rattle.argon2_c.specs.Runs.{EveryOrderOfTurnsIsARun, EveryRunGivesTheTag, EveryRunGivesTheVerdict, OneCallGivesTheTag, OneCallGivesTheVerdict};
 ghost use Rattle.argon2_c.specs.Settings.{config_of};
@@ -159,13 +161,23 @@ pub extern "C" fn proved_argon2_encode(
     code_of(&encoding::encode(salt, settings, tag, text))
 }
 
-/// Whatever the order of the lanes within each slice: where each step of a hash returned 0, what
-/// is finished then is the tag, and what is verified is whether a hash is it. The calls that take
-/// all steps in one order return the same. It does nothing when it runs.
+/// The theorems about the steps of a hash. It does nothing when it runs.
+///
+/// - Whatever the order of the lanes within each slice: if each step returned 0, what is finished
+///   then is the tag, and what is verified is whether a hash is the tag. The calls that take all
+///   steps in one order return the same.
+/// - So it is if the threads of the driver's model take the steps (`team`, `team_verdict`). Once a
+///   call is over, no thread works (`team_end`). A call goes on only if its pool ran each task once
+///   (`team_pool`). The threads never all wait, and every call ends (`team_returns`).
 pub fn any_order_of_steps()
     ensures turns { EveryOrderOfTurnsIsARun }
     ensures tag { EveryRunGivesTheTag }
     ensures verdict { EveryRunGivesTheVerdict }
     ensures one_call { OneCallGivesTheTag }
     ensures one_call_verdict { OneCallGivesTheVerdict }
+    ensures team { EveryTeamGivesTheTag }
+    ensures team_verdict { EveryTeamGivesTheVerdict }
+    ensures team_end { NoThreadWorksAfterTheEnd }
+    ensures team_pool { EveryPoolRanEachTaskOnce }
+    ensures team_returns { EveryCallReturns }
 {}

@@ -79,7 +79,7 @@ impl CallerJob {
             || self.lanes > MAX_LANES
             || self.segment_length < 2
             // In 64 bits, since C may pass any numbers.
-            || u64::from(self.lanes) * u64::from(self.segment_length) > MAX_BLOCKS_IN_SLICE
+            || self.lanes as u64 * self.segment_length as u64 > MAX_BLOCKS_IN_SLICE
             || self.passes < MIN_TIME
             || self.hash_length < MIN_HASH_LENGTH
     }
@@ -155,8 +155,14 @@ pub fn make(
     ensures { MakesJob (config_of settings.now secret.entry ad.entry) pwd.now salt.now
         job.old job.new result }
 {
-    let config = settings.config(secret, ad)?;
-    let context = Context::new(config, pwd, salt)?;
+    let config = match settings.config(secret, ad) {
+        Ok(config) => config,
+        Err(error) => return Err(CallError::Library(error)),
+    };
+    let context = match Context::new(config, pwd, salt) {
+        Ok(context) => context,
+        Err(error) => return Err(CallError::Library(error)),
+    };
     *job = CallerJob::of(&context);
     Ok(())
 }
@@ -178,7 +184,10 @@ pub fn make_stored(
         (record { job = job.old; items = record { salt = salt.old; hash = hash.old } })
         (record { job = job.new; items = record { salt = salt.new; hash = hash.new } }) result }
 {
-    let head = head_of(text)?;
+    let head = match head_of(text) {
+        Ok(head) => head,
+        Err(error) => return Err(error),
+    };
     make_of_head(&head, pwd, secret, ad, job, salt, hash)
 }
 
@@ -204,7 +213,10 @@ fn make_of_head(
         return Err(CallError::Library(error));
     }
     // Nothing is written before all is checked, so that an error changes nothing.
-    read_items(head, salt, hash)?;
+    match read_items(head, salt, hash) {
+        Ok(()) => {}
+        Err(error) => return Err(error),
+    }
     let config = config_of_numbers(&head.numbers(), secret, ad);
     *job = CallerJob::of(&accepted_context(config, pwd, salt));
     Ok(())

@@ -8,14 +8,13 @@
 
 ghost use Rattle.std.specs.Prelude.{◌≡◌, ℕ, List, [], length};
 ghost use Rattle.std.specs.Borrow.{Bor};
-ghost use Rattle.argon2_c.specs.Answers.{IsTextLength, WritesMessage};
+ghost use Rattle.argon2_c.specs.Answers.{IsTextLength};
 ghost use Rattle.argon2_c.specs.Checks.{Checks, ChecksText};
 ghost use Rattle.argon2_c.specs.Settings.{limits_of, config_of};
 ghost use Rattle.argon2_c.specs.CallerBlocks.{HashesOver, JudgesOver, memory_len_of};
 ghost use Rattle.argon2_c.specs.Reading.{ComparesSettings, ReadsBytes, ReadsText, ReadsTextWithin};
 ghost use Rattle.argon2_c.specs.ErrorTable.{IsCodeOf};
 
-mod buffer;
 mod caller_blocks;
 mod encoded_hash;
 mod encoding;
@@ -184,15 +183,6 @@ pub extern "C" fn proved_argon2_memory_len(settings: &Settings) -> u64
         → result ≡ memory_len_of (config_of settings.now secret ad) }
 {
     settings.memory_len()
-}
-
-/// Writes the message of the error with this number and then zeros to `text`, which has more bytes
-/// than the message: 64 are enough for each. On an error `text` is unchanged.
-#[unsafe(no_mangle)]
-pub extern "C" fn proved_argon2_message(number: u32, text: &mut [u8]) -> u32
-    ensures { IsCodeOf (WritesMessage number text.old text.new) result }
-{
-    code_of(&buffer::write_message(number, text))
 }
 
 /// The version of the library as a number: 1,000,000 times the major one, 1,000 times the minor one

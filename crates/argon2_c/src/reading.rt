@@ -21,7 +21,7 @@ use crate::limits::Limits;
 use crate::settings::Settings;
 use argon2::parts::stored::{Numbers, agrees, config_of_numbers, is_above};
 use argon2_standard::context::error_of_lengths;
-use argon2_text::encoding::{Head, item_len, read_hash, read_salt};
+use argon2_text::encoding::{Head, item_len, read_item};
 
 /// What an encoded hash decodes to, in numbers.
 #[repr(C)]
@@ -58,15 +58,22 @@ impl Stored {
 fn held_len(len: u64) -> u32
     ensures { result ≡ held len }
 {
-    len.min(u64::from(u32::MAX)) as u32
+    if len < u32::MAX as u64 {
+        len as u32
+    } else {
+        u32::MAX
+    }
 }
 
-/// Decodes an encoded hash. A string that is not UTF-8 is `NotUtf8`, one that decodes to no hash is
+/// Decodes an encoded hash. A string that is not ASCII is `NotAscii`, one that decodes to no hash is
 /// `DecodingFail`. On an error `stored` is unchanged.
 pub fn read(text: &[u8], stored: &mut Stored) -> Result<(), CallError>
     ensures { ReadsText text.now stored.old stored.new result }
 {
-    let head = head_of(text)?;
+    let head = match head_of(text) {
+        Ok(head) => head,
+        Err(error) => return Err(error),
+    };
     *stored = Stored::of(&head.numbers());
     Ok(())
 }
@@ -76,7 +83,10 @@ pub fn read(text: &[u8], stored: &mut Stored) -> Result<(), CallError>
 pub fn read_within(text: &[u8], limits: &Limits, stored: &mut Stored) -> Result<(), CallError>
     ensures { ReadsTextWithin (limits_of limits.now) text.now stored.old stored.new result }
 {
-    let head = head_of(text)?;
+    let head = match head_of(text) {
+        Ok(head) => head,
+        Err(error) => return Err(error),
+    };
     let numbers = head.numbers();
     if is_above(&numbers, &limits.of_library()) {
         return Err(CallError::TooCostly);
@@ -98,7 +108,10 @@ pub fn check_encoded(
     ensures { ChecksText (limits_of limits.now) pwd_len secret_len ad_len text.now stored.old
         stored.new result }
 {
-    let head = head_of(text)?;
+    let head = match head_of(text) {
+        Ok(head) => head,
+        Err(error) => return Err(error),
+    };
     let numbers = head.numbers();
     match error_for(&numbers, limits, pwd_len, secret_len, ad_len) {
         Some(error) => Err(error),
@@ -130,9 +143,10 @@ fn error_for(
     let config = config_of_numbers(numbers, &[], &[]);
     // The length of the hash is checked apart, in 64 bits.
     let (salt_len, hash_len) = (numbers.salt_len, numbers.hash_len);
-    error_of_lengths(&config, pwd_len, salt_len, secret_len, ad_len, hash_len).map(
-        CallError::Library,
-    )
+    match error_of_lengths(&config, pwd_len, salt_len, secret_len, ad_len, hash_len) {
+        Some(error) => Some(CallError::Library(error)),
+        None => None,
+    }
 }
 
 /// Writes the salt and the hash of an encoded hash to buffers of their lengths. The errors of
@@ -141,7 +155,10 @@ pub fn read_bytes(text: &[u8], salt: &mut [u8], hash: &mut [u8]) -> Result<(), C
     ensures { ReadsBytes text.now (record { salt = salt.old; hash = hash.old })
         (record { salt = salt.new; hash = hash.new }) result }
 {
-    let head = head_of(text)?;
+    let head = match head_of(text) {
+        Ok(head) => head,
+        Err(error) => return Err(error),
+    };
     read_items(&head, salt, hash)
 }
 
@@ -160,8 +177,8 @@ pub fn read_items(head: &Head<'_>, salt: &mut [u8], hash: &mut [u8]) -> Result<(
     if salt.len() as u64 != item_len(head.salt) || hash.len() as u64 != item_len(head.hash) {
         return Err(CallError::WrongLength);
     }
-    read_salt(head.salt, salt);
-    read_hash(head.hash, hash);
+    read_item(head.salt, salt);
+    read_item(head.hash, hash);
     Ok(())
 }
 
@@ -171,8 +188,14 @@ pub fn needs_rehash(text: &[u8], settings: &Settings) -> Result<(), CallError>
     ensures { (secret ad : Bor (List ℕ))
         → ComparesSettings (config_of settings.now secret ad) text.now result }
 {
-    let config = settings.config(&[], &[])?;
-    let head = head_of(text)?;
+    let config = match settings.config(&[], &[]) {
+        Ok(config) => config,
+        Err(error) => return Err(CallError::Library(error)),
+    };
+    let head = match head_of(text) {
+        Ok(head) => head,
+        Err(error) => return Err(error),
+    };
     if agrees(&head.numbers(), &config) {
         Ok(())
     } else {

@@ -44,8 +44,14 @@ impl Settings {
     pub fn config<'a>(&self, secret: &'a [u8], ad: &'a [u8]) -> argon2::Result<Config<'a>>
         ensures { result ≡ config_of self.now secret.entry ad.entry }
     {
-        let variant = Variant::from_u32(self.variant)?;
-        let version = Version::from_u32(self.version)?;
+        let variant = match Variant::from_u32(self.variant) {
+            Ok(variant) => variant,
+            Err(error) => return Err(error),
+        };
+        let version = match Version::from_u32(self.version) {
+            Ok(version) => version,
+            Err(error) => return Err(error),
+        };
         Ok(Config {
             ad,
             hash_length: self.hash_length,
@@ -73,8 +79,11 @@ impl Settings {
             → length ad.now ≡ ad_len
             → Checks (config_of self.now secret ad) pwd_len salt_len result }
     {
-        let config = self.config(&[], &[])?;
-        let hash_len = u64::from(self.hash_length);
+        let config = match self.config(&[], &[]) {
+            Ok(config) => config,
+            Err(error) => return Err(CallError::Library(error)),
+        };
+        let hash_len = self.hash_length as u64;
         match error_of_lengths(&config, pwd_len, salt_len, secret_len, ad_len, hash_len) {
             Some(error) => Err(CallError::Library(error)),
             None => Ok(()),
@@ -110,11 +119,11 @@ impl Settings {
 fn memory_len(config: &Config<'_>) -> u64
     ensures { result ≡ memory_len_of (Ok config.now) }
 {
-    match settings_error(config, u64::from(MIN_SALT_LENGTH)) {
+    match settings_error(config, MIN_SALT_LENGTH as u64) {
         Some(_) => 0,
         None => {
             let segments = SYNC_POINTS * config.lanes;
-            1024 * u64::from(segments * (config.mem_cost / segments))
+            1024 * (segments * (config.mem_cost / segments)) as u64
         }
     }
 }
@@ -124,7 +133,7 @@ fn memory_len(config: &Config<'_>) -> u64
 pub fn settings_error(config: &Config<'_>, salt_len: u64) -> Option<Error>
     ensures { result ≡ table_error config.now 0 salt_len config.now.hash_length }
 {
-    first_refusal(config, 0, salt_len, u64::from(config.hash_length))
+    first_refusal(config, 0, salt_len, config.hash_length as u64)
 }
 
 /// The length of the encoded hash of a configuration, with a salt of this length.

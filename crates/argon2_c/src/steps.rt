@@ -13,14 +13,14 @@ use argon2::parts::common::SYNC_POINTS;
 use argon2::parts::context::Job;
 use argon2::parts::stored::are_equal;
 use argon2_fill::caller_blocks::{begin_segment, finalize_slice};
-use argon2_memory::job::recall_job;
+use argon2_memory::job::facts_of_job;
 use argon2_memory::segment::fill_caller_segment;
 
 /// Whether a slice has the blocks of all lanes.
 fn is_slice(job: &Job, blocks: &[Block]) -> bool
     ensures { IsTrue result ↔ IsSlice job.now.setting blocks.now }
 {
-    blocks.len() as u64 == u64::from(job.lanes()) * u64::from(job.segment_length())
+    blocks.len() as u64 == job.lanes() as u64 * job.segment_length() as u64
 }
 
 /// Writes a lane's first two blocks into its segment of slice 0.
@@ -28,7 +28,10 @@ fn is_slice(job: &Job, blocks: &[Block]) -> bool
 pub fn begin(numbers: &CallerJob, lane: u32, own: &mut [Block]) -> Result<(), CallError>
     ensures { Begins (setting_of_job numbers.now) lane own.old own.new result }
 {
-    let job = numbers.job()?;
+    let job = match numbers.job() {
+        Ok(job) => job,
+        Err(error) => return Err(error),
+    };
     if lane >= job.lanes() {
         return Err(CallError::NoPlace);
     }
@@ -54,7 +57,10 @@ pub fn fill(
     ensures { Fills (setting_of_job numbers.now) pass slice lane first.now second.now third.now
         own.old own.new result }
 {
-    let job = numbers.job()?;
+    let job = match numbers.job() {
+        Ok(job) => job,
+        Err(error) => return Err(error),
+    };
     if pass >= job.passes() || slice >= SYNC_POINTS || lane >= job.lanes() {
         return Err(CallError::NoPlace);
     }
@@ -74,7 +80,10 @@ pub fn finish(numbers: &CallerJob, last: &[Block], out: &mut [u8]) -> Result<(),
     ensures { Finishes (setting_of_job numbers.now) numbers.now.hash_length last.now out.old out.new
         result }
 {
-    let job = numbers.job()?;
+    let job = match numbers.job() {
+        Ok(job) => job,
+        Err(error) => return Err(error),
+    };
     if !is_slice(&job, last) {
         return Err(CallError::WrongBlocks);
     }
@@ -97,7 +106,10 @@ pub fn verify(
     ensures { Verifies (setting_of_job numbers.now) numbers.now.hash_length last.now hash.now
         tag.old tag.new (judgement_of result) }
 {
-    let job = numbers.job()?;
+    let job = match numbers.job() {
+        Ok(job) => job,
+        Err(error) => return Err(error),
+    };
     if !is_slice(&job, last) {
         return Err(CallError::WrongBlocks);
     }

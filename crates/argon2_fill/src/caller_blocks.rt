@@ -10,9 +10,10 @@ ghost use Rattle.argon2_standard.specs.Standard.Setting.{memory_blocks};
 ghost use Rattle.argon2_standard.specs.Standard.Tag.{last_blocks, tag_from, tag_of};
 
 use crate::fill::{write_first_block, write_tag};
+use argon2_blocks::basics::split_at_mut;
 use argon2_blocks::block::Block;
 use argon2_blocks::common::SYNC_POINTS;
-use argon2_memory::job::{Job, numbered_job, recall_context, recall_job, slice_count};
+use argon2_memory::job::{Job, facts_of_context, facts_of_job, numbered_job, slice_count};
 use argon2_memory::segment::fill_caller_segment;
 use argon2_standard::context::Context;
 
@@ -23,7 +24,7 @@ pub fn begin_segment(job: &Job, lane: u32, own: &mut [Block])
     requires own_fits { length own.old ≡ job.now.setting.segment_length }
     ensures { IsReady job.now.setting 0 0 lane own.new }
 {
-    recall_job(job);
+    facts_of_job(job);
     write_first_block(job, lane, 0, &mut own[0]);
     write_first_block(job, lane, 1, &mut own[1]);
 }
@@ -49,8 +50,8 @@ fn begin_lane(job: &Job, lane: u32, slice: &mut [Block])
         → blocks_of_lane job.now.setting slice.new l ≡ blocks_of_lane job.now.setting slice.old l }
 {
     let length = job.segment_length() as usize;
-    let (_before, rest) = slice.split_at_mut(place_of_lane(job, lane));
-    let (own, _after) = rest.split_at_mut(length);
+    let (_before, rest) = split_at_mut(slice, place_of_lane(job, lane));
+    let (own, _after) = split_at_mut(rest, length);
     begin_segment(job, lane, own);
 }
 
@@ -87,8 +88,8 @@ fn fill_lane(
         → blocks_of_lane job.now.setting slice.new l ≡ blocks_of_lane job.now.setting slice.old l }
 {
     let length = job.segment_length() as usize;
-    let (_before, rest) = slice.split_at_mut(place_of_lane(job, lane));
-    let (own, _after) = rest.split_at_mut(length);
+    let (_before, rest) = split_at_mut(slice, place_of_lane(job, lane));
+    let (own, _after) = split_at_mut(rest, length);
     fill_caller_segment(job, lane, first, second, third, own);
 }
 
@@ -165,7 +166,7 @@ fn fill_one_of_four<F: SliceFilling>(
         → AreFilledBelow j.setting j.pass (j.slice + 1)
         (places_of_slices j.setting (first.new ∷ second.new ∷ third.new ∷ fourth.new ∷ [])) }
 {
-    recall_job(job);
+    facts_of_job(job);
     match job.slice() {
         0 => filling.fill_slice(job, second, third, fourth, first),
         1 => filling.fill_slice(job, first, third, fourth, second),
@@ -194,7 +195,7 @@ pub fn fill_caller_slices<F: SliceFilling>(
         → (slice : ℕ) → slice < 4 → HoldsSlice s (s.passes - 1) slice
         (places_of_slices s (first.new ∷ second.new ∷ third.new ∷ fourth.new ∷ []) slice) }
 {
-    recall_job(job);
+    facts_of_job(job);
     // One loop over the slices of all passes, so that one invariant serves for all.
     for n in 0..slice_count(job) {
         fill_one_of_four(filling, &numbered_job(job, n), first, second, third, fourth);
@@ -228,7 +229,7 @@ pub fn finalize_slice(job: &Job, slice: &[Block], out: &mut [u8])
         HoldsSlice s (s.passes - 1) 3 (blocks_of_lane s slice.now)
         → out.new ≡ tag_from (last_blocks s) (length out.old) }
 {
-    recall_job(job);
+    facts_of_job(job);
     let mut block = Block::zero();
     combine_last_of_slice(job, slice, &mut block);
     write_tag(&mut block, out);
@@ -249,11 +250,11 @@ pub fn hash_job_over_with<F: SliceFilling>(
     requires few { length out.old < 2 ^ 32 }
     ensures { out.new ≡ tag_from (last_blocks job.now.setting) (length out.old) }
 {
-    recall_job(job);
+    facts_of_job(job);
     let length = blocks.len() / SYNC_POINTS as usize;
-    let (first, rest) = blocks.split_at_mut(length);
-    let (second, rest) = rest.split_at_mut(length);
-    let (third, fourth) = rest.split_at_mut(length);
+    let (first, rest) = split_at_mut(blocks, length);
+    let (second, rest) = split_at_mut(rest, length);
+    let (third, fourth) = split_at_mut(rest, length);
     begin_slice(job, first);
     fill_caller_slices(filling, job, first, second, third, fourth);
     finalize_slice(job, fourth, out);
@@ -278,7 +279,7 @@ pub fn hash_over(context: &Context<'_>, blocks: &mut [Block], out: &mut [u8])
         out.new ≡ tag_of c.pwd.now c.salt.now c.config c.config.hash_length }
 {
     // The facts of an accepted context, without which the lengths below are not known to fit.
-    recall_context(context);
+    facts_of_context(context);
     // Read for its range, since the prover knows it only where it is read.
     let _hash_length = context.config.hash_length;
     hash_job_over(&Job::new(context), blocks, out);

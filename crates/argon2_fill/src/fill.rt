@@ -17,14 +17,15 @@ ghost use Rattle.argon2_blocks.specs.Standard.Block.{block_bytes, xor, zero_bloc
 ghost use Rattle.argon2_blocks.specs.Standard.Hprime.{hprime};
 
 use crate::workers::{NoGate, fill_parallel};
+use argon2_blocks::basics::{copy_from_slice, split_at_mut, u32_to_le_bytes};
 use argon2_blocks::blake2b::{hprime, wipe};
 use argon2_blocks::block::Block;
 use argon2_blocks::common::{BLOCK_SIZE, PREHASH_DIGEST_LENGTH, PREHASH_SEED_LENGTH};
 use argon2_memory::job::{
-    Job, numbered_job, prehash_of_job, recall_context, recall_job, slice_count,
+    Job, facts_of_context, facts_of_job, numbered_job, prehash_of_job, slice_count,
 };
 use argon2_memory::memory::{
-    Memory, Slices, memory_of_slices, others, recall_memory, take_slice, take_slices,
+    Memory, Slices, facts_of_memory, memory_of_slices, others, take_slice, take_slices,
 };
 use argon2_memory::segment::{Segment, Snapshot, fill_segment};
 use argon2_standard::context::Context;
@@ -45,7 +46,7 @@ pub fn prepare_memory(alloc: Global, context: &Context<'_>, memory: &mut Memory)
     ensures left { OnErr result (memory.new ≡ no_memory) }
     ensures refused { IfErr result (λ e. e ≡ Error.OutOfMemory) }
 {
-    recall_context(context);
+    facts_of_context(context);
     let lanes = context.config.lanes;
     if memory.lanes() == lanes && memory.lane_length() == context.lane_length {
         // Not wiped, since a hash reads no block that it has not written.
@@ -67,7 +68,7 @@ pub fn initialize(context: &Context<'_>, memory: &mut Memory)
         → block_of memory.new lane column ≡ block_of memory.old lane column }
     ensures writes { writes memory.new ≡ (writes memory.old + 2 * context.now.config.lanes) % 2 ^ 64 }
 {
-    recall_context(context);
+    facts_of_context(context);
     let job = Job::new(context);
     for lane in 0..job.lanes() {
         write_first(&job, lane, memory);
@@ -79,11 +80,11 @@ fn first_input(prehash: &[u8; PREHASH_DIGEST_LENGTH], lane: u32, column: u32, ou
     requires { length out.old ≡ 72 }
     ensures { out.new ≡ prehash.now ++ to_le_bytes w32 column ++ to_le_bytes w32 lane }
 {
-    let (head, rest) = out.split_at_mut(PREHASH_DIGEST_LENGTH);
-    let (middle, tail) = rest.split_at_mut(4);
-    head.copy_from_slice(prehash);
-    middle.copy_from_slice(&column.to_le_bytes());
-    tail.copy_from_slice(&lane.to_le_bytes());
+    let (head, rest) = split_at_mut(out, PREHASH_DIGEST_LENGTH);
+    let (middle, tail) = split_at_mut(rest, 4);
+    copy_from_slice(head, prehash);
+    copy_from_slice(middle, &u32_to_le_bytes(column));
+    copy_from_slice(tail, &u32_to_le_bytes(lane));
 }
 
 /// Writes one of a lane's first two blocks (RFC 9106, 3.2, steps 3 and 4).
@@ -115,8 +116,8 @@ fn write_first(job: &Job, lane: u32, memory: &mut Memory)
         (matrix_with (block_of memory.old) lane 0 (block 0)) lane 1 (block 1) l c }
     ensures writes { writes memory.new ≡ (writes memory.old + 2) % 2 ^ 64 }
 {
-    recall_job(job);
-    recall_memory(memory);
+    facts_of_job(job);
+    facts_of_memory(memory);
     let mut first = Block::zero();
     let mut second = Block::zero();
     write_first_block(job, lane, 0, &mut first);
@@ -139,7 +140,7 @@ pub fn fill_sequential(context: &Context<'_>, memory: &mut Memory)
         writes memory.new ≡ (writes memory.old +
         (c.config.time_cost * c.memory_blocks - 2 * c.config.lanes)) % 2 ^ 64 }
 {
-    recall_context(context);
+    facts_of_context(context);
     let job = Job::new(context);
     // Moved out, since a `Memory` has no place for a slice that is out, as each is while filled.
     let mut slices = take_slices(memory);
@@ -160,7 +161,7 @@ fn fill_slices(job: &Job, slices: &mut Slices)
         ≡ (writes_in (segments_of slices.old) + blocks_written job.now.setting
         (4 * job.now.setting.passes)) % 2 ^ 64 }
 {
-    recall_job(job);
+    facts_of_job(job);
     for n in 0..slice_count(job) {
         fill_slice_in_turn(&numbered_job(job, n), slices);
     }
@@ -182,7 +183,7 @@ pub fn fill_slice_in_turn(job: &Job, slices: &mut Slices)
         + job.now.setting.lanes * blocks_in_slice job.now.setting job.now.pass job.now.slice) % 2 ^
         64 }
 {
-    recall_job(job);
+    facts_of_job(job);
     let slice = job.slice();
     let mut segments = take_slice(slices, slice);
     let snapshot = Snapshot::new(*job, others(slices, slice));
@@ -201,7 +202,7 @@ fn fill_lanes(snapshot: &Snapshot<'_>, segments: &mut [Segment])
         ≡ (slice_writes segments.old + j.setting.lanes * blocks_in_slice j.setting j.pass j.slice) %
         2 ^ 64 }
 {
-    recall_job(snapshot.job());
+    facts_of_job(snapshot.job());
     for lane in 0..segments.len() {
         fill_segment(snapshot, lane as u32, &mut segments[lane]);
     }
@@ -277,7 +278,7 @@ pub fn finalize(alloc: Global, context: &Context<'_>, memory: &Memory) -> Result
     ensures length { IfOk result (λ tag. vec_len tag ≡ context.now.config.hash_length) }
     ensures refused { IfErr result (λ e. e ≡ Error.OutOfMemory) }
 {
-    recall_context(context);
+    facts_of_context(context);
     let mut block = Block::zero();
     combine_last_blocks(memory, &mut block);
     let mut tag = vec![in alloc; 0u8; context.config.hash_length as usize]?;

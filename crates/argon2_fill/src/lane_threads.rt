@@ -8,7 +8,7 @@ ghost use Rattle.argon2_standard.specs.Standard.Tag.{last_blocks, tag_from};
 
 use crate::caller_blocks::{SliceFilling, hash_job_over_with};
 use argon2_blocks::block::Block;
-use argon2_memory::job::{Job, recall_job};
+use argon2_memory::job::{Job, facts_of_job};
 use argon2_memory::segment::fill_caller_segment;
 use std::marker::Sync;
 use std::thread::{Threads, for_each_chunk_mut};
@@ -32,7 +32,7 @@ fn fill_chunk(
     ensures { let j = job.now in FillsAmong j (start / j.setting.segment_length)
         (first.now ∷ second.now ∷ third.now ∷ []) own.old own.new }
 {
-    recall_job(job);
+    facts_of_job(job);
     let _lanes = job.lanes();
     let lane = (start as u64 / u64::from(job.segment_length())) as u32;
     fill_caller_segment(job, lane, first, second, third, own);
@@ -51,7 +51,7 @@ impl<R: Threads + Sync> SliceFilling for InThreads<'_, R> {
         third: &[Block],
         slice: &mut [Block],
     ) {
-        recall_job(job);
+        facts_of_job(job);
         for_each_chunk_mut(
             self.runtime,
             slice,

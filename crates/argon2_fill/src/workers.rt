@@ -16,10 +16,10 @@ ghost use Rattle.argon2_memory.specs.Views.Places.{places_in, AreFilledBelow};
 mod board;
 mod crew;
 
-use argon2_memory::job::{Job, numbered_job, recall_context, recall_job, slice_count};
+use argon2_memory::job::{Job, facts_of_context, facts_of_job, numbered_job, slice_count};
 use argon2_memory::memory::{Memory, Slices, memory_of_slices, others, take_slice, take_slices};
 use argon2_memory::segment::Snapshot;
-use argon2_standard::context::{Context, recall_workers};
+use argon2_standard::context::{Context, facts_of_workers};
 use argon2_standard::error::Error;
 use argon2_standard::result::Result;
 pub use board::{Board, Claim, Event, Filled, Gate, NoGate, Place};
@@ -50,7 +50,7 @@ pub fn board_of(alloc: Global, job: &Job, slices: &mut Slices) -> Result<Board>
     }) }
     ensures refused { IfErr result (λ e. e ≡ Error.OutOfMemory) }
 {
-    recall_job(job);
+    facts_of_job(job);
     Board::new(alloc, *job, take_slice(slices, job.slice()))
 }
 
@@ -135,8 +135,8 @@ pub fn fill_parallel_with<R: Threads + Wait + Sync, G: Gate, P: Permit>(
     ensures left { OnErr result (memory.new ≡ no_memory) }
     ensures refused { IfErr result (IsResourceError true) }
 {
-    recall_context(context);
-    recall_workers(context);
+    facts_of_context(context);
+    facts_of_workers(context);
     let workers = context.config.workers();
     let first_job = Job::new(context);
     // Moved out, as in `fill_sequential`. If memory or a worker is denied, they are lost.

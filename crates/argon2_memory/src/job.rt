@@ -70,7 +70,7 @@ impl Model for Job {
 
 /// Tells the prover the bounds that each job keeps by its type. The prover knows them only where a
 /// field is read, so this reads one. It does nothing else.
-pub fn recall_job(job: &Job)
+pub fn facts_of_job(job: &Job)
     ensures { IsJob job.now }
 {
     let _lanes = job.lanes;
@@ -80,7 +80,7 @@ pub fn recall_job(job: &Job)
 /// The prover knows a number's range only where it is read, so this reads two. It does nothing
 /// else.
 #[tactic(auto, unfolding(argon2_standard::specs::Standard::Prehash::setting_of))]
-pub fn recall_context(context: &Context<'_>)
+pub fn facts_of_context(context: &Context<'_>)
     ensures setting { IsSetting (setting_of_context context.now) }
     ensures lanes { (setting_of_context context.now).lanes ≡ context.now.config.lanes }
     ensures passes { (setting_of_context context.now).passes ≡ context.now.config.time_cost }
@@ -148,7 +148,7 @@ impl Job {
         ensures job { IsJob result }
         ensures value { let c = context.now in result ≡ first_job_of c.pwd.now c.salt.now c.config }
     {
-        recall_context(context);
+        facts_of_context(context);
         Job {
             prehash: prehash_of_context(context),
             variant: context.config.variant,
@@ -288,7 +288,7 @@ impl Job {
 pub fn slice_count(job: &Job) -> u64
     ensures { result ≡ 4 * job.now.setting.passes }
 {
-    u64::from(SYNC_POINTS) * u64::from(job.passes())
+    SYNC_POINTS as u64 * job.passes() as u64
 }
 
 /// The job of the slice of this number, counted from the first slice of the first pass.
@@ -296,8 +296,8 @@ pub fn numbered_job(job: &Job, number: u64) -> Job
     requires { number < 4 * job.now.setting.passes }
     ensures { result ≡ record job.now { pass = number / 4; slice = number % 4 } }
 {
-    let slices = u64::from(SYNC_POINTS);
-    recall_job(job);
+    let slices = SYNC_POINTS as u64;
+    facts_of_job(job);
     job.at((number / slices) as u32, (number % slices) as u32)
 }
 
@@ -310,5 +310,6 @@ pub(crate) fn stretch(job: &Job, index: u32) -> u32
     ensures fits { index + result ≤ job.now.setting.segment_length }
 {
     let left_here = ADDRESSES_IN_BLOCK - index % ADDRESSES_IN_BLOCK;
-    u32::min(left_here, job.segment_length() - index)
+    let left = job.segment_length() - index;
+    if left_here < left { left_here } else { left }
 }

@@ -162,8 +162,8 @@ impl Drop for Memory {
     }
 }
 
-/// Tells the prover the bounds that each memory keeps, as `recall_job` does for a job.
-pub fn recall_memory(memory: &Memory)
+/// Tells the prover the bounds that each memory keeps, as `facts_of_job` does for a job.
+pub fn facts_of_memory(memory: &Memory)
     ensures { IsMemory memory.now }
 {
     let _lanes = memory.lanes();

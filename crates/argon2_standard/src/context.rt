@@ -9,6 +9,7 @@ ghost use Rattle.argon2_standard.specs.Standard.SettingsTable.{table_error};
 use crate::config::Config;
 use crate::error::Error;
 use crate::result::Result;
+use argon2_blocks::basics::u32_to_le_bytes;
 use argon2_blocks::blake2b::blake2b;
 use argon2_blocks::common::{
     MAX_AD_LENGTH, MAX_HASH_LENGTH, MAX_LANES, MAX_PWD_LENGTH, MAX_SALT_LENGTH, MAX_SECRET_LENGTH,
@@ -46,23 +47,23 @@ pub fn error_of_lengths(
         Some(Error::LanesTooFew)
     } else if config.lanes > MAX_LANES {
         Some(Error::LanesTooMany)
-    } else if u64::from(config.mem_cost) < u64::from(MIN_MEMORY) * u64::from(config.lanes) {
+    } else if (config.mem_cost as u64) < MIN_MEMORY as u64 * config.lanes as u64 {
         Some(Error::MemoryTooLittle)
     } else if config.time_cost < MIN_TIME {
         Some(Error::TimeTooSmall)
-    } else if pwd_len > u64::from(MAX_PWD_LENGTH) {
+    } else if pwd_len > MAX_PWD_LENGTH as u64 {
         Some(Error::PwdTooLong)
-    } else if salt_len < u64::from(MIN_SALT_LENGTH) {
+    } else if salt_len < MIN_SALT_LENGTH as u64 {
         Some(Error::SaltTooShort)
-    } else if salt_len > u64::from(MAX_SALT_LENGTH) {
+    } else if salt_len > MAX_SALT_LENGTH as u64 {
         Some(Error::SaltTooLong)
-    } else if secret_len > u64::from(MAX_SECRET_LENGTH) {
+    } else if secret_len > MAX_SECRET_LENGTH as u64 {
         Some(Error::SecretTooLong)
-    } else if ad_len > u64::from(MAX_AD_LENGTH) {
+    } else if ad_len > MAX_AD_LENGTH as u64 {
         Some(Error::AdTooLong)
-    } else if hash_len < u64::from(MIN_HASH_LENGTH) {
+    } else if hash_len < MIN_HASH_LENGTH as u64 {
         Some(Error::OutputTooShort)
-    } else if hash_len > u64::from(MAX_HASH_LENGTH) {
+    } else if hash_len > MAX_HASH_LENGTH as u64 {
         Some(Error::OutputTooLong)
     } else {
         None
@@ -77,17 +78,17 @@ fn prehash<'a>(config: &Config<'a>, pwd: &'a [u8], salt: &'a [u8]) -> [u8; PREHA
         (length salt.now) config.now.hash_length) }
     ensures { result ≡ prehash_of pwd.now salt.now config.now config.now.hash_length }
 {
-    let lanes = config.lanes.to_le_bytes();
-    let hash_length = config.hash_length.to_le_bytes();
-    let mem_cost = config.mem_cost.to_le_bytes();
-    let time_cost = config.time_cost.to_le_bytes();
-    let version = config.version.as_u32().to_le_bytes();
-    let variant = config.variant.as_u32().to_le_bytes();
+    let lanes = u32_to_le_bytes(config.lanes);
+    let hash_length = u32_to_le_bytes(config.hash_length);
+    let mem_cost = u32_to_le_bytes(config.mem_cost);
+    let time_cost = u32_to_le_bytes(config.time_cost);
+    let version = u32_to_le_bytes(config.version.as_u32());
+    let variant = u32_to_le_bytes(config.variant.as_u32());
     // These casts cut nothing, since longer inputs were rejected.
-    let pwd_length = (pwd.len() as u32).to_le_bytes();
-    let salt_length = (salt.len() as u32).to_le_bytes();
-    let secret_length = (config.secret.len() as u32).to_le_bytes();
-    let ad_length = (config.ad.len() as u32).to_le_bytes();
+    let pwd_length = u32_to_le_bytes(pwd.len() as u32);
+    let salt_length = u32_to_le_bytes(salt.len() as u32);
+    let secret_length = u32_to_le_bytes(config.secret.len() as u32);
+    let ad_length = u32_to_le_bytes(config.ad.len() as u32);
     let mut out = [0; PREHASH_DIGEST_LENGTH];
     blake2b(
         &mut out,
@@ -140,7 +141,7 @@ impl<'a> Context<'a> {
             × (c.salt.now ≡ salt.entry.now)))
             (λ refusal. result ≡ Err refusal) }
     {
-        let hash_len = u64::from(config.hash_length);
+        let hash_len = config.hash_length as u64;
         match first_refusal(&config, pwd.len() as u64, salt.len() as u64, hash_len) {
             None => Ok(accepted_context(config, pwd, salt)),
             Some(refusal) => Err(refusal),
@@ -183,7 +184,7 @@ pub fn prehash_of_context(context: &Context<'_>) -> [u8; PREHASH_DIGEST_LENGTH]
 /// Tells the prover how many workers may fill a slice: at least one, and fewer than 2^24. It is told
 /// of a context, since only accepted settings have these bounds. It does nothing else.
 #[tactic(auto, using(crate::proofs::Settings::accepted, crate::proofs::Settings::workers_fit))]
-pub fn recall_workers(context: &Context<'_>)
+pub fn facts_of_workers(context: &Context<'_>)
     ensures some { 0 < workers_of context.now.config }
     ensures few { workers_of context.now.config < 2 ^ 24 }
 {

@@ -1,12 +1,13 @@
 //! The variants of Argon2, their names and their numbers.
 
-ghost use Rattle.std.specs.Prelude.{◌≡◌, MatchResult, Some};
+ghost use Rattle.std.specs.Prelude.{◌≡◌, MatchOption, MatchResult, Some};
 ghost use Rattle.argon2_standard.specs.Standard.Variant.{IsName, lowercase_name, capitalised_name, variant_number};
 ghost use Rattle.argon2_standard.specs.Views.Names.{IsNoName, IsNoVariantNumber};
 ghost use Rattle.argon2_standard.specs.declared.variant.Variant.{Variant};
 
 use crate::error::Error;
 use crate::result::Result;
+use argon2_blocks::basics::eq;
 use std::fmt;
 
 /// The variant of Argon2 (RFC 9106, 1 and 3.2): where a block's reference is drawn from. Variants
@@ -68,12 +69,27 @@ impl Variant {
             × IsNoName name.now) }
         ensures undoes { (variant : Variant) → IsName name.now variant → result ≡ Ok variant }
     {
-        match name {
-            "argon2d" | "Argon2d" => Ok(Variant::Argon2d),
-            "argon2i" | "Argon2i" => Ok(Variant::Argon2i),
-            "argon2id" | "Argon2id" => Ok(Variant::Argon2id),
-            _ => Err(Error::DecodingFail),
+        match Variant::from_name(name.as_bytes()) {
+            Some(variant) => Ok(variant),
+            None => Err(Error::DecodingFail),
         }
+    }
+
+    /// The variant of a name in bytes, as `from_str` reads it.
+    pub fn from_name(name: &[u8]) -> Option<Variant>
+        ensures read { MatchOption result (IsNoName name.now) (IsName name.now) }
+        ensures undoes { (variant : Variant) → IsName name.now variant → result ≡ Some variant }
+    {
+        if eq(name, b"argon2d") || eq(name, b"Argon2d") {
+            return Some(Variant::Argon2d);
+        }
+        if eq(name, b"argon2i") || eq(name, b"Argon2i") {
+            return Some(Variant::Argon2i);
+        }
+        if eq(name, b"argon2id") || eq(name, b"Argon2id") {
+            return Some(Variant::Argon2id);
+        }
+        None
     }
 
     /// The variant of a number. A number above 2 is `IncorrectType`.

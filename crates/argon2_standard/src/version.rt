@@ -1,6 +1,6 @@
 //! The versions of Argon2 and their numbers.
 
-ghost use Rattle.std.specs.Prelude.{◌≡◌, MatchResult, Some};
+ghost use Rattle.std.specs.Prelude.{◌≡◌, MatchOption, MatchResult, Some};
 ghost use Rattle.std.specs.Fmt.{decimal};
 ghost use Rattle.argon2_standard.specs.Views.Names.{IsNoVersionNumber, IsNoVersionText};
 ghost use Rattle.argon2_standard.specs.Standard.Version.{version_number, version_text};
@@ -8,6 +8,7 @@ ghost use Rattle.argon2_standard.specs.declared.version.Version.{Version};
 
 use crate::error::Error;
 use crate::result::Result;
+use argon2_blocks::basics::eq;
 use std::fmt;
 
 /// The version of Argon2. Versions are ordered by their numbers.
@@ -39,11 +40,27 @@ impl Version {
         ensures printed { (version : Version) → number.now ≡ decimal (version_number version)
             → result ≡ Ok version }
     {
-        match number {
-            "16" => Ok(Version::Version10),
-            "19" => Ok(Version::Version13),
-            _ => Err(Error::DecodingFail),
+        match Version::from_digits(number.as_bytes()) {
+            Some(version) => Ok(version),
+            None => Err(Error::DecodingFail),
         }
+    }
+
+    /// The version of a number in decimal digits, as `from_str` reads it.
+    #[tactic(auto, using(crate::proofs::Versions::version_in_digits))]
+    pub fn from_digits(number: &[u8]) -> Option<Version>
+        ensures read { MatchOption result (IsNoVersionText number.now)
+            (λ version. number.now ≡ version_text version) }
+        ensures undoes { (version : Version) → number.now ≡ version_text version
+            → result ≡ Some version }
+    {
+        if eq(number, b"16") {
+            return Some(Version::Version10);
+        }
+        if eq(number, b"19") {
+            return Some(Version::Version13);
+        }
+        None
     }
 
     /// The version of the number 16 or 19. Any other number is `IncorrectVersion`.

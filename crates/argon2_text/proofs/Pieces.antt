@@ -306,6 +306,19 @@ number_gives text (Err e) h = λ n number.
     let small : digits_value 10 number.digits < 2 ^ 32 = rw number.value number.fits in
     h (rw read (number.decimal, small))
 
+-- so do digits that are read one by one
+pub number_of_digits : (text ds : List ℕ) (r : Option ℕ) → without_leading_plus text ≡ ds
+    → MatchOption r (IsNumeral 10 ds → digits_value 10 ds < 2 ^ 32 → ⊥) (λ n. IsNumeral 10 ds × (digits_value 10 ds ≡ n) × (n < 2 ^ 32))
+    → MatchOption r (IsNoNumber text) (IsNumber text)
+number_of_digits text ds None same h = λ n number.
+    let read = number_digits text number.sign number.digits number.whole number.plus number.decimal in
+    let small : digits_value 10 number.digits < 2 ^ 32 = rw number.value number.fits in
+    let e : number.digits ≡ ds = sym read ∙ same in
+    h (rw e at number.decimal) (rw e at small)
+number_of_digits text ds (Some n) same h =
+    let fits : digits_value 10 ds < 2 ^ 32 = omega (arith, h.1, h.2) in
+    rw (← h.1, ← same) (number_from_parse text (rw same h.0) (rw same fits))
+
 -- a string decodes to one number
 pub number_unique : (text : List ℕ) (m n : ℕ) → IsNumber text m → IsNumber text n → m ≡ n
 number_unique text m n a b =

@@ -27,9 +27,9 @@ use lengths::text_len;
 pub use lengths::{base64_len, encoded_len, num_len};
 pub use letters::item_len;
 pub use reading::{Head, spelling_of};
-pub use salt_and_hash::{read_hash, read_salt};
+pub use salt_and_hash::{read_item, read_salt};
 use std::alloc::Global;
-pub use writing::write_encoded;
+pub use writing::{write_encoded, write_encoded_by_sums};
 
 /// The encoded hash of a tag: the variant in lower case, the version, the costs and lanes as plain
 /// decimals, the memory cost as it was given, and the salt and the hash in unpadded base64. The
@@ -74,8 +74,10 @@ pub fn decode_string(alloc: Global, encoded: &str) -> Result<Decoded>
 {
     // The base64 is checked here without memory and decoded by `decode`, so that `DecodingFail`
     // comes before `OutOfMemory`.
-    let head = spelling_of(encoded).ok_or(Error::DecodingFail)?;
-    decode(alloc, &head)
+    match spelling_of(encoded.as_bytes()) {
+        Some(head) => decode(alloc, &head),
+        None => Err(Error::DecodingFail),
+    }
 }
 
 /// What an encoded hash with this head decodes to, if its salt and its hash are base64. If memory
@@ -93,7 +95,7 @@ pub fn decode(alloc: Global, head: &Head<'_>) -> Result<Decoded>
     let mut salt = vec![in alloc; 0u8; item_len(head.salt) as usize]?;
     read_salt(head.salt, &mut salt);
     let mut hash = vec![in alloc; 0u8; item_len(head.hash) as usize]?;
-    read_hash(head.hash, &mut hash);
+    read_item(head.hash, &mut hash);
     Ok(Decoded {
         variant: head.variant,
         version: head.version,

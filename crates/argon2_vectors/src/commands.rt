@@ -5,6 +5,7 @@
 //! | `run INPUT WORDS` | an input with these bytes |
 //! | `run/broken INPUT WORDS` | an input that fails behind them, and gives them one at a time |
 //! | `run/full ROOM WORDS` | the input `password`; the output and the error stream take so many bytes, and cannot be flushed |
+//! | `run/stuck ROOM WORDS` | the input `password`; the output and the error stream take so many bytes, and then none, without a failure |
 //! | `run/without_memory WORDS` | the input `password`, and an output without memory |
 //! | `run/fails_once STEP REASON WORDS` | the input `password`, and an output whose first `write` or `flush` fails, for want of `memory` or for `another` reason |
 //! | `start ARGUMENT..` | the input `password`: the arguments, with the program's name, are looked at first |
@@ -73,6 +74,10 @@ fn flaws(streams: &str, words: &mut Words<'_>) -> Result<(Flaw, Flaw)> {
         "" | "/broken" => (Flaw::None, Flaw::None),
         "/full" => {
             let room = Flaw::Room(words.number()? as usize);
+            (room, room)
+        }
+        "/stuck" => {
+            let room = Flaw::Stuck(words.number()? as usize);
             (room, room)
         }
         "/without_memory" => (Flaw::Memory, Flaw::None),

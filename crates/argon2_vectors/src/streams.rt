@@ -35,6 +35,9 @@ pub enum Flaw {
     /// It takes so many bytes before it fails, one at a time, and fails when it is flushed.
     Room(usize),
 
+    /// It takes so many bytes, one at a time, and then none, but it reports no failure.
+    Stuck(usize),
+
     /// It has no memory for what it is given.
     Memory,
 
@@ -65,7 +68,8 @@ impl Write for Output {
             Flaw::Room(room) if self.taken.len() >= room => {
                 return Err(Error::from(ErrorKind::Other));
             }
-            Flaw::Room(_) => buf.len().min(1),
+            Flaw::Stuck(room) if self.taken.len() >= room => 0,
+            Flaw::Room(_) | Flaw::Stuck(_) => buf.len().min(1),
             Flaw::Memory => return Err(Error::from(ErrorKind::OutOfMemory)),
             Flaw::Write(kind) => {
                 self.flaw = Flaw::None;

@@ -6,6 +6,7 @@ ghost use Rattle.argon2_blocks.specs.Standard.Hprime.{chain_length, hash_chain, 
 ghost use Rattle.argon2_blocks.specs.Standard.Word.{words_of};
 
 use super::{blake2b, compress_f, initial_state, read_words, wipe, write_words};
+use crate::basics::{copy_from_slice, fill, u32_to_le_bytes};
 use crate::common::BLAKE2B_OUT_LENGTH;
 
 /// How many bytes of each V but the last go into the hash: its first half, W.
@@ -16,16 +17,16 @@ fn chain_length(len: usize) -> usize
     requires { 64 < len }
     ensures { result ≡ chain_length len }
 {
-    len.div_ceil(HALF_LENGTH) - 2
+    // Two less than the quotient rounded up, which is one less than that of `len - 1` rounded down.
+    (len - 1) / HALF_LENGTH - 1
 }
 
 /// Fills a block with the words of a V, and zeros, since a V is half a block.
 fn write_half_block(block: &mut [u64; 16], v: &[u8; BLAKE2B_OUT_LENGTH])
     ensures { block.new ≡ words_of 8 v.now ++ replicate 8 0 }
 {
-    let (words, rest) = block.split_at_mut(8);
-    read_words(words, v);
-    rest.fill(0);
+    read_words(&mut block[..8], v);
+    fill(&mut block[8..], 0);
 }
 
 /// A chain's V, and what the next one is hashed by. It lives for the whole chain and is overwritten
@@ -79,7 +80,7 @@ fn write_half(out: &mut [u8], at: usize, v: &[u8; BLAKE2B_OUT_LENGTH])
     ensures len { length out.new ≡ length out.old }
     ensures front { take (at + 32) out.new ≡ take at out.old ++ take 32 v.now }
 {
-    out[at..at + HALF_LENGTH].copy_from_slice(&v[..HALF_LENGTH]);
+    copy_from_slice(&mut out[at..at + HALF_LENGTH], &v[..HALF_LENGTH]);
 }
 
 /// Fills a hash of more than 64 bytes, where the link has V 1: W 1 to W r, and then a hash of what is
@@ -119,7 +120,7 @@ pub fn hprime(out: &mut [u8], input: &[u8])
     requires few { length out.old < 2 ^ 32 }
     ensures { out.new ≡ hprime (length out.old) input.now }
 {
-    let len = (out.len() as u32).to_le_bytes();
+    let len = u32_to_le_bytes(out.len() as u32);
     if out.len() <= BLAKE2B_OUT_LENGTH {
         blake2b(out, &[&len, input]);
     } else {

@@ -12,7 +12,7 @@ ghost use Rattle.argon2_blocks.specs.Standard.Compression.{block_of_registers, c
 ghost use Rattle.argon2_blocks.specs.Views.Lanes.{column, vector_pair, vector_words, diagonals, four_and_four, high_halves, low_halves, nth_vector, odd_and_even, spread_row, turned_halves, undo_diagonals};
 
 use super::Block;
-use super::lanes::{mix_two, recall_vector};
+use super::lanes::{facts_of_vector, mix_two};
 use crate::common::QWORDS_IN_BLOCK;
 use std::simd::prelude::*;
 
@@ -29,8 +29,8 @@ fn low_halves(a: u64x8, b: u64x8) -> u64x8
     ensures left { length a ≡ 8 }
     ensures right { length b ≡ 8 }
 {
-    recall_vector(a);
-    recall_vector(b);
+    facts_of_vector(a);
+    facts_of_vector(b);
     a.shuffle(b, [0, 1, 2, 3, 8, 9, 10, 11])
 }
 
@@ -39,8 +39,8 @@ fn low_halves(a: u64x8, b: u64x8) -> u64x8
 fn high_halves(a: u64x8, b: u64x8) -> u64x8
     ensures { result ≡ high_halves a b }
 {
-    recall_vector(a);
-    recall_vector(b);
+    facts_of_vector(a);
+    facts_of_vector(b);
     a.shuffle(b, [4, 5, 6, 7, 12, 13, 14, 15])
 }
 
@@ -49,7 +49,7 @@ fn high_halves(a: u64x8, b: u64x8) -> u64x8
 fn odd_and_even(a: u64x8, b: u64x8) -> u64x8
     ensures { result ≡ odd_and_even a b }
 {
-    recall_vector(a);
+    facts_of_vector(a);
     a.shuffle(b, [1, 8, 3, 10, 5, 12, 7, 14])
 }
 
@@ -58,7 +58,7 @@ fn odd_and_even(a: u64x8, b: u64x8) -> u64x8
 fn turn_by_one(a: u64x8) -> u64x8
     ensures { result ≡ turned_halves 1 a }
 {
-    recall_vector(a);
+    facts_of_vector(a);
     a.swizzle([1, 2, 3, 0, 5, 6, 7, 4])
 }
 
@@ -66,7 +66,7 @@ fn turn_by_one(a: u64x8) -> u64x8
 fn turn_by_two(a: u64x8) -> u64x8
     ensures { result ≡ turned_halves 2 a }
 {
-    recall_vector(a);
+    facts_of_vector(a);
     a.swizzle([2, 3, 0, 1, 6, 7, 4, 5])
 }
 
@@ -74,7 +74,7 @@ fn turn_by_two(a: u64x8) -> u64x8
 fn turn_by_three(a: u64x8) -> u64x8
     ensures { result ≡ turned_halves 3 a }
 {
-    recall_vector(a);
+    facts_of_vector(a);
     a.swizzle([3, 0, 1, 2, 7, 4, 5, 6])
 }
 
@@ -204,10 +204,10 @@ fn restore_column_diagonals(v: [u64x8; 8]) -> [u64x8; 8]
         ≡ undo_diagonals (column (nth_vector v) k) }
     ensures long { Each1 (λ a. length a ≡ 8) result }
 {
-    recall_vector(v[2]);
-    recall_vector(v[3]);
-    recall_vector(v[6]);
-    recall_vector(v[7]);
+    facts_of_vector(v[2]);
+    facts_of_vector(v[3]);
+    facts_of_vector(v[6]);
+    facts_of_vector(v[7]);
     [
         odd_and_even(v[0], v[1]),
         odd_and_even(v[1], v[0]),
@@ -254,8 +254,8 @@ fn xor_lanes(x: u64x8, y: u64x8) -> u64x8
     ensures left { length x ≡ 8 }
     ensures right { length y ≡ 8 }
 {
-    recall_vector(x);
-    recall_vector(y);
+    facts_of_vector(x);
+    facts_of_vector(y);
     x ^ y
 }
 

@@ -10,7 +10,7 @@ use std::simd::prelude::*;
 
 // What the type says of a vector. The prover learns it from the shift, which the compiler drops.
 #[inline(always)]
-pub(super) fn recall_vector(x: u64x8)
+pub(super) fn facts_of_vector(x: u64x8)
     ensures long { length x ≡ 8 }
     ensures fits { Each1 (λ a. a < 2 ^ 64) x }
 {
@@ -25,8 +25,8 @@ fn add_product(x: u64x8, y: u64x8) -> u64x8
     ensures left { length x ≡ 8 }
     ensures right { length y ≡ 8 }
 {
-    recall_vector(x);
-    recall_vector(y);
+    facts_of_vector(x);
+    facts_of_vector(y);
     let mask = u64x8::splat(0xffff_ffff);
     let low = (x & mask) * (y & mask);
     x + y + (low + low)
@@ -39,7 +39,7 @@ fn rotate_lanes(x: u64x8, bits: u32) -> u64x8
     requires few { bits < 64 }
     ensures { result ≡ map (λ a. rotate_right w64 a bits) x }
 {
-    recall_vector(x);
+    facts_of_vector(x);
     (x >> u64x8::splat(bits as u64)) | (x << u64x8::splat(64 - bits as u64))
 }
 
@@ -49,7 +49,7 @@ fn rotate_lanes(x: u64x8, bits: u32) -> u64x8
 fn rotate_by_32(x: u64x8) -> u64x8
     ensures { result ≡ map (λ a. rotate_right w64 a 32) x }
 {
-    recall_vector(x);
+    facts_of_vector(x);
     let halves = u32x16::from_le_bytes(x.to_le_bytes());
     let swapped = halves.swizzle([1, 0, 3, 2, 5, 4, 7, 6, 9, 8, 11, 10, 13, 12, 15, 14]);
     u64x8::from_le_bytes(swapped.to_le_bytes())
@@ -61,7 +61,7 @@ fn rotate_by_32(x: u64x8) -> u64x8
 fn rotate_by_24(x: u64x8) -> u64x8
     ensures { result ≡ map (λ a. rotate_right w64 a 24) x }
 {
-    recall_vector(x);
+    facts_of_vector(x);
     let swapped = rotate_by_32(x);
     rotate_lanes(swapped, 56)
 }
@@ -71,7 +71,7 @@ fn rotate_by_24(x: u64x8) -> u64x8
 fn rotate_by_16(x: u64x8) -> u64x8
     ensures { result ≡ map (λ a. rotate_right w64 a 16) x }
 {
-    recall_vector(x);
+    facts_of_vector(x);
     let swapped = rotate_by_32(x);
     rotate_lanes(swapped, 48)
 }

@@ -13,7 +13,7 @@ use argon2_blocks::block::Block;
 use argon2_fill::caller_blocks::hash_over;
 use argon2_fill::fill::write_first_block;
 use argon2_fill::lane_threads::hash_job_over_by_threads;
-use argon2_memory::job::{Job, recall_context};
+use argon2_memory::job::{Job, facts_of_context};
 use argon2_memory::memory::{Memory, take_slices};
 use argon2_memory::segment::{pick, reference_set_column, reference_set_size};
 use argon2_standard::config::Config;
@@ -149,7 +149,7 @@ fn hashed_by_threads<R: Threads + Sync>(
 ) -> [u8; 32]
     requires { length blocks.old ≡ context.now.memory_blocks }
 {
-    recall_context(context);
+    facts_of_context(context);
     let mut out = [0; 32];
     hash_job_over_by_threads(rt, &Job::new(context), blocks, &mut out);
     out

@@ -15,7 +15,7 @@ use argon2_fill::fill::{fill_slice_in_turn, initialize, prepare_memory};
 use argon2_fill::workers::{
     Board, Claim, Event, Filled, NoGate, Permit, Place, board_of, fill_slice, fill_slice_with,
 };
-use argon2_memory::job::{Job, recall_context, recall_job};
+use argon2_memory::job::{Job, facts_of_context, facts_of_job};
 use argon2_memory::memory::{Memory, Slices, others, take_slices};
 use argon2_memory::segment::{Segment, Snapshot};
 use argon2_standard::config::Config;
@@ -71,8 +71,8 @@ fn begin(alloc: Global, call: &Call) -> Result<(Job, Slices)>
 {
     let context = Context::new(call.config, call.password, call.salt)?;
     let job = Job::new(&context);
-    recall_job(&job);
-    recall_context(&context);
+    facts_of_job(&job);
+    facts_of_context(&context);
     let mut memory = Memory::empty(alloc);
     prepare_memory(alloc, &context, &mut memory)?;
     initialize(&context, &mut memory);

@@ -14,7 +14,7 @@ use super::other_blocks::{Beside, OtherBlocks, beside_blocks, source_before};
 use super::own_blocks::{CallerSegment, OwnBlocks, Segment, Source};
 use super::positions::{pick, reference_positions};
 use super::snapshot::Snapshot;
-use crate::job::{Job, recall_job, stretch};
+use crate::job::{Job, facts_of_job, stretch};
 use argon2_blocks::block::Block;
 use argon2_blocks::common::QWORDS_IN_BLOCK;
 
@@ -127,11 +127,11 @@ fn write_blocks<S: OtherBlocks, O: OwnBlocks>(
         ≡ ((O.seen own.old).tally + length references.now) % 2 ^ 64 }
     ensures same { O.loan own.new ≡ O.loan own.old }
 {
-    recall_job(beside.job());
+    facts_of_job(beside.job());
     // Read for its range, as in `fill_dependent`.
     let _tally = own.tally();
-    for (k, reference) in references.iter().enumerate() {
-        write_block(beside, lane, first + k as u32, *reference, own);
+    for k in 0..references.len() {
+        write_block(beside, lane, first + k as u32, references[k], own);
     }
 }
 
@@ -252,7 +252,7 @@ pub fn fill_caller_segment(
     requires own_fits { length own.old ≡ job.now.setting.segment_length }
     ensures { FillsAmong job.now lane (first.now ∷ second.now ∷ third.now ∷ []) own.old own.new }
 {
-    recall_job(job);
+    facts_of_job(job);
     let beside = beside_blocks(*job, [first, second, third]);
     let mut segment = CallerSegment::new(own);
     fill_own(&beside, lane, &mut segment);

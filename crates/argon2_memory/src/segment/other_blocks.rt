@@ -112,8 +112,8 @@ fn slice_of_column(job: &Job, column: u32) -> u32
     ensures begun { result * job.now.setting.segment_length ≤ column }
 {
     let length = job.segment_length();
-    let first = u32::from(column >= length);
-    first + u32::from(column >= 2 * length) + u32::from(column >= 3 * length)
+    let first = (column >= length) as u32;
+    first + (column >= 2 * length) as u32 + (column >= 3 * length) as u32
 }
 
 /// The slices of a memory beside the job's, in rising order.

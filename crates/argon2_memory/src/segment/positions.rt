@@ -7,7 +7,7 @@ ghost use Rattle.argon2_standard.specs.Standard.Recurrence.{addresses};
 ghost use Rattle.argon2_standard.specs.Standard.Reference.{drawn_lane, relative_position, is_data_independent};
 ghost use Rattle.argon2_standard.specs.Standard.Setting.{lane_length};
 
-use crate::job::{Job, recall_job};
+use crate::job::{Job, facts_of_job};
 use argon2_blocks::block::{Block, fill_block};
 use argon2_blocks::common::{ADDRESSES_IN_BLOCK, QWORDS_IN_BLOCK};
 
@@ -21,7 +21,7 @@ fn reaches(number: u32, bound: u32) -> u32
     ensures below { number < bound → result ≡ 0 }
     ensures reached { bound ≤ number → result ≡ 1 }
 {
-    ((u64::from(number) + HALF - u64::from(bound)) / HALF) as u32
+    ((number as u64 + HALF - bound as u64) / HALF) as u32
 }
 
 /// The relative position that a word draws in a reference set of `size` blocks (RFC 9106, 3.4.2).
@@ -32,7 +32,7 @@ fn relative_position(size: u32, word: u64) -> u32
 {
     let low = word % HALF;
     let square = low * low / HALF;
-    let back = u64::from(size) * square / HALF;
+    let back = size as u64 * square / HALF;
     size - 1 - back as u32
 }
 
@@ -122,13 +122,13 @@ fn address_block(job: &Job, lane: u32, number: u32, out: &mut Block)
 {
     let zero = Block::zero();
     let mut input = [0; QWORDS_IN_BLOCK];
-    input[0] = u64::from(job.pass());
-    input[1] = u64::from(lane);
-    input[2] = u64::from(job.slice());
-    input[3] = u64::from(job.memory_blocks());
-    input[4] = u64::from(job.passes());
+    input[0] = job.pass() as u64;
+    input[1] = lane as u64;
+    input[2] = job.slice() as u64;
+    input[3] = job.memory_blocks() as u64;
+    input[4] = job.passes() as u64;
     input[5] = job.variant().as_u64();
-    input[6] = u64::from(number) + 1;
+    input[6] = number as u64 + 1;
     let mut once = Block::zero();
     fill_block(&zero, &Block::from_words(input), &mut once, false);
     fill_block(&zero, &once, out, false);
@@ -161,7 +161,7 @@ pub fn reference_positions(job: &Job, lane: u32, first: u32, out: &mut [(u32, u3
         (reference_positions_of s.variant s.lanes s.segment_length s.passes job.now.pass
         job.now.slice lane)) }
 {
-    recall_job(job);
+    facts_of_job(job);
     let mut words = Block::zero();
     for k in 0..out.len() {
         let index = first + k as u32;

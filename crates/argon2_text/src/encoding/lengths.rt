@@ -7,7 +7,6 @@ ghost use Rattle.argon2_standard.specs.Standard.Text.{base64, text_of};
 ghost use Rattle.argon2_standard.specs.declared.version.Version.{Version};
 
 use argon2_standard::variant::Variant;
-use itoa::Buffer;
 
 /// The length of what each encoded hash has: its marks and the digits of its version, which are two
 /// in both versions, so that no length depends on it.
@@ -15,7 +14,7 @@ const FIXED_LEN: u64 = "$$v=19$m=,t=,p=$$".len() as u64;
 
 /// The length of the unpadded base64 of `len` bytes, by parts, since four times a length of a slice
 /// may not fit 64 bits.
-fn characters(len: u64) -> u64
+pub fn characters(len: u64) -> u64
     requires { len < 2 ^ 63 }
     ensures { result ≡ unpadded_len len }
 {
@@ -29,15 +28,18 @@ pub fn base64_len(len: u32) -> u64
     ensures value { result ≡ unpadded_len len }
     ensures exact { (bytes : List ℕ) → length bytes ≡ len → result ≡ length (base64 bytes) }
 {
-    characters(u64::from(len))
+    characters(len as u64)
 }
 
 /// The number of digits of the plain decimal of `number`.
 pub fn num_len(number: u32) -> u32
     ensures { result ≡ length (decimal number) }
 {
-    let mut digits = Buffer::new();
-    digits.format(number).len() as u32
+    if number < 10 {
+        1
+    } else {
+        1 + num_len(number / 10)
+    }
 }
 
 /// The length of the encoded hash that `encode_string` writes for a salt and a hash of these
@@ -68,8 +70,8 @@ pub fn encoded_len(
         mem_cost,
         time_cost,
         parallelism,
-        u64::from(salt_len),
-        u64::from(hash_len),
+        salt_len as u64,
+        hash_len as u64,
     )
 }
 
@@ -98,8 +100,6 @@ pub fn text_len(
         })) }
 {
     let name = variant.as_lowercase_str().len() as u64;
-    let costs = u64::from(num_len(mem_cost))
-        + u64::from(num_len(time_cost))
-        + u64::from(num_len(parallelism));
+    let costs = num_len(mem_cost) as u64 + num_len(time_cost) as u64 + num_len(parallelism) as u64;
     FIXED_LEN + name + costs + characters(salt_len) + characters(hash_len)
 }

@@ -10,16 +10,18 @@ ghost use Rattle.argon2_standard.specs.Standard.Text.{base64};
 ghost use Rattle.argon2_text.specs.Views.Faults.{IsSomeItem};
 ghost use Rattle.argon2_text.specs.Views.Letters.{bits_of, bytes_read, fault_of, faults_of, letter_of, reaches};
 
+use argon2_blocks::basics::split_at;
+
 /// Whether a string is the unpadded base64 of some bytes. It goes on to the last character, and
 /// allocates nothing, so that invalid base64 is found even without memory.
-pub fn is_item(text: &str) -> bool
+pub fn is_item(text: &[u8]) -> bool
     ensures { IsTrue result ↔ IsSomeItem text.now }
 {
     // As wide as a length, since each character may have a fault.
     let mut faults: usize = 0;
-    let mut rest = text.as_bytes();
+    let mut rest = text;
     while rest.len() >= 4 {
-        let (group, behind) = rest.split_at(4);
+        let (group, behind) = split_at(rest, 4);
         faults += group_faults(group) as usize;
         rest = behind;
     }
@@ -44,7 +46,7 @@ fn tail_faults(tail: &[u8]) -> u32
 /// How many bytes an unpadded base64 string encodes. It decodes none, so that lengths can be
 /// checked before memory is allocated.
 #[tactic(auto, using(crate::proofs::Writing::lengths))]
-pub fn item_len(text: &str) -> u64
+pub fn item_len(text: &[u8]) -> u64
     ensures value { result ≡ 3 * length text.now / 4 }
     ensures exact { (bytes : List ℕ) → IsItem text.now bytes → result ≡ length bytes }
 {
@@ -78,7 +80,7 @@ pub fn letter(bits: u32) -> u8
 pub fn bits(letter: u8) -> u32
     ensures { result ≡ bits_of letter }
 {
-    let letter = u32::from(letter);
+    let letter = letter as u32;
     // The same ranges in the order of bytes: `+`, `/`, digits, capitals, small letters.
     let ahead = letter + 19 - 3 * reaches(letter, 47) - 12 * reaches(letter, 48);
     ahead - 69 * reaches(letter, 65) - 6 * reaches(letter, 97)
@@ -89,7 +91,7 @@ fn fault(letter: u8) -> u32
     ensures value { result ≡ fault_of letter }
     ensures few { result ≤ 1 }
 {
-    let letter = u32::from(letter);
+    let letter = letter as u32;
     // In a range of characters, one more has begun than lies behind.
     let behind = reaches(letter, 44)
         + reaches(letter, 58)
@@ -113,6 +115,11 @@ fn group_faults(group: &[u8]) -> u32
 }
 
 /// The three bytes of four characters.
+///
+/// It is never inlined. LLVM keeps values below the stack pointer in functions that call no other,
+/// and Windows may overwrite them there. So whoever decodes calls this function, which is small
+/// enough for the registers.
+#[inline(never)]
 #[tactic(auto, using(crate::proofs::Letters::placed), unfolding(crate::specs::Views::Letters::bytes_read))]
 pub fn three_bytes(group: &[u8]) -> [u8; 3]
     requires { length group.now ≡ 4 }
@@ -133,8 +140,8 @@ pub fn four_letters(group: &[u8]) -> [u8; 4]
     requires { length group.now ≡ 3 }
     ensures { result ≡ base64 group.now }
 {
-    let (a, b) = (u32::from(group[0]), u32::from(group[1]));
-    let c = u32::from(group[2]);
+    let (a, b) = (group[0] as u32, group[1] as u32);
+    let c = group[2] as u32;
     [
         letter(a / 4),
         letter(a % 4 * 16 + b / 16),

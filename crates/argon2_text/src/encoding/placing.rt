@@ -3,7 +3,7 @@
 ghost use Rattle.std.specs.Prelude.{◌≡◌, ◌+◌, ◌++◌, ◌≤◌, length, take};
 ghost use Rattle.std.specs.Fmt.{decimal};
 
-use itoa::Buffer;
+use argon2_blocks::basics::copy_from_slice;
 
 /// Puts bytes behind the first `at` of a buffer. Returns where they end.
 pub fn put(out: &mut [u8], at: usize, bytes: &[u8]) -> usize
@@ -13,7 +13,7 @@ pub fn put(out: &mut [u8], at: usize, bytes: &[u8]) -> usize
     ensures len { length out.new ≡ length out.old }
 {
     let end = at + bytes.len();
-    out[at..end].copy_from_slice(bytes);
+    copy_from_slice(&mut out[at..end], bytes);
     end
 }
 
@@ -24,6 +24,9 @@ pub fn put_number(out: &mut [u8], at: usize, number: u32) -> usize
     ensures front { take result out.new ≡ take at out.old ++ decimal number }
     ensures len { length out.new ≡ length out.old }
 {
-    let mut digits = Buffer::new();
-    put(out, at, digits.format(number).as_bytes())
+    if number < 10 {
+        return put(out, at, &[b'0' + number as u8]);
+    }
+    let at = put_number(out, at, number / 10);
+    put(out, at, &[b'0' + (number % 10) as u8])
 }

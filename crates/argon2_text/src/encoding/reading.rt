@@ -1,6 +1,7 @@
 //! The pieces of an encoded hash, cut and decoded from left to right. Nothing here allocates.
 
-ghost use Rattle.std.specs.Prelude.{◌≡◌, ◌≢◌, ◌<◌, ℕ, List, MatchOption, length, option_map, slice_index};
+ghost use Rattle.std.specs.Prelude.{◌≡◌, ◌≢◌, ◌<◌, ◌^◌, ℕ, List, MatchOption, length, option_map, slice_index};
+ghost use Rattle.std.specs.Str.Parse.{IsNumeral, digits_value};
 ghost use Rattle.argon2_text.specs.Views.Cutting.{cut, piece, pieces_of, strip, version_piece};
 ghost use Rattle.argon2_text.specs.Views.Faults.{HasSplit, IsNoNumber, IsNoVersion};
 ghost use Rattle.argon2_standard.specs.Standard.Grammar.{IsNumber, IsVersion, SpellsNothing};
@@ -10,19 +11,23 @@ ghost use Rattle.argon2_standard.specs.Views.Names.{IsNoName};
 
 use crate::encoding::letters::{is_item, item_len};
 use crate::numbers::Numbers;
+use argon2_blocks::basics::split_at;
 use argon2_standard::variant::Variant;
 use argon2_standard::version::Version;
+
+/// The greatest number of a piece.
+const MAX_NUMBER: u64 = 0xFFFF_FFFF;
 
 /// The pieces of an encoded hash, not decoded.
 #[derive(Clone, Copy)]
 struct Pieces<'a> {
-    name: &'a str,
-    version: Option<&'a str>,
-    memory: &'a str,
-    time: &'a str,
-    lanes: &'a str,
-    salt: &'a str,
-    hash: &'a str,
+    name: &'a [u8],
+    version: Option<&'a [u8]>,
+    memory: &'a [u8],
+    time: &'a [u8],
+    lanes: &'a [u8],
+    salt: &'a [u8],
+    hash: &'a [u8],
 }
 
 /// What an encoded hash decodes to before its salt and its hash, and these two in base64.
@@ -44,10 +49,10 @@ pub struct Head<'a> {
     pub parallelism: u32,
 
     /// The base64 of the salt.
-    pub salt: &'a str,
+    pub salt: &'a [u8],
 
     /// The base64 of the hash.
-    pub hash: &'a str,
+    pub hash: &'a [u8],
 }
 
 impl Head<'_> {
@@ -73,10 +78,12 @@ impl Head<'_> {
 }
 
 /// The head of a string that decodes to a hash. It allocates nothing.
-pub fn spelling_of(text: &str) -> Option<Head<'_>>
+pub fn spelling_of(text: &[u8]) -> Option<Head<'_>>
     ensures { MatchOption result (SpellsNothing text.now) (IsSpellingOf text.now) }
 {
-    let head = head_of(text)?;
+    let Some(head) = head_of(text) else {
+        return None;
+    };
     // `&&` skips the hash where the salt is not base64, since no salt is a secret.
     if is_item(head.salt) && is_item(head.hash) {
         Some(head)
@@ -86,17 +93,33 @@ pub fn spelling_of(text: &str) -> Option<Head<'_>>
 }
 
 /// The head of a string that has all its pieces, if those before the salt decode.
-fn head_of(text: &str) -> Option<Head<'_>>
+fn head_of(text: &[u8]) -> Option<Head<'_>>
     ensures { MatchOption result (HasSplit text.now → ⊥) (IsHeadOf text.now) }
 {
-    let pieces = pieces_of(text)?;
-    let version = version_of(pieces.version)?;
+    let Some(pieces) = pieces_of(text) else {
+        return None;
+    };
+    let Some(version) = version_of(pieces.version) else {
+        return None;
+    };
+    let Some(variant) = Variant::from_name(pieces.name) else {
+        return None;
+    };
+    let Some(mem_cost) = number(pieces.memory) else {
+        return None;
+    };
+    let Some(time_cost) = number(pieces.time) else {
+        return None;
+    };
+    let Some(parallelism) = number(pieces.lanes) else {
+        return None;
+    };
     Some(Head {
-        variant: Variant::from_str(pieces.name).ok()?,
+        variant,
         version,
-        mem_cost: number(pieces.memory)?,
-        time_cost: number(pieces.time)?,
-        parallelism: number(pieces.lanes)?,
+        mem_cost,
+        time_cost,
+        parallelism,
         salt: pieces.salt,
         hash: pieces.hash,
     })
@@ -105,15 +128,27 @@ fn head_of(text: &str) -> Option<Head<'_>>
 /// The pieces of a string, if it has all of them but the version. The hash is all that is left: no
 /// byte of it is looked at here.
 #[tactic(auto, unfolding(crate::specs::Views::Cutting::pieces_of))]
-fn pieces_of(text: &str) -> Option<Pieces<'_>>
+fn pieces_of(text: &[u8]) -> Option<Pieces<'_>>
     ensures { option_map pieces_view result ≡ pieces_of text.now }
 {
-    let (name, rest) = piece(text, "$", b'$')?;
-    let (version, rest) = version_piece(rest)?;
-    let (memory, rest) = piece(rest, "m=", b',')?;
-    let (time, rest) = piece(rest, "t=", b',')?;
-    let (lanes, rest) = piece(rest, "p=", b'$')?;
-    let (salt, hash) = cut(rest, b'$')?;
+    let Some((name, rest)) = piece(text, b"$", b'$') else {
+        return None;
+    };
+    let Some((version, rest)) = version_piece(rest) else {
+        return None;
+    };
+    let Some((memory, rest)) = piece(rest, b"m=", b',') else {
+        return None;
+    };
+    let Some((time, rest)) = piece(rest, b"t=", b',') else {
+        return None;
+    };
+    let Some((lanes, rest)) = piece(rest, b"p=", b'$') else {
+        return None;
+    };
+    let Some((salt, hash)) = cut(rest, b'$') else {
+        return None;
+    };
     Some(Pieces {
         name,
         version,
@@ -127,43 +162,55 @@ fn pieces_of(text: &str) -> Option<Pieces<'_>>
 
 /// Behind `front`, the piece up to the first `mark`, and what is after the mark.
 #[tactic(auto, unfolding(crate::specs::Views::Cutting::piece))]
-fn piece<'a>(text: &'a str, front: &str, mark: u8) -> Option<(&'a str, &'a str)>
-    requires { mark < 128 }
+fn piece<'a>(text: &'a [u8], front: &[u8], mark: u8) -> Option<(&'a [u8], &'a [u8])>
     ensures { option_map two_texts result ≡ piece front.now mark text.now }
 {
-    cut(strip(text, front)?, mark)
+    match strip(text, front) {
+        Some(rest) => cut(rest, mark),
+        None => None,
+    }
 }
 
 /// The version up to its `$`, if the string begins with one, and what is after it.
 #[tactic(auto, unfolding(crate::specs::Views::Cutting::version_piece))]
-fn version_piece(text: &str) -> Option<(Option<&str>, &str)>
+fn version_piece(text: &[u8]) -> Option<(Option<&[u8]>, &[u8])>
     ensures { option_map version_and_rest result ≡ version_piece text.now }
 {
-    let Some(rest) = strip(text, "v=") else {
+    let Some(rest) = strip(text, b"v=") else {
         return Some((None, text));
     };
-    let (version, rest) = cut(rest, b'$')?;
+    let Some((version, rest)) = cut(rest, b'$') else {
+        return None;
+    };
     Some((Some(version), rest))
 }
 
-/// What is after `front`: `strip_prefix`, apart so that other proofs go by the definition's words.
-#[tactic(auto, using(crate::proofs::Pieces::strip_gives))]
-fn strip<'a>(text: &'a str, front: &str) -> Option<&'a str>
+/// What is after `front`.
+fn strip<'a>(text: &'a [u8], front: &[u8]) -> Option<&'a [u8]>
     ensures { option_map (λ x. x.now) result ≡ strip front.now text.now }
 {
-    text.strip_prefix(front)
+    if text.len() < front.len() {
+        return None;
+    }
+    for at in 0..front.len() {
+        if text[at] != front[at] {
+            return None;
+        }
+    }
+    let (_front, rest) = split_at(text, front.len());
+    Some(rest)
 }
 
-/// What is before the first `mark`, and what is after it. The mark is ASCII, so that the string may
-/// be cut on both its sides. `split_once` of the standard library would look at bytes behind the
-/// mark.
-fn cut(text: &str, mark: u8) -> Option<(&str, &str)>
-    requires { mark < 128 }
+/// What is before the first `mark`, and what is after it. It looks at no byte behind the mark.
+fn cut(text: &[u8], mark: u8) -> Option<(&[u8], &[u8])>
     ensures { option_map two_texts result ≡ cut mark text.now }
 {
-    let at = first(text.as_bytes(), mark)?;
-    let (before, rest) = text.split_at(at);
-    Some((before, &rest[1..]))
+    let Some(at) = first(text, mark) else {
+        return None;
+    };
+    let (before, rest) = split_at(text, at);
+    let (_mark, behind) = split_at(rest, 1);
+    Some((before, behind))
 }
 
 /// Where the first `mark` is. It looks at no byte behind it, as a search of many bytes at a time
@@ -174,8 +221,8 @@ fn first(bytes: &[u8], mark: u8) -> Option<usize>
         (λ at. (at < length bytes.now) × (slice_index bytes.now at ≡ mark)
         × ((i : ℕ) → i < at → slice_index bytes.now i ≢ mark)) }
 {
-    for (at, byte) in bytes.iter().enumerate() {
-        if *byte == mark {
+    for at in 0..bytes.len() {
+        if bytes[at] == mark {
             return Some(at);
         }
     }
@@ -183,21 +230,48 @@ fn first(bytes: &[u8], mark: u8) -> Option<usize>
 }
 
 /// The version that a piece names; version 0x10 if there is no piece.
-fn version_of(piece: Option<&str>) -> Option<Version>
+fn version_of(piece: Option<&[u8]>) -> Option<Version>
     ensures { let text = version_text_of piece.entry in
         MatchOption result (IsNoVersion text) (IsVersion text) }
 {
     match piece {
         None => Some(Version::Version10),
-        Some(text) => Version::from_str(text).ok(),
+        Some(text) => Version::from_digits(text),
     }
 }
 
-/// The number that a piece names: a plus or nothing, and decimal digits. It is apart, so that other
-/// proofs go by the grammar's words and not by those of `parse`.
-#[tactic(auto, using(crate::proofs::Pieces::number_gives))]
-fn number(text: &str) -> Option<u32>
+/// The number that a piece names: a plus or nothing, and decimal digits.
+fn number(text: &[u8]) -> Option<u32>
     ensures { MatchOption result (IsNoNumber text.now) (IsNumber text.now) }
 {
-    text.parse().ok()
+    if text.len() > 0 && text[0] == b'+' {
+        return digits(&text[1..]);
+    }
+    digits(text)
+}
+
+/// The number of one decimal digit or more, if it fits 32 bits.
+fn digits(bytes: &[u8]) -> Option<u32>
+    ensures { MatchOption result
+        (IsNumeral 10 bytes.now → digits_value 10 bytes.now < 2 ^ 32 → ⊥)
+        (λ n. IsNumeral 10 bytes.now × (digits_value 10 bytes.now ≡ n) × (n < 2 ^ 32)) }
+{
+    if bytes.len() == 0 {
+        return None;
+    }
+    let mut number: u32 = 0;
+    let mut rest = bytes;
+    while rest.len() > 0 {
+        let digit = rest[0];
+        if digit < b'0' || digit > b'9' {
+            return None;
+        }
+        let longer = number as u64 * 10 + (digit - b'0') as u64;
+        if longer > MAX_NUMBER {
+            return None;
+        }
+        number = longer as u32;
+        rest = &rest[1..];
+    }
+    Some(number)
 }

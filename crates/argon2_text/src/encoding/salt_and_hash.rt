@@ -1,7 +1,10 @@
 //! The salt and the hash in a PHC string, written to and decoded into caller-provided buffers.
 //!
-//! The salt is public, and goes by the tables of crate `base64`. The characters of the hash are
-//! secret, and go by sums.
+//! The characters of the hash are secret, so they are computed by sums (`put_hash`, `read_item`).
+//! The salt is public. The calls of this crate encode and decode it by the tables of crate `base64`
+//! (`put_salt`, `read_salt`). C's calls use the sums for it too (`put_salt_by_sums`, `read_item`),
+//! since crate `base64` calls the language's library, which the C library does without
+//! (docs/DECISIONS.md).
 
 ghost use Rattle.std.specs.Prelude.{◌≡◌, ◌+◌, ◌*◌, ◌/◌, ◌++◌, ◌<◌, ◌≤◌, length, take};
 ghost use Rattle.argon2_standard.specs.Standard.Grammar.{IsItem};
@@ -10,8 +13,10 @@ ghost use Rattle.argon2_text.specs.Views.Faults.{IsSomeItem};
 ghost use Rattle.argon2_text.specs.Views.Letters.{bytes_read};
 ghost use Rattle.base64.specs.Rfc4648.{unpadded_len};
 
+use crate::encoding::lengths::characters;
 use crate::encoding::letters::{bits, four_letters, letter, three_bytes};
 use crate::encoding::placing::put;
+use argon2_blocks::basics::split_at;
 use base64::engine::general_purpose::STANDARD_NO_PAD;
 
 /// Puts the unpadded base64 of a salt behind the first `at` bytes of a buffer. Returns where it
@@ -28,6 +33,19 @@ pub fn put_salt(out: &mut [u8], at: usize, salt: &[u8]) -> usize
     }
 }
 
+/// Puts the unpadded base64 of a salt behind the first `at` bytes of a buffer, by sums. Returns
+/// where it ends.
+pub fn put_salt_by_sums(out: &mut [u8], at: usize, salt: &[u8]) -> usize
+    requires { at + unpadded_len (length salt.now) ≤ length out.old }
+    ensures end { result ≡ at + unpadded_len (length salt.now) }
+    ensures front { take result out.new ≡ take at out.old ++ base64 salt.now }
+    ensures len { length out.new ≡ length out.old }
+{
+    let end = at + characters(salt.len() as u64) as usize;
+    put_hash(&mut out[..end], at, salt);
+    end
+}
+
 /// Puts the unpadded base64 of a hash behind the first `at` bytes of a buffer, which it fills.
 pub fn put_hash(out: &mut [u8], at: usize, hash: &[u8])
     requires { at + unpadded_len (length hash.now) ≡ length out.old }
@@ -36,7 +54,7 @@ pub fn put_hash(out: &mut [u8], at: usize, hash: &[u8])
     let mut at = at;
     let mut rest = hash;
     while rest.len() >= 3 {
-        let (group, behind) = rest.split_at(3);
+        let (group, behind) = split_at(rest, 3);
         at = put(out, at, &four_letters(group));
         rest = behind;
     }
@@ -52,11 +70,11 @@ fn put_last_letters(out: &mut [u8], at: usize, tail: &[u8])
     match *tail {
         [] => {}
         [a] => {
-            let a = u32::from(a);
+            let a = a as u32;
             put(out, at, &[letter(a / 4), letter(a % 4 * 16)]);
         }
         [a, b, ..] => {
-            let (a, b) = (u32::from(a), u32::from(b));
+            let (a, b) = (a as u32, b as u32);
             let letters = [
                 letter(a / 4),
                 letter(a % 4 * 16 + b / 16),
@@ -67,33 +85,31 @@ fn put_last_letters(out: &mut [u8], at: usize, tail: &[u8])
     }
 }
 
-/// Decodes a salt's base64 into a buffer of exactly its length.
-pub fn read_salt(text: &str, salt: &mut [u8])
+/// Decodes a salt's base64 into a buffer of exactly its length, by tables.
+pub fn read_salt(text: &[u8], salt: &mut [u8])
     requires item { IsSomeItem text.now }
     requires length { length salt.old ≡ 3 * length text.now / 4 }
     ensures { IsItem text.now salt.new }
 {
-    let Ok(_) = STANDARD_NO_PAD.decode_slice(text.as_bytes(), salt) else {
+    let Ok(_) = STANDARD_NO_PAD.decode_slice(text, salt) else {
         unreachable!();
     };
 }
 
-/// Decodes a hash's base64 into a buffer of exactly its length. Its caller stays one that calls, so
-/// that the machine code of neither keeps anything below the stack pointer, where Windows may write.
-#[inline(never)]
-pub fn read_hash(text: &str, hash: &mut [u8])
+/// Decodes the base64 of a salt or a hash into a buffer of exactly its length, by sums.
+pub fn read_item(text: &[u8], item: &mut [u8])
     requires item { IsSomeItem text.now }
-    requires length { length hash.old ≡ 3 * length text.now / 4 }
-    ensures { IsItem text.now hash.new }
+    requires length { length item.old ≡ 3 * length text.now / 4 }
+    ensures { IsItem text.now item.new }
 {
     let mut at = 0;
-    let mut rest = text.as_bytes();
+    let mut rest = text;
     while rest.len() >= 4 {
-        let (group, behind) = rest.split_at(4);
-        at = put(hash, at, &three_bytes(group));
+        let (group, behind) = split_at(rest, 4);
+        at = put(item, at, &three_bytes(group));
         rest = behind;
     }
-    put_last_bytes(hash, at, rest);
+    put_last_bytes(item, at, rest);
 }
 
 /// Puts the bytes of the characters behind the last group of four, which fill the buffer.

@@ -8,8 +8,9 @@ ghost use Rattle.argon2_standard.specs.Standard.Version.{version_text};
 ghost use Rattle.argon2_text.specs.Views.Texts.{front_of};
 
 use crate::encoding::placing::{put, put_number};
-use crate::encoding::salt_and_hash::{put_hash, put_salt};
+use crate::encoding::salt_and_hash::{put_hash, put_salt, put_salt_by_sums};
 use argon2_standard::config::Config;
+use argon2_standard::variant::Variant;
 use argon2_standard::version::Version;
 
 /// Writes the encoded hash that `encode_string` returns for these settings and this salt to a
@@ -21,6 +22,18 @@ pub fn write_encoded(config: &Config<'_>, salt: &[u8], hash: &[u8], text: &mut [
 {
     let at = put_front(text, config);
     let at = put_salt(text, at, salt);
+    let at = put(text, at, b"$");
+    put_hash(text, at, hash);
+}
+
+/// The same for C's calls, which encode the salt as the hash.
+#[tactic(auto, using(crate::proofs::Writing::lengths))]
+pub fn write_encoded_by_sums(config: &Config<'_>, salt: &[u8], hash: &[u8], text: &mut [u8])
+    requires { length text.old ≡ length (text_of (spelled_of config.now salt.now hash.now)) }
+    ensures { text.new ≡ text_of (spelled_of config.now salt.now hash.now) }
+{
+    let at = put_front(text, config);
+    let at = put_salt_by_sums(text, at, salt);
     let at = put(text, at, b"$");
     put_hash(text, at, hash);
 }
@@ -45,7 +58,7 @@ fn put_front(text: &mut [u8], config: &Config<'_>) -> usize
         ..
     } = *config;
     let at = put(text, 0, b"$");
-    let at = put(text, at, variant.as_lowercase_str().as_bytes());
+    let at = put(text, at, name_of(variant));
     let at = put(text, at, b"$v=");
     let at = put_version(text, at, version);
     let at = put(text, at, b"$m=");
@@ -55,6 +68,17 @@ fn put_front(text: &mut [u8], config: &Config<'_>) -> usize
     let at = put(text, at, b",p=");
     let at = put_number(text, at, lanes);
     put(text, at, b"$")
+}
+
+/// The variant's name in lower case.
+fn name_of(variant: Variant) -> &'static [u8]
+    ensures { result.now ≡ lowercase_name variant }
+{
+    match variant {
+        Variant::Argon2d => b"argon2d",
+        Variant::Argon2i => b"argon2i",
+        Variant::Argon2id => b"argon2id",
+    }
 }
 
 /// Puts the number of a version behind the first `at` bytes of a buffer. Returns where it ends.

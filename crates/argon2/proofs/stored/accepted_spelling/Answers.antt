@@ -1,36 +1,33 @@
 -- The head of a string that decodes to a value is rejected as the value is.
-use Rattle.std.proofs.lemmas.Option.{MatchOption-at_none, MatchOption-at_some}
-use Rattle.argon2_text.specs.Views.Texts.{IsSpellingOf}
 use Rattle.argon2.proofs.StoredHashes.{head_accepted, head_rejected, spells_some}
 use Rattle.argon2.proofs.stored.accepted_spelling.Goals as goal
 
-pub returns-in_err-head-clause-spelled : goal.returns-in_err-head-clause-spelled
-returns-in_err-head-clause-spelled c d config spells stored =
-    let none = MatchOption-at_none _ (IsSpellingOf c.args.encoded.now) c.in_err-head.ensures.ok_part c.spelling_of.ensures in
+pub returns-in_default-clause-spelled : goal.returns-in_default-clause-spelled
+returns-in_default-clause-spelled c d config spells stored =
+    let none = rw c.as_bytes.ensures.value at c.in_default.ensures in
     absurd (none d spells)
 
 pub returns-in-None-clause-unspelled : goal.returns-in-None-clause-unspelled
 returns-in-None-clause-unspelled c none =
-    let s = MatchOption-at_some _ (IsSpellingOf c.args.encoded.now) c.in_ok-head.head c.in_ok-head.ensures.ok_part c.spelling_of.ensures in
-    absurd (spells_some c.args.encoded.now c.in_ok-head.head s none)
+    let s = rw c.as_bytes.ensures.value at c.in-Some.ensures in
+    absurd (spells_some c.args.encoded.now c.in-Some.head s none)
 
 pub returns-in-None-clause-spelling : goal.returns-in-None-clause-spelling
-returns-in-None-clause-spelling c =
-    MatchOption-at_some _ (IsSpellingOf c.args.encoded.now) c.in_ok-head.head c.in_ok-head.ensures.ok_part c.spelling_of.ensures
+returns-in-None-clause-spelling c = rw c.as_bytes.ensures.value at c.in-Some.ensures
 
 pub returns-in-None-clause-spelled : goal.returns-in-None-clause-spelled
 returns-in-None-clause-spelled c d config spells stored =
-    let s = MatchOption-at_some _ (IsSpellingOf c.args.encoded.now) c.in_ok-head.head c.in_ok-head.ensures.ok_part c.spelling_of.ensures in
-    head_accepted c.args.encoded.now c.in_ok-head.head c.args.pwd_len c.args.secret.now c.args.ad.now c.refusal.result d config c.refusal.ensures s
+    let s = rw c.as_bytes.ensures.value at c.in-Some.ensures in
+    head_accepted c.args.encoded.now c.in-Some.head c.args.pwd_len c.args.secret.now c.args.ad.now c.refusal.result d config c.refusal.ensures s
     c.in-None.is spells stored
 
-pub returns-in-Some-clause-unspelled : goal.returns-in-Some-clause-unspelled
-returns-in-Some-clause-unspelled c none =
-    let s = MatchOption-at_some _ (IsSpellingOf c.args.encoded.now) c.in_ok-head.head c.in_ok-head.ensures.ok_part c.spelling_of.ensures in
-    absurd (spells_some c.args.encoded.now c.in_ok-head.head s none)
+pub returns-in-Some-refusal-clause-unspelled : goal.returns-in-Some-refusal-clause-unspelled
+returns-in-Some-refusal-clause-unspelled c none =
+    let s = rw c.as_bytes.ensures.value at c.in-Some.ensures in
+    absurd (spells_some c.args.encoded.now c.in-Some.head s none)
 
-pub returns-in-Some-clause-spelled : goal.returns-in-Some-clause-spelled
-returns-in-Some-clause-spelled c d config spells stored =
-    let s = MatchOption-at_some _ (IsSpellingOf c.args.encoded.now) c.in_ok-head.head c.in_ok-head.ensures.ok_part c.spelling_of.ensures in
-    head_rejected c.args.encoded.now c.in_ok-head.head c.args.pwd_len c.args.secret.now c.args.ad.now c.refusal.result d config c.in-Some.refusal
-    c.refusal.ensures s c.in-Some.is spells stored
+pub returns-in-Some-refusal-clause-spelled : goal.returns-in-Some-refusal-clause-spelled
+returns-in-Some-refusal-clause-spelled c d config spells stored =
+    let s = rw c.as_bytes.ensures.value at c.in-Some.ensures in
+    head_rejected c.args.encoded.now c.in-Some.head c.args.pwd_len c.args.secret.now c.args.ad.now c.refusal.result d config c.in-Some-refusal.refusal
+    c.refusal.ensures s c.in-Some-refusal.is spells stored

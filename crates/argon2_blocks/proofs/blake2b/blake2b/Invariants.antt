@@ -3,5 +3,5 @@ use Rattle.std.specs.List.{flat_map}
 use Rattle.argon2_blocks.specs.Views.HasherView.{Holds}
 use Rattle.argon2_blocks.proofs.blake2b.blake2b.Given as goal
 
-abbrev pub invariant-loop-piece : goal.invariant-loop-piece
-invariant-loop-piece l = Holds (length l.out) (flat_map (λ piece. piece.now) (take l.piece-index l.input)) l.hasher
+abbrev pub invariant-loop-i : goal.invariant-loop-i
+invariant-loop-i l = Holds (length l.out) (flat_map (λ piece. piece.now) (take l.i l.input)) l.hasher

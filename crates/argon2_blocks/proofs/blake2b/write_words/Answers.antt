@@ -8,7 +8,7 @@ loop-i-init c = sym bytes_of_none
 
 pub loop-i-preserved : goal.loop-i-preserved
 loop-i-preserved c = bytes_of_more c.loop-i.bytes c.args.words.now _ c.loop-i.i _ c.loop-i-test.true (omega arith) c.loop-i.invariant
-    (c.copy_from_slice.ensures.after ∙ c.to_le_bytes.ensures)
+    (c.copy_from_slice.ensures.after ∙ c.u64_to_le_bytes.ensures)
 
 pub returns-clause-back : goal.returns-clause-back
 returns-clause-back c =

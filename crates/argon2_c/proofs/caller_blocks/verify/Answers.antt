@@ -7,5 +7,5 @@ use Rattle.argon2_c.proofs.caller_blocks.verify.Goals as goal
 pub returns : goal.returns
 unfolding tag_of setting_of prehash_of
 returns c =
-    let e = c.in_ok-context.ensures in
-    rw (sym c.in_ok-config.ensures, e.accepted) (rw (e.inputs.0, e.inputs.1, e.config) at c.verify_context.ensures)
+    let e = c.in-Ok-context_of_hash.ensures in
+    rw (sym c.in-Ok.ensures, e.accepted) (rw (e.inputs.0, e.inputs.1, e.config) at c.verify_context.ensures)

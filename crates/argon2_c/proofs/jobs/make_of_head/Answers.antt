@@ -1,6 +1,5 @@
 -- What is read is the only salt and the only hash of the head.
-use Rattle.std.proofs.Common.{Err, length, refl, sym, ap, ◌∙◌}
-use Rattle.std.proofs.lemmas.Result.{err_from_is_err_and}
+use Rattle.std.proofs.Common.{length, refl, sym, ◌∙◌}
 use Rattle.argon2_text.specs.Views.Texts.{spelled_with}
 use Rattle.argon2_standard.specs.Standard.Decoded.{decoded_config}
 use Rattle.argon2.proofs.StoredHashes.{is_stored, own_length, stored_accepted}
@@ -16,22 +15,21 @@ returns-in-Some c s h salt hash =
     let found = sym (c.refusal.ensures config s h salt hash stored) ∙ c.in-Some.is in
     rw found (refl, refl)
 
-pub returns-in_err-read_items : goal.returns-in_err-read_items
-returns-in_err-read_items c s h salt hash =
+pub returns-in-Err : goal.returns-in-Err
+returns-in-Err c s h salt hash =
     let d = spelled_with c.args.head.now s h in
     let config = decoded_config d c.args.secret c.args.ad in
     let stored = is_stored d c.args.secret c.args.ad c.args.secret.now c.args.ad.now refl refl in
-    let p = err_from_is_err_and c.from_residual.result c.from_residual.ensures.1 in
     let none = sym (c.refusal.ensures config s h salt hash stored) ∙ c.in_default.is in
-    let answer = c.in_err-read_items.ensures.answer s h salt hash in
+    let answer = c.in-Err.ensures.answer s h salt hash in
     rw none (record {
-      wrong_length = λ no. let w = answer.wrong_length no in (p.1 ∙ ap Err p.2 ∙ w.0, with_items c.args.job.now _ _ w.1);
+      wrong_length = λ no. let w = answer.wrong_length no in (w.0, with_items c.args.job.now _ _ w.1);
       written = λ fit. let e = (answer.written fit).0 in absurd (cc);
     })
 
 pub accepted_context-requires : goal.accepted_context-requires
 accepted_context-requires c =
-    let items = c.in_ok-read_items.ensures.items in
+    let items = c.in-Ok.ensures.items in
     let d = spelled_with c.args.head.now c.read_items.new.salt c.read_items.new.hash in
     stored_accepted d (length c.args.pwd.now) c.args.secret.now c.args.ad.now c.config_of_numbers-config.result
     (λ config stored. sym (c.refusal.ensures config _ _ items.0 items.1 stored) ∙ c.in_default.is)
@@ -43,8 +41,8 @@ returns c s h salt hash =
     let config = decoded_config d c.args.secret c.args.ad in
     let stored = is_stored d c.args.secret c.args.ad c.args.secret.now c.args.ad.now refl refl in
     let none = sym (c.refusal.ensures config s h salt hash stored) ∙ c.in_default.is in
-    let items = c.in_ok-read_items.ensures.items in
-    let answer = c.in_ok-read_items.ensures.answer s h salt hash in
+    let items = c.in-Ok.ensures.items in
+    let answer = c.in-Ok.ensures.answer s h salt hash in
     let same_salt = item_unique c.args.head.now.salt.now c.read_items.new.salt s items.0 salt in
     let same_hash = item_unique c.args.head.now.hash.now c.read_items.new.hash h items.1 hash in
     let used = c.config_of_numbers-config.result in

@@ -2,13 +2,13 @@ use Rattle.argon2_c.proofs.JobNumbers.{by_head, no_head}
 use Rattle.argon2_c.proofs.reading.read_bytes.Goals as goal
 
 pub read_items-requires-clause-salt_item : goal.read_items-requires-clause-salt_item
-read_items-requires-clause-salt_item c = let s = c.in_ok-head.ensures.1 in (s.0, s.2.salt_item)
+read_items-requires-clause-salt_item c = let s = c.in-Ok.ensures.1 in (s.0, s.2.salt_item)
 
 pub read_items-requires-clause-hash_item : goal.read_items-requires-clause-hash_item
-read_items-requires-clause-hash_item c = let s = c.in_ok-head.ensures.1 in (s.1, s.2.hash_item)
+read_items-requires-clause-hash_item c = let s = c.in-Ok.ensures.1 in (s.1, s.2.hash_item)
 
-pub returns-in_err-head : goal.returns-in_err-head
-returns-in_err-head c = no_head c.args.text.now c.in_err-head.field-0.0 _ _ _ c.from_residual.ensures c.in_err-head.ensures
+pub returns-in-Err : goal.returns-in-Err
+returns-in-Err c = no_head c.args.text.now c.in-Err.error _ _ c.in-Err.ensures
 
 pub returns : goal.returns
-returns c = by_head c.args.text.now c.in_ok-head.head _ _ _ _ c.in_ok-head.ensures c.read_items.ensures.answer
+returns c = by_head c.args.text.now c.in-Ok.head _ _ _ _ c.in-Ok.ensures c.read_items.ensures.answer

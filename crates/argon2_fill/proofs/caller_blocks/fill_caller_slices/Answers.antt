@@ -14,5 +14,5 @@ returns g c = λ begun k below.
     let whole : c.loop-n.n ≡ 4 * s.passes = omega arith in
     let pass : c.loop-n.n / 4 ≡ s.passes = omega (arith, whole) in
     let slice : c.loop-n.n % 4 ≡ 0 = omega (arith, whole) in
-    last_slices s c.recall_job.ensures.setting (places_of_slices s (c.loop-n.first ∷ c.loop-n.second ∷ c.loop-n.third ∷ c.loop-n.fourth ∷ []))
+    last_slices s c.facts_of_job.ensures.setting (places_of_slices s (c.loop-n.first ∷ c.loop-n.second ∷ c.loop-n.third ∷ c.loop-n.fourth ∷ []))
     (rw (pass, slice) at (c.loop-n.invariant begun)) k below

@@ -15,4 +15,4 @@ unfolding tag_from
 returns-clause-tag c holds =
     let s = c.args.job.now.setting in
     returns-clause-hash c
-    ∙ ap (λ (l : List (List ℕ)). tag_from l (length c.args.out.now)) (last_blocks-held s c.recall_job.ensures.setting (blocks_of_lane s c.args.slice.now) holds)
+    ∙ ap (λ (l : List (List ℕ)). tag_from l (length c.args.out.now)) (last_blocks-held s c.facts_of_job.ensures.setting (blocks_of_lane s c.args.slice.now) holds)

@@ -11,7 +11,7 @@ fill_slices-requires-clause-begun c =
     let s = setting_of_context c.args.context.now in
     let shape = c.requires.shape in
     rw (c.new-job.ensures.value, c.take_slices-slices.ensures.slices)
-    (filled_begun s c.recall_context.ensures.setting c.args.memory.now shape (rw
+    (filled_begun s c.facts_of_context.ensures.setting c.args.memory.now shape (rw
     (shape.lanes, shape.segment_length) at c.take_slices-slices.ensures.memory.slices) c.requires.begun)
 
 pub returns-clause-filled : goal.returns-clause-filled
@@ -20,13 +20,13 @@ returns-clause-filled c =
     let same : c.new-job.result.setting ≡ s = ap (λ (j : Job). j.setting) c.new-job.ensures.value in
     let shape : HasShape s c.memory_of_slices.result = rw (c.memory_of_slices.ensures, c.lanes.ensures.value, c.segment_length.ensures.value, same)
     (record { lanes = refl; segment_length = refl }) in
-    holds_last_pass s c.recall_context.ensures.setting c.memory_of_slices.result shape (rw c.memory_of_slices.ensures (rw same at c.fill_slices.ensures.filled))
+    holds_last_pass s c.facts_of_context.ensures.setting c.memory_of_slices.result shape (rw c.memory_of_slices.ensures (rw same at c.fill_slices.ensures.filled))
 
 pub returns-clause-writes : goal.returns-clause-writes
 returns-clause-writes c =
     let x = c.args.context.now in
     let s = setting_of_context x in
-    let known = c.recall_context.ensures in
+    let known = c.facts_of_context.ensures in
     let same : c.new-job.result.setting ≡ s = ap (λ (j : Job). j.setting) c.new-job.ensures.value in
     let before = writes_in c.args.memory.now.slices in
     rw c.memory_of_slices.ensures

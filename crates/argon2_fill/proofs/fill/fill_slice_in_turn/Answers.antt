@@ -12,7 +12,7 @@ new-snapshot-requires c =
     let j = c.args.job.now in
     let old = segments_of c.args.slices.now in
     let fits : j.slice < length old = omega (arith, c.requires.slices.count, c.slice-slice.ensures) in
-    is_snapshot j c.recall_job.ensures old c.requires.slices c.requires.ready _
+    is_snapshot j c.facts_of_job.ensures old c.requires.slices c.requires.ready _
     (c.others.ensures ∙ rw c.slice-slice.ensures.value (others-taken c.args.slices.now c.take_slice-segments.new.slices j.slice
     (rw c.slice-slice.ensures.value at c.take_slice-segments.ensures.left) fits))
 
@@ -22,7 +22,7 @@ returns c =
     let old = segments_of c.args.slices.now in
     let k = c.slice-slice.result in
     let same = c.slice-slice.ensures.value in
-    let good = c.recall_job.ensures in
+    let good = c.facts_of_job.ensures in
     let segments = c.take_slice-segments.result in
     let new = c.fill_lanes.new.segments in
     let given : c.deref_mut.result.now ≡ get_or old j.slice [] =

@@ -16,7 +16,7 @@ loop-n-preserved c =
       filled = next_slice s n (places_in (segments_of c.fill_slice_in_turn.new.slices)) (rw c.numbered_job.ensures at c.fill_slice_in_turn.ensures.filled);
       writes = add_written before (blocks_written s n) (s.lanes * blocks_in_slice s (n / 4) (n % 4)) (writes_in (segments_of c.loop-n.slices)) now
           c.loop-n.invariant.writes (rw c.numbered_job.ensures at c.fill_slice_in_turn.ensures.writes)
-          ∙ ap (λ (b : ℕ). (before + b) % 2 ^ 64) (sym (blocks_more s n c.recall_job.ensures.setting));
+          ∙ ap (λ (b : ℕ). (before + b) % 2 ^ 64) (sym (blocks_more s n c.facts_of_job.ensures.setting));
     }
 
 pub returns-clause-filled : goal.returns-clause-filled

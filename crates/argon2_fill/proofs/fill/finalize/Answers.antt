@@ -22,4 +22,4 @@ returns-clause-tag c = λ holds.
     let x = c.args.context.now in
     returns-clause-hash c
     ∙ ap (λ (blocks : List (List ℕ)). tag_from blocks x.config.hash_length)
-    (last_blocks-memory (setting_of_context x) c.recall_context.ensures.setting c.args.memory.now c.requires.shape holds)
+    (last_blocks-memory (setting_of_context x) c.facts_of_context.ensures.setting c.args.memory.now c.requires.shape holds)

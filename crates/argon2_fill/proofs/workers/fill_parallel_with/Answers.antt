@@ -24,7 +24,7 @@ loop-n-init g c =
     record {
       slices = rw (c.new-first_job.ensures.value, c.take_slices-slices.ensures.slices) old;
       filled = rw (c.new-first_job.ensures.value, c.take_slices-slices.ensures.slices)
-          (filled_begun s c.recall_context.ensures.setting c.args.memory.now shape old c.requires.begun);
+          (filled_begun s c.facts_of_context.ensures.setting c.args.memory.now shape old c.requires.begun);
       permitted = λ k h. absurd (omega arith);
     }
 
@@ -53,13 +53,13 @@ returns-clause-filled g c =
           q,
       let r : c.loop-n.n % 4 ≡ 0 = omega (arith, whole) in r,
     ) at c.loop-n.invariant.filled in
-    holds_last_pass s c.recall_context.ensures.setting c.memory_of_slices.result shape (rw c.memory_of_slices.ensures (rw same at filled))
+    holds_last_pass s c.facts_of_context.ensures.setting c.memory_of_slices.result shape (rw c.memory_of_slices.ensures (rw same at filled))
 
 pub returns-clause-permitted : goal.returns-clause-permitted
 returns-clause-permitted g c =
     let x = c.args.context.now in
     let whole : c.loop-n.n ≡ 4 * c.new-first_job.result.setting.passes = omega arith in
-    let passes = ap (λ (j : Job). j.setting.passes) c.new-first_job.ensures.value ∙ c.recall_context.ensures.passes in
+    let passes = ap (λ (j : Job). j.setting.passes) c.new-first_job.ensures.value ∙ c.facts_of_context.ensures.passes in
     let starts = ap (λ n. n * c.workers-workers.result) (whole ∙ ap (λ p. 4 * p) passes)
     ∙ ap (λ w. 4 * x.config.time_cost * w) c.workers-workers.ensures in
     rw starts at c.loop-n.invariant.permitted
@@ -74,20 +74,20 @@ pub overflow_mul-first : goal.overflow_mul-first
 overflow_mul-first g c =
     let low : c.loop-n.n ≤ 17179869184 = omega (arith, c.new-first_job.ensures.job.setting.few_passes) in
     let most = mul-le-mul_right c.from.result low in
-    omega (arith, most, c.from.ensures, c.workers-workers.ensures, c.recall_workers.ensures.few)
+    omega (arith, most, c.from.ensures, c.workers-workers.ensures, c.facts_of_workers.ensures.few)
 
 pub fill_slice_by_workers-requires : goal.fill_slice_by_workers-requires
 fill_slice_by_workers-requires g c =
     let low : c.loop-n.n ≤ 17179869184 = omega (arith, c.new-first_job.ensures.job.setting.few_passes) in
     let most = mul-le-mul_right c.from.result low in
     let fits : c.loop-n.n * c.from.result + c.workers-workers.result < 2 ^ 64 =
-    omega (arith, most, c.from.ensures, c.workers-workers.ensures, c.recall_workers.ensures.few) in (
+    omega (arith, most, c.from.ensures, c.workers-workers.ensures, c.facts_of_workers.ensures.few) in (
       c.type_bounds.sync-R,
       (
         c.type_bounds.sync-G,
         (
           rw c.numbered_job-job.ensures c.loop-n.invariant.slices,
-          (rw c.numbered_job-job.ensures c.loop-n.invariant.filled, (rw c.workers-workers.ensures c.recall_workers.ensures.some, fits)),
+          (rw c.numbered_job-job.ensures c.loop-n.invariant.filled, (rw c.workers-workers.ensures c.facts_of_workers.ensures.some, fits)),
         ),
       ),
     )

@@ -9,9 +9,9 @@ unfolding prehash_of
 returns c =
     let x = c.args.config.now in
     c.blake2b.ensures ∙ ap (λ (m : List ℕ). blake2b 64 m) (inputs_joined c.args.pwd.now c.args.salt.now x x.hash_length _ _ _ _ _ _ _ _ _ _
-    c.to_le_bytes-lanes.ensures c.to_le_bytes-hash_length.ensures c.to_le_bytes-mem_cost.ensures c.to_le_bytes-time_cost.ensures
-    (c.to_le_bytes-version.ensures ∙ ap (λ (n : ℕ). le32 n) c.as_u32.ensures) (c.to_le_bytes-variant.ensures ∙ ap (λ (n : ℕ). le32 n) c.as_u32-2.ensures)
-    c.to_le_bytes-pwd_length.ensures c.to_le_bytes-salt_length.ensures c.to_le_bytes-secret_length.ensures c.to_le_bytes-ad_length.ensures)
+    c.u32_to_le_bytes-lanes.ensures c.u32_to_le_bytes-hash_length.ensures c.u32_to_le_bytes-mem_cost.ensures c.u32_to_le_bytes-time_cost.ensures
+    (c.u32_to_le_bytes-version.ensures ∙ ap (λ (n : ℕ). le32 n) c.as_u32.ensures) (c.u32_to_le_bytes-variant.ensures ∙ ap (λ (n : ℕ). le32 n) c.as_u32-2.ensures)
+    c.u32_to_le_bytes-pwd_length.ensures c.u32_to_le_bytes-salt_length.ensures c.u32_to_le_bytes-secret_length.ensures c.u32_to_le_bytes-ad_length.ensures)
 
 pub overflow_cast-pwd : goal.overflow_cast-pwd
 overflow_cast-pwd c = (inputs_fit c.args.config.now _ _ _ c.requires).0

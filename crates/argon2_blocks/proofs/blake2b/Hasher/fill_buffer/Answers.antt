@@ -26,7 +26,7 @@ returns-clause-taken c = λ nn m held.
           let buffer : mid.1.1.0 ≡ s.buffer = ap (λ (p : Parts). p.1.1.0) w.self-is in
           Holds_next nn m d s _ held (omega arith) w.if-self-eq-BLOCK_LENGTH.true (omega arith) (omega arith) (omega arith) count
           (state ∙ w.compress_bytes.ensures)
-          (take-put_mid mid.1.1.1.0 _ mid.1.1.0 c.copy_from_slice.new.self (mid.1.1.1.0 + n) (rw copied (omega arith))
+          (take-put_mid mid.1.1.1.0 _ mid.1.1.0 c.copy_from_slice.new.to (mid.1.1.1.0 + n) (rw copied (omega arith))
           (omega arith) ∙ rw (used, copied) refl)
       | else-self-eq-BLOCK_LENGTH w ↦
           let state : mid.1.0 ≡ s.state = ap (λ (p : Parts). p.1.0) w.self-is in
@@ -34,6 +34,6 @@ returns-clause-taken c = λ nn m held.
           let buffer : mid.1.1.0 ≡ s.buffer = ap (λ (p : Parts). p.1.1.0) w.self-is in
           Holds_more nn m d s _ held (omega arith) (omega arith) (omega arith) (omega arith) count
           state
-          (take-put_mid mid.1.1.1.0 _ mid.1.1.0 c.copy_from_slice.new.self (mid.1.1.1.0 + n) (rw copied (omega arith))
+          (take-put_mid mid.1.1.1.0 _ mid.1.1.0 c.copy_from_slice.new.to (mid.1.1.1.0 + n) (rw copied (omega arith))
           (omega (arith, ap length buffer)) ∙ rw (used, buffer, copied) refl)
     ]

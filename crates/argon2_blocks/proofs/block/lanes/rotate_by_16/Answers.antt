@@ -2,4 +2,4 @@ use Rattle.argon2_blocks.proofs.Lanes.{by_two, turns16}
 use Rattle.argon2_blocks.proofs.block.lanes.rotate_by_16.Goals as goal
 
 pub returns : goal.returns
-returns c = by_two 48 16 turns16 c.args.x _ _ c.recall_vector.ensures.fits c.rotate_by_32-swapped.ensures c.rotate_lanes.ensures
+returns c = by_two 48 16 turns16 c.args.x _ _ c.facts_of_vector.ensures.fits c.rotate_by_32-swapped.ensures c.rotate_lanes.ensures

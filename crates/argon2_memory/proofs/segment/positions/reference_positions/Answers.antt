@@ -15,7 +15,7 @@ loop-k-preserved c =
     let drawn : c.pick.result ≡ independent_reference j c.args.lane index =
     c.pick.ensures ∙ ap (λ (word : ℕ). pick_of j c.args.lane index word)
     (c.index.ensures ∙ ap (λ (words : List ℕ). slice_index words (index % 128)) c.turn_to.ensures
-    ∙ sym (address_word-is j c.recall_job.ensures c.args.lane index fits)) in
+    ∙ sym (address_word-is j c.facts_of_job.ensures c.args.lane index fits)) in
     record {
       words = λ h. c.turn_to.ensures ∙ ap (λ (n : ℕ). addresses j.setting j.pass c.args.lane j.slice (n / 128)) (omega arith);
       done = below_more _ _

@@ -14,11 +14,11 @@ pub returns-in-len1 : goal.returns-in-len1
 returns-in-len1 c =
     let fits : IsBytes c.args.tail.now = λ i. let f = c.type_inv.tail i in omega (arith, f) in
     all_put _ _ _ (base64 c.args.tail.now) c.put.result c.put.ensures.front (omega (arith, c.put.ensures.end, c.put.ensures.len, c.requires.room))
-    (rw (c.letter.ensures, c.letter-in-len1.ensures, c.from-a.ensures) (one_written c.args.tail.now c.in-len1.len_at_least c.in-len1.len_below fits))
+    (rw (c.letter.ensures, c.letter-in-len1.ensures) (one_written c.args.tail.now c.in-len1.len_at_least c.in-len1.len_below fits))
 
 pub returns-in-len2-up : goal.returns-in-len2-up
 returns-in-len2-up c =
     let fits : IsBytes c.args.tail.now = λ i. let f = c.type_inv.tail i in omega (arith, f) in
     all_put _ _ _ (base64 c.args.tail.now) c.put-in-len2-up.result c.put-in-len2-up.ensures.front (omega (arith, c.put-in-len2-up.ensures.end, c.put-in-len2-up.ensures.len, c.requires.room))
-    (rw (c.letter-in-len2-up.ensures, c.letter-in-len2-up-2.ensures, c.letter-in-len2-up-3.ensures, c.from-a-in-len2-up.ensures, c.from-b.ensures)
+    (rw (c.letter-in-len2-up.ensures, c.letter-in-len2-up-2.ensures, c.letter-in-len2-up-3.ensures)
     (two_written c.args.tail.now c.in-len2-up.len_at_least c.requires.few fits))

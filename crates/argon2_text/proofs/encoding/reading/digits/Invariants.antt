@@ -1,0 +1,14 @@
+use Rattle.std.proofs.Common.{◌≡◌, length}
+use Rattle.std.specs.Str.Parse.{AllDigits, digits_value, digits_value_after}
+use Rattle.argon2_text.proofs.encoding.reading.digits.Given as goal
+
+-- what is left are digits exactly if all are, and its digits behind the number so far write the number of all
+abbrev pub invariant-loop-rest : goal.invariant-loop-rest
+invariant-loop-rest l = record {
+  back : AllDigits 10 l.rest → AllDigits 10 l.bytes;
+  on : AllDigits 10 l.bytes → AllDigits 10 l.rest;
+  value : digits_value_after 10 l.number l.rest ≡ digits_value 10 l.bytes;
+}
+
+abbrev pub decreases-loop-rest : goal.decreases-loop-rest
+decreases-loop-rest l = length l.rest
