@@ -1,30 +1,57 @@
-/* The compression of two blocks (RFC 9106, 3.5 and 3.6) over vectors of 512 bits: build/kernel puts its machine code in
- * the place of the proved `fill_words` for x86-64-v3. It is not proved: its machine code is checked for all inputs.
+/* The compression function G for processors with AVX-512: two blocks in, one block out (RFC 9106, 3.5 and 3.6).
  *
- * Each step is made for four groups side by side, since one of them alone waits for what it just computed: one behind
- * another they take half as long again. */
+ * build/add_kernel puts the machine code of this file in the place of the proved `fill_words` for x86-64-v3. This code
+ * is not proved. Instead, its machine code is checked for all inputs (docs/CLAIMS.md).
+ *
+ * The layout: a block is a square of 8 rows by 8 columns. Each square holds two words, so a row is 16 consecutive
+ * words. G first permutes each row and then each column with P, which treats its 16 words as a 4 by 4 matrix: a has
+ * words 0 to 3, b words 4 to 7, c words 8 to 11, and d words 12 to 15.
+ *
+ * A vector holds 8 words: words 4k to 4k + 3 of row 2i, and behind them the same words of row 2i + 1.
+ *
+ *     place in the vector    0        1        2        3        4        5        6        7
+ *     row                    2i       2i       2i       2i       2i + 1   2i + 1   2i + 1   2i + 1
+ *     word of the row        4k       4k + 1   4k + 2   4k + 3   4k       4k + 1   4k + 2   4k + 3
+ *     column                 2k       2k       2k + 1   2k + 1   2k       2k       2k + 1   2k + 1
+ *     word of the column     4i       4i + 1   4i       4i + 1   4i + 2   4i + 3   4i + 2   4i + 3
+ *
+ * So the vector also holds words 4i to 4i + 3 of two columns. For rows, k says whether the vector is a part of a, b, c
+ * or d. For columns, i says so. That is why nothing has to be rearranged between the two steps: only the diagonals of
+ * the matrices are turned into columns and back.
+ *
+ * Each step handles all four groups of vectors before the next step begins. The steps of a single group depend on each
+ * other, so handling one group after another takes half as long again. */
 #include <immintrin.h>
 #include <stdint.h>
 
 typedef __m512i vector;
 
-enum { GROUPS = 4, WORDS = 8 };
+enum { GROUPS = 4, WORDS = 8, TWO_ROWS = GROUPS * WORDS };
 
 #define INLINED static inline __attribute__((always_inline))
 #define SUM(x, y) _mm512_xor_si512(x, y)
+#define SUM_OF_THREE(x, y, z) _mm512_ternarylogic_epi64(x, y, z, 0x96)
 #define FIRST_HALVES(x, y) _mm512_shuffle_i64x2(x, y, 0x44)
 #define LAST_HALVES(x, y) _mm512_shuffle_i64x2(x, y, 0xEE)
-#define TURNED_HALVES(x) _mm512_shuffle_i64x2(x, x, 0x4E)
-/* (each half for itself) */
-#define TURNED_BY_1(x) _mm512_permutex_epi64(x, 0x39)
-#define TURNED_BY_2(x) _mm512_permutex_epi64(x, 0x4E)
-#define TURNED_BY_3(x) _mm512_permutex_epi64(x, 0x93)
-#define EVEN_WORDS(x, y) _mm512_unpacklo_epi64(x, y)
-#define ODD_WORDS(x, y) _mm512_unpackhi_epi64(x, y)
+/* These move the four words of each row, or of each column, by one, two or three places to the left. */
+#define ROWS_BY_1(x) _mm512_permutex_epi64(x, 0x39)
+#define ROWS_BY_2(x) _mm512_permutex_epi64(x, 0x4E)
+#define ROWS_BY_3(x) _mm512_permutex_epi64(x, 0x93)
+#define COLUMNS_BY_1(x) _mm512_permutexvar_epi64(places(0x0207000506030401), x)
+#define COLUMNS_BY_2(x) _mm512_shuffle_i64x2(x, x, 0x4E)
+#define COLUMNS_BY_3(x) _mm512_permutexvar_epi64(places(0x0603040102070005), x)
 
-INLINED vector sum_at(const uint64_t *prev, const uint64_t *reference, int at)
+INLINED vector words_at(const uint64_t *block, int at)
 {
-    return SUM(_mm512_loadu_si512(prev + WORDS * at), _mm512_loadu_si512(reference + WORDS * at));
+    return _mm512_loadu_si512(block + WORDS * at);
+}
+
+/* Expands a number whose byte j names the word for place j. The assembly hides the number from the compiler, which
+ * would otherwise put the vector into a section for constants: build/add_kernel copies the function alone. */
+INLINED vector places(uint64_t bytes)
+{
+    __asm__("" : "+r"(bytes));
+    return _mm512_cvtepu8_epi64(_mm_cvtsi64_si128((long long)bytes));
 }
 
 INLINED void multiply_add(vector *x, const vector *y)
@@ -54,97 +81,77 @@ INLINED void mix(vector *a, vector *b, vector *c, vector *d)
     rotate_sum(b, c, 63);
 }
 
-/* P of all rows: a vector has a quarter of two of them. */
+/* Applies P to all rows. P turns b by one place, c by two and d by three, to make columns of the diagonals. Here all
+ * four are turned by three places more, which leaves b where it is: a mix computes b last, so b would have to wait. */
 INLINED void permute_rows(vector *a, vector *b, vector *c, vector *d)
 {
     mix(a, b, c, d);
     for (int i = 0; i < GROUPS; i++) {
-        b[i] = TURNED_BY_1(b[i]), c[i] = TURNED_BY_2(c[i]), d[i] = TURNED_BY_3(d[i]);
+        a[i] = ROWS_BY_3(a[i]), c[i] = ROWS_BY_1(c[i]), d[i] = ROWS_BY_2(d[i]);
     }
     mix(a, b, c, d);
     for (int i = 0; i < GROUPS; i++) {
-        b[i] = TURNED_BY_3(b[i]), c[i] = TURNED_BY_2(c[i]), d[i] = TURNED_BY_1(d[i]);
+        a[i] = ROWS_BY_1(a[i]), c[i] = ROWS_BY_3(c[i]), d[i] = ROWS_BY_2(d[i]);
     }
 }
 
-/* The words of four columns that two vectors have, one place on. */
-INLINED void turn_on(vector *pair)
-{
-    const vector first = pair[0];
-    pair[0] = pair[1];
-    pair[1] = TURNED_HALVES(first);
-}
-
-INLINED void turn_back(vector *pair)
-{
-    const vector last = pair[1];
-    pair[1] = pair[0];
-    pair[0] = TURNED_HALVES(last);
-}
-
-/* P of all columns: two vectors have the even and the odd words of the four on the left, and two those on the right. */
+/* Applies P to all columns, in the same way. */
 INLINED void permute_columns(vector *a, vector *b, vector *c, vector *d)
 {
     mix(a, b, c, d);
-    turn_on(b), turn_on(b + 2), turn_back(d), turn_back(d + 2);
     for (int i = 0; i < GROUPS; i++) {
-        c[i] = TURNED_HALVES(c[i]);
+        a[i] = COLUMNS_BY_3(a[i]), c[i] = COLUMNS_BY_1(c[i]), d[i] = COLUMNS_BY_2(d[i]);
     }
     mix(a, b, c, d);
-    turn_back(b), turn_back(b + 2), turn_on(d), turn_on(d + 2);
     for (int i = 0; i < GROUPS; i++) {
-        c[i] = TURNED_HALVES(c[i]);
+        a[i] = COLUMNS_BY_1(a[i]), c[i] = COLUMNS_BY_3(c[i]), d[i] = COLUMNS_BY_2(d[i]);
     }
 }
 
-/* Two rows, as vectors of rows, of the sum of two blocks. */
-INLINED void read_rows(const uint64_t *prev, const uint64_t *reference, vector *a, vector *b, vector *c, vector *d)
+/* Reads two rows of the sum of two blocks into the four vectors of a group. */
+INLINED void read_rows(const uint64_t *prev, const uint64_t *reference, vector *group)
 {
     vector sums[GROUPS];
     for (int i = 0; i < GROUPS; i++) {
-        sums[i] = sum_at(prev, reference, i);
+        sums[i] = SUM(words_at(prev, i), words_at(reference, i));
     }
-    *a = FIRST_HALVES(sums[0], sums[2]);
-    *b = LAST_HALVES(sums[0], sums[2]);
-    *c = FIRST_HALVES(sums[1], sums[3]);
-    *d = LAST_HALVES(sums[1], sums[3]);
+    group[0] = FIRST_HALVES(sums[0], sums[2]);
+    group[1] = LAST_HALVES(sums[0], sums[2]);
+    group[2] = FIRST_HALVES(sums[1], sums[3]);
+    group[3] = LAST_HALVES(sums[1], sums[3]);
 }
 
-/* These with that sum, of vectors of columns; and with the old ones. */
+/* Adds two rows of the sum of the blocks to a group, and with_old those of next, and writes the result to next. */
 INLINED void write_rows(
-    const vector *columns, const uint64_t *prev, const uint64_t *reference, uint64_t *next, uint32_t with_old)
+    const vector *group, const uint64_t *prev, const uint64_t *reference, uint64_t *next, uint32_t with_old)
 {
-    const vector even_left = EVEN_WORDS(columns[0], columns[1]), odd_left = ODD_WORDS(columns[0], columns[1]);
-    const vector even_right = EVEN_WORDS(columns[2], columns[3]), odd_right = ODD_WORDS(columns[2], columns[3]);
-    const vector rows[GROUPS] = {FIRST_HALVES(even_left, odd_left), FIRST_HALVES(even_right, odd_right),
-        LAST_HALVES(even_left, odd_left), LAST_HALVES(even_right, odd_right)};
+    const vector rows[GROUPS] = {FIRST_HALVES(group[0], group[1]), FIRST_HALVES(group[2], group[3]),
+        LAST_HALVES(group[0], group[1]), LAST_HALVES(group[2], group[3])};
     for (int i = 0; i < GROUPS; i++) {
-        vector sum = SUM(rows[i], sum_at(prev, reference, i));
-        if (with_old) {
-            sum = SUM(sum, _mm512_loadu_si512(next + WORDS * i));
-        }
-        _mm512_storeu_si512(next + WORDS * i, sum);
+        const vector sum = SUM_OF_THREE(rows[i], words_at(prev, i), words_at(reference, i));
+        _mm512_storeu_si512(next + WORDS * i, with_old ? SUM(sum, words_at(next, i)) : sum);
     }
 }
 
-/* (the driver clears the registers that each processor has) */
+/* The attribute clears the vector registers that only AVX-512 has. The driver clears the others when a call ends. */
 __attribute__((zero_call_used_regs("used"))) void fill_words(
     const uint64_t *prev, const uint64_t *reference, uint64_t *next, uint32_t with_old)
 {
-    enum { TWO_ROWS = GROUPS * WORDS };
-    vector a[GROUPS], b[GROUPS], c[GROUPS], d[GROUPS], columns[GROUPS][4];
+    vector of_columns[GROUPS][4], of_rows[4][GROUPS];
     for (int i = 0; i < GROUPS; i++) {
-        read_rows(prev + TWO_ROWS * i, reference + TWO_ROWS * i, a + i, b + i, c + i, d + i);
+        read_rows(prev + TWO_ROWS * i, reference + TWO_ROWS * i, of_columns[i]);
+        for (int k = 0; k < 4; k++) {
+            of_rows[k][i] = of_columns[i][k];
+        }
     }
-    permute_rows(a, b, c, d);
+    permute_rows(of_rows[0], of_rows[1], of_rows[2], of_rows[3]);
     for (int i = 0; i < GROUPS; i++) {
-        columns[i][0] = EVEN_WORDS(a[i], b[i]);
-        columns[i][1] = ODD_WORDS(a[i], b[i]);
-        columns[i][2] = EVEN_WORDS(c[i], d[i]);
-        columns[i][3] = ODD_WORDS(c[i], d[i]);
+        for (int k = 0; k < 4; k++) {
+            of_columns[i][k] = of_rows[k][i];
+        }
     }
-    permute_columns(columns[0], columns[1], columns[2], columns[3]);
+    permute_columns(of_columns[0], of_columns[1], of_columns[2], of_columns[3]);
     for (int i = 0; i < GROUPS; i++) {
-        write_rows(columns[i], prev + TWO_ROWS * i, reference + TWO_ROWS * i, next + TWO_ROWS * i, with_old);
+        write_rows(of_columns[i], prev + TWO_ROWS * i, reference + TWO_ROWS * i, next + TWO_ROWS * i, with_old);
     }
 }

@@ -15,8 +15,9 @@ import tempfile
 from dataclasses import dataclass, field
 
 RED_ZONE = 128  # bytes that a function without calls may use below the stack pointer
-# What calls itself, and how often at most: with half of a length.
-RECURSIVE = {"$argon2_blocks::blake2b::wipe": 64}
+# What calls itself, and how often at most: with half of a length, or without the last of ten digits.
+RECURSIVE = {"$argon2_blocks::blake2b::wipe": 64, "$argon2_text::encoding::placing::put_number": 10,
+             "$argon2_text::encoding::lengths::num_len": 10}
 ACCESS = re.compile(r"(\s*)((i32|i64)\.(load|store)\w*)(?: offset=(\d+))?(?: align=\d+)?(\)*)")
 BULK = re.compile(r"(\s*)memory\.(copy|fill)(\)*)")
 CONSTANT = re.compile(r"(\s*)i64\.const (\d+)(\)*)")

@@ -54,7 +54,7 @@ def luks_words(folder, image):
 
 def main():
     folder, runs = str(Path(sys.argv[1]).resolve()), int(sys.argv[2]) if len(sys.argv) > 2 else 9
-    print('| Milliseconds of the processor for a hash | libargon2 | here | ratio |\n|---|---|---|---|')
+    print('| Milliseconds of CPU time per hash | libargon2 | here | ratio |\n|---|---|---|---|')
     for memory, passes, lanes in SETTINGS:
         named = f'{memory // 1024} MiB, {passes} passes, {lanes} lane{"s"[:lanes > 1]}'
         for program, words, code in (('PHP', ['php', '-r'], PHP), ('argon2-cffi', ['/usr/bin/python3', '-c'], CFFI)):

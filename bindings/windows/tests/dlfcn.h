@@ -1,4 +1,4 @@
-/* For tests that find the calls by their names (crates/argon2_c/c/arguments.h): those of the DLL. */
+/* For tests that find the calls by their names (bindings/c/tests/arguments.h): those of the DLL. */
 #ifndef DLFCN_H
 #define DLFCN_H
 

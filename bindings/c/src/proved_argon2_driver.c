@@ -1,0 +1,339 @@
+/* How the library for C computes: this provides memory and threads for the proved calls of proved_argon2_jobs.h, clears
+ * both, and returns what those returned. It is tested, not proved. Its threads have a model, of which much is proved
+ * (crates/argon2_c/specs/Team.antt and Threads.antt): "Moves" names what the model calls the steps of a thread here. */
+#include "driver.h"
+#include <stdlib.h>
+#include <string.h>
+
+#define HUGE_PAGE ((size_t)2 << 20)
+#define WORK_FOR_THREADS (2 * HUGE_PAGE) /* bytes of blocks that are written */
+#define SHORT_PART 2048                  /* blocks: less work than a thread does before it is displaced */
+#define MOST_OPTIONS 4096                /* bytes: no version has more */
+#define SLICES 4                         /* of the blocks, by RFC 9106, section 3.4 */
+#define STACK_BELOW 16384                /* bytes: a call needs two thirds */
+
+/* Whether memory is mapped: to map less than a huge page takes longer than a hash over it. */
+static bool is_mapped(uint64_t bytes)
+{
+    return bytes >= HUGE_PAGE;
+}
+
+/* Memory for the blocks of one call, or null. Mapped pages are zero. Smaller memory is the heap's, and not initialized:
+ * to overwrite it first would take 2 to 15 % of the call, and the proved calls write each block before they read it. */
+static void *take_blocks(uint64_t bytes)
+{
+    const size_t len = (size_t)bytes;
+    if (len != bytes) {
+        return NULL;
+    }
+    return is_mapped(len) ? proved_driver_map_pages(len) : proved_driver_take_lines(len);
+}
+
+void *proved_driver_take_buffer(uint64_t bytes)
+{
+    void *const blocks = take_blocks(bytes);
+    if (blocks != NULL && !is_mapped(bytes)) {
+        proved_driver_overwrite(blocks, (size_t)bytes);
+    }
+    return blocks;
+}
+
+void proved_argon2_memory_free(void *memory, size_t memory_len)
+{
+    const caller saved = proved_driver_keep_caller();
+    if (memory != NULL && is_mapped(memory_len)) {
+        proved_driver_unmap_pages(memory, memory_len);
+    } else if (memory != NULL) {
+        proved_driver_overwrite(memory, memory_len);
+        proved_driver_free_lines(memory);
+    }
+    proved_driver_restore_caller(saved);
+}
+
+/* Whether these are the options of this version, or those of a later one whose further fields are all zero, so that the
+ * caller wants nothing that is unknown here. Shorter ones are of no version: half a field would be read. */
+static bool are_known(const options *with)
+{
+    const uint8_t *const bytes = (const uint8_t *)with;
+    if (with->size < sizeof *with || with->size > MOST_OPTIONS) {
+        return false;
+    }
+    for (size_t i = sizeof *with; i < with->size; i++) {
+        if (bytes[i] != 0) {
+            return false;
+        }
+    }
+    return true;
+}
+
+uint32_t proved_driver_begin_call(struct call *call, const options *with, int is_missing)
+{
+    *call = (struct call){.saved = proved_driver_keep_caller()};
+    /* (bound here, where no register holds a secret that this could spill) */
+    proved_driver_overwrite(&call->job, sizeof call->job);
+    if (with == NULL || is_missing) {
+        return PROVED_ARGON2_NULL_POINTER;
+    }
+    if (!are_known(with)) {
+        return PROVED_ARGON2_WRONG_LENGTH;
+    }
+    call->with = *with;
+    return PROVED_ARGON2_OK;
+}
+
+uint32_t proved_driver_take_bytes(struct call *call, uint64_t len)
+{
+    call->len = (size_t)len;
+    call->bytes = call->len == len ? calloc(call->len, 1) : NULL;
+    return call->bytes == NULL ? PROVED_ARGON2_OUT_OF_MEMORY : PROVED_ARGON2_OK;
+}
+
+/* Clears what the loader may have saved on the stack of registers that blocks went through, where it binds a name late:
+ * the proved calls clear below themselves. */
+static __attribute__((noinline)) void clear_stack(void)
+{
+    unsigned char below[STACK_BELOW];
+    proved_driver_overwrite(below, sizeof below);
+}
+
+uint32_t proved_driver_end_call(struct call *call, uint32_t code)
+{
+    const caller saved = call->saved;
+    if (call->bytes != NULL) {
+        proved_driver_overwrite(call->bytes, call->len);
+        free(call->bytes);
+    }
+    proved_driver_overwrite(call, sizeof *call);
+    clear_stack();
+    proved_driver_restore_caller(saved);
+    return code;
+}
+
+/* Has a worker's part of the pages be there at once. */
+static uint32_t populate(const struct call *call, uint32_t number)
+{
+    const size_t all = (size_t)bytes_of(&call->job), bytes = call->with.memory == NULL && is_mapped(all) ? all : 0;
+    const size_t part = (bytes / call->tasks / HUGE_PAGE + 1) * HUGE_PAGE, from = part * number;
+    const size_t left = from >= bytes ? 0 : bytes - from;
+    return left == 0 || proved_driver_populate_pages((char *)call->blocks + from, left < part ? left : part)
+        ? PROVED_ARGON2_OK
+        : PROVED_ARGON2_OUT_OF_MEMORY;
+}
+
+/* Claims a worker's part of a step. Exactly one thread succeeds, so that each part is taken once, even if threads are
+ * late or a pool runs a task twice. Moves: Claims. */
+static bool claim(struct call *call, uint64_t step, uint32_t number)
+{
+    uint64_t before = 2 * step;
+    return atomic_compare_exchange_strong(&call->workers[number].state, &before, before + 1);
+}
+
+/* Writes the first blocks of a lane, which are in its segment of the first slice. */
+static uint32_t begin_lane(struct call *call, uint32_t lane)
+{
+    const uint32_t length = call->job.segment_length;
+    return proved_argon2_job_begin(&call->job, lane, call->blocks + (size_t)lane * length, length);
+}
+
+/* Fills a lane's segment of a slice. The proved call reads the other three slices, which it takes in rising order. */
+static uint32_t fill_segment(struct call *call, uint32_t pass, uint32_t slice, uint32_t lane)
+{
+    const uint32_t length = call->job.segment_length;
+    const block *others[SLICES - 1];
+    for (uint32_t i = 0; i < SLICES - 1; i++) {
+        others[i] = call->blocks + (i < slice ? i : i + 1) * call->slice;
+    }
+    return proved_argon2_job_fill(&call->job, pass, slice, lane, others[0], call->slice, others[1], call->slice,
+        others[2], call->slice, call->blocks + slice * call->slice + (size_t)lane * length, length);
+}
+
+/* Takes a step of one lane. Step 0 begins the lane, and step n + 1 fills slice number n, counted over all passes.
+ * Moves: Writes. */
+static uint32_t take_step_of_lane(struct call *call, uint64_t step, uint32_t lane)
+{
+    if (step == 0) {
+        return begin_lane(call, lane);
+    }
+    return fill_segment(call, (uint32_t)((step - 1) / SLICES), (uint32_t)((step - 1) % SLICES), lane);
+}
+
+/* Takes a step for all lanes of a worker, up to the first that fails. It clears the registers, since the thread may
+ * call next what the loader has yet to bind, and the loader would save them on the stack. */
+CLEARS_REGISTERS static void take_step(struct call *call, uint64_t step, uint32_t number)
+{
+    uint32_t code = step == 0 ? populate(call, number) : PROVED_ARGON2_OK;
+    for (uint64_t lane = number; lane < call->job.lanes && code == PROVED_ARGON2_OK; lane += call->tasks) {
+        code = take_step_of_lane(call, step, (uint32_t)lane);
+    }
+    call->workers[number].code = code;
+    call->workers[number].state = 2 * step + 2; /* Moves: Completes, Fails, Finishes. */
+}
+
+/* A task of a pool, which may run one twice, leave one out, or run one that does not exist. Moves: Runs, Strays. */
+static void run_task(void *arg, uint32_t number)
+{
+    struct call *const call = arg;
+    if (number < call->tasks && claim(call, call->step, number)) {
+        take_step(call, call->step, number);
+    } else {
+        call->is_astray = 1;
+    }
+}
+
+/* Whether a worker's part of a step is so short that its thread may well be late for it: others take it then. A long
+ * part's thread has come before another thread is through with its own. */
+static bool are_parts_short(const struct call *call)
+{
+    return call->slice <= (size_t)SHORT_PART * call->tasks;
+}
+
+/* The worker before one, where the last is before the first. */
+static uint32_t worker_before(const struct call *call, uint32_t number)
+{
+    return (number == 0 ? call->tasks : number) - 1;
+}
+
+/* Takes a step for a worker and then for those before it, until one has been claimed by another thread, which goes on
+ * from there. Takes no more than `own` of them, or all where parts are short. Returns how many it took.
+ * Moves: Leaves. */
+static uint32_t take_parts(struct call *call, uint64_t step, uint32_t number, uint32_t own)
+{
+    const uint32_t most = are_parts_short(call) ? call->tasks : own;
+    uint32_t taken = 0, next = number;
+    while (taken < most && claim(call, step, next)) {
+        take_step(call, step, next);
+        next = worker_before(call, next);
+        taken++;
+    }
+    return taken;
+}
+
+/* What each thread of the team does. The caller's thread wakes it for each step, and once more at the end. It counts
+ * the steps itself: if it is late, other threads have taken its part of a step, and it claims nothing. It wakes the
+ * caller's thread once for each part that it took. Moves: Awakes, Enters, Exits, Tells, Waits. */
+static void follow(void *arg, team *own, uint32_t number)
+{
+    struct call *const call = arg;
+    proved_driver_await(own, number);
+    for (uint64_t step = 0; !call->is_over; step++) {
+        for (uint32_t taken = take_parts(call, step, number, 1); taken > 0; taken--) {
+            proved_driver_wake(own, 0);
+        }
+        proved_driver_await(own, number);
+    }
+}
+
+/* Wakes each thread of the team, for a step or for the last time. Moves: Wakes, Dismisses. */
+static void wake_team(struct call *call)
+{
+    const uint32_t threads = proved_driver_members(call->team);
+    for (uint32_t i = 1; i <= threads; i++) {
+        proved_driver_wake(call->team, i);
+    }
+}
+
+/* Takes a step by the call's own threads. The caller's thread takes the part of worker 0, and those of the last workers
+ * if the system denied them a thread. Then it waits for each part that another thread took. Moves: Begins, Counts. */
+static void run_team(struct call *call)
+{
+    wake_team(call);
+    for (uint32_t done = take_parts(call, call->step, 0, call->tasks - proved_driver_members(call->team));
+         done < call->tasks; done++) {
+        proved_driver_await(call->team, 0);
+    }
+}
+
+/* Has each worker take a step once, and reports how many slices are filled. */
+static uint32_t run_step(struct call *call, uint64_t slices)
+{
+    const options *const with = &call->with;
+    bool is_refused = false;
+    if (with->run == NULL) {
+        run_team(call);
+    } else {
+        is_refused = with->run(with->pool, call->tasks, run_task, call) != 0;
+    }
+    uint32_t code = is_refused || call->is_astray ? PROVED_ARGON2_WORKER_REFUSED : PROVED_ARGON2_OK;
+    for (uint32_t i = 0; i < call->tasks && code == PROVED_ARGON2_OK; i++) {
+        code = call->workers[i].state == 2 * call->step + 2 ? call->workers[i].code : PROVED_ARGON2_WORKER_REFUSED;
+    }
+    const bool is_reported = code == PROVED_ARGON2_OK && call->step != 0 && with->progress != NULL;
+    return is_reported && with->progress(with->arg, call->step, slices) != 0 ? PROVED_ARGON2_STOPPED : code;
+}
+
+/* Takes all steps, or those before an error, and ends the threads. Moves: Advances, Stops, Returns. */
+static uint32_t fill(struct call *call)
+{
+    const uint64_t slices = SLICES * (uint64_t)call->job.passes;
+    uint32_t code = PROVED_ARGON2_OK;
+    call->workers = calloc(call->tasks, sizeof(worker));
+    if (call->workers == NULL) {
+        return PROVED_ARGON2_OUT_OF_MEMORY;
+    }
+    call->team = call->tasks > 1 && call->with.run == NULL ? proved_driver_start_team(call->tasks - 1, follow, call)
+                                                           : NULL;
+    for (; call->step <= slices && code == PROVED_ARGON2_OK; call->step++) {
+        code = run_step(call, slices);
+    }
+    call->is_over = true;
+    wake_team(call);
+    proved_driver_end_team(call->team);
+    free(call->workers);
+    return code;
+}
+
+/* In one call, if the caller's thread is alone and there is no progress callback; otherwise in steps. */
+static uint32_t compute_over(struct call *call, const uint8_t *hash, uint8_t *tag)
+{
+    const block *const last = call->blocks + 3 * call->slice;
+    const size_t all = 4 * call->slice, len = call->job.hash_length;
+    const bool is_alone = call->tasks == 1 && call->with.run == NULL && call->with.progress == NULL;
+    const uint32_t code = is_alone ? populate(call, 0) : fill(call);
+    if (code != PROVED_ARGON2_OK) {
+        return code;
+    }
+    /* The proofs assume that what a call writes to is initialized. The calls below do not fail: all was checked. */
+    memset(tag, 0, len);
+    if (is_alone) {
+        return hash == NULL ? proved_argon2_job_hash_over(&call->job, call->blocks, all, tag, len)
+                            : proved_argon2_job_verify_over(&call->job, call->blocks, all, hash, len, tag, len);
+    }
+    return hash == NULL ? proved_argon2_job_finish(&call->job, last, call->slice, tag, len)
+                        : proved_argon2_job_verify(&call->job, last, call->slice, hash, len, tag, len);
+}
+
+/* How many threads a call takes of as many as it may have: over less memory, or in less work, others than its own take
+ * longer to start and to wake than they save (docs/DECISIONS.md). A pool is asked for as many tasks as it may be. */
+static uint32_t tasks_of(const struct call *call, uint64_t bytes)
+{
+    const uint32_t most = call->with.threads < call->job.lanes ? call->with.threads : call->job.lanes;
+    const bool is_paying = is_mapped(bytes) && bytes >= WORK_FOR_THREADS / call->job.passes;
+    return most > 1 && (is_paying || call->with.run != NULL) ? most : 1;
+}
+
+static uint32_t memory_error(const struct call *call, uint64_t bytes)
+{
+    const bool is_callers = call->with.memory != NULL;
+    if ((uintptr_t)call->blocks % sizeof(uint64_t) != 0) {
+        return PROVED_ARGON2_MISALIGNED;
+    }
+    return call->blocks == NULL || (is_callers && call->with.memory_len < bytes) ? PROVED_ARGON2_OUT_OF_MEMORY
+                                                                                 : PROVED_ARGON2_OK;
+}
+
+/* Over blocks of the call's own, or of the caller's; neither has any left afterwards. */
+uint32_t proved_driver_compute(struct call *call, const uint8_t *hash, uint8_t *tag)
+{
+    const uint64_t bytes = bytes_of(&call->job);
+    void *const own = call->with.memory == NULL ? take_blocks(bytes) : NULL;
+    call->blocks = own == NULL ? call->with.memory : own;
+    call->tasks = tasks_of(call, bytes);
+    call->slice = (size_t)(bytes / sizeof(block) / 4);
+    uint32_t code = memory_error(call, bytes);
+    if (code == PROVED_ARGON2_OK) {
+        code = compute_over(call, hash, tag);
+        proved_driver_overwrite(call->blocks, own == NULL ? (size_t)bytes : 0);
+    }
+    proved_argon2_memory_free(own, (size_t)bytes);
+    return code;
+}

@@ -1,0 +1,112 @@
+/*
+ * Which build the library takes: the newest that the processor has, as the compiler's own look at it says, or the one
+ * that the environment names; or none, and then each call returns an error. Each choice is made in a process of its
+ * own.
+ *
+ *     builds             the checks
+ *     builds --name      says the number of the build that is taken
+ */
+#include "../src/builds.h"
+#include "checks.h"
+
+#include <pthread.h>
+#include <stdlib.h>
+#include <sys/wait.h>
+#include <unistd.h>
+
+enum { THREADS = 8 };
+
+static const char variable[] = "PROVED_ARGON2_CPU";
+
+/* Whether a hash is an outside tag, or an error where there is no build. */
+static bool hashes(int build)
+{
+    const proved_argon2_settings settings = {PROVED_ARGON2_D, PROVED_ARGON2_VERSION_13, 256, 2, 2, 32};
+    uint8_t tag[32] = {0};
+    const uint32_t code = proved_argon2_hash_raw(
+        bytes_of("password"), 8, bytes_of("somesalt"), 8, NULL, 0, NULL, 0, &settings, tag, sizeof tag);
+    return build == NO_BUILD
+        ? code == PROVED_ARGON2_OLD_PROCESSOR && proved_argon2_library_version() == 0
+        : code == PROVED_ARGON2_OK && proved_argon2_library_version() == PROVED_ARGON2_LIBRARY_VERSION_NUMBER
+            && is_hex(tag, sizeof tag, "7b69c92d7c3889aad1281dbc8baefc12cc37c80f1c75e33ef2c2d40c28ebc573");
+}
+
+static int newest_build(void)
+{
+    __builtin_cpu_init();
+    return __builtin_cpu_supports("x86-64-v4") ? X86_64_V4
+        : __builtin_cpu_supports("x86-64-v3")  ? X86_64_V3
+        : __builtin_cpu_supports("x86-64-v2")  ? X86_64_V2
+                                               : NO_BUILD;
+}
+
+static void name_build(const char *name)
+{
+    if (name == NULL) {
+        unsetenv(variable);
+    } else {
+        setenv(variable, name, 1);
+    }
+}
+
+/* Whether a process takes a build where the environment has a name, and keeps it where that has another one. */
+static bool is_taken(const char *name, int build)
+{
+    name_build(name);
+    const bool before = proved_driver_build == NOT_CHOSEN && hashes(build) && proved_driver_build == build;
+    name_build(name == NULL ? "x86-64-v2" : NULL);
+    return before && hashes(build) && proved_driver_build == build;
+}
+
+static void *hash_in_thread(void *build)
+{
+    return hashes(*(int *)build) ? build : NULL;
+}
+
+/* Whether threads that choose at the same time take one build. */
+static bool is_taken_by_threads(const char *name, int build)
+{
+    pthread_t threads[THREADS];
+    void *answer;
+    bool good = true;
+    name_build(name);
+    for (size_t i = 0; i < THREADS; i++) {
+        good &= pthread_create(&threads[i], NULL, hash_in_thread, &build) == 0;
+    }
+    for (size_t i = 0; i < THREADS; i++) {
+        good &= pthread_join(threads[i], &answer) == 0 && answer != NULL;
+    }
+    return good && proved_driver_build == build;
+}
+
+static void check_in_process(bool (*holds)(const char *, int), const char *name, int build, const char *what)
+{
+    int status = 1;
+    const pid_t child = fork();
+    if (child == 0) {
+        _exit(holds(name, build) ? 0 : 1);
+    }
+    check(child > 0 && waitpid(child, &status, 0) == child && status == 0, what);
+}
+
+int main(int count, char **words)
+{
+    const int newest = newest_build(), second = newest < X86_64_V2 ? newest : X86_64_V2;
+    const int third = newest < X86_64_V3 ? NO_BUILD : X86_64_V3, fourth = newest < X86_64_V4 ? NO_BUILD : X86_64_V4;
+    if (count > 1 && strcmp(words[1], "--name") == 0) {
+        printf("%d of %d\n", build_here(), newest);
+        return finish(0);
+    }
+    check_in_process(is_taken, NULL, newest, "without a name, the newest build for the processor");
+    check_in_process(is_taken, "", newest, "an empty name is none");
+    check_in_process(is_taken, "x86-64-v2", second, "the build for x86-64-v2, where it is named");
+    check_in_process(
+        is_taken, "x86-64-v3", third, "the build for x86-64-v3, where it is named and the processor has it");
+    check_in_process(is_taken, "x86-64-v4", fourth, "so that for x86-64-v4");
+    check_in_process(is_taken, "x86-64-v1", NO_BUILD, "no build, where one is named that there is not");
+    check_in_process(is_taken, "x86-64-v2 ", NO_BUILD, "no build, where a name is not to the letter");
+    check_in_process(is_taken_by_threads, NULL, newest, "threads that choose at the same time take one build");
+    check_in_process(is_taken_by_threads, "x86-64-v2", second, "so where one is named");
+    check_in_process(is_taken_by_threads, "none", NO_BUILD, "so where there is none");
+    return finish(10);
+}

@@ -1,0 +1,77 @@
+/* What the checks in C share: each says its name and whether it passed, and a program says at its end how many there
+ * have to be. */
+#ifndef CHECKS_H
+#define CHECKS_H
+
+#include "proved_argon2.h"
+
+#include <stdbool.h>
+#include <stdio.h>
+#include <stdlib.h>
+#include <string.h>
+
+static int checks_made, checks_failed;
+static bool is_finished;
+
+static inline void check(bool holds, const char *name)
+{
+    printf("%s: %s\n", holds ? "passed" : "FAILED", name);
+    fflush(stdout); /* (the last line tells where a program ended that was stopped) */
+    checks_made++;
+    checks_failed += !holds;
+}
+
+/* A program's status at its end: 0 where it has made so many checks, and all of them passed. */
+static inline int finish(int count)
+{
+    is_finished = true;
+    if (checks_made != count) {
+        printf("FAILED: %d checks were made, of %d\n", checks_made, count);
+    }
+    return checks_made != count || checks_failed != 0;
+}
+
+/* No program ends well that does not say so. */
+__attribute__((destructor)) static void end_unfinished(void)
+{
+    if (!is_finished) {
+        _Exit(3);
+    }
+}
+
+/* Whether an answer is the given number, which is said where it is another one. */
+static inline void check_code(uint32_t code, uint32_t expected, const char *name)
+{
+    if (code != expected) {
+        printf("%s: %u in place of %u\n", name, (unsigned)code, (unsigned)expected);
+    }
+    check(code == expected, name);
+}
+
+static inline const uint8_t *bytes_of(const char *text)
+{
+    return (const uint8_t *)text;
+}
+
+/* Bytes that are alike in no two places near each other: seed + i + i / 256 at the index i. */
+static inline void fill_bytes(uint8_t *bytes, size_t len, uint8_t seed)
+{
+    for (size_t i = 0; i < len; i++) {
+        bytes[i] = (uint8_t)(seed + i + i / 256);
+    }
+}
+
+/* Whether bytes are those of a text of hexadecimal digits. */
+static inline bool is_hex(const uint8_t *bytes, size_t len, const char *expected)
+{
+    char digits[3];
+    for (size_t i = 0; i < len; i++) {
+        snprintf(digits, sizeof digits, "%02x", (unsigned)bytes[i]);
+        if (strncmp(digits, expected + 2 * i, 2) != 0) {
+            return false;
+        }
+    }
+    return strlen(expected) == 2 * len;
+}
+
+#endif

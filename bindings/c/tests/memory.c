@@ -1,0 +1,306 @@
+/*
+ * Memory: what each call allocates, that each allocation may fail, that no more is held than the blocks and a little,
+ * and that all is freed. It is linked with --wrap for what it counts and denies.
+ */
+#include "calls.h"
+#include "system.h"
+
+enum { TAG = 32, SMALL = 256, LARGE = 3072, HUGE_PAGE = 2 << 20 };
+
+/* What a call may write to, which an error leaves unchanged. */
+static uint8_t buffer[256], before[256];
+
+/* The call, of so many KiB by 4 lanes, its tag, its text and its job. */
+static struct call call;
+static uint8_t tag[TAG];
+static char text[256], written[256];
+static proved_argon2_job job;
+static proved_argon2_options with;
+
+#define INPUTS \
+    call.pwd, call.pwd_len, call.salt, call.salt_len, call.secret, call.secret_len, call.ad, call.ad_len, &call.settings
+#define STORED text, strlen(text), call.pwd, call.pwd_len, call.secret, call.secret_len, call.ad, call.ad_len
+/* clang-format off */
+#define CALL(name, ...) static uint32_t does_##name(void) { return proved_argon2_##name(__VA_ARGS__); }
+/* clang-format on */
+
+CALL(hash_raw, INPUTS, buffer, TAG)
+CALL(hash_encoded, INPUTS, written, sizeof written)
+CALL(verify_raw, INPUTS, tag, TAG)
+CALL(verify_encoded, STORED)
+CALL(verify_encoded_within, STORED, &(proved_argon2_limits){LARGE, 2, 4, 2 * LARGE})
+CALL(hash_raw_with, &with, INPUTS, buffer, TAG)
+CALL(hash_encoded_with, &with, INPUTS, written, sizeof written)
+CALL(verify_raw_with, &with, INPUTS, tag, TAG)
+CALL(verify_encoded_with, &with, STORED)
+CALL(job_run, &with, &job, buffer, TAG)
+CALL(job_run_verify, &with, &job, tag, TAG)
+
+/* clang-format off */
+#define ROW(name, bytes, is_by_threads) {#name, does_##name, bytes, is_by_threads}
+/* clang-format on */
+
+/* Each call, how many requests it makes for bytes beside its blocks, and whether it may have several threads. */
+static const struct row {
+    const char *name;
+    uint32_t (*does)(void);
+    size_t bytes;
+    bool is_by_threads;
+} rows[] = {ROW(hash_raw, 0, false), ROW(hash_encoded, 1, false), ROW(verify_raw, 1, false),
+    ROW(verify_encoded, 1, false), ROW(verify_encoded_within, 1, false), ROW(hash_raw_with, 0, true),
+    ROW(hash_encoded_with, 1, true), ROW(verify_raw_with, 1, true), ROW(verify_encoded_with, 1, true),
+    ROW(job_run, 0, true), ROW(job_run_verify, 1, true)};
+
+static void make(uint32_t mem_cost)
+{
+    refuse_nothing();
+    const proved_argon2_options alone = by(1);
+    call = (struct call){{PROVED_ARGON2_ID, PROVED_ARGON2_VERSION_13, mem_cost, 2, 4, TAG}, "password", "somesalt",
+        "secret", "data", 8, 8, 6, 4};
+    const bool good = peer(&call, tag) && hash_encoded(&alone, &call, text, sizeof text) == PROVED_ARGON2_OK
+        && proved_argon2_job_make(INPUTS, &job) == PROVED_ARGON2_OK;
+    check(good, "what is asked");
+}
+
+/* Whether a call comes to its value: what it wrote is the tag or the text. */
+static bool is_value(uint32_t code)
+{
+    const bool is_untouched = memcmp(buffer, before, sizeof buffer) == 0;
+    return code == PROVED_ARGON2_OK
+        && (is_untouched || memcmp(buffer, tag, TAG) == 0 || memcmp(buffer, text, sizeof buffer) == 0);
+}
+
+/* A call with one request refused: a shortage that writes nothing, or the value behind those that it needs, where it
+ * asked for no more, or for a team of threads. Nothing is held then, and errno is as it was. */
+static bool ends_well(const struct row *row, size_t number, size_t needed)
+{
+    fill_bytes(buffer, sizeof buffer, 7);
+    memcpy(before, buffer, sizeof buffer);
+    held = most_held = 0;
+    refuse_request(number);
+    errno = 77;
+    const uint32_t code = row->does();
+    const bool is_errno = errno == 77;
+    const bool is_short = code == PROVED_ARGON2_OUT_OF_MEMORY && memcmp(buffer, before, sizeof buffer) == 0;
+    return is_errno && held == 0 && (number > needed ? is_value(code) : is_short);
+}
+
+/* Refuses the first request, the second and so on, until a run asks for no more. */
+static void check_call(const struct row *row, uint32_t threads)
+{
+    const size_t blocks = (size_t)call.settings.mem_cost * 1024;
+    const bool has_team = threads > 1 && call.settings.mem_cost == LARGE;
+    const size_t needed = 1 + row->bytes + (has_team || with.progress != NULL ? 1 : 0);
+    const size_t expected = needed + (has_team ? 2 : 0);
+    size_t number = 1;
+    bool good = true;
+    char name[96];
+    with.threads = threads;
+    do {
+        good = ends_well(row, number, needed);
+    } while (good && requests >= number++ && number < 100);
+    /* (a mapping is cut out of one that has a huge page more) */
+    const size_t most = blocks + 2048 + (blocks < HUGE_PAGE ? 0 : HUGE_PAGE);
+    snprintf(name, sizeof name, "%s of %u KiB by %u threads makes %zu requests, each of which may be refused",
+        row->name, (unsigned)call.settings.mem_cost, (unsigned)threads, expected);
+    check(good && requests == expected && most_held >= blocks && most_held <= most, name);
+}
+
+/* A call with pages refused at one of the populatings of its mapping. Where the system has none, that is a shortage,
+ * which writes nothing; where it cannot do so, pages come one by one. */
+static bool ends_well_unpopulated(const struct row *row, size_t number, int how)
+{
+    fill_bytes(buffer, sizeof buffer, 7);
+    memcpy(before, buffer, sizeof buffer);
+    refuse_nothing();
+    held = 0;
+    refused_populating = number;
+    refused_how = how;
+    errno = 77;
+    const uint32_t code = row->does();
+    const bool is_errno = errno == 77;
+    const bool is_short = code == PROVED_ARGON2_OUT_OF_MEMORY && memcmp(buffer, before, sizeof buffer) == 0;
+    return is_errno && held == 0 && (how == 0 || how == EINVAL ? is_value(code) : is_short);
+}
+
+/* All pages are asked for once, as huge ones, and each of the parts may be refused. */
+static void check_populating(const struct row *row, uint32_t threads)
+{
+    const size_t blocks = (size_t)call.settings.mem_cost * 1024;
+    char name[96];
+    with = by(threads);
+    bool good = ends_well_unpopulated(row, 0, 0) && populated == blocks
+        && in_huge_pages == blocks / HUGE_PAGE * HUGE_PAGE && (populatings > 1) == (threads > 1);
+    for (size_t number = populatings; good && number > 0; number--) {
+        good = ends_well_unpopulated(row, number, ENOMEM) && ends_well_unpopulated(row, number, EFAULT)
+            && ends_well_unpopulated(row, number, EINVAL);
+    }
+    snprintf(
+        name, sizeof name, "%s by %u threads has its pages at once, or is short of them", row->name, (unsigned)threads);
+    check(good, name);
+}
+
+/* (what the driver makes of an answer of the system, explore_schedules.c shows of each call) */
+static void check_populatings(void)
+{
+    static const struct row row = ROW(hash_raw_with, 0, true);
+    make(LARGE);
+    check_populating(&row, 1);
+    check_populating(&row, 4);
+}
+
+/* ---- what the system has to have of memory for it */
+
+/* The bytes that are there of this process, as the system counts them when it looks at each page. */
+static size_t resident(void)
+{
+    FILE *const sums = fopen("/proc/self/smaps_rollup", "r");
+    char line[256];
+    unsigned long found = 0;
+    while (sums != NULL && found == 0 && fgets(line, sizeof line, sums) != NULL) {
+        sscanf(line, "Rss: %lu kB", &found);
+    }
+    if (sums != NULL) {
+        fclose(sums);
+    }
+    return (size_t)found * 1024;
+}
+
+static int measures(void *arg, uint64_t done, uint64_t all)
+{
+    *(size_t *)arg = resident();
+    return done > all;
+}
+
+/* Whether a hash of so many KiB has no more bytes than these, and a little beside them for a thread. */
+static bool takes_no_more(uint32_t mem_cost, uint32_t threads)
+{
+    enum { BESIDE = 64 * 1024, OF_A_THREAD = 48 * 1024 };
+    size_t at_its_end = 0;
+    call.settings = (proved_argon2_settings){PROVED_ARGON2_ID, PROVED_ARGON2_VERSION_13, mem_cost, 1, 4, TAG};
+    with = by(threads);
+    with.progress = measures;
+    with.arg = &at_its_end;
+    bool good = resident() != 0 && does_hash_raw_with() == PROVED_ARGON2_OK;
+    const size_t before = resident(), blocks = (size_t)mem_cost * 1024;
+    good = good && does_hash_raw_with() == PROVED_ARGON2_OK && at_its_end >= before;
+    const size_t more = at_its_end - before, most = blocks + BESIDE + threads * OF_A_THREAD;
+    if (!good || more < blocks || more > most) {
+        printf("%u KiB by %u threads took %zu bytes more\n", (unsigned)mem_cost, (unsigned)threads, more);
+    }
+    return good && more >= blocks && more <= most;
+}
+
+/* Sizes around multiples of a huge page, and the ones that presets have. */
+static void check_resident(void)
+{
+    static const uint32_t sizes[] = {2048, 2064, 3072, 4080, 4096, 4112, 6128, 6160, 7168, 9216, 12288, 19456, 65552};
+    bool good = true, by_threads = true;
+    refuse_nothing();
+    for (size_t i = 0; i < sizeof sizes / sizeof *sizes; i++) {
+        good &= takes_no_more(sizes[i], 1);
+        by_threads &= takes_no_more(sizes[i], 4);
+    }
+    check(good, "a hash takes the memory of its settings, and little more");
+    check(by_threads, "a hash by threads takes the memory of its settings, and little more");
+}
+
+static int tells_nothing(void *arg, uint64_t done, uint64_t all)
+{
+    (void)arg;
+    return done > all;
+}
+
+static void check_calls(uint32_t mem_cost)
+{
+    make(mem_cost);
+    for (size_t i = 0; i < sizeof rows / sizeof *rows; i++) {
+        with = by(1);
+        check_call(&rows[i], 1);
+        if (rows[i].is_by_threads) {
+            check_call(&rows[i], 4);
+            with.progress = tells_nothing;
+            check_call(&rows[i], 1);
+        }
+    }
+}
+
+/* A memory of the caller's own is the only request. */
+static void check_memory_new(uint32_t mem_cost)
+{
+    void *memory = &memory;
+    size_t len = 5;
+    call.settings.mem_cost = mem_cost;
+    held = 0;
+    refuse_request(1);
+    errno = 77;
+    uint32_t code = proved_argon2_memory_new(&call.settings, &memory, &len);
+    check(code == PROVED_ARGON2_OUT_OF_MEMORY && memory == &memory && len == 5 && errno == 77 && held == 0,
+        "a memory that is refused");
+    refuse_nothing();
+    code = proved_argon2_memory_new(&call.settings, &memory, &len);
+    check(code == PROVED_ARGON2_OK && requests == 1 && held >= len, "a memory is one request");
+    proved_argon2_memory_free(memory, len);
+    check(held == 0 && errno == 77, "and is given back");
+}
+
+#define REFUSED_TEXT(text) text, strlen(text), NULL, 0, NULL, 0, NULL, 0
+
+/* Calls that take no memory, and refusals that come before any is taken, even where it would be refused. */
+static void check_without_memory(void)
+{
+    static const char no_passes[] = "$argon2d$m=256,t=0,p=1$c29tZXNhbHQ$AAAAAA",
+                      no_hash[] = "$argon2d$m=256,t=2,p=1$c2";
+    static const char right[] = "$argon2d$m=256,t=2,p=1$c29tZXNhbHQ$vUBIaP8AxS51Q8gzLmp3KlckiS1+Mo1c8lO7yOcms3E";
+    const proved_argon2_limits below = {256, 2, 1, 511};
+    proved_argon2_settings refused = call.settings;
+    proved_argon2_stored stored;
+    proved_argon2_job job;
+    uint8_t salt[8], hash[32];
+    void *memory;
+    size_t len;
+    refused.lanes = 0;
+    with = by(4);
+    with.limits = &below;
+    refuse_request(1);
+    const uint32_t little = proved_argon2_hash_raw(NULL, 0, call.salt, 8, NULL, 0, NULL, 0, &refused, buffer, TAG);
+    const uint32_t shorter = proved_argon2_hash_raw(
+        NULL, 0, call.salt, 8, NULL, 0, NULL, 0, &call.settings, buffer, TAG - 1);
+    const size_t without_zero = (size_t)proved_argon2_encoded_len(&call.settings, 8);
+    const uint32_t full = proved_argon2_hash_encoded(
+        NULL, 0, call.salt, 8, NULL, 0, NULL, 0, &call.settings, written, without_zero);
+    const uint32_t text_of_none = proved_argon2_verify_encoded(REFUSED_TEXT(no_passes));
+    const uint32_t costly = proved_argon2_verify_encoded_within(REFUSED_TEXT(right), &below);
+    const uint32_t costly_with = proved_argon2_verify_encoded_with(&with, REFUSED_TEXT(right));
+    const uint32_t no_memory = proved_argon2_memory_new(&refused, &memory, &len);
+    const uint32_t made = proved_argon2_job_make(NULL, 0, call.salt, 8, NULL, 0, NULL, 0, &call.settings, &job);
+    const uint32_t run = made ? made : proved_argon2_job_run(&with, &job, buffer, TAG - 1);
+    check(requests == 0 && little == PROVED_ARGON2_LANES_TOO_FEW && shorter == PROVED_ARGON2_WRONG_LENGTH
+            && full == PROVED_ARGON2_WRONG_LENGTH && text_of_none == PROVED_ARGON2_TIME_TOO_SMALL
+            && costly == PROVED_ARGON2_TOO_COSTLY && costly_with == costly && no_memory == little && run == shorter,
+        "what is refused asks for nothing");
+    const uint32_t fault = proved_argon2_read(no_hash, strlen(no_hash), &stored);
+    const uint32_t read = proved_argon2_read(right, strlen(right), &stored);
+    const uint32_t bytes = proved_argon2_read_bytes(right, strlen(right), salt, 8, hash, 32);
+    const uint32_t rehash = proved_argon2_needs_rehash(right, strlen(right), &call.settings);
+    check(requests == 0 && fault == PROVED_ARGON2_DECODING_FAIL && read == PROVED_ARGON2_OK && bytes == PROVED_ARGON2_OK
+            && rehash == PROVED_ARGON2_NEEDS_REHASH && proved_argon2_message(0) != NULL
+            && proved_argon2_encoded_len(&call.settings, 8) > 0 && proved_argon2_memory_len(&call.settings) > 0,
+        "nor do the calls that hash and verify nothing");
+}
+
+/* With the word `few` what is resident is not looked at: an emulator's own pages are. */
+int main(int argc, char **argv)
+{
+    check_calls(SMALL);
+    check_calls(LARGE);
+    check_populatings();
+    const bool is_few = argc > 1 && strcmp(argv[1], "few") == 0;
+    if (!is_few) {
+        check_resident();
+    }
+    check_memory_new(SMALL);
+    check_memory_new(LARGE);
+    check_without_memory();
+    return finish(is_few ? 59 : 61);
+}

@@ -1,0 +1,251 @@
+/* A password in one call each. It is linked with --wrap=getrandom, so that the salt is known. */
+#include "checks.h"
+
+#include <errno.h>
+#include <time.h>
+
+ssize_t __wrap_getrandom(void *buffer, size_t length, unsigned flags);
+
+static int no_random_bytes, interruptions;
+static size_t asked_for;
+
+/* 0x80, 0x81 and so on. */
+ssize_t __wrap_getrandom(void *buffer, size_t length, unsigned flags)
+{
+    asked_for = length;
+    if (no_random_bytes || interruptions > 0 || flags != 0) {
+        errno = interruptions > 0 ? EINTR : ENOSYS;
+        interruptions -= interruptions > 0;
+        return -1;
+    }
+    fill_bytes((uint8_t *)buffer, length, 0x80);
+    return (ssize_t)length;
+}
+
+/* ---- passwords */
+
+static void check_password(void)
+{
+    static const char beginning[] = "$argon2id$v=19$m=19456,t=2,p=1$gIGCg4SFhoeIiYqLjI2Ojw$";
+    const proved_argon2_settings settings = proved_argon2_owasp2();
+    const proved_argon2_limits most = proved_argon2_default_limits();
+    char text[PROVED_ARGON2_TEXT_SIZE], other[PROVED_ARGON2_TEXT_SIZE];
+    uint8_t salt[16];
+    memset(text, 7, sizeof text);
+    check_code(proved_argon2_password_hash(text, "pass\0word", 9), PROVED_ARGON2_OK, "a password is hashed");
+    check(asked_for == 16 && strncmp(text, beginning, strlen(beginning)) == 0, "its settings and its salt");
+    fill_bytes(salt, sizeof salt, 0x80);
+    uint32_t code = proved_argon2_hash_encoded(
+        bytes_of("pass\0word"), 9, salt, 16, NULL, 0, NULL, 0, &settings, other, sizeof other);
+    check(code == PROVED_ARGON2_OK && memcmp(text, other, sizeof text) == 0, "it is as hash_encoded writes it");
+    check_code(proved_argon2_password_verify(text, "pass\0word", 9), PROVED_ARGON2_OK, "it verifies");
+    check_code(proved_argon2_password_verify(text, "pass\0wore", 9), PROVED_ARGON2_MISMATCH, "another one does not");
+    check_code(proved_argon2_password_verify(text, "pass", 4), PROVED_ARGON2_MISMATCH, "its beginning does not");
+    check_code(proved_argon2_password_verify(text, NULL, 0), PROVED_ARGON2_MISMATCH, "no password does not");
+    check_code(proved_argon2_password_verify("x", "pass", 4), PROVED_ARGON2_DECODING_FAIL, "what is no text");
+    const uint64_t by_work = most.work / most.mem_cost, passes = by_work < most.time_cost ? by_work : most.time_cost;
+    for (unsigned above = 0; above < 2; above++) {
+        snprintf(other, sizeof other, "$argon2id$v=19$m=%u,t=%u,p=%u$AAAAAAA$AAAAAAA", most.mem_cost,
+            (unsigned)passes + above, most.lanes);
+        check_code(proved_argon2_password_verify(other, "pass", 4),
+            above ? PROVED_ARGON2_TOO_COSTLY : PROVED_ARGON2_SALT_TOO_SHORT, "a text at the default limits, one above");
+    }
+    code = proved_argon2_password_hash(text, NULL, 0);
+    check(code == PROVED_ARGON2_OK && proved_argon2_password_verify(text, "", 0) == PROVED_ARGON2_OK, "the empty one");
+    memcpy(other, text, sizeof text);
+    no_random_bytes = 1;
+    errno = 77;
+    code = proved_argon2_password_hash(text, "password", 8);
+    no_random_bytes = 0;
+    check_code(code, PROVED_ARGON2_NO_RANDOM_BYTES, "no random bytes");
+    check(memcmp(text, other, sizeof text) == 0 && errno == 77, "the text is as it was, and so is errno");
+    interruptions = 3;
+    code = proved_argon2_password_hash(text, "password", 8);
+    check(code == PROVED_ARGON2_OK && errno == 77, "a signal is no error");
+}
+
+/* ---- lengths */
+
+enum { LONG = 200 };
+
+static const proved_argon2_options with = PROVED_ARGON2_OPTIONS;
+static const proved_argon2_settings small = {PROVED_ARGON2_ID, PROVED_ARGON2_VERSION_13, 8, 1, 1, 4};
+static char password[LONG + 1];
+static uint8_t pepper[LONG + 1];
+
+/* What a text verifies to; without a pepper, by the call that takes none. */
+static uint32_t verdict_of(const char *text, size_t length, size_t pepper_len)
+{
+    return pepper_len == 0 ? proved_argon2_password_verify(text, password, length)
+                           : proved_argon2_password_verify_with(&with, text, password, length, pepper, pepper_len);
+}
+
+/* Whether a text that hash_encoded makes of these bytes is a call's. */
+static bool is_text_of(const char *text, const proved_argon2_settings *settings, size_t length, size_t pepper_len)
+{
+    char other[PROVED_ARGON2_TEXT_SIZE];
+    uint8_t salt[16];
+    fill_bytes(salt, sizeof salt, 0x80);
+    return proved_argon2_hash_encoded(bytes_of(password), length, salt, sizeof salt, pepper, pepper_len, NULL, 0,
+               settings, other, sizeof other)
+        == PROVED_ARGON2_OK
+        && strcmp(text, other) == 0;
+}
+
+/* Whether a text verifies, and not where a byte of the password or of the pepper is another, more, or left out. */
+static bool is_whole(const char *text, size_t length, size_t pepper_len)
+{
+    bool good = verdict_of(text, length, pepper_len) == PROVED_ARGON2_OK
+        && verdict_of(text, length + 1, pepper_len) == PROVED_ARGON2_MISMATCH
+        && verdict_of(text, length, pepper_len + 1) == PROVED_ARGON2_MISMATCH
+        && (length == 0 || verdict_of(text, 0, pepper_len) == PROVED_ARGON2_MISMATCH);
+    password[length - (length != 0)] ^= 8;
+    good &= verdict_of(text, length, pepper_len) == (length == 0 ? PROVED_ARGON2_OK : PROVED_ARGON2_MISMATCH);
+    password[length - (length != 0)] ^= 8;
+    pepper[pepper_len - (pepper_len != 0)] ^= 8;
+    good &= verdict_of(text, length, pepper_len) == (pepper_len == 0 ? PROVED_ARGON2_OK : PROVED_ARGON2_MISMATCH);
+    pepper[pepper_len - (pepper_len != 0)] ^= 8;
+    return good;
+}
+
+static void check_lengths(void)
+{
+    static const size_t lengths[] = {0, 1, 32, 33, 64, 65, 72, 73, 128, 129, LONG};
+    const proved_argon2_settings settings = proved_argon2_owasp2();
+    const size_t count = sizeof lengths / sizeof *lengths;
+    char text[PROVED_ARGON2_TEXT_SIZE];
+    bool good = true;
+    for (size_t i = 0; i < count * count; i++) {
+        const size_t length = lengths[i / count], pepper_len = lengths[i % count];
+        uint32_t code = proved_argon2_password_hash_with(&with, &small, text, password, length, pepper, pepper_len);
+        good = good && code == PROVED_ARGON2_OK && is_text_of(text, &small, length, pepper_len)
+            && is_whole(text, length, pepper_len);
+        code = pepper_len == 0 ? proved_argon2_password_hash(text, password, length) : code;
+        good = good && code == PROVED_ARGON2_OK && (pepper_len != 0 || is_text_of(text, &settings, length, 0));
+    }
+    check(good, "each byte of a password and of a pepper counts");
+}
+
+/* ---- a rehash that is due */
+
+static int stop(void *arg, uint64_t done, uint64_t all)
+{
+    (void)arg, (void)done, (void)all;
+    return 1;
+}
+
+/* What verifies a text of the password "password" with these settings and this pepper. */
+static uint32_t rehash_verdict(proved_argon2_options options, const char *text, const char *guess, size_t pepper_len)
+{
+    return proved_argon2_password_verify_with(&options, text, guess, strlen(guess), pepper, pepper_len);
+}
+
+/* Each setting that is another one makes a rehash due, and no wrong password or pepper does. */
+static void check_other_settings(const char *text)
+{
+    proved_argon2_settings new_settings = small;
+    uint32_t *const fields[] = {&new_settings.variant, &new_settings.version, &new_settings.mem_cost,
+        &new_settings.time_cost, &new_settings.lanes, &new_settings.hash_length};
+    const proved_argon2_options options = {.size = sizeof options, .new_settings = &new_settings};
+    bool is_due = rehash_verdict(options, text, "password", 5) == PROVED_ARGON2_OK, is_wrong = true;
+    for (size_t i = 0; i < sizeof fields / sizeof *fields; i++) {
+        ++*fields[i];
+        is_due = is_due && rehash_verdict(options, text, "password", 5) == PROVED_ARGON2_NEEDS_REHASH;
+        is_wrong = is_wrong && rehash_verdict(options, text, "Password", 5) == PROVED_ARGON2_MISMATCH
+            && rehash_verdict(options, text, "password", 4) == PROVED_ARGON2_MISMATCH;
+        --*fields[i];
+    }
+    check(is_due, "a match with one other setting, and with none");
+    check(is_wrong, "a wrong password, and a wrong pepper, with one other setting");
+}
+
+static void check_rehash(void)
+{
+    static const char old[] = "$argon2i$m=256,t=2,p=2$c29tZXNhbHQ$tsEVYKap1h6scGt5ovl9aLRGOqOth+AMB+KwHpDFZPs";
+    static uint64_t one_block[128];
+    const proved_argon2_settings new_settings = proved_argon2_owasp2();
+    const proved_argon2_limits least = {8, 1, 1, 8};
+    proved_argon2_options options = {.size = sizeof options, .new_settings = &new_settings};
+    char text[PROVED_ARGON2_TEXT_SIZE];
+    const uint32_t code = proved_argon2_password_hash_with(&with, &small, text, "password", 8, pepper, 5);
+    check_code(code, PROVED_ARGON2_OK, "a text with a pepper");
+    check_other_settings(text);
+    check_code(rehash_verdict(options, old, "password", 0), PROVED_ARGON2_NEEDS_REHASH, "a text of libargon2");
+    check_code(rehash_verdict(options, old, "Password", 0), PROVED_ARGON2_MISMATCH, "a wrong password of it");
+    check_code(rehash_verdict(options, old + 1, "password", 0), PROVED_ARGON2_DECODING_FAIL, "no text");
+    options.limits = &least;
+    check_code(rehash_verdict(options, old, "password", 0), PROVED_ARGON2_TOO_COSTLY, "a text above limits");
+    options.limits = NULL;
+    options.memory = one_block;
+    options.memory_len = sizeof one_block;
+    check_code(rehash_verdict(options, old, "password", 0), PROVED_ARGON2_OUT_OF_MEMORY, "a buffer that is too small");
+    options.memory = NULL;
+    options.progress = stop;
+    check_code(rehash_verdict(options, old, "password", 0), PROVED_ARGON2_STOPPED, "a call that is stopped");
+}
+
+/* ---- a user who does not exist */
+
+/* The least processor time of a few calls, which return a mismatch, in seconds. */
+static double time_of(const char *text, const proved_argon2_settings *settings)
+{
+    double least = 1e9;
+    for (int turn = 0; turn < 5; turn++) {
+        const clock_t begun = clock();
+        const uint32_t code = text == NULL
+            ? proved_argon2_password_verify_unknown(&with, settings, "password", 8, pepper, 5)
+            : proved_argon2_password_verify_with(&with, text, "Password", 8, pepper, 5);
+        const double time = (double)(clock() - begun) / CLOCKS_PER_SEC;
+        least = code == PROVED_ARGON2_MISMATCH && time < least ? time : least;
+    }
+    return least;
+}
+
+/* The most tasks that a pool was given at a time; it runs them one after another. */
+static uint32_t most_tasks;
+
+static int count_tasks(void *pool, uint32_t tasks, void (*task)(void *arg, uint32_t i), void *arg)
+{
+    (void)pool;
+    most_tasks = tasks > most_tasks ? tasks : most_tasks;
+    for (uint32_t i = 0; i < tasks; i++) {
+        task(arg, i);
+    }
+    return 0;
+}
+
+static void check_unknown(void)
+{
+    const proved_argon2_settings settings = proved_argon2_owasp2();
+    const proved_argon2_settings invalid = {PROVED_ARGON2_ID, PROVED_ARGON2_VERSION_13, 8, 0, 1, 32};
+    char text[PROVED_ARGON2_TEXT_SIZE];
+    uint32_t code = proved_argon2_password_hash_with(&with, &settings, text, "password", 8, pepper, 5);
+    const double known = time_of(text, &settings), unknown = time_of(NULL, &settings);
+    printf("%f s for a stored hash, %f s without one\n", known, unknown);
+    check(code == PROVED_ARGON2_OK && unknown > known / 2 && unknown < 2 * known,
+        "an unknown user takes as long as a wrong password");
+    code = proved_argon2_password_verify_unknown(&with, &settings, "", 0, NULL, 0);
+    check_code(code, PROVED_ARGON2_MISMATCH, "an unknown user never matches, even without a password or a pepper");
+    code = proved_argon2_password_verify_unknown(&with, &invalid, "password", 8, NULL, 0);
+    check_code(code, PROVED_ARGON2_TIME_TOO_SMALL, "an unknown user with settings that no hash has");
+    const proved_argon2_settings long_tag = {PROVED_ARGON2_ID, PROVED_ARGON2_VERSION_13, 64, 1, 1, 1000};
+    code = proved_argon2_password_verify_unknown(&with, &long_tag, "password", 8, NULL, 0);
+    check_code(code, PROVED_ARGON2_MISMATCH, "an unknown user with a tag longer than the text of other calls");
+    const proved_argon2_settings many = {PROVED_ARGON2_ID, PROVED_ARGON2_VERSION_13, 65536, 1, 64, 32};
+    const proved_argon2_options by_pool = {.size = sizeof by_pool, .threads = 64, .run = count_tasks};
+    code = proved_argon2_password_verify_unknown(&by_pool, &many, "password", 8, NULL, 0);
+    check(code == PROVED_ARGON2_MISMATCH && most_tasks == PROVED_ARGON2_MAX_VERIFYING_THREADS,
+        "an unknown user has the threads of a verification");
+    const proved_argon2_options stopped = {.size = sizeof stopped, .progress = stop};
+    code = proved_argon2_password_verify_unknown(&stopped, &settings, "password", 8, NULL, 0);
+    check_code(code, PROVED_ARGON2_STOPPED, "a call for an unknown user can be stopped");
+}
+
+int main(void)
+{
+    check_password();
+    check_lengths();
+    check_rehash();
+    check_unknown();
+    return finish(30);
+}

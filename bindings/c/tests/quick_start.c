@@ -1,0 +1,93 @@
+/* The code of docs/C.md, and what it has to do: hash and verify a password, in a call each; with a salt, settings and
+ * limits of the caller's; for a user who may not exist, in a reusable buffer. Then a password that is cleared before
+ * the memory is filled. */
+#include <proved_argon2.h>
+#include <stdbool.h>
+#include <string.h>
+
+/* Writes the encoded hash to store for a new password. */
+static bool make_hash(const char *password, char stored[PROVED_ARGON2_TEXT_SIZE])
+{
+    return proved_argon2_password_hash(stored, password, strlen(password)) == PROVED_ARGON2_OK;
+}
+
+/* Whether to let a user in who typed this password. */
+static bool is_right(const char *password, const char *stored)
+{
+    return proved_argon2_password_verify(stored, password, strlen(password)) == PROVED_ARGON2_OK;
+}
+
+static bool make_hash_of_bytes(const uint8_t *pwd, size_t pwd_len, const uint8_t salt[16], char *text, size_t text_len)
+{
+    const proved_argon2_settings settings = proved_argon2_rfc9106_low_mem(); /* 64 MiB, 3 passes */
+    const uint32_t code = proved_argon2_hash_encoded(
+        pwd, pwd_len, salt, 16, NULL, 0, NULL, 0, &settings, text, text_len);
+    return code == PROVED_ARGON2_OK;
+}
+
+static bool are_right_bytes(const uint8_t *pwd, size_t pwd_len, const char *text)
+{
+    const proved_argon2_limits limits = {65536, 3, 4, 196608}; /* KiB, passes, lanes, KiB times passes */
+    const uint32_t code = proved_argon2_verify_encoded_within(
+        text, strlen(text), pwd, pwd_len, NULL, 0, NULL, 0, &limits);
+    return code == PROVED_ARGON2_OK;
+}
+
+/* One worker of a service: its buffer serves one login after another. */
+struct worker {
+    proved_argon2_settings new_settings;
+    proved_argon2_limits limits;
+    proved_argon2_options options;
+};
+
+static bool begin_worker(struct worker *worker)
+{
+    const proved_argon2_options options = PROVED_ARGON2_OPTIONS;
+    worker->new_settings = proved_argon2_owasp2();
+    worker->limits = proved_argon2_default_limits();
+    worker->options = options;
+    worker->options.new_settings = &worker->new_settings;
+    worker->options.limits = &worker->limits;
+    return proved_argon2_memory_new(&worker->new_settings, &worker->options.memory, &worker->options.memory_len)
+        == PROVED_ARGON2_OK;
+}
+
+/* What a login returns. `stored` is NULL if there is no such user: the call takes as long, and never matches. */
+static uint32_t log_in(struct worker *worker, const char *stored, const char *password, size_t length)
+{
+    return stored == NULL
+        ? proved_argon2_password_verify_unknown(&worker->options, &worker->new_settings, password, length, NULL, 0)
+        : proved_argon2_password_verify_with(&worker->options, stored, password, length, NULL, 0);
+}
+
+/* The tag of a password, which is cleared meanwhile. */
+static bool clears_the_password(uint8_t *pwd, size_t pwd_len, const uint8_t *salt)
+{
+    const proved_argon2_settings settings = proved_argon2_owasp2();
+    const proved_argon2_options options = PROVED_ARGON2_OPTIONS;
+    proved_argon2_job job;
+    uint8_t tag[32];
+    uint32_t code = proved_argon2_job_make(pwd, pwd_len, salt, 16, NULL, 0, NULL, 0, &settings, &job);
+    explicit_bzero(pwd, pwd_len);
+    code = code ? code : proved_argon2_job_run(&options, &job, tag, sizeof tag);
+    explicit_bzero(&job, sizeof job);
+    return code == PROVED_ARGON2_OK && pwd[0] == 0
+        && proved_argon2_verify_raw("password", 8, salt, 16, NULL, 0, NULL, 0, &settings, tag, 32) == PROVED_ARGON2_OK;
+}
+
+int main(void)
+{
+    const uint8_t salt[16] = "a salt of 16 by", bytes[4] = {0, 1, 0xff, 0};
+    uint8_t password[8] = "password";
+    char stored[PROVED_ARGON2_TEXT_SIZE], costly[PROVED_ARGON2_TEXT_SIZE];
+    struct worker worker;
+    bool holds = begin_worker(&worker) && make_hash("correct horse", stored) && is_right("correct horse", stored);
+    holds = holds && !is_right("wrong horse", stored);
+    holds = holds && log_in(&worker, stored, "correct horse", 13) == PROVED_ARGON2_OK;
+    holds = holds && log_in(&worker, stored, "wrong horse", 11) == PROVED_ARGON2_MISMATCH;
+    holds = holds && log_in(&worker, NULL, "correct horse", 13) == PROVED_ARGON2_MISMATCH;
+    holds = holds && make_hash_of_bytes(bytes, 4, salt, costly, sizeof costly) && are_right_bytes(bytes, 4, costly);
+    holds = holds && !are_right_bytes(bytes, 3, costly);
+    proved_argon2_memory_free(worker.options.memory, worker.options.memory_len);
+    return holds && clears_the_password(password, 8, salt) ? 0 : 1;
+}

@@ -1,0 +1,746 @@
+/* A call of the driver in every way in which it can go, each in a run of its own. The driver is as it is compiled. In
+ * place of the system (platform.h), of the heap, of the proved calls, of a caller's pool and of his progress callback
+ * stands what is here: it chooses what happens, and watches what the driver does. Each choice is made in all its ways,
+ * depth first.
+ *
+ *     explore_schedules LANES THREADS PASSES SWITCHES    prints how many runs there were, or the first fault with its
+ *     choices
+ *
+ * Each move of a thread has to be one that the model has (crates/argon2_c/specs/Team.antt), else it is a fault of its
+ * name. The last lines say how often each was made.
+ *
+ * Threads are run one at a time. Before each part, wait and progress, and behind each wake, another may go on: SWITCHES
+ * is how often at most. Where one cannot go on the caller's does, or else the first that can. */
+#define _GNU_SOURCE
+#define PROVED_ARGON2_NULL_H /* (the driver's calls are those here) */
+#define PROVED_ARGON2_PASSWORD_H
+#include "driver.h"
+#include <errno.h>
+#include <sanitizer/asan_interface.h>
+#include <sanitizer/common_interface_defs.h>
+#include <stdio.h>
+#include <stdlib.h>
+#include <string.h>
+#include <ucontext.h>
+
+enum { MOST_CHOICES = 512, MOST_THREADS = 3, MOST_TAKEN = 4, TAG = 4, ERROR_BEFORE = 77, KIB = 1024, KINDS = 64 };
+enum { LONG = 4 * KIB }; /* blocks of a lane in a slice, which only its own thread takes */
+
+/* ---- what is asked */
+
+static struct {
+    uint32_t lanes, threads, passes, switches, segment;
+    bool is_large, is_callers, is_verdict, has_progress, has_pool, is_long;
+} asked;
+
+/* ---- choices */
+
+static struct {
+    unsigned way, ways;
+} choices[MOST_CHOICES];
+static size_t depth, known;
+
+/* Takes one of some ways: the first, and in later runs each other one. */
+static unsigned choose(unsigned ways)
+{
+    if (depth == known) {
+        choices[known].way = 0;
+        choices[known++].ways = ways;
+    }
+    return choices[depth++].way;
+}
+
+/* Goes to the next way of the last choice that has one, if any has. */
+static bool has_another_run(void)
+{
+    known = depth;
+    depth = 0;
+    while (known > 0 && ++choices[known - 1].way == choices[known - 1].ways) {
+        known--;
+    }
+    return known > 0;
+}
+
+static void must(bool holds, const char *what)
+{
+    if (!holds) {
+        printf("fault: %s;%s%s%s%s%s%s, at", what, asked.is_large ? " large" : "",
+            asked.is_callers ? " caller's memory" : "", asked.is_verdict ? " verdict" : "",
+            asked.has_progress ? " progress" : "", asked.has_pool ? " pool" : "", asked.is_long ? " long" : "");
+        for (size_t i = 0; i < depth; i++) {
+            printf(" %u", choices[i].way);
+        }
+        puts("");
+        exit(1);
+    }
+}
+
+/* ---- what a run has come to */
+
+static proved_argon2_job job;
+static _Alignas(64) block arena[4 * MOST_THREADS * LONG]; /* of which the first of each segment is written */
+
+enum kind { LINES, PAGES, BYTES, WORKERS };
+
+static struct run {
+    uint32_t code;            /* how the call is to end: nothing fails behind the first failure */
+    uint32_t begun, filled;   /* lanes, a bit for each */
+    uint64_t stage, reported; /* slices that are filled, or are being filled, and those that were reported */
+    bool is_finished, is_dirty, is_forked, is_caller_saved, is_pool_wrong;
+    uint32_t switches; /* how often another thread went on than had to */
+    size_t there;      /* bytes that were populated */
+    struct taken {
+        void *at;
+        size_t len;
+        enum kind kind;
+        bool is_live;
+    } taken[MOST_TAKEN];
+    size_t count;
+} run;
+
+static uint32_t all_lanes(void)
+{
+    return (1u << asked.lanes) - 1;
+}
+
+static size_t slice_len(void)
+{
+    return (size_t)asked.lanes * asked.segment;
+}
+
+static size_t arena_len(void)
+{
+    return 4 * slice_len() * sizeof(block);
+}
+
+/* Whether something fails here: at most one thing does in a run. */
+static bool fails(uint32_t code)
+{
+    if (run.code != PROVED_ARGON2_OK || run.is_pool_wrong || choose(2) == 0) {
+        return false;
+    }
+    run.code = code;
+    return true;
+}
+
+/* ---- threads, of which one runs at a time */
+
+static struct thread {
+    ucontext_t context;
+    void *fake;
+    uint32_t woken, waited; /* how often */
+    enum { READY, WAITING, DONE } state;
+    _Alignas(16) char stack[1 << 16];
+} threads[MOST_THREADS];
+
+struct team {
+    uint32_t members;
+};
+
+static team one_team;
+static bool is_team, is_joining;
+static uint32_t current;
+static void (*member_runs)(void *arg, team *own, uint32_t number);
+static void *member_arg;
+
+/* (the first thread is the caller's, over the stack of this process) */
+static const void *bottom_of_caller;
+static size_t size_of_caller;
+
+static void switch_to(uint32_t next)
+{
+    struct thread *const before = &threads[current];
+    if (next == current) {
+        return;
+    }
+    current = next;
+    __sanitizer_start_switch_fiber(before->state == DONE ? NULL : &before->fake,
+        next == 0 ? bottom_of_caller : threads[next].stack, next == 0 ? size_of_caller : sizeof threads[next].stack);
+    swapcontext(&before->context, &threads[next].context);
+    __sanitizer_finish_switch_fiber(before->fake, NULL, NULL);
+}
+
+/* ---- the model, of which each run has to be a run */
+
+#define MOVES(X) X(Wakes) X(Enters) X(Claims) X(Runs) X(Strays) X(Writes) X(Completes) X(Fails) X(Advances) X(Stops)
+#define VALUE(name) name,
+#define TEXT(name) #name,
+
+enum move { MOVES(VALUE) ALL_MOVES };
+static const char *const move_names[] = {MOVES(TEXT)};
+static uint64_t made[ALL_MOVES]; /* over all runs */
+
+static struct model {
+    const struct call *call;
+    uint64_t step, woken[MOST_THREADS], entered[MOST_THREADS], state[MOST_THREADS];
+    uint32_t owner[MOST_THREADS]; /* the thread that claimed a worker's part last */
+    bool is_over, is_astray;
+} model;
+
+static void make(enum move move, bool can)
+{
+    must(can, move_names[move]);
+    made[move]++;
+}
+
+static bool is_at_work(void)
+{
+    return model.call != NULL && model.call->workers != NULL;
+}
+
+static bool is_in_step(void)
+{
+    return !model.is_over && model.step <= 4 * (uint64_t)asked.passes;
+}
+
+/* Whether the thread that runs is in this step: another one than the caller's counts the steps that it has entered. */
+static bool is_in(uint64_t step)
+{
+    return current == 0 ? is_in_step() && step == model.step : step + 1 == model.entered[current];
+}
+
+/* Makes the moves of all workers that are in a step, or of all that are not, as far as the driver has. */
+static void move_workers(bool are_in_step)
+{
+    for (uint32_t i = 0; i < model.call->tasks; i++) {
+        const worker *const worker = &model.call->workers[i];
+        if (model.state[i] % 2 == are_in_step && model.state[i] != worker->state) {
+            const uint64_t step = model.state[i]++ / 2;
+            if (are_in_step) {
+                make(worker->code == 0 ? Completes : Fails, model.owner[i] == current);
+            } else {
+                make(asked.has_pool ? Runs : Claims, is_in(step) && model.state[i] == worker->state);
+                model.owner[i] = current;
+            }
+        }
+    }
+}
+
+static bool are_workers_through(void)
+{
+    bool are_through = true;
+    for (uint32_t i = 0; i < model.call->tasks; i++) {
+        are_through = are_through && model.state[i] == 2 * model.step + 2;
+    }
+    return are_through;
+}
+
+static bool are_codes_zero(void)
+{
+    bool are_zero = true;
+    for (uint32_t i = 0; i < model.call->tasks; i++) {
+        are_zero = are_zero && model.call->workers[i].code == 0;
+    }
+    return are_zero;
+}
+
+/* Whether the caller's thread may take no further step: after the last one, after a whole one, or after a pool's, which
+ * runs no task any more. */
+static bool can_stop(void)
+{
+    bool is_idle = asked.has_pool;
+    for (uint32_t i = 0; i < model.call->tasks; i++) {
+        is_idle = is_idle && model.state[i] != 2 * model.step + 1;
+    }
+    return !model.is_over && (model.step == 4 * (uint64_t)asked.passes + 1 || are_workers_through() || is_idle);
+}
+
+/* Makes the moves that the thread that runs has made since it was looked at: as no other one ran, in one order. */
+static void look_at_moves(void)
+{
+    const struct call *const call = model.call;
+    if (!is_at_work()) {
+        return;
+    }
+    if (call->is_astray && !model.is_astray) {
+        make(Strays, asked.has_pool && is_in_step());
+        model.is_astray = true;
+    }
+    move_workers(true);
+    const bool has_failed = call->is_over && run.code != PROVED_ARGON2_OK;
+    if (model.step != call->step && !has_failed) {
+        make(Advances, is_in_step() && are_workers_through() && are_codes_zero() && !model.is_astray);
+        model.step++;
+    }
+    move_workers(false);
+    if (call->is_over && !model.is_over) {
+        make(Stops, can_stop());
+        model.is_over = true;
+    }
+}
+
+/* Goes on with this thread or, where it cannot, and as often as SWITCHES says, with another. */
+static void go_on(void)
+{
+    uint32_t ready[MOST_THREADS], count = 0;
+    look_at_moves();
+    if (!is_team || run.is_forked) {
+        return;
+    }
+    for (uint32_t i = 0; i <= one_team.members; i++) {
+        const uint32_t next = i == 0 ? current : i - (i <= current);
+        if (threads[next].state == READY) {
+            ready[count++] = next;
+        }
+    }
+    must(count > 0, "some thread can go on");
+    const unsigned way = count > 1 && run.switches < asked.switches ? choose(count) : 0;
+    run.switches += way != 0;
+    switch_to(ready[way]);
+}
+
+static void run_member(void)
+{
+    __sanitizer_finish_switch_fiber(
+        NULL, bottom_of_caller == NULL ? &bottom_of_caller : NULL, size_of_caller == 0 ? &size_of_caller : NULL);
+    member_runs(member_arg, &one_team, current);
+    threads[current].state = DONE;
+    threads[0].state = is_joining ? READY : threads[0].state;
+    go_on();
+}
+
+static void begin_member(uint32_t number)
+{
+    struct thread *const thread = &threads[number];
+    __asan_unpoison_memory_region(thread->stack, sizeof thread->stack);
+    getcontext(&thread->context);
+    thread->context.uc_stack = (stack_t){.ss_sp = thread->stack, .ss_size = sizeof thread->stack};
+    makecontext(&thread->context, run_member, 0);
+    thread->state = READY;
+    thread->woken = thread->waited = 0;
+}
+
+team *proved_driver_start_team(uint32_t count, void (*runs)(void *arg, team *own, uint32_t number), void *arg)
+{
+    must(!is_team && count < asked.threads && count < asked.lanes, "one team, of as many as there may be");
+    const uint32_t granted = choose(count + 2);
+    if (granted == count + 1) {
+        return NULL;
+    }
+    is_team = true;
+    one_team.members = granted;
+    member_runs = runs;
+    member_arg = arg;
+    is_joining = false;
+    threads[0].woken = threads[0].waited = 0;
+    threads[0].state = READY;
+    for (uint32_t i = 1; i <= granted; i++) {
+        begin_member(i);
+    }
+    go_on();
+    return &one_team;
+}
+
+uint32_t proved_driver_members(const team *own)
+{
+    return own == NULL || run.is_forked ? 0 : own->members;
+}
+
+void proved_driver_wake(team *own, uint32_t number)
+{
+    must(is_team && own == &one_team && !run.is_forked && number <= own->members, "a thread of the team is woken");
+    look_at_moves();
+    if (number != 0 && !model.is_over) {
+        make(Wakes, current == 0 && is_in_step() && model.woken[number]++ == model.step);
+    }
+    threads[number].woken++;
+    threads[number].state = threads[number].state == WAITING ? READY : threads[number].state;
+    go_on();
+}
+
+void proved_driver_await(team *own, uint32_t number)
+{
+    struct thread *const self = &threads[number];
+    if (own == NULL || run.is_forked) {
+        return;
+    }
+    must(number == current, "a thread waits itself");
+    go_on();
+    while (self->woken == self->waited) {
+        self->state = WAITING;
+        go_on();
+    }
+    self->waited++;
+    if (number != 0 && !model.call->is_over) {
+        make(Enters, model.entered[number]++ < model.woken[number]);
+    }
+}
+
+/* Where a planted fault has another thread go on. */
+void switch_thread(void)
+{
+    go_on();
+}
+
+void proved_driver_end_team(team *own)
+{
+    must(own == NULL || is_team, "a team ends once");
+    must(current == 0, "the caller's thread ends it");
+    if (own != NULL && !run.is_forked) {
+        is_joining = true;
+        must(threads[0].woken == threads[0].waited, "the caller has waited for each part that another took");
+        for (uint32_t i = 1; i <= own->members; i++) {
+            while (threads[i].state != DONE) {
+                threads[0].state = WAITING;
+                go_on();
+            }
+            must(run.code != PROVED_ARGON2_OK || threads[i].woken == 4 * asked.passes + 2,
+                "a thread is woken for each step, and at the end");
+        }
+    }
+    is_team = false;
+}
+
+/* ---- the rest of the system */
+
+caller proved_driver_keep_caller(void)
+{
+    run.is_caller_saved = true;
+    return (caller){.error = errno, .cancel = 5};
+}
+
+void proved_driver_restore_caller(caller saved)
+{
+    must(saved.cancel == 5, "what was saved of the caller is restored");
+    errno = saved.error;
+}
+
+static void *take(void *at, size_t len, enum kind kind)
+{
+    must(run.count < MOST_TAKEN, "few things are taken");
+    run.taken[run.count++] = (struct taken){at, len, kind, true};
+    return at;
+}
+
+static size_t give_back(void *at, enum kind kind)
+{
+    for (size_t i = 0; i < run.count; i++) {
+        if (run.taken[i].at == at && run.taken[i].kind == kind && run.taken[i].is_live) {
+            run.taken[i].is_live = false;
+            return run.taken[i].len;
+        }
+    }
+    must(false, "what is freed was taken, and so");
+    return 0;
+}
+
+void *proved_driver_take_lines(size_t bytes)
+{
+    must(!asked.is_large && !asked.is_callers && bytes == arena_len(), "a little memory is the heap's");
+    return fails(PROVED_ARGON2_OUT_OF_MEMORY) ? NULL : take(arena, bytes, LINES);
+}
+
+void proved_driver_free_lines(void *lines)
+{
+    give_back(lines, LINES);
+    must(!run.is_dirty, "blocks are cleared before they are freed");
+}
+
+void *proved_driver_map_pages(size_t bytes)
+{
+    must(asked.is_large && !asked.is_callers && bytes == arena_len(), "much memory is mapped");
+    return fails(PROVED_ARGON2_OUT_OF_MEMORY) ? NULL : take(arena, bytes, PAGES);
+}
+
+void proved_driver_unmap_pages(void *pages, size_t bytes)
+{
+    must(give_back(pages, PAGES) == bytes, "all pages are unmapped");
+    run.is_dirty = false;
+}
+
+bool proved_driver_populate_pages(void *pages, size_t bytes)
+{
+    const size_t from = (size_t)((char *)pages - (char *)arena);
+    go_on();
+    must(!asked.is_callers && asked.is_large && bytes != 0 && from + bytes <= arena_len(), "pages of the call's own");
+    run.there += bytes;
+    return !fails(PROVED_ARGON2_OUT_OF_MEMORY);
+}
+
+void proved_driver_overwrite(void *bytes, size_t len)
+{
+    if (bytes == arena && len == arena_len()) {
+        run.is_dirty = false;
+    } else if (bytes != arena) {
+        memset(bytes, 0, len);
+    }
+}
+
+void *__real_calloc(size_t count, size_t len);
+void __real_free(void *at);
+
+void *__wrap_calloc(size_t count, size_t len)
+{
+    const enum kind kind = len == 1 ? BYTES : WORKERS;
+    return fails(PROVED_ARGON2_OUT_OF_MEMORY) ? NULL : take(__real_calloc(count, len), count * len, kind);
+}
+
+/* (workers are freed before bytes are) */
+void __wrap_free(void *at)
+{
+    const bool are_workers = run.taken[run.count - 1].kind == WORKERS && run.taken[run.count - 1].is_live;
+    const size_t len = give_back(at, are_workers ? WORKERS : BYTES);
+    if (are_workers) {
+        look_at_moves();
+        model.call = NULL;
+    }
+    for (size_t i = 0; !are_workers && i < len; i++) {
+        must(((const unsigned char *)at)[i] == 0, "bytes are cleared before they are freed");
+    }
+    __real_free(at);
+}
+
+/* ---- the proved calls, which watch in which order they are made */
+
+#define SLICE(number) (arena + (number)*slice_len())
+
+static void look_at_job(const proved_argon2_job *passed_job)
+{
+    must(memcmp(passed_job, &job, sizeof job) == 0, "a step of this job");
+    must(run.code == PROVED_ARGON2_OK, "no step behind a failure");
+}
+
+/* Looks at a step of a lane, whose worker's part the thread has claimed. */
+static void write_lane(uint64_t step, uint32_t lane)
+{
+    const uint32_t worker = lane % model.call->tasks;
+    go_on();
+    make(Writes, model.state[worker] == 2 * step + 1 && model.owner[worker] == current);
+}
+
+/* A step for a lane, which none has taken yet. */
+static void look_at_lane(uint32_t *lanes, uint32_t lane, uint32_t slice, block *own, size_t own_len)
+{
+    must(lane < asked.lanes && (*lanes >> lane & 1) == 0, "a lane that there is, once in a step");
+    must(own == SLICE(slice) + lane * asked.segment && own_len == asked.segment, "a lane's own segment");
+    *lanes |= 1u << lane;
+    run.is_dirty = true;
+    own->words[0] = 1;
+}
+
+uint32_t proved_argon2_job_begin(const proved_argon2_job *passed_job, uint32_t lane, block *own, size_t own_len)
+{
+    write_lane(0, lane);
+    if (run.code != PROVED_ARGON2_OK) {
+        return PROVED_ARGON2_OK; /* (what other threads do behind a failure is nobody's) */
+    }
+    look_at_job(passed_job);
+    must(run.stage == 0, "first blocks come first");
+    look_at_lane(&run.begun, lane, 0, own, own_len);
+    return fails(PROVED_ARGON2_NO_JOB) ? PROVED_ARGON2_NO_JOB : PROVED_ARGON2_OK;
+}
+
+uint32_t proved_argon2_job_fill(const proved_argon2_job *passed_job, uint32_t pass, uint32_t slice, uint32_t lane,
+    const block *first, size_t first_len, const block *second, size_t second_len, const block *third, size_t third_len,
+    block *own, size_t own_len)
+{
+    const size_t len = slice_len();
+    write_lane(4 * (uint64_t)pass + slice + 1, lane);
+    if (run.code != PROVED_ARGON2_OK) {
+        return PROVED_ARGON2_OK;
+    }
+    look_at_job(passed_job);
+    if (run.stage == 0 || run.filled == all_lanes()) {
+        must(run.begun == all_lanes(), "a slice begins once the step before it is done");
+        run.stage++;
+        run.filled = 0;
+    }
+    must(4 * (uint64_t)pass + slice + 1 == run.stage && slice < 4 && pass < asked.passes, "slices in their order");
+    must(first_len == len && second_len == len && third_len == len, "whole slices");
+    must(first == SLICE(slice == 0) && second == SLICE(slice <= 1 ? 2 : 1) && third == SLICE(slice <= 2 ? 3 : 2),
+        "the other three slices in rising order");
+    look_at_lane(&run.filled, lane, slice, own, own_len);
+    return fails(PROVED_ARGON2_NO_PLACE) ? PROVED_ARGON2_NO_PLACE : PROVED_ARGON2_OK;
+}
+
+static const uint8_t hash[TAG] = {1, 2, 3, 4}, zeros[TAG];
+
+/* The end of a hash, or of a verdict on what is verified, over blocks that are as they have to be. */
+static uint32_t finish(
+    const proved_argon2_job *passed_job, const uint8_t *verified, bool are_blocks, uint8_t *tag, size_t len)
+{
+    const uint32_t failure = verified == NULL ? PROVED_ARGON2_WRONG_LENGTH : PROVED_ARGON2_MISMATCH;
+    look_at_job(passed_job);
+    must(verified == (asked.is_verdict ? hash : NULL), "the hash that is verified");
+    must(len == TAG && are_blocks && !run.is_finished && current == 0, "a tag of its length, once");
+    must(memcmp(tag, zeros, TAG) == 0, "a tag is initialized before a proved call writes it");
+    run.is_finished = true;
+    if (fails(failure)) {
+        return failure;
+    }
+    memset(tag, 3, len);
+    return PROVED_ARGON2_OK;
+}
+
+static bool are_filled(const block *last, size_t last_len)
+{
+    return run.stage == 4 * (uint64_t)asked.passes && run.filled == all_lanes() && last == SLICE(3)
+        && last_len == slice_len();
+}
+
+static bool are_whole(const block *blocks, size_t blocks_len)
+{
+    run.is_dirty = true;
+    return run.begun == 0 && blocks == arena && blocks_len == 4 * slice_len();
+}
+
+uint32_t proved_argon2_job_finish(
+    const proved_argon2_job *passed_job, const block *last, size_t last_len, uint8_t *out, size_t out_len)
+{
+    return finish(passed_job, NULL, are_filled(last, last_len), out, out_len);
+}
+
+uint32_t proved_argon2_job_verify(const proved_argon2_job *passed_job, const block *last, size_t last_len,
+    const uint8_t *verified, size_t verified_len, uint8_t *tag, size_t tag_len)
+{
+    return finish(passed_job, verified, verified_len == TAG && are_filled(last, last_len), tag, tag_len);
+}
+
+uint32_t proved_argon2_job_hash_over(
+    const proved_argon2_job *passed_job, block *blocks, size_t blocks_len, uint8_t *out, size_t out_len)
+{
+    return finish(passed_job, NULL, are_whole(blocks, blocks_len), out, out_len);
+}
+
+uint32_t proved_argon2_job_verify_over(const proved_argon2_job *passed_job, block *blocks, size_t blocks_len,
+    const uint8_t *verified, size_t verified_len, uint8_t *tag, size_t tag_len)
+{
+    return finish(passed_job, verified, verified_len == TAG && are_whole(blocks, blocks_len), tag, tag_len);
+}
+
+/* ---- the caller's callbacks */
+
+/* Goes on, stops, or goes on in a child that was forked here, where there are no other threads. */
+static int tell(void *arg, uint64_t done, uint64_t all)
+{
+    must(arg == &asked && run.code == PROVED_ARGON2_OK && done == ++run.reported && all == 4 * (uint64_t)asked.passes,
+        "each slice is reported once");
+    must(run.filled == all_lanes() && run.stage == done && current == 0, "it is filled then");
+    errno = 5;
+    go_on();
+    if (fails(PROVED_ARGON2_STOPPED)) {
+        return -1;
+    }
+    run.is_forked = run.is_forked || (is_team && choose(2) == 1);
+    return 0;
+}
+
+/* Runs the tasks in rising or in falling order. Or it is wrong: one of them is left out, run twice or not there, or it
+ * refuses behind them. */
+static int run_tasks(void *pool, uint32_t tasks, void (*task)(void *arg, uint32_t i), void *arg)
+{
+    enum { FALLING = 1, LEAVES_OUT, REPEATS, EXCEEDS, REFUSES, WAYS };
+    must(pool == &job && run.code == PROVED_ARGON2_OK, "the pool, and not behind a failure");
+    must(tasks == (asked.threads < asked.lanes ? asked.threads : asked.lanes), "as many tasks as there may be");
+    look_at_moves();
+    const unsigned way = choose(WAYS), which = way == LEAVES_OUT || way == REPEATS ? choose(tasks) : 0;
+    run.is_pool_wrong = way >= LEAVES_OUT;
+    for (uint32_t i = 0; i < tasks; i++) {
+        const uint32_t next = way == FALLING ? tasks - 1 - i : i;
+        if (way != LEAVES_OUT || next != which) {
+            task(arg, next);
+        }
+    }
+    if (way == REPEATS || way == EXCEEDS) {
+        task(arg, way == REPEATS ? which : tasks);
+    }
+    run.code = run.is_pool_wrong ? PROVED_ARGON2_WORKER_REFUSED : run.code;
+    return way == REFUSES ? 1 : 0;
+}
+
+/* ---- a run */
+
+static uint32_t make_call(uint8_t *tag)
+{
+    struct call call;
+    options with = PROVED_ARGON2_OPTIONS;
+    with.threads = asked.threads;
+    with.memory = asked.is_callers ? arena : NULL;
+    with.memory_len = asked.is_callers ? arena_len() : 0;
+    with.run = asked.has_pool ? run_tasks : NULL;
+    with.pool = &job;
+    with.progress = asked.has_progress ? tell : NULL;
+    with.arg = &asked;
+    uint32_t code = proved_driver_begin_call(&call, &with, false);
+    model = (struct model){.call = &call};
+    call.job = job;
+    if (!asked.is_verdict) {
+        code = proved_driver_compute(&call, NULL, tag);
+    } else if ((code = proved_driver_take_bytes(&call, TAG)) == PROVED_ARGON2_OK) {
+        code = proved_driver_compute(&call, hash, call.bytes);
+    }
+    code = proved_driver_end_call(&call, code);
+    for (size_t i = 0; i < sizeof call; i++) {
+        must(((const unsigned char *)&call)[i] == 0, "the call is cleared");
+    }
+    return code;
+}
+
+static void look_at_end(uint32_t code, const uint8_t *tag)
+{
+    const bool is_written = code == PROVED_ARGON2_OK && !asked.is_verdict;
+    must(code == run.code, "the call returns what failed first");
+    must(run.is_finished || code != PROVED_ARGON2_OK, "a result is one of a proved call");
+    must(!asked.has_progress || code != PROVED_ARGON2_OK || run.reported == 4 * (uint64_t)asked.passes,
+        "each slice is reported");
+    const uint8_t otherwise = run.is_finished && !asked.is_verdict ? 0 : 9;
+    must(tag[0] == (is_written ? 3 : otherwise) && tag[TAG - 1] == tag[0], "a tag is written, or nothing");
+    must(!run.is_dirty, "the blocks are cleared");
+    must(errno == ERROR_BEFORE && run.is_caller_saved && !is_team && current == 0, "the caller's thread is as it was");
+    must(code != PROVED_ARGON2_OK || asked.is_callers || !asked.is_large || run.there == arena_len(), "all pages came");
+    for (size_t i = 0; i < run.count; i++) {
+        must(!run.taken[i].is_live, "what was taken is freed");
+    }
+}
+
+static uint64_t run_all(void)
+{
+    uint64_t runs = 0;
+    do {
+        uint8_t tag[TAG] = {9, 9, 9, 9};
+        run = (struct run){0};
+        errno = ERROR_BEFORE;
+        const uint32_t code = make_call(tag);
+        look_at_end(code, tag);
+        runs++;
+    } while (has_another_run());
+    return runs;
+}
+
+/* A kind of call, a bit each: large, over the caller's memory, a verdict in place of a hash, with progress, by a pool,
+ * and by threads in long parts. */
+static uint64_t run_kind(unsigned kind)
+{
+    asked.is_large = kind & 1;
+    asked.is_callers = kind >> 1 & 1;
+    asked.is_verdict = kind >> 2 & 1;
+    asked.has_progress = kind >> 3 & 1;
+    asked.has_pool = kind >> 4 & 1;
+    asked.is_long = kind >> 5 & 1;
+    if (asked.is_long && (!asked.is_large || asked.has_pool || asked.lanes == 1 || asked.threads == 1)) {
+        return 0;
+    }
+    asked.segment = asked.is_long ? LONG : asked.is_large ? (KIB + asked.lanes - 1) / asked.lanes : 2;
+    job = (proved_argon2_job){{1}, PROVED_ARGON2_ID, 0x13, asked.lanes, asked.segment, asked.passes, TAG};
+    return run_all();
+}
+
+int main(int count, char **words)
+{
+    uint64_t runs = 0;
+    if (count != 5) {
+        return 2;
+    }
+    asked.lanes = (uint32_t)atoi(words[1]);
+    asked.threads = (uint32_t)atoi(words[2]);
+    asked.passes = (uint32_t)atoi(words[3]);
+    asked.switches = (uint32_t)atoi(words[4]);
+    for (unsigned kind = 0; kind < KINDS; kind++) {
+        runs += run_kind(kind);
+    }
+    printf("%llu runs\n", (unsigned long long)runs);
+    for (enum move move = 0; move < ALL_MOVES; move++) {
+        printf("%s %llu\n", move_names[move], (unsigned long long)made[move]);
+    }
+    return 0;
+}

@@ -1,0 +1,107 @@
+"""Runs a call of the driver for C (bindings/c/src/proved_argon2_driver.c) in every way in which it can go, for some
+lanes, threads and passes, and counts the runs. Each request may be denied, each thread may be, each proved call may
+fail, and the callback may stop or fork; a pool may be wrong in each of four ways. explore_schedules.c says what must
+not come of it, and checks each move of a thread against the proved model (crates/argon2_c/specs/Team.antt). Then each
+fault of faults.txt is planted in the driver, and has to be found.
+"""
+
+import itertools
+import re
+import subprocess
+from pathlib import Path
+
+import pytest
+from running import TOP, ahead, rows
+
+HERE = Path(__file__).resolve().parent
+DRIVER = (TOP / 'bindings/c/src/proved_argon2_driver.c').read_text(encoding='utf-8')
+COMPILER = ('gcc', '-std=c11', '-O1', '-g', '-fsanitize=address,undefined', '-fno-sanitize-recover=all',
+            '-Wall', '-Wextra', '-Werror', '-I', TOP / 'bindings/c/include', '-I', TOP / 'bindings/c/src')
+WRAPPED = [f'-Wl,--wrap={name}' for name in ('calloc', 'free')]
+# Lanes, threads and passes.
+CASES = list(itertools.product((1, 2, 3), (1, 2, 3), (1, 2)))
+# By threads and passes, how often another thread goes on than has to at most.
+SWITCHES = {(1, 1): 0, (1, 2): 0, (2, 1): 2, (2, 2): 2, (3, 1): 2, (3, 2): 1}
+# By lanes and threads, how many runs there are over all kinds of call, of one pass and of two.
+RUNS = {(1, 1): (4652, 73836), (1, 2): (4652, 73836), (1, 3): (4652, 73836),
+        (2, 1): (5684, 90260), (2, 2): (81184, 521800), (2, 3): (81184, 135152),
+        (3, 1): (6716, 106684), (3, 2): (137172, 877380), (3, 3): (1130424, 298356)}
+# Each by its name, with what it takes the place of; the lines of a piece stand apart by @.
+FAULTS = {name: [piece.replace('@', '\n') for piece in pieces] for name, *pieces in rows(HERE / 'faults.txt')}
+assert len(FAULTS) == 45
+
+
+def moves_of(spec):
+    """The names of the moves of a model, by its definition."""
+    text = (TOP / f'crates/argon2_c/specs/{spec}.antt').read_text(encoding='utf-8')
+    moves = re.search(r'^pub data Move .*\n((?: .*\n)+)', text, re.MULTILINE)[1]
+    return re.findall(r'^ +([A-Z]\w*) :', moves, re.MULTILINE)
+
+
+def compiled(source, made):
+    subprocess.run([*COMPILER, '-c', source, '-o', made], check=True)
+    return made
+
+
+@pytest.fixture(scope='module')
+def program_over(tmp_path_factory):
+    """What builds the program over a driver with some text, and gives its path."""
+    folder = tmp_path_factory.mktemp('made')
+    rest, numbers = compiled(HERE / 'explore_schedules.c', folder / 'explore_schedules.o'), itertools.count()
+
+    def over(text):
+        made = folder / f'driver{next(numbers)}'
+        source = made.with_suffix('.c')
+        source.write_text(text, encoding='utf-8')
+        driver = compiled(source, made.with_suffix('.o'))
+        subprocess.run([*COMPILER, rest, driver, *WRAPPED, '-o', made], check=True)
+        return made
+    return over
+
+
+def said_by(program, case):
+    """The status of a case, and what is said of it."""
+    words = [str(number) for number in (*case, SWITCHES[case[1:]])]
+    done = subprocess.run([program, *words], capture_output=True, text=True, check=False)
+    return done.returncode, (done.stdout.strip() or done.stderr.strip()[-2000:])
+
+
+@pytest.fixture(scope='module')
+def came(request, program_over):
+    program = program_over(DRIVER)
+    yield from ahead(request, 'case', lambda case: said_by(program, case))
+
+
+@pytest.fixture(scope='module')
+def found(request, program_over):
+    def first_fault(name):
+        program = program_over(DRIVER.replace(*FAULTS[name]))
+        ran = (said_by(program, case) for case in sorted(CASES, key=lambda case: (case[2], sum(case))))
+        return next((said for status, said in ran if status != 0), None)
+    yield from ahead(request, 'name', first_fault)
+
+
+@pytest.mark.parametrize('case', CASES, ids=str)
+def test_nothing_goes_wrong(came, case):
+    status, said = came(case)
+    assert (status, said.splitlines()[0]) == (0, f'{RUNS[case[:2]][case[2] - 1]} runs')
+
+
+def test_each_move_of_the_model_is_made(came):
+    made = dict(line.split() for line in came((2, 2, 1))[1].splitlines()[1:])
+    assert list(made) == moves_of('Team') and '0' not in made.values()
+
+
+def test_the_driver_names_each_move_of_the_models():
+    named = re.findall(r'\bMoves: ([A-Z]\w+(?:, [A-Z]\w+)*)\. \*/', DRIVER)
+    moves = set(moves_of('Team')) | set(moves_of('Threads'))
+    assert sorted(', '.join(named).split(', ')) == sorted(moves)
+
+
+@pytest.mark.parametrize('name', FAULTS)
+def test_each_fault_is_found(found, name):
+    assert DRIVER.count(FAULTS[name][0]) == 1, 'it cannot be planted'
+    said = found(name)
+    assert said, 'it is in no run'
+    move, is_move, _ = name.partition(': ')
+    assert not is_move or said.startswith(f'fault: {move};'), said

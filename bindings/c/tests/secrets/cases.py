@@ -1,0 +1,217 @@
+"""Questions to calls.c, of the outside vectors, and what has to come of each: no report on the way to a tag or a text,
+and a tag, a text's letters or a verdict that is undefined, so that no branch has looked at it before the one here. Two
+branches look at the letters of a stored hash as a whole, as often as a text is read: whether all are ASCII, and whether
+they are base64. A block that is drawn from a block is reported at each place that finds or reads it (constant_time)."""
+
+import base64
+import random
+import struct
+from collections import namedtuple
+from pathlib import Path
+from typing import NamedTuple
+
+from argon2.low_level import Type, hash_secret
+from running import TOP
+from vectors import spelled
+
+CALLS = Path(__file__).with_name('calls.c')
+VARIANTS, VERSIONS = ('argon2d', 'argon2i', 'argon2id'), (16, 19)
+# The calls of calls.c and its options, in its order.
+HASH_RAW, HASH_ENCODED, VERIFY_RAW, VERIFY_ENCODED = range(4)
+WITHIN, PASSWORD_HASH, PASSWORD_VERIFY, HASH_OVER, VERIFY_OVER = range(4, 9)
+OPTIONS = FRESH, REUSED, PROGRESS, THREADS, CALLER = range(5)
+OK, DECODING_FAIL, MISMATCH = 0, 19, 64
+# Which vectors are asked: those that write so many blocks at most, and one with more blocks than that in its memory;
+# and how much a verdict may cost, where each byte of a hash is changed alone.
+FEW_BLOCKS, MAPPED_BLOCKS, CHEAP = 640, 1024, 2048
+# In how many blocks, and in how many in all passes, several lanes have threads in C (proved_argon2_driver.c).
+OF_THREADS, IN_ALL_PASSES = 2048, 4096
+OF_A_TEXT = 4  # reports: of two branches, at two readings (whether it is accepted, and its job)
+CAPACITY = 4096
+ASKED, ANSWERED = struct.Struct('<9I' + f'I{CAPACITY}s' * 5), struct.Struct(f'<4I{CAPACITY}s{CAPACITY}s')
+# What calls.c answers.
+Answer = namedtuple('Answer', 'reports calls_back code undefined out bits')
+
+
+class Vector(NamedTuple):
+    """The inputs of a hash, and its tag."""
+    variant: int
+    version: int
+    passes: int
+    memory: int
+    lanes: int
+    length: int
+    password: bytes = b''
+    salt: bytes = b''
+    secret: bytes = b''
+    data: bytes = b''
+    tag: bytes = b''
+
+    def text(self):
+        return spelled(VARIANTS[self.variant], self.version, self.memory, self.passes, self.lanes, self.salt.hex(),
+                       self.tag.hex()).encode()
+
+    def head(self):
+        """Its text up to its hash."""
+        return self._replace(tag=b'').text()
+
+    def blocks(self):
+        return self.passes * self.memory
+
+    def references(self):
+        """How many blocks draw their reference from a block: in Argon2i none, else all but the first two of each lane,
+        and in Argon2id only those behind the first two slices of the first pass (RFC 9106, 3.4)."""
+        slices = self.lanes * (self.memory // (4 * self.lanes))
+        others = 2 * self.lanes, 4 * slices * self.passes, 2 * slices
+        return 4 * slices * self.passes - others[self.variant]
+
+
+class Question(NamedTuple):
+    """A call of a vector; the code that has to come, and reports of branches; the hash or the text that is verified, or
+    has to be written, of which so much is open; and the options."""
+    call: int
+    vector: Vector
+    code: int = OK
+    branches: int = 0
+    verified: bytes = b''
+    written: bytes = b''
+    open: int = 0
+    options: int = FRESH
+
+    def packed(self):
+        variant, version, passes, memory, lanes, length, *fields, _ = self.vector
+        sized = (part for field in (*fields, self.verified) for part in (len(field), field))
+        return ASKED.pack(self.call, self.options, min(self.open, len(self.verified)), variant, version, memory,
+                          passes, lanes, length, *sized)
+
+    def references(self):
+        return self.vector.references() if self.code != DECODING_FAIL else 0
+
+    def is_right(self, came, reads):
+        """A verdict is hidden, but not that a text is none. A tag is to its last bit, and each letter of a text's hash
+        in some bit, and nothing else is. Each reference is read at so many places."""
+        is_read = self.code != DECODING_FAIL
+        calls_back = is_read and self.options in (PROGRESS, CALLER)
+        expected = (self.branches + reads * self.references(), calls_back, self.code, is_read and self.verified != b'')
+        text = came.out.rstrip(b'\0') if self.call == PASSWORD_HASH else self.written
+        hidden, others = came.bits[self.open:len(text)], came.bits[:self.open] + came.bits[len(text):]
+        return (expected == (came.reports, came.calls_back > 0, came.code, came.undefined > 0)
+                and came.out == text.ljust(CAPACITY, b'\0') and not any(others)
+                and all(bits == 255 if self.call == HASH_RAW else bits for bits in hidden)
+                and (self.call != PASSWORD_HASH or text == of_libargon2(self.vector, text.split(b'$')[4])))
+
+
+def answers(said):
+    """What calls.c wrote."""
+    return [Answer(*parts) for parts in ANSWERED.iter_unpack(said)]
+
+
+def of_libargon2(vector, salt):
+    """The text of another implementation, with the letters of a salt, which may have been drawn meanwhile."""
+    return hash_secret(vector.password, base64.b64decode(salt + b'=='), vector.passes, vector.memory, vector.lanes,
+                       vector.length, Type(vector.variant), vector.version)
+
+
+def with_byte(data, at, byte):
+    return data[:at] + bytes([byte]) + data[at:][1:]
+
+
+# ---- the cases: of each vector some questions, the first two where that takes long
+
+def hashes(vector):
+    return [Question(HASH_RAW, vector, written=vector.tag)]
+
+
+def hashed_texts(vector):
+    return [Question(HASH_ENCODED, vector, written=vector.text(), open=len(vector.head()))]
+
+
+def wrong_tags(vector, most=0):
+    """Tags that differ in the first, the last and a drawn byte, or in each where that costs so much at most."""
+    places = range(vector.length) if vector.length * vector.blocks() <= most else (
+        0, vector.length - 1, random.Random(vector.salt).randrange(vector.length))
+    return [with_byte(vector.tag, at, vector.tag[at] ^ 1 << at % 8) for at in places]
+
+
+def verdicts(vector):
+    wrong = [*wrong_tags(vector, CHEAP), bytes(byte ^ 255 for byte in vector.tag)]
+    return [Question(VERIFY_RAW, vector, MISMATCH if tag in wrong else OK, verified=tag)
+            for tag in (vector.tag, *wrong)]
+
+
+def stored(text):
+    """A text whose version is 16 as it is also stored, without the version."""
+    return text.replace(b'$v=16', b'')
+
+
+def verdicts_on_texts(vector, call=VERIFY_ENCODED):
+    """Also on texts in whose hash the first, the last but one or a drawn byte is no letter."""
+    at, text = len(stored(vector.head())), stored(vector.text())
+    ends = [(stored(vector._replace(tag=tag).text()), MISMATCH, OF_A_TEXT) for tag in wrong_tags(vector)]
+    places = at, len(text) - 2, random.Random(vector.salt).randrange(at, len(text) - 1)
+    ends += [(with_byte(text, place, byte), DECODING_FAIL, 2) for place in places for byte in b'$=']
+    return [Question(call, vector, code, branches, verified, open=at)
+            for verified, code, branches in [(text, OK, OF_A_TEXT), *ends]]
+
+
+def verdicts_within(vector):
+    return verdicts_on_texts(vector, WITHIN)
+
+
+def verdicts_on_others(text_and_code):
+    """On a text of another program."""
+    text, code = text_and_code
+    inputs = Vector(VARIANTS.index('argon2i'), 0, 0, 0, 1, 0, b'password')
+    return [Question(VERIFY_ENCODED, inputs, code, OF_A_TEXT, text, open=text.rindex(b'$') + 1)]
+
+
+def passwords(vector):
+    """A text that is written for a password alone, and a verdict on one of libargon2's."""
+    text = of_libargon2(vector, vector.text().split(b'$')[4])
+    return [Question(PASSWORD_HASH, vector, open=len(vector.head())),
+            Question(PASSWORD_VERIFY, vector, verified=text, open=len(text))]
+
+
+# ---- vectors
+
+def rows_of(name):
+    return [line.split() for line in (TOP / 'bindings/vectors' / name).read_text(encoding='utf-8').splitlines()]
+
+
+def vectors_of(variant, version):
+    """Those of a variant and a version that have a password or a secret, of lines `VARIANT VERSION T M P LEN PASSWORD
+    SALT SECRET DATA TAG`."""
+    return [Vector(VARIANTS.index(variant), *map(int, row[1:6]), *(bytes.fromhex(word.strip('-')) for word in row[6:]))
+            for row in rows_of('raw.txt')
+            if row[:2] == [variant, str(version)] and len(row) == 11 and (row[6], row[8]) != ('-', '-')]
+
+
+def texts_of(variant):
+    """The stored texts of a variant, each with its verdict on `password`."""
+    return [(row[0].encode(), OK if row[1] == 'true' else MISMATCH) for row in rows_of('texts.txt')
+            if row[0].lower().startswith(f'${variant}$') and row[1:2] in (['true'], ['false'])]
+
+
+def has_threads(vector):
+    """Whether the library starts threads for it, where it may."""
+    return vector.lanes > 1 and vector.memory >= OF_THREADS and vector.blocks() >= IN_ALL_PASSES
+
+
+def chosen(found, options):
+    """Vectors that write few blocks, and one over a memory that the library maps; or those that it fills by threads."""
+    if options == THREADS:
+        return [*filter(has_threads, found)]
+    few = [vector for vector in found if vector.blocks() <= FEW_BLOCKS]
+    return few + [vector for vector in found if vector not in few and vector.memory > MAPPED_BLOCKS][:1]
+
+
+def asked(case, options, variant, version):
+    """The questions of a case, vector by vector."""
+    if case == passwords:  # (of the settings of password_hash, proved_argon2_owasp2)
+        found = [Vector(VARIANTS.index(variant), version, 2, 19456, 1, 32, b'a password', b'of sixteen bytes')]
+    elif case == verdicts_on_others:
+        found = texts_of(variant)
+    else:
+        found = chosen(vectors_of(variant, version), options)
+    most = None if variant == 'argon2i' and options != THREADS else 2
+    return [[question._replace(options=options) for question in case(vector)[:most]] for vector in found]

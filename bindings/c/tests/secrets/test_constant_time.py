@@ -1,0 +1,145 @@
+"""Asks valgrind's memcheck which branches and addresses of the C library depend on the password, the secret, a hash and
+the letters of a hash, in the four calls that hash and verify, within limits too, in password_hash and password_verify,
+by threads, and in steps over a memory of the caller, who runs their tasks; by both proved builds of the one archive.
+(valgrind knows no AVX-512. In the build for x86-64-v4 the compression alone is another: docs/CLAIMS.md says how it is
+shown to branch on its flag alone and to compute no address.) With Argon2i
+none may, on the way to a tag or a text and on the verdict on a hash, but for two branches on the letters of a stored
+hash. With Argon2d and Argon2id also the addresses may by which a block is found and read that is drawn from blocks, but
+no branch. Leaks that are planted in the library (plant_leak.py) and in its driver have to be reported, or else this
+sees nothing. calls.c makes the calls, of cases.py. depends.txt has what each case may report.
+"""
+
+import os
+import re
+import subprocess
+from collections import defaultdict
+from itertools import product
+
+import cases as of
+import plant_leak
+import pytest
+from cases import CALLS
+from machines import machines
+from plant_leak import DRIVER, compiled, library
+from running import ahead
+from running import rows as rows_of
+
+SECONDS = 3600
+# The builds, each with how many places find or read the block that is referred to.
+READS = dict(zip(machines()['x86_64'].proved, (10, 9), strict=True))
+FEW = 2  # vectors are enough of a case with a leak
+CASES = of.hashes, of.hashed_texts, of.verdicts, of.verdicts_on_texts
+EVERY, NEWER = tuple(product(of.VARIANTS, of.VERSIONS)), tuple(product(of.VARIANTS, [19]))
+# The cases, with options, and with the variants and versions that one run is asked.
+ASKED = [*product(CASES, (of.FRESH, of.CALLER), [EVERY]), *product(CASES, (of.REUSED, of.PROGRESS), [NEWER]),
+         *product(CASES, [of.THREADS], [(('argon2d', 16), ('argon2i', 16), ('argon2id', 19))]),
+         *product([of.verdicts_on_others], of.OPTIONS, [(('argon2i', 0),)]), (of.verdicts_within, of.FRESH, NEWER),
+         (of.passwords, of.FRESH, (('argon2id', 19),))]
+# Leaks in what is proved, each with a case and a variant in which it has to be seen; and what is put behind the
+# driver's line that gives a tag or a verdict.
+LEAKS = {
+    'branch_on_a_word': (of.hashes, of.FRESH, 'argon2i'),
+    'branch_on_a_reference': (of.hashes, of.FRESH, 'argon2id'),
+    'table_of_letters': (of.hashed_texts, of.FRESH, 'argon2i'),
+    'branch_on_a_letter': (of.verdicts_on_texts, of.FRESH, 'argon2i'),
+    'branch_on_a_hash': (of.verdicts, of.FRESH, 'argon2i'),
+    'if (tag[0] == 0)': (of.hashes, of.CALLER, 'argon2i'),
+    **dict.fromkeys(('if (code == PROVED_ARGON2_OK)', 'if (hash && memcmp(hash, tag, call->job.hash_length) == 0)',
+                     'if (hash && memcmp(hash, tag, call->job.hash_length / 2) == 0)',
+                     'for (size_t i = 0; hash && i < call->job.hash_length && hash[i] == tag[i]; i++)'),
+                    (of.verdicts, of.FRESH, 'argon2i')),
+}
+# How memcheck heads its reports, each place with how often it was met; a thread may be named in between.
+BRANCH, ADDRESS = 'Conditional jump or move depends on uninitialised value(s)', 'Use of uninitialised value of size 8'
+PLACE = re.compile(r'^==\d+== (\d+) errors in context .*\n(?:==\d+== Thread \d+:\n)?==\d+== (.*)$', re.M)
+MEMCHECK = ['valgrind', *'-v --error-limit=no --default-suppressions=no --num-callers=1 --leak-check=no --vgdb=no '
+            '--read-inline-info=no'.split()]
+
+
+def planted(leak, folder, objects):
+    """The objects with a leak: in both builds, in the driver, or in none."""
+    others = {f'proved_argon2_{cpu}.o': folder / f'{cpu}.{leak}.o' for cpu in READS if leak in plant_leak.LEAKS}
+    for file, other in others.items():
+        plant_leak.main(objects[file], leak, other)
+    if leak and not others:
+        text, source = (DRIVER / 'proved_argon2_driver.c').read_text(encoding='utf-8'), folder / 'driver.c'
+        line = r'^(.*code = compute_over\(.*\n)'
+        source.write_text(re.sub(line, rf'\1{leak} proved_driver_overwrite(NULL, 0);\n', text, flags=re.M))
+        others['proved_argon2_driver.o'] = compiled(folder / 'driver.o', '-march=x86-64', '-fPIC', '-c', source)
+    return {**objects, **others}
+
+
+@pytest.fixture(scope='module')
+def came(request, tmp_path_factory):
+    """What comes of rows, over calls.c with each leak."""
+    folder = tmp_path_factory.mktemp('made')
+    objects = library(folder / 'objects')
+    programs = {leak: compiled(folder / f'calls-{number}', CALLS, *planted(leak, folder, objects).values())
+                for number, leak in enumerate((None, *LEAKS))}
+    yield from ahead(request, 'row', lambda row: Came(programs[row[1]], row[0], *row[2:], FEW if row[1] else None))
+
+
+class Came:
+    """What came of a case of vectors, or of a few, in one run: whether that is all, and right, which answers are wrong,
+    and how often each place was reported. Of a report only the innermost function counts, since the library tells a
+    debugger nothing of callers."""
+
+    def __init__(self, program, cpu, case, options, kinds, most):
+        questions = [one for kind in kinds for asked in of.asked(case, options, *kind)[:most] for one in asked]
+        ran = subprocess.run([*MEMCHECK, program], input=b''.join(question.packed() for question in questions),
+                             capture_output=True, check=False, env={**os.environ, 'PROVED_ARGON2_CPU': cpu},
+                             timeout=SECONDS)
+        self.log, answers, self.places = ran.stderr.decode(errors='replace'), of.answers(ran.stdout), defaultdict(list)
+        for count, kind in PLACE.findall(self.log.partition('ERROR SUMMARY')[2]):
+            self.places[kind].append(int(count))
+        self.is_ended = ran.returncode == 0 and len(answers) == len(questions) > 0
+        self.wrong = [answer[:4] for question, answer in zip(questions, answers)
+                      if not question.is_right(answer, READS[cpu])]
+        # (of references each is found and read by addresses at so many places, at each once)
+        references = sum(one.references() for one in questions)
+        self.is_right = (self.is_ended and not self.wrong and self.places.keys() <= {BRANCH, ADDRESS}
+                         and sum(self.places[BRANCH]) == sum(one.branches for one in questions)
+                         and self.places[ADDRESS] == [references] * (READS[cpu] if references else 0))
+
+    def shown(self):
+        functions = sorted(set(re.findall(r'^==\d+==    at 0x[0-9A-F]+: (\S+) ', self.log, re.M)))
+        return '\n'.join([*functions, *map(str, self.wrong[:5]), str(dict(self.places))])
+
+
+def named(row):
+    cpu, leak, case, options, _ = row
+    return '-'.join(map(str, (cpu, *filter(None, [leak]), case.__name__, options)))
+
+
+@pytest.mark.parametrize('row', [(cpu, None, *how) for cpu in READS for how in ASKED], ids=named)
+def test_nothing_else_depends_on_secrets(came, row):
+    assert came(row).is_right, came(row).shown()
+
+
+@pytest.mark.parametrize('row', [(cpu, leak, case, options, ((variant, 19),)) for cpu in READS
+                                 for leak, (case, options, variant) in LEAKS.items()], ids=named)
+def test_each_leak_is_seen(came, row):
+    """And it is all that goes wrong."""
+    found = came(row)
+    kinds = {kind for kind, counts in found.places.items() if counts}
+    assert not found.is_right and found.is_ended and set() < kinds <= {BRANCH, ADDRESS}, found.shown()
+
+
+def test_all_is_asked():
+    """Each build is, of enough vectors, and each case of depends.txt by the variants that its calls name, and may
+    report what it says."""
+    assert [*READS] == machines()['x86_64'].proved
+    asked = {}
+    for case, options, kinds in ASKED:
+        for variant, version in kinds:
+            vectors = of.asked(case, options, variant, version)
+            assert len(vectors) > 18 or vectors and (case == of.passwords or options == of.THREADS)
+            asked[case.__name__, variant] = vectors[0]
+    rows = [((case, re.match(r'Argon2(?:id|i|d)\b', call)[0].lower()), words)
+            for cases, call, words in rows_of(CALLS.parent / 'depends.txt') for case in cases.split()]
+    assert sorted(row for row, _ in rows) == sorted(asked)
+    for row, words in rows:
+        branches, references = (any(numbers) for numbers in zip(*((one.branches, one.references())
+                                                                  for one in asked[row])))
+        assert references == words.startswith(('also the addresses', 'the same'))
+        assert references or branches == words.startswith('two branches: ')

@@ -1,0 +1,234 @@
+/* What a program that is linked with --wrap gets in place of the system's own: starts of threads, requests for memory
+ * and mappings are counted and refused, what is held is counted, and what is given back is looked at first. */
+#ifndef SYSTEM_H
+#define SYSTEM_H
+
+#include "checks.h"
+
+#include <errno.h>
+#include <malloc.h>
+#include <pthread.h>
+#include <signal.h>
+#include <stdatomic.h>
+#include <stdlib.h>
+#include <sys/mman.h>
+
+int __real_pthread_create(pthread_t *thread, const pthread_attr_t *attributes, void *(*run)(void *), void *arg);
+int __wrap_pthread_create(pthread_t *thread, const pthread_attr_t *attributes, void *(*run)(void *), void *arg);
+int __real_pthread_join(pthread_t thread, void **result);
+int __wrap_pthread_join(pthread_t thread, void **result);
+void *__real_mmap(void *at, size_t len, int protection, int flags, int file, off_t offset);
+void *__wrap_mmap(void *at, size_t len, int protection, int flags, int file, off_t offset);
+int __real_munmap(void *at, size_t len);
+int __wrap_munmap(void *at, size_t len);
+int __real_madvise(void *at, size_t len, int advice);
+int __wrap_madvise(void *at, size_t len, int advice);
+void *__real_aligned_alloc(size_t alignment, size_t len);
+void *__wrap_aligned_alloc(size_t alignment, size_t len);
+void *__real_malloc(size_t len);
+void *__wrap_malloc(size_t len);
+void *__real_calloc(size_t count, size_t len);
+void *__wrap_calloc(size_t count, size_t len);
+void __real_free(void *block);
+void __wrap_free(void *block);
+void __real_explicit_bzero(void *bytes, size_t len);
+void __wrap_explicit_bzero(void *bytes, size_t len);
+
+/* Starts that were asked for and that were granted, joins, the threads that run, the most that did at once, and how
+ * often one was started while none ran. */
+static atomic_size_t starts, granted, joins, running, most_running, bursts;
+
+/* Starts at which some signal would have been the new thread's, and those that asked for another stack than a small
+ * one. */
+static atomic_size_t open_to_signals, large_stacks;
+
+/* Which starts are refused, counted from 1; 0 for none. */
+static size_t first_refused, last_refused;
+
+/* Requests for memory and for mappings, and which one of them is refused, counted from 1. */
+static atomic_size_t requests;
+static size_t refused_request;
+
+/* How often pages were asked for at once, for how many bytes in all, and which of these is refused, counted from 1, and
+ * how; and for how many bytes huge pages were. */
+static atomic_size_t populatings, populated, in_huge_pages;
+static size_t refused_populating;
+static int refused_how;
+
+/* How many bytes are held, and were at most. */
+static atomic_size_t held, most_held;
+
+/* The last mapping that was given. */
+static void *last_mapped;
+static size_t last_mapped_len;
+
+/* Whether nothing is cleared, and what looks at bytes before they are given back. */
+static bool no_wiping;
+static void (*look_at)(const void *block);
+
+/* Counts from 0 and refuses nothing. */
+static inline void refuse_nothing(void)
+{
+    starts = granted = joins = most_running = bursts = open_to_signals = large_stacks = requests = 0;
+    populatings = populated = in_huge_pages = 0;
+    first_refused = last_refused = refused_request = refused_populating = 0;
+}
+
+/* Refuses so many starts from this one on. */
+static inline void refuse_starts(size_t first, size_t count)
+{
+    refuse_nothing();
+    first_refused = first;
+    last_refused = count > SIZE_MAX - first ? SIZE_MAX : first + count - 1;
+}
+
+static inline void refuse_request(size_t number)
+{
+    refuse_nothing();
+    refused_request = number;
+}
+
+/* Whether the thread that asks has blocked the signals that come from outside: what it starts has them blocked too. */
+static inline bool has_blocked_signals(void)
+{
+    static const int from_outside[] = {SIGHUP, SIGINT, SIGTERM, SIGALRM, SIGCHLD, SIGUSR1, SIGUSR2, SIGPIPE};
+    sigset_t blocked;
+    bool all = pthread_sigmask(SIG_SETMASK, NULL, &blocked) == 0;
+    for (size_t i = 0; i < sizeof from_outside / sizeof *from_outside; i++) {
+        all = all && sigismember(&blocked, from_outside[i]) == 1;
+    }
+    return all;
+}
+
+static inline bool has_small_stack(const pthread_attr_t *attributes)
+{
+    size_t size = 0;
+    return attributes != NULL && pthread_attr_getstacksize(attributes, &size) == 0 && size / (256 * 1024) == 1;
+}
+
+/* Whether a start asks only whether such a stack would be large enough. */
+static inline bool is_question(const pthread_attr_t *attributes)
+{
+    int state = PTHREAD_CREATE_JOINABLE;
+    return attributes != NULL && pthread_attr_getdetachstate(attributes, &state) == 0
+        && state == PTHREAD_CREATE_DETACHED;
+}
+
+int __wrap_pthread_create(pthread_t *thread, const pthread_attr_t *attributes, void *(*run)(void *), void *arg)
+{
+    if (is_question(attributes)) {
+        return __real_pthread_create(thread, attributes, run, arg);
+    }
+    const size_t number = ++starts;
+    large_stacks += has_small_stack(attributes) ? 0 : 1;
+    if (first_refused != 0 && number >= first_refused && number <= last_refused) {
+        return EAGAIN;
+    }
+    const int status = __real_pthread_create(thread, attributes, run, arg);
+    if (status == 0) {
+        open_to_signals += has_blocked_signals() ? 0 : 1;
+        granted++;
+        const size_t now = ++running;
+        bursts += now == 1 ? 1 : 0;
+        most_running = now > most_running ? now : most_running;
+    }
+    return status;
+}
+
+int __wrap_pthread_join(pthread_t thread, void **result)
+{
+    joins++;
+    running--;
+    return __real_pthread_join(thread, result);
+}
+
+static inline bool is_refused(void)
+{
+    return ++requests == refused_request;
+}
+
+static inline void hold(size_t more)
+{
+    const size_t now = atomic_fetch_add(&held, more) + more;
+    most_held = now > most_held ? now : most_held;
+}
+
+static inline void *hold_block(void *block)
+{
+    hold(block == NULL ? 0 : malloc_usable_size(block));
+    return block;
+}
+
+/* What a request that is refused answers. */
+static inline void *nothing(void)
+{
+    errno = ENOMEM;
+    return NULL;
+}
+
+void *__wrap_mmap(void *at, size_t len, int protection, int flags, int file, off_t offset)
+{
+    if (is_refused()) {
+        nothing();
+        return MAP_FAILED;
+    }
+    last_mapped = __real_mmap(at, len, protection, flags, file, offset);
+    last_mapped_len = len;
+    hold(last_mapped == MAP_FAILED ? 0 : len);
+    return last_mapped;
+}
+
+int __wrap_munmap(void *at, size_t len)
+{
+    const int status = __real_munmap(at, len);
+    held -= status == 0 ? len : 0;
+    return status;
+}
+
+int __wrap_madvise(void *at, size_t len, int advice)
+{
+    enum { POPULATE = 23 };
+    in_huge_pages += advice == MADV_HUGEPAGE ? len : 0;
+    if (advice != POPULATE) {
+        return __real_madvise(at, len, advice);
+    }
+    populated += len;
+    if (++populatings == refused_populating) {
+        errno = refused_how;
+        return -1;
+    }
+    return __real_madvise(at, len, advice);
+}
+
+void *__wrap_malloc(size_t len)
+{
+    return is_refused() ? nothing() : hold_block(__real_malloc(len));
+}
+
+void *__wrap_aligned_alloc(size_t alignment, size_t len)
+{
+    return is_refused() ? nothing() : hold_block(__real_aligned_alloc(alignment, len));
+}
+
+void *__wrap_calloc(size_t count, size_t len)
+{
+    return is_refused() ? nothing() : hold_block(__real_calloc(count, len));
+}
+
+void __wrap_free(void *block)
+{
+    if (look_at != NULL && block != NULL) {
+        look_at(block);
+    }
+    held -= block == NULL ? 0 : malloc_usable_size(block);
+    __real_free(block);
+}
+
+void __wrap_explicit_bzero(void *bytes, size_t len)
+{
+    if (!no_wiping) {
+        __real_explicit_bzero(bytes, len);
+    }
+}
+
+#endif

@@ -1,0 +1,298 @@
+"""What programs in C alone do not see of the library: the header in each language, results that are ignored, the calls
+and pointers that the programs name beside those of the headers, the archive's symbols, which build a processor gets,
+and the C of docs/C.md. CTest runs it (CMakeLists.txt), with the folder of its programs in TESTS and the library in
+ARCHIVE.
+"""
+import os
+import re
+import shutil
+import subprocess
+from functools import cache
+from pathlib import Path
+
+import pytest
+
+HERE = Path(__file__).resolve().parent
+FACE, TOP, DRIVER = HERE.parent, HERE.parents[2], HERE.parents[2] / 'bindings/c/src'
+TESTS, ARCHIVE = Path(os.environ.get('TESTS', '.')), os.environ.get('ARCHIVE', '')
+HEADERS = '\n'.join(path.read_text(encoding='utf-8') for path in sorted((FACE / 'include').glob('*.h')))
+WARNINGS = *'-O2 -Wall -Wextra -Wpedantic -Wconversion -Werror'.split(), '-I', FACE / 'include'
+INCLUDES = """#include "proved_argon2.h"
+int main(void) { return proved_argon2_read(NULL, 1, NULL) != PROVED_ARGON2_NULL_POINTER; }
+"""
+LANGUAGES = [*((compiler, 'c', f'-std={standard}') for compiler in ('gcc', 'clang') for standard in ('c99', 'c11')),
+             *((compiler, 'c++', '-std=c++17', '-Wold-style-cast') for compiler in ('g++', 'clang++'))]
+# The functions have the names of C in C++ too.
+IN_CPP = """#include "proved_argon2.h"
+int main()
+{
+    static const char stored[] = "$argon2i$v=19$m=256,t=2,p=1$c29tZXNhbHQ$iekCn0Y3spW+sCcFanM2xBT63UP2sghkUoHLIUpWRS8";
+    const proved_argon2_options with = PROVED_ARGON2_OPTIONS;
+    proved_argon2_settings settings = proved_argon2_owasp5();
+    void *memory = NULL;
+    size_t memory_len = 0;
+    char text[PROVED_ARGON2_TEXT_SIZE];
+    if (with.threads != 0 || proved_argon2_memory_new(&settings, &memory, &memory_len) != PROVED_ARGON2_OK) return 1;
+    proved_argon2_memory_free(memory, memory_len);
+    return proved_argon2_password_verify(stored, "password", 8) == PROVED_ARGON2_OK
+        && proved_argon2_password_hash(text, "password", 8) == PROVED_ARGON2_OK
+        && proved_argon2_password_verify(text, "Password", 8) == PROVED_ARGON2_MISMATCH
+        && proved_argon2_encoded_len(&settings, 16) == 96 && settings.mem_cost == 7168 ? 0 : 1;
+}
+"""
+# What the driver needs of the system: there is no heap of the proved code's, and no secret goes through a function that
+# copies.
+OF_SYSTEM = set("""_GLOBAL_OFFSET_TABLE_ __errno_location __stack_chk_fail aligned_alloc calloc explicit_bzero free
+    getpid getrandom madvise malloc mmap munmap pthread_attr_destroy pthread_attr_init pthread_attr_setdetachstate
+    pthread_attr_setguardsize pthread_attr_setstacksize pthread_create pthread_join pthread_setcancelstate
+    pthread_sigmask secure_getenv sem_destroy sem_init sem_post sem_wait sigfillset strcmp strlen sysconf""".split())
+# What x86-64-v2 and x86-64-v3 ask for, but what an older qemu or glibc needs itself, as the driver and as qemu name it,
+# and the processors of qemu that have it; and what x86-64-v4 does.
+OF_V2 = dict(CX16='cx16', SSE4_2='sse4.2', POPCNT='popcnt', LAHF_LM='lahf-lm')
+OF_V3 = dict(FMA='fma', MOVBE='movbe', bit_OSXSAVE='xsave', AVX='avx', F16C='f16c', BMI1='bmi1', AVX2='avx2',
+             BMI2='bmi2', ABM='abm')
+OF_V4 = [f'AVX512{part}' for part in ('F', 'DQ', 'CD', 'BW', 'VL')]
+LACKING = [*((f'Nehalem,-{name}', '1 of 1') for name in OF_V2.values()),
+           *((f'Haswell,-{name}', '2 of 2') for name in OF_V3.values())]
+SAVED = '__asm__ volatile("xgetbv".*'
+
+pytestmark = pytest.mark.skipif(not ARCHIVE, reason='CTest names the archive')
+needs_qemu = pytest.mark.skipif(not shutil.which('qemu-x86_64'), reason='there is no qemu-x86_64')
+
+
+def run(*command, **how):
+    return subprocess.run([*map(str, command)], text=True, capture_output=True, check=False, errors='replace', **how)
+
+
+def output_of(*command, **how):
+    done = run(*command, **how)
+    assert done.returncode == 0, done.stdout + done.stderr
+    return done.stdout
+
+
+@cache
+def checks_of(program):
+    """What a program's checks say."""
+    if os.environ.get('PEER') == '0' and not (TESTS / program).exists():
+        pytest.skip('there is no libargon2')
+    return re.findall(r'^passed: (.*)$', output_of(TESTS / program, cwd=TESTS), re.M)
+
+
+# ---- the headers
+
+@pytest.mark.parametrize('language', LANGUAGES, ids=' '.join)
+def test_includes_the_header(language):
+    compiler, kind, *flags = language
+    output_of(compiler, *flags, *WARNINGS, '-x', kind, '-c', '-o', '/dev/null', '-', input=INCLUDES)
+
+
+@pytest.mark.parametrize('compiler', ['g++', 'clang++'])
+def test_links_from_cpp(compiler, tmp_path):
+    (tmp_path / 'linked.cpp').write_text(IN_CPP, encoding='utf-8')
+    output_of(compiler, '-std=c++17', *WARNINGS, tmp_path / 'linked.cpp', ARCHIVE, '-o', tmp_path / 'linked')
+    output_of(tmp_path / 'linked')
+
+
+@cache
+def calls(of=r'(?:PROVED_ARGON2_CHECKED (?:static inline )?uint\d+_t|\bvoid)'):
+    """The calls of the headers whose result is to be looked at, and memory_free, with what each is given."""
+    text = ' '.join(line for line in HEADERS.splitlines() if not line.startswith('#'))
+    found = re.findall(rf'{of} proved_argon2_(\w+)\(([^()]*)\)', text)
+    assert len(found) == 38
+    return {name: [' '.join(given.split()) for given in arguments.split(',')] for name, arguments in found}
+
+
+def name_of(argument):
+    return re.search(r'(\w+)(\[\w*\])?$', argument)[1]
+
+
+@pytest.mark.parametrize('compiler', ['gcc', 'clang'])
+@pytest.mark.parametrize('call', sorted({*calls()} - {'memory_free'}))
+def test_looks_at_the_result(compiler, call, tmp_path):
+    given = calls()[call]
+    variables = ''.join(f'static {argument};\n' for argument in given)
+    made = f'proved_argon2_{call}({", ".join(map(name_of, given))})'
+    source, compiles = tmp_path / 'call.c', (compiler, '-std=c11', *WARNINGS, '-c', '-o', '/dev/null')
+    source.write_text(f'#include "proved_argon2.h"\n{variables}int main(void) {{ return {made} != 0; }}\n', 'utf-8')
+    output_of(*compiles, source)
+    source.write_text(f'#include "proved_argon2.h"\n{variables}int main(void) {{ {made}; return 0; }}\n', 'utf-8')
+    assert 'unused-result' in run(*compiles, source).stderr
+
+
+def test_declares_each_number_as_checked():
+    """But the version, of which nothing is to be checked."""
+    lines = HEADERS.splitlines()
+    unchecked = [line for before, line in zip(lines, lines[1:])
+                 if re.match(r'(static inline )?uint(32|64)_t proved_argon2_', line)
+                 and not before.startswith('PROVED_ARGON2_CHECKED')]
+    assert [line for line in unchecked if 'library_version(void)' not in line] == []
+
+
+def test_version_is_that_of_the_repository():
+    version = (TOP / 'VERSION').read_text(encoding='utf-8').strip()
+    major, minor, patch = map(int, version.split('.'))
+    assert f'version {version} {major * 1000000 + minor * 1000 + patch}\n' in output_of(TESTS / 'numbers')
+
+
+# ---- what the programs name
+
+def test_each_pointer_is_null_once():
+    pointers = {f'{call} without {name_of(argument)}' for call, given in calls().items() for argument in given
+                if '*' in argument or '[' in argument}
+    found = [name for name in checks_of('null_pointers') if re.fullmatch(r'\w+ without \w+', name)]
+    assert sorted(found) == sorted(pointers)
+
+
+def test_looks_at_what_each_call_leaves():
+    """Except for the calls of a password with options, which are what the calls without options make."""
+    expected = {'message', *(call for call in calls() if not re.fullmatch('password_.*_with', call))}
+    assert {name.split()[0] for program in ('clearing', 'proved_clearing') for name in checks_of(program)
+            if re.match(r'\w+ (leaves|clears) ', name)} == expected
+
+
+# The code of docs/C.md, and a program that makes each of its calls.
+PIECES = re.findall(r'^```c\n(.*?)^```$', (TOP / 'docs/C.md').read_text(encoding='utf-8'), re.M | re.S)
+OF_PAGE = '\n'.join([*PIECES, """int main(void)
+{
+    static const uint8_t salt[16] = {1}, bytes[] = {0, 1, 255};
+    char stored[PROVED_ARGON2_TEXT_SIZE], text[PROVED_ARGON2_TEXT_SIZE];
+    struct worker worker;
+    return make_hash("right", stored) && is_right("right", stored) && !is_right("wrong", stored)
+        && make_hash_of_bytes(bytes, 3, salt, text, sizeof text) && are_right_bytes(bytes, 3, text)
+        && !are_right_bytes(bytes, 2, text) && begin_worker(&worker)
+        && log_in(&worker, stored, "right", 5) == PROVED_ARGON2_OK
+        && log_in(&worker, stored, "wrong", 5) == PROVED_ARGON2_MISMATCH
+        && log_in(&worker, NULL, "right", 5) == PROVED_ARGON2_MISMATCH ? 0 : 1;
+}
+"""])
+
+
+@pytest.mark.parametrize('language', LANGUAGES, ids=' '.join)
+def test_the_code_of_the_page_compiles_together_and_runs(language, tmp_path):
+    compiler, kind, *flags = language
+    source, program = tmp_path / f'page.{"c" if kind == "c" else "cpp"}', tmp_path / 'page'
+    source.write_text(OF_PAGE, encoding='utf-8')
+    output_of(compiler, *flags, *WARNINGS, '-Wpointer-sign' if kind == 'c' else '-Wconversion', source, ARCHIVE,
+              '-pthread', '-o', program)
+    output_of(program)
+
+
+def test_the_code_of_the_page_is_in_the_tested_program():
+    program = (HERE / 'quick_start.c').read_text(encoding='utf-8')
+    assert len(PIECES) == 3 and [piece for piece in PIECES if piece not in program] == []
+
+
+# ---- the archive
+
+def symbols(*words):
+    return [line.split() for line in output_of('nm', *words).splitlines()]
+
+
+def test_calls_the_system_alone():
+    defined = {words[2] for words in symbols(ARCHIVE) if len(words) == 3}
+    assert {words[1] for words in symbols(ARCHIVE) if words[:1] == ['U']} - defined - OF_SYSTEM == set()
+    seen = [words[2] for words in symbols('-g', '--defined-only', ARCHIVE) if len(words) == 3]
+    assert seen and [name for name in seen if not re.match('proved_(argon2|driver|x86_64_v[234])_', name)] == []
+
+
+@pytest.fixture
+def objects(tmp_path):
+    output_of('ar', 'x', ARCHIVE, cwd=tmp_path)
+    return tmp_path
+
+
+def test_table_leads_to_each_call_of_each_build(objects):
+    """One that it does not lead to would compute well, and slowly, by an older one."""
+    proved = {words[2] for words in symbols('-g', '--defined-only', *objects.glob('proved_argon2_x86-64-v?.o'))
+              if len(words) == 3}
+    assert proved == {words[1] for words in symbols('-u', objects / 'proved_argon2_table.o')
+                      if words[1:] and words[1].startswith('proved_x86_')} != set()
+
+
+# ---- which build a processor gets
+
+def build_by(cpu, program):
+    return run('qemu-x86_64', '-cpu', cpu, program, '--name').stdout.strip()
+
+
+def planted(objects, old, new):
+    """builds.c over a choice in which a text has another in its place."""
+    text = (DRIVER / 'proved_argon2_builds.c').read_text(encoding='utf-8')
+    changed, program = re.sub(old, new, text), objects / 'planted'
+    assert changed != text
+    (objects / 'planted.c').write_text(changed, encoding='utf-8')
+    flags = '-std=c11', '-D_GNU_SOURCE', '-O2', '-I', DRIVER, '-I', FACE / 'include'
+    output_of('gcc', *flags, '-march=x86-64', '-fPIC', '-c', objects / 'planted.c',
+              '-o', objects / 'proved_argon2_builds.o')
+    output_of('gcc', *flags, HERE / 'builds.c', *objects.glob('*.o'), '-pthread', '-o', program)
+    return program
+
+
+@needs_qemu
+@pytest.mark.parametrize('cpu', ['Haswell', 'Nehalem', 'core2duo'])
+def test_chooses_on(cpu):
+    output_of('qemu-x86_64', '-cpu', cpu, TESTS / 'builds')
+
+
+@needs_qemu
+@pytest.mark.parametrize('cpu,build', [('Haswell', '3 of 3'), ('Nehalem', '2 of 2'), *LACKING])
+def test_takes_the_build_for(cpu, build):
+    assert build_by(cpu, TESTS / 'builds') == build
+
+
+@needs_qemu
+@pytest.mark.parametrize('feature', sorted({*OF_V2, *OF_V3} - {'AVX'}))
+def test_finds_what_is_not_asked_for(feature, objects):
+    """(What has AVX2 has AVX.)"""
+    asked = rf'(?<=[{{ ]){feature}(, |(?=}}))| && \(\S+ / 32\] & {feature}\) != 0'
+    program, cpu = planted(objects, asked, ''), 'Haswell'
+    if feature in OF_V2:
+        cpu = 'Nehalem'
+    name = {**OF_V2, **OF_V3}[feature]
+    assert build_by(f'{cpu},-{name}', program) != dict(LACKING)[f'{cpu},-{name}']
+
+
+@needs_qemu
+def test_takes_an_older_build_without_wide_registers(objects):
+    """(where the system keeps the halves of them alone)"""
+    assert build_by('Haswell', planted(objects, re.escape(SAVED[:-2]) + '.*', 'saved = 3;')) == '2 of 3'
+
+
+@needs_qemu
+@pytest.mark.parametrize('name', ['results', 'jobs', 'null_pointers'])
+def test_leads_to_no_newer_build(name):
+    """qemu ends a program at an instruction that its processor does not have."""
+    output_of('qemu-x86_64', '-cpu', 'Nehalem', TESTS / name)
+
+
+@needs_qemu
+def test_finds_a_jump_to_a_newer_build(objects):
+    output_of('objcopy', '--redefine-sym=proved_x86_64_v2_encode=proved_x86_64_v3_encode',
+              objects / 'proved_argon2_table.o')
+    program = objects / 'astray'
+    output_of('gcc', '-std=c11', '-D_GNU_SOURCE', '-I', FACE / 'include', HERE / 'results.c', *objects.glob('*.o'),
+              '-pthread', '-o', program)
+    output_of(program)
+    assert run('qemu-x86_64', '-cpu', 'Nehalem', program).returncode != 0
+
+
+@pytest.mark.parametrize('old,new', [
+    *((re.escape('&words[LEAF_7 / 32], &ecx, &edx);'), rf'\g<0> words[LEAF_7 / 32] &= ~bit_{feature};')
+      for feature in OF_V4),
+    *((re.escape(SAVED[:-2]) + '.*', f'saved = {saved};') for saved in ('0xC6', '0xA6', '0x66'))])
+def test_asks_for_all_of_v4(old, new, objects):
+    """The build for x86-64-v3 on a processor that has all, where one thing lacks: qemu has no such processor."""
+    if output_of(TESTS / 'builds', '--name').strip() != '4 of 4':
+        pytest.skip('this processor has no AVX-512')
+    assert output_of(planted(objects, old, new), '--name').strip() == '3 of 4'
+
+
+@pytest.mark.skipif(os.geteuid() != 0, reason='that takes root')
+def test_environment_chooses_nothing_with_other_rights(tmp_path):
+    """A program may gain rights by who owns it."""
+    owned, named = tmp_path / 'owned', {**os.environ, 'PROVED_ARGON2_CPU': 'x86-64-v1'}
+    shutil.copy(TESTS / 'builds', owned)
+    shutil.chown(owned, 'nobody')
+    owned.chmod(0o4755)
+    assert output_of(owned, '--name', env=named) == output_of(TESTS / 'builds', '--name')
+    assert output_of(TESTS / 'builds', '--name', env=named).startswith('1')

@@ -1,0 +1,314 @@
+/*
+ * The calls with options (bindings/c): tags by 1 to 33 threads beside libargon2's, a memory and a pool of the caller's,
+ * options and limits. starts.c has the threads, memory.c the memory, clearing.c what is left in the process.
+ *
+ *     threads          all checks
+ *     threads few      those that a tool looks at: a few tags, and eight hashes at once over threads that stay
+ */
+#include "calls.h"
+#include "system.h"
+
+/* ---- tags */
+
+static int goes_on(void *arg, uint64_t done, uint64_t all)
+{
+    (void)arg;
+    return done > all;
+}
+
+/* One call beside libargon2, by some threads, or by a pool, over a memory of its own or of the caller's, half of the
+ * numbers of threads with a callback. */
+static bool agrees(const struct call *call, uint32_t threads, uint32_t kind)
+{
+    uint8_t tag[LONGEST], expected[LONGEST];
+    char text[4 * LONGEST];
+    proved_argon2_options with = by(threads);
+    const size_t len = call->settings.hash_length;
+    uint8_t *const buffer = __real_malloc((size_t)call->settings.mem_cost * 1024);
+    with.run = kind % 2 == 1 ? backwards : NULL;
+    with.progress = threads % 2 == 0 ? goes_on : NULL;
+    with.memory = kind >= 2 ? buffer : NULL;
+    with.memory_len = (size_t)call->settings.mem_cost * 1024;
+    memset(buffer, 5, with.memory_len);
+    bool same = peer(call, expected) && hash_raw(&with, call, tag) == PROVED_ARGON2_OK
+        && memcmp(tag, expected, len) == 0;
+    same = same && verify_raw(&with, call, expected) == PROVED_ARGON2_OK;
+    expected[kind < 2 ? len - 1 : below((uint32_t)len)] ^= (uint8_t)(1 << below(8));
+    same = same && verify_raw(&with, call, expected) == PROVED_ARGON2_MISMATCH;
+    with.progress = goes_on;
+    same = same && verify_raw(&with, call, expected) == PROVED_ARGON2_MISMATCH;
+    same = same && hash_encoded(&with, call, text, sizeof text) == PROVED_ARGON2_OK;
+    same = same && verify_encoded(&with, call, text) == PROVED_ARGON2_OK;
+    free(buffer);
+    return same;
+}
+
+/* A call for which threads pay. */
+static struct call any_large_call(uint32_t most_lanes)
+{
+    struct call call = any_call(most_lanes);
+    call.settings.mem_cost += 2048;
+    call.settings.time_cost = 2;
+    return call;
+}
+
+static void check_tags(uint32_t count, uint32_t most_lanes)
+{
+    uint32_t good = 0;
+    for (uint32_t i = 0; i < count; i++) {
+        const struct call call = i % 4 == 0 ? any_large_call(most_lanes) : any_call(most_lanes);
+        good += agrees(&call, 1 + i % 33, most_lanes < 33 ? i % 4 : i / 33 % 4);
+    }
+    printf("%u of %u calls by 1 to 33 threads agree with libargon2\n", good, count);
+    check(good == count, "tags, verdicts and texts by threads");
+}
+
+/* ---- eight hashes at once */
+
+enum { LOGINS = 8, THREADS = 4 };
+
+typedef struct login {
+    pthread_t thread;
+    proved_argon2_options with;
+    struct call call;
+    bool good;
+} login;
+
+static void *log_in(void *arg)
+{
+    login *const self = arg;
+    uint8_t tag[LONGEST], expected[LONGEST];
+    self->good = peer(&self->call, expected);
+    for (int i = 0; i < 2; i++) {
+        self->good &= hash_raw(&self->with, &self->call, tag) == PROVED_ARGON2_OK
+            && memcmp(tag, expected, self->call.settings.hash_length) == 0;
+    }
+    return NULL;
+}
+
+static bool log_in_at_once(login *logins)
+{
+    bool good = true;
+    for (size_t i = 0; i < LOGINS; i++) {
+        good &= pthread_create(&logins[i].thread, NULL, log_in, &logins[i]) == 0;
+    }
+    for (size_t i = 0; good && i < LOGINS; i++) {
+        good &= pthread_join(logins[i].thread, NULL) == 0 && logins[i].good;
+    }
+    return good;
+}
+
+/* Each by threads of its own. */
+static void check_at_once(void)
+{
+    login logins[LOGINS];
+    for (size_t i = 0; i < LOGINS; i++) {
+        logins[i].call = any_large_call(THREADS);
+        logins[i].with = by(THREADS);
+    }
+    check(log_in_at_once(logins), "eight hashes at once");
+}
+
+/* A pool whose threads stay. Where several callers start and join threads at the same time, a tool takes a thread for
+ * an earlier one whose number it has, and so reports what is none: there each caller has threads that were there
+ * before. */
+typedef struct staying {
+    pthread_mutex_t mutex;
+    pthread_cond_t begun, ended;
+    pthread_t threads[THREADS];
+    void (*task)(void *, uint32_t);
+    void *arg;
+    uint32_t next, tasks, done;
+    bool is_over;
+} staying;
+
+/* Takes one task after another, until there are to be none any more. */
+static void *stay(void *arg)
+{
+    staying *const self = arg;
+    pthread_mutex_lock(&self->mutex);
+    while (!self->is_over) {
+        if (self->next == self->tasks) {
+            pthread_cond_wait(&self->begun, &self->mutex);
+            continue;
+        }
+        const uint32_t number = self->next++;
+        pthread_mutex_unlock(&self->mutex);
+        self->task(self->arg, number);
+        pthread_mutex_lock(&self->mutex);
+        self->done++;
+        pthread_cond_signal(&self->ended);
+    }
+    pthread_mutex_unlock(&self->mutex);
+    return NULL;
+}
+
+static int run_staying(void *pool, uint32_t tasks, void (*task)(void *, uint32_t), void *arg)
+{
+    staying *const self = pool;
+    pthread_mutex_lock(&self->mutex);
+    self->task = task;
+    self->arg = arg;
+    self->next = self->done = 0;
+    self->tasks = tasks;
+    pthread_cond_broadcast(&self->begun);
+    while (self->done < tasks) {
+        pthread_cond_wait(&self->ended, &self->mutex);
+    }
+    self->next = self->tasks = 0;
+    pthread_mutex_unlock(&self->mutex);
+    return 0;
+}
+
+static bool begin_staying(staying *self)
+{
+    bool good = true;
+    *self = (staying){
+        .mutex = PTHREAD_MUTEX_INITIALIZER, .begun = PTHREAD_COND_INITIALIZER, .ended = PTHREAD_COND_INITIALIZER};
+    for (size_t i = 0; i < THREADS; i++) {
+        good &= pthread_create(&self->threads[i], NULL, stay, self) == 0;
+    }
+    return good;
+}
+
+static void end_staying(staying *self)
+{
+    pthread_mutex_lock(&self->mutex);
+    self->is_over = true;
+    pthread_cond_broadcast(&self->begun);
+    pthread_mutex_unlock(&self->mutex);
+    for (size_t i = 0; i < THREADS; i++) {
+        pthread_join(self->threads[i], NULL);
+    }
+}
+
+static void check_at_once_over_pools(void)
+{
+    static staying pools[LOGINS];
+    login logins[LOGINS];
+    bool good = true;
+    for (size_t i = 0; i < LOGINS; i++) {
+        good &= begin_staying(&pools[i]);
+        logins[i].call = any_call(THREADS);
+        logins[i].with = by(THREADS);
+        logins[i].with.run = run_staying;
+        logins[i].with.pool = &pools[i];
+    }
+    good = good && log_in_at_once(logins);
+    for (size_t i = 0; i < LOGINS; i++) {
+        end_staying(&pools[i]);
+    }
+    check(good, "eight hashes at once, over pools");
+}
+
+/* ---- address space */
+
+/* The most address space that this process has had, in KiB. */
+static size_t peak_address_space(void)
+{
+    char line[256];
+    size_t peak = 0;
+    FILE *const status = fopen("/proc/self/status", "r");
+    while (status != NULL && fgets(line, sizeof line, status) != NULL) {
+        sscanf(line, "VmPeak: %zu", &peak);
+    }
+    fclose(status);
+    return peak;
+}
+
+/* The stacks of a call's threads are small, also where the system does not say how small they may be (under valgrind
+ * mmap returns EINVAL for what is too much memory). */
+static void check_address_space(void)
+{
+    enum { MOST_KIB = 256 * 1024 };
+    const struct call call = {
+        {PROVED_ARGON2_ID, PROVED_ARGON2_VERSION_13, 4096, 1, 4, 32}, "password", "somesalt", "", "", 8, 8, 0, 0};
+    uint8_t tag[LONGEST];
+    proved_argon2_options with = by(4);
+    const size_t before = peak_address_space();
+    check_code(hash_raw(&with, &call, tag), PROVED_ARGON2_OK, "a hash of 4 MiB by four threads");
+    check(peak_address_space() - before < MOST_KIB, "four threads take less than 256 MiB of address space");
+}
+
+/* ---- options */
+
+static const struct call sample = {
+    {PROVED_ARGON2_ID, PROVED_ARGON2_VERSION_13, 256, 2, 4, 32}, "password", "somesalt", "", "", 8, 8, 0, 0};
+
+/* A call that is refused: its number, and nothing written. */
+static void check_refused(const proved_argon2_options *with, uint32_t expected, const char *name)
+{
+    uint8_t tag[LONGEST], before[LONGEST];
+    fill_bytes(tag, sizeof tag, 3);
+    memcpy(before, tag, sizeof tag);
+    check_code(hash_raw(with, &sample, tag), expected, name);
+    check(memcmp(tag, before, sizeof tag) == 0, "the tag is as it was");
+}
+
+static void check_options(void)
+{
+    uint8_t tag[LONGEST];
+    static _Alignas(8) uint8_t memory[256 * 1024 + 1];
+    proved_argon2_options with = by(4);
+    check_refused(NULL, PROVED_ARGON2_NULL_POINTER, "no options");
+    with.size = 0;
+    check_refused(&with, PROVED_ARGON2_WRONG_LENGTH, "options of no size");
+    with.size = SIZE_MAX;
+    check_refused(&with, PROVED_ARGON2_WRONG_LENGTH, "options of any size");
+    struct longer {
+        proved_argon2_options known;
+        uint64_t later;
+        uint8_t zeros[4096];
+    } longer = {by(4), 0, {0}};
+    longer.known.size = 4097;
+    check_refused(&longer.known, PROVED_ARGON2_WRONG_LENGTH, "options that are longer than any, of zeros");
+    longer.later = 1;
+    longer.known.size = offsetof(struct longer, zeros);
+    check_refused(&longer.known, PROVED_ARGON2_WRONG_LENGTH, "options of a later version");
+    longer.later = 0;
+    check_code(hash_raw(&longer.known, &sample, tag), PROVED_ARGON2_OK, "options of a later version with nothing more");
+    with = by(4);
+    memset(memory, 1, sizeof memory);
+    with.memory = memory + 1;
+    with.memory_len = 256 * 1024;
+    check_refused(&with, PROVED_ARGON2_MISALIGNED, "a memory at an odd address");
+    check(memory[1] == 1 && memory[256 * 1024] == 1, "it is as it was");
+    with.memory = memory;
+    with.memory_len = 256 * 1024 - 1;
+    check_refused(&with, PROVED_ARGON2_OUT_OF_MEMORY, "a memory that is a byte short");
+}
+
+/* A text of zeros under limits: above one of them nothing is started. */
+static void check_limits(void)
+{
+    static const char text[] = "$argon2id$v=19$m=256,t=2,p=4$c29tZXNhbHQ$AAAAAAAAAAAAAAAAAAAAAAAAAAAAAAAAAAAAAAAAAAA";
+    const proved_argon2_limits at = {256, 2, 4, 512};
+    proved_argon2_options with = by(4);
+    with.limits = &at;
+    check_code(verify_encoded(&with, &sample, text), PROVED_ARGON2_MISMATCH, "a text at its limits");
+    const proved_argon2_limits below[] = {{255, 2, 4, 512}, {256, 1, 4, 512}, {256, 2, 3, 512}, {256, 2, 4, 511}};
+    for (size_t i = 0; i < sizeof below / sizeof *below; i++) {
+        refuse_starts(1, SIZE_MAX);
+        with.limits = &below[i];
+        check_code(verify_encoded(&with, &sample, text), PROVED_ARGON2_TOO_COSTLY, "a text above a limit");
+        check(starts == 0, "it starts nothing");
+    }
+    refuse_nothing();
+}
+
+int main(int argc, char **argv)
+{
+    if (argc > 1 && strcmp(argv[1], "few") == 0) {
+        check_address_space();
+        check_tags(5, 4);
+        check_at_once_over_pools();
+        return finish(4);
+    }
+    check_address_space();
+    check_tags(400, 100);
+    check_at_once();
+    check_at_once_over_pools();
+    check_options();
+    check_limits();
+    return finish(30);
+}
