@@ -22,18 +22,23 @@ find_sources() {
 # The hash of files, and of those in folders, by their names and what is in them: `sum_files PATH..` leaves it in `sum`.
 # (CMake's files there link and test what is built, and change no byte of it.)
 sum_files() {
+    case " $*" in *\ -*) why="$* names an option of find" && return 1 ;; esac
     sum=$(cd "$root" && find "$@" ! -type d ! -name CMakeLists.txt ! -name '*.cmake' -exec sha256sum -- {} + \
         | LC_ALL=C sort -k 2 | sha256sum) && sum=${sum%% *}
 }
 
 # A machine of build/machines.txt, by its name or that of a build: `find_machine NAME` leaves what the table has of it
 # in `machine`, `number`, `target`, `tool_prefix`, `base` and `builds`, and those of them that the toolchain makes in
-# `proved`, and the others in `kernels`.
+# `proved`, and the others in `kernels`. All of them become parts of commands, so none may be an option or a path.
 find_machine() {
     while read -r machine number target tool_prefix base builds; do
         case $machine:" $machine $builds " in
         [#+]*) ;;
         *" $1 "*)
+            why="build/machines.txt has more than words for $1"
+            case "$machine $number $target $base $builds $tool_prefix" in
+            -* | *\ -[!\ ]* | *[!A-Za-z0-9_.:+\ -]*) return 1 ;;
+            esac
             tool_prefix=${tool_prefix#-} base=${base%:} proved=${builds%% + *} kernels=''
             [ "$proved" = "$builds" ] || kernels=${builds#* + } builds="$proved $kernels"
             return
@@ -49,14 +54,40 @@ find_machines() {
     machines=$(sed -n 's/^\([^#+ ]*\) .*/\1/p' "$root/build/machines.txt" | tr '\n' ' ')
 }
 
-# Prints the release of Debian and the packages of the tools here that link release/, as its list names them,
-# `CODENAME PACKAGE=VERSION..`. Fails where one is not there.
+# The release of Debian whose packages link release/, and these packages, in the order in which dpkg-query prints them.
+debian=bookworm
+tool_packages='binaryen binutils binutils-aarch64-linux-gnu binutils-mingw-w64-x86-64 cpp-12 gcc gcc-12
+    gcc-12-aarch64-linux-gnu gcc-aarch64-linux-gnu gcc-mingw-w64-x86-64-posix gcc-mingw-w64-x86-64-posix-runtime
+    libc6-dev libc6-dev-arm64-cross libgcc-12-dev mingw-w64-common mingw-w64-x86-64-dev python3-pyelftools wabt'
+
+# Prints the release of Debian that runs here and the versions of these packages, `CODENAME PACKAGE=VERSION..`, as the
+# list of release/ names them. Fails if one is not installed.
 list_packages() {
-    (. /etc/os-release && printf %s "$VERSION_CODENAME")
-    dpkg-query -Wf ' ${Package}=${Version}' gcc gcc-12 cpp-12 libgcc-12-dev binutils libc6-dev \
-        gcc-aarch64-linux-gnu gcc-12-aarch64-linux-gnu binutils-aarch64-linux-gnu libc6-dev-arm64-cross \
-        gcc-mingw-w64-x86-64-posix gcc-mingw-w64-x86-64-posix-runtime mingw-w64-x86-64-dev binutils-mingw-w64-x86-64 \
-        mingw-w64-common python3-pyelftools binaryen wabt
+    # shellcheck disable=SC2086 # they are words
+    (. /etc/os-release && printf %s "$VERSION_CODENAME") && dpkg-query -Wf ' ${Package}=${Version}' $tool_packages
+}
+
+# Whether release/MANIFEST names that release of Debian and each of these packages with a version, and nothing else.
+# build/release installs what the line names, as root, so an option or another package there would be a command.
+names_packages() {
+    why='release/MANIFEST: "# packages" has other words than build/current.sh allows' form="# packages $debian"
+    for package in $tool_packages; do form="$form $package=[0-9]([0-9A-Za-z.+:~-]*[0-9A-Za-z])?"; done
+    [ "$(grep -ac '^# packages' "$root/release/MANIFEST")" = 1 ] \
+        && LC_ALL=C grep -aqxE "$form" "$root/release/MANIFEST"
+}
+
+# The version, into `version`. It becomes part of commands, scripts and file names, so it is digits and dots.
+read_version() {
+    version=$(cat "$root/VERSION") why='VERSION is no version'
+    case $version in '' | *[!0123456789.]*) return 1 ;; esac
+}
+
+# The project's address, into `address`. It becomes part of scripts and of files that name flags of programs, so it is
+# one plain word.
+read_address() {
+    address=$(sed -n 's/^Address: //p' "$root/PROJECT") why='PROJECT has no plain address'
+    case $address in https://[!/]*) ;; *) return 1 ;; esac
+    case ${address#https:} in *[!A-Za-z0-9._/-]*) return 1 ;; esac
 }
 
 # ---- what is built here
@@ -102,11 +133,11 @@ is_built() {
 # What a folder of release/ is built from beside proved crates, by the toolchain alone or by a C compiler too:
 # `others_of FOLDER` leaves the paths in `others`.
 others_of() {
-    others='build/kernel build/link_wasm build/machines.txt bindings/kernels bindings/wasm/instance.s'
+    others='build/add_kernel build/link_wasm build/machines.txt bindings/kernels bindings/wasm/instance.s'
     case $1:$(sed -n "s/^$1 .*/machine/p" "$root/build/machines.txt") in
     windows-x86_64: | portable: | *:machine)
-        others="$others VERSION build/link build/coff build/library.map build/portable bindings/c
-            bindings/javascript/addon bindings/shell/words.c crates/argon2_c/include
+        others="$others VERSION build/link build/write_coff build/library.map build/translate bindings/c/include
+            bindings/c/src bindings/javascript/addon bindings/shell/words.c
             $(cd "$root" && echo bindings/libargon2/*.[chm]* bindings/portable/*.* bindings/windows/*.c)"
         ;;
     esac
