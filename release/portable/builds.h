@@ -1,5 +1,5 @@
-/* The builds that the archive has of what is proved, one for each of several processors: proved_argon2_builds.c chooses
- * one of them, and the calls of proved_argon2_table.c lead to it. It is tested and not proved. */
+/* The archive contains several builds of the proved calls, each for other processors. proved_argon2_builds.c chooses
+ * one, and the calls of proved_argon2_table.c jump to it. It is tested, not proved. */
 #ifndef BUILDS_H
 #define BUILDS_H
 
@@ -9,7 +9,7 @@
 #define IN_BUILD(build, name) NAMED_IN(build, name)
 #define NAMED_IN(build, name) proved_##build##_##name
 
-/* What a call returns: by a jump, or where it clears registers, which a jump would not. */
+/* How a call returns: by a jump to the build, or by a return if it has to clear registers afterwards. */
 #define MADE(...) MADE_BY(JUMP, __VA_ARGS__)
 #define MADE_CLEARING(...) MADE_BY(RETURN, __VA_ARGS__)
 #define JUMP(made) return made
@@ -20,27 +20,36 @@
         return code; \
     } while (0)
 
-#ifdef ONLY_BUILD /* (where there is no other) */
+#ifdef ONLY_BUILD /* (if the archive has only one) */
 
 #define DECLARED(name) __typeof__(proved_argon2_##name) IN_BUILD(ONLY_BUILD, name);
 #define MADE_BY(answer, name, arguments, otherwise) answer(IN_BUILD(ONLY_BUILD, name) arguments);
 
 #else
 
-/* What each build is for, the newest last, by its number and what its calls are named by. */
+/* The builds, the newest last: the number of each, and the part of its calls' names. Those for x86-64 keep Linux's
+ * calling convention, which compilers for Windows know too. */
 /* clang-format off */
+#ifdef __aarch64__
+#define BY_LINUX
+/* builds for ARM64, by .ci/pages/presets */
+#define EACH_BUILD(each, ...) \
+    each(ARMV8_A, armv8_a, __VA_ARGS__) \
+    each(ARMV8_A_NEON, armv8_a_neon, __VA_ARGS__)
+/* end */
+#else
+#define BY_LINUX __attribute__((sysv_abi))
 /* builds, by .ci/pages/presets */
 #define EACH_BUILD(each, ...) \
     each(X86_64_V2, x86_64_v2, __VA_ARGS__) \
     each(X86_64_V3, x86_64_v3, __VA_ARGS__) \
     each(X86_64_V4, x86_64_v4, __VA_ARGS__)
 /* end */
+#endif
 /* clang-format on */
 
-/* (in Linux's convention for calls, which a compiler for Windows has beside its own) */
 #define DECLARED(name) EACH_BUILD(DECLARED_IN, name)
-#define DECLARED_IN(number, build, name) \
-    __attribute__((sysv_abi)) __typeof__(proved_argon2_##name) IN_BUILD(build, name);
+#define DECLARED_IN(number, build, name) BY_LINUX __typeof__(proved_argon2_##name) IN_BUILD(build, name);
 #define MADE_BY(answer, name, arguments, otherwise) \
     switch (build_here()) { \
         EACH_BUILD(MADE_IN, answer, name, arguments) \
@@ -55,7 +64,7 @@ enum build { NOT_CHOSEN, NO_BUILD, EACH_BUILD(NUMBER, ) };
 
 #pragma GCC visibility push(hidden)
 
-/* The build that all calls take. Each thread that chooses one comes to the same. */
+/* The build that all calls use. Threads that choose at the same time choose the same one. */
 extern _Atomic int proved_driver_build;
 
 /* Chooses the build, stores and returns it. */

@@ -1,5 +1,5 @@
-/* What the two parts of the driver share: proved_argon2_driver.c computes, and proved_argon2_calls.c has the calls of
- * the headers. It is tested and not proved. */
+/* What the two parts of the driver share: proved_argon2_driver.c computes, and proved_argon2_calls.c implements the
+ * calls of the headers. The driver is tested, not proved. */
 #ifndef DRIVER_H
 #define DRIVER_H
 
@@ -11,12 +11,12 @@
 #include <string.h>
 
 #define INPUTS \
-    const uint8_t *pwd, size_t pwd_len, const uint8_t *salt, size_t salt_len, const uint8_t *secret, \
-        size_t secret_len, const uint8_t *ad, size_t ad_len, const proved_argon2_settings *settings
+    const void *pwd, size_t pwd_len, const uint8_t *salt, size_t salt_len, const uint8_t *secret, size_t secret_len, \
+        const uint8_t *ad, size_t ad_len, const proved_argon2_settings *settings
 #define OF_BYTES pwd, pwd_len, salt, salt_len, secret, secret_len, ad, ad_len
 #define OF_INPUTS OF_BYTES, settings
 #define STORED \
-    const char *text, size_t text_len, const uint8_t *pwd, size_t pwd_len, const uint8_t *secret, size_t secret_len, \
+    const char *text, size_t text_len, const void *pwd, size_t pwd_len, const uint8_t *secret, size_t secret_len, \
         const uint8_t *ad, size_t ad_len
 #define OF_STORED text, text_len, pwd, pwd_len, secret, secret_len, ad, ad_len
 #define IS_MISSING(name) ((name) == NULL && name##_len != 0)
@@ -27,31 +27,31 @@
 typedef proved_argon2_block block;
 typedef proved_argon2_options options;
 
-/* What has some lanes: worker i the lanes i, i + tasks, i + 2 tasks .. */
+/* A share of the lanes: worker i fills the lanes i, i + tasks, i + 2 tasks and so on. */
 typedef struct worker {
-    _Atomic uint64_t state; /* 2 n before it takes step n, 2 n + 1 meanwhile, 2 n + 2 behind it */
+    _Atomic uint64_t state; /* 2 n before step n, 2 n + 1 while a thread takes that step, 2 n + 2 after it */
     uint32_t code;
 } worker;
 
-/* A call, from its options to what is cleared. */
+/* The state of a call. Its end overwrites all of it. */
 struct call {
     options with;
     proved_argon2_job job;
-    uint8_t *bytes; /* malloc's, for a hash, a tag and a salt */
+    uint8_t *bytes; /* memory of the call's own for a hash, a tag and a salt */
     size_t len;
     bool is_rehash_due; /* the encoded hash has other settings than the options' */
     caller saved;
     block *blocks;
-    size_t slice; /* how many blocks one of their four slices has */
+    size_t slice; /* how many blocks each of the four slices has */
     worker *workers;
     uint32_t tasks;        /* how many workers there are */
-    team *team;            /* the call's own threads, for all workers from 1 on that were granted one */
+    team *team;            /* the call's own threads: one for each worker from 1 on, unless it was denied */
     uint64_t step;         /* step 0 writes the first blocks, and step n + 1 fills slice number n, over all passes */
-    atomic_bool is_over;   /* there is no step any more */
-    atomic_bool is_astray; /* a task was run that is not there, or once too often */
+    atomic_bool is_over;   /* no further step follows */
+    atomic_bool is_astray; /* a pool ran a task that does not exist, or ran one twice */
 };
 
-/* How many bytes the blocks of a job have, which may be more than there are addresses. */
+/* The size of the blocks of a job in bytes, which may be more than the address space has. */
 static inline uint64_t bytes_of(const proved_argon2_job *job)
 {
     return (uint64_t)4 * sizeof(block) * job->lanes * job->segment_length;
@@ -59,20 +59,20 @@ static inline uint64_t bytes_of(const proved_argon2_job *job)
 
 #pragma GCC visibility push(hidden)
 
-/* Begins a call with options, whose later fields are none. That a pointer is missing comes before all else. */
+/* Begins a call with options. A missing pointer is the first error, and wrong options are the second. */
 uint32_t proved_driver_begin_call(struct call *call, const options *with, int is_missing);
 
-/* Memory of malloc for so many bytes, which the end of the call clears and frees. */
+/* Allocates so many bytes, all zero, which the end of the call clears and frees. */
 uint32_t proved_driver_take_bytes(struct call *call, uint64_t len);
 
-/* Writes the tag of a job that the library has checked, or returns whether a hash is it; the tag is then there. */
+/* Computes the tag of a job that was checked. With a hash, it also returns whether that is the tag. */
 uint32_t proved_driver_compute(struct call *call, const uint8_t *hash, uint8_t *tag);
 
 /* Ends a call with its result: clears its bytes, its job, the stack and the registers. */
 CLEARS_REGISTERS uint32_t proved_driver_end_call(struct call *call, uint32_t code);
 
-/* Memory for blocks, or null: malloc's, or a mapping, in huge pages where the system has them and in no core dump. */
-void *proved_driver_take_blocks(uint64_t bytes);
+/* Memory for blocks that a caller keeps, all zero, or null; proved_argon2_memory_free frees it. */
+void *proved_driver_take_buffer(uint64_t bytes);
 
 #pragma GCC visibility pop
 

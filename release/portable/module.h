@@ -99,6 +99,7 @@ STORE(i32_store16, u32, u16)
 STORE(i32_store8, u32, u8)
 STORE(i64_store, u64, u64)
 STORE(i64_store32, u64, u32)
+STORE(i64_store8, u64, u8)
 
 /* (the system's may leave what they copied in registers that nothing clears) */
 void *proved_driver_memmove(void *to, const void *from, size_t len);

@@ -35,7 +35,11 @@ void proved_driver_free_lines(void *lines)
 
 void *proved_driver_map_pages(size_t bytes)
 {
-    return proved_driver_take_lines(bytes);
+    void *const pages = proved_driver_take_lines(bytes);
+    if (pages != NULL) {
+        proved_driver_overwrite(pages, bytes);
+    }
+    return pages;
 }
 
 void proved_driver_unmap_pages(void *pages, size_t bytes)

@@ -1,5 +1,5 @@
 #if defined(__linux__)
-/* The driver's system: POSIX, and what Linux has more. It is tested and not proved. */
+/* The driver's system by POSIX, and by what Linux adds. It is tested, not proved. */
 #define _GNU_SOURCE
 #include "platform.h"
 
@@ -16,9 +16,9 @@
 #define LINE 64
 #define HUGE_PAGE ((size_t)2 << 20)
 #define POPULATE 23        /* MADV_POPULATE_WRITE of Linux 5.14 */
-#define STACK (128 * 1024) /* bytes of a thread, beside as many or more for the program's own variables of a thread */
+#define STACK (128 * 1024) /* bytes for a thread's calls; as many or more are added for thread-local variables */
 #define MOST_VARIABLES ((size_t)1 << 30)
-#define NO_MEMORY (SIZE_MAX / 16 * 15) /* bytes: more than there are */
+#define NO_MEMORY (SIZE_MAX / 16 * 15) /* bytes: more than any address space has */
 
 caller proved_driver_keep_caller(void)
 {
@@ -100,7 +100,7 @@ typedef struct member {
 } member;
 
 struct team {
-    pid_t *process;   /* on a page that is zeros in a forked child, whose number may be the same in its namespace */
+    pid_t *process;   /* who started them; in a forked child, which may have the same ID, the page is zero */
     uint32_t threads; /* beside the caller's */
     void (*run)(void *arg, team *own, uint32_t number);
     void *arg;
@@ -119,27 +119,36 @@ static void *end_at_once(void *arg)
     return arg;
 }
 
-/* As many bytes as the program's variables of a thread need, which some systems take of its stack: these reject too
- * small a one before they ask for what guards it, which is more here than there is, so that nothing starts. (What lists
- * the variables waits for a lock that a forked child may find taken for ever.) */
-static size_t room_for_variables(void)
+/* Whether a stack has room for the thread-local variables of the program: glibc takes them from a thread's own stack,
+ * and pthread_create returns EINVAL where they do not fit. We also ask for a guard that is larger than the address
+ * space, so that no thread ever starts. (musl rejects this guard. It allocates the variables beside the stack.) */
+static bool has_room_for_variables(size_t stack)
 {
-    size_t room = STACK;
     pthread_t none;
     pthread_attr_t unlimited;
     pthread_attr_init(&unlimited);
     pthread_attr_setdetachstate(&unlimited, PTHREAD_CREATE_DETACHED);
-    if (pthread_attr_setguardsize(&unlimited, NO_MEMORY) == 0) {
-        while (room < MOST_VARIABLES && pthread_attr_setstacksize(&unlimited, room) == 0
-            && pthread_create(&none, &unlimited, end_at_once, NULL) == EINVAL) {
-            room *= 2;
-        }
-    }
+    pthread_attr_setstacksize(&unlimited, stack);
+    const bool has_room = pthread_attr_setguardsize(&unlimited, NO_MEMORY) != 0
+        || pthread_create(&none, &unlimited, end_at_once, NULL) != EINVAL;
     pthread_attr_destroy(&unlimited);
-    return room;
+    return has_room;
 }
 
-/* Starts threads until one is denied; the program's signals go to its own threads. */
+/* How many bytes of a stack the thread-local variables may take. We find out by trying, since dl_iterate_phdr, which
+ * lists the variables, waits for a lock that a forked child may find taken for ever. Under valgrind every try returns
+ * EINVAL, as mmap does there for such a guard: this says nothing about the variables, and the usual stack has to do. */
+static size_t room_for_variables(void)
+{
+    for (size_t room = STACK; room < MOST_VARIABLES; room *= 2) {
+        if (has_room_for_variables(room)) {
+            return room;
+        }
+    }
+    return STACK;
+}
+
+/* Starts threads until one is denied. They block all signals, which the program's own threads handle. */
 static void start_members(team *own, uint32_t threads)
 {
     sigset_t all, before;
@@ -185,7 +194,7 @@ team *proved_driver_start_team(uint32_t threads, void (*run)(void *arg, team *ow
     return own;
 }
 
-/* Whether the threads are in this process: none of them is in a child that was forked. */
+/* Whether the threads exist in this process. A forked child has none of them. */
 static bool is_here(const team *own)
 {
     return own != NULL && *own->process == getpid();
@@ -204,7 +213,7 @@ void proved_driver_wake(team *own, uint32_t number)
 void proved_driver_await(team *own, uint32_t number)
 {
     while (is_here(own) && sem_wait(&own->members[number].woken) != 0) {
-        /* (a signal's handler ran) */
+        /* (The handler of a signal ran, which ends a wait.) */
     }
 }
 

@@ -1,36 +1,38 @@
 /*
  * Argon2 password hashing (RFC 9106) for C, over the proved Rattle crate `argon2_c`.
  *
- * Argon2d, Argon2i and Argon2id, versions 0x10 and 0x13, with a secret and associated data. The calls here are
- * single-threaded, whatever the number of lanes. Those of proved_argon2_threads.h use several threads or a reusable
- * buffer, or can be stopped. Both are C code around the proved calls, which allocate no memory and start no thread:
- * proved_argon2_jobs.h has those. This header includes all others.
+ * The library computes Argon2d, Argon2i and Argon2id, versions 0x10 and 0x13, with a secret and associated data. The
+ * calls here use one thread, whatever the number of lanes. The calls of proved_argon2_threads.h can use several threads
+ * or a reusable buffer, and can be stopped. The calls that hash or verify are C code around proved calls
+ * (proved_argon2_jobs.h). The calls that read, check, compare or write an encoded hash are proved themselves. No proved
+ * call allocates memory or starts a thread. This header includes all others.
  *
- * Passing bytes. Bytes are passed as a pointer and then a length; a null pointer with the length 0 passes none. Any
- * other null pointer returns PROVED_ARGON2_NULL_POINTER, before all other errors. The caller owns all memory that it
- * passes, and no call keeps a pointer to it. Memory that a call writes to must overlap no other argument.
+ * Passing bytes. Pass bytes as a pointer and then a length. A password may be text or bytes, so its pointer is const
+ * void *. A null pointer with the length 0 passes no bytes. For any other null pointer a call returns
+ * PROVED_ARGON2_NULL_POINTER, before all other errors. The caller owns all memory that it passes, and no call keeps a
+ * pointer to it. Memory that a call writes to must not overlap any other argument.
  *
- * Errors. A call that can fail returns PROVED_ARGON2_OK (0) or the number of one error, and on an error (a mismatch is
- * none) its outputs are unchanged, byte for byte; a reusable buffer may have been cleared. Only the first error is
- * reported: the number of the variant, the number of the version, the settings in the order of the limits below, the
- * length of the buffer, and only then memory. No call prints, ends the process or changes errno. None waits, but for
- * its own threads and, where it makes a salt, for the system's random bytes. A call reads its arguments alone. Only the
- * first one also asks the processor which of the library's builds it can run, and the environment variable
- * PROVED_ARGON2_CPU, for tests, which one to take. If the processor can run none, each call that can fail returns
- * PROVED_ARGON2_OLD_PROCESSOR, after null pointers, and each other call returns zeros.
+ * Errors. A call that can fail returns PROVED_ARGON2_OK (0) or the number of one error. After an error its outputs are
+ * unchanged, byte for byte, but a reusable buffer may have been cleared. A mismatch is not an error. Only the first
+ * error is reported, in this order: the number of the variant, the number of the version, the settings in the order of
+ * the limits below, the length of the buffer, and at last memory. No call prints, ends the process or changes errno. A
+ * call waits only for its own threads and, if it makes a salt, for the system's random bytes. It reads only its
+ * arguments. The first call of a process also finds out which of the library's builds the processor can run, and reads
+ * the environment variable PROVED_ARGON2_CPU, with which tests choose a build. If the processor can run none, each call
+ * that can fail returns PROVED_ARGON2_OLD_PROCESSOR, after null pointers, and every other call returns zeros.
  *
  * Memory. A call that hashes or verifies allocates at most the settings' mem_cost KiB for its blocks, and memory for
- * the tag, and for the hash and the salt of an encoded hash. Of 2 MiB or more, each whole 2 MiB are a huge page where
- * the system has them, and the rest are small pages. It is all freed before the call returns: it is overwritten first,
- * or returned to the system, which clears it. Such a call also overwrites the stack below it and, compiled by GCC 11,
- * clang 15 or newer, the vector registers.
+ * the tag, and for the hash and the salt of an encoded hash. If the blocks have 2 MiB or more, each whole 2 MiB are a
+ * huge page if the system has some, and the rest are small pages. All memory is freed before the call returns. It is
+ * overwritten first, or returned to the system, which clears it. Such a call also overwrites the stack below it and, if
+ * compiled by GCC 11, clang 15 or newer, the vector registers.
  *
  * Threads. Calls are thread-safe, as long as nothing writes to what a call is passed: an encoded hash that changes
- * while it is read may end the process. The library has no state but which build it runs. A thread is not cancelled
- * within a call. Calls are not async-signal-safe: make none from a signal handler. In the forked child of a process
+ * while it is read may end the process. The only state of the library is which build it runs. A thread is not cancelled
+ * during a call. Calls are not async-signal-safe, so make none from a signal handler. In the forked child of a process
  * with threads, calls may be made wherever malloc may be called, as with the GNU C library.
  *
- * Symbols. Each symbol of the library begins with proved_, so that a program may link libargon2 too.
+ * Symbols. Each symbol of the library begins with proved_, so that a program can link libargon2 too.
  */
 #ifndef PROVED_ARGON2_H
 #define PROVED_ARGON2_H
@@ -52,7 +54,7 @@ extern "C" {
 #define PROVED_ARGON2_LIBRARY_VERSION "1.0.0"
 #define PROVED_ARGON2_LIBRARY_VERSION_NUMBER UINT32_C(1000000)
 
-/* The stack that a call needs, in bytes: more than three times what was measured. */
+/* The stack that a call needs, in bytes. This is more than three times what was measured. */
 #define PROVED_ARGON2_STACK_SIZE 65536
 
 /* Limits (RFC 9106, 3.1). Lengths are in bytes, memory is in KiB. */
@@ -68,17 +70,17 @@ extern "C" {
 #define PROVED_ARGON2_MIN_HASH_LENGTH UINT32_C(4)
 #define PROVED_ARGON2_MAX_HASH_LENGTH UINT32_C(0xFFFFFFFF)
 
-/* The variants (RFC 9106, 1): where a block's reference is drawn from. */
+/* The variants (RFC 9106, 1). They differ in what determines which earlier block a block refers to. */
 enum proved_argon2_variant {
-    PROVED_ARGON2_D = 0, /* from the blocks */
-    PROVED_ARGON2_I = 1, /* from no block */
-    PROVED_ARGON2_ID = 2 /* from no block in the first half of the first pass; the one to choose */
+    PROVED_ARGON2_D = 0, /* the blocks, and so the password */
+    PROVED_ARGON2_I = 1, /* only the block's position */
+    PROVED_ARGON2_ID = 2 /* the position in the first half of the first pass, then the blocks; choose this one */
 };
 
 /* The versions of Argon2. */
 enum proved_argon2_version {
-    PROVED_ARGON2_VERSION_10 = 0x10, /* a later pass writes over the blocks */
-    PROVED_ARGON2_VERSION_13 = 0x13  /* RFC 9106; the one to choose */
+    PROVED_ARGON2_VERSION_10 = 0x10, /* a later pass overwrites the blocks */
+    PROVED_ARGON2_VERSION_13 = 0x13  /* RFC 9106; choose this one */
 };
 
 /* What a call returns. The numbers never change. */
@@ -108,7 +110,7 @@ enum proved_argon2_code {
     PROVED_ARGON2_WORKER_REFUSED = 21,    /* the thread pool of the options did not run its tasks */
     PROVED_ARGON2_MISMATCH = 64,          /* the password does not match */
     PROVED_ARGON2_WRONG_LENGTH = 65,      /* a buffer has the wrong length, or the size of the options is 0 */
-    PROVED_ARGON2_NOT_UTF8 = 66,          /* the string is not UTF-8 */
+    PROVED_ARGON2_NOT_ASCII = 66,         /* the string has a byte above 127 */
     PROVED_ARGON2_UNKNOWN_NUMBER = 67,    /* never returned; its message is that of a number that no error has */
     PROVED_ARGON2_NEEDS_REHASH = 68,      /* the encoded hash was made with other settings */
     PROVED_ARGON2_TOO_COSTLY = 69,        /* the encoded hash is above the limits */
@@ -116,7 +118,7 @@ enum proved_argon2_code {
     PROVED_ARGON2_NO_PLACE = 71,          /* the job has no such pass, slice or lane */
     PROVED_ARGON2_WRONG_BLOCKS = 72,      /* there are more or fewer blocks */
     /* end */
-    /* Returned by C code alone, and by nothing that is proved: */
+    /* Only C code returns these; no proved call does: */
     /* errors of the driver, by .ci/pages/presets */
     PROVED_ARGON2_NULL_POINTER = 128,    /* a pointer is null, and its length is not 0 */
     PROVED_ARGON2_NO_RANDOM_BYTES = 129, /* the system had no random bytes for a salt */
@@ -126,7 +128,7 @@ enum proved_argon2_code {
     /* end */
 };
 
-/* The settings of a hash. A field that is left out of an initializer is 0, and no hash has version 0. */
+/* The settings of a hash. A field that an initializer leaves out is 0, and no hash has version 0. */
 typedef struct proved_argon2_settings {
     uint32_t variant;     /* an enum proved_argon2_variant */
     uint32_t version;     /* an enum proved_argon2_version */
@@ -138,13 +140,13 @@ typedef struct proved_argon2_settings {
 
 /*
  * The highest memory, passes and lanes that an encoded hash may name, and the highest product of memory and passes. A
- * field that is left out of an initializer is 0, and no encoded hash is within that.
+ * field that an initializer leaves out is 0, and such a limit rejects every encoded hash.
  */
 typedef struct proved_argon2_limits {
     uint32_t mem_cost;  /* the memory in KiB */
     uint32_t time_cost; /* the passes over the memory */
     uint32_t lanes;     /* the degree of parallelism */
-    uint64_t work;      /* the memory in KiB times the passes, by which the time grows */
+    uint64_t work;      /* the memory in KiB times the passes, which the time is proportional to */
 } proved_argon2_limits;
 
 /* What an encoded hash decodes to. */
@@ -169,18 +171,18 @@ proved_argon2_settings proved_argon2_rfc9106(void); /* 2 GiB, 1 pass */
 proved_argon2_settings proved_argon2_rfc9106_low_mem(void); /* 64 MiB, 3 passes */
 /* end */
 
-/* PROVED_ARGON2_LIBRARY_VERSION_NUMBER, as the library that runs has it. */
+/* PROVED_ARGON2_LIBRARY_VERSION_NUMBER of the library that runs, which may be newer than the header. */
 uint32_t proved_argon2_library_version(void);
 
 /*
  * Writes the tag of a password (RFC 9106, 3.2) to out.
  *
- * out_len must be settings->hash_length: any other length returns PROVED_ARGON2_WRONG_LENGTH. The salt must have at
- * least 8 bytes, which is this library's own limit; for passwords RFC 9106, 3.1, recommends 16.
+ * out_len must be settings->hash_length: for any other length the call returns PROVED_ARGON2_WRONG_LENGTH. The salt
+ * must have at least 8 bytes, as in libargon2. For passwords RFC 9106, 3.1, recommends 16.
  */
 PROVED_ARGON2_CHECKED
 uint32_t proved_argon2_hash_raw(
-    const uint8_t *pwd, size_t pwd_len,
+    const void *pwd, size_t pwd_len,
     const uint8_t *salt, size_t salt_len,
     const uint8_t *secret, size_t secret_len,
     const uint8_t *ad, size_t ad_len,
@@ -192,12 +194,12 @@ uint32_t proved_argon2_hash_raw(
  * tag in unpadded base64 (RFC 4648), and then zeros up to text_len.
  *
  * text_len must be greater than proved_argon2_encoded_len(settings, salt_len), so that at least one zero ends the
- * string: any other length returns PROVED_ARGON2_WRONG_LENGTH. The secret and the associated data are not in the
- * encoded hash.
+ * string. For any other length the call returns PROVED_ARGON2_WRONG_LENGTH. The encoded hash contains neither the
+ * secret nor the associated data.
  */
 PROVED_ARGON2_CHECKED
 uint32_t proved_argon2_hash_encoded(
-    const uint8_t *pwd, size_t pwd_len,
+    const void *pwd, size_t pwd_len,
     const uint8_t *salt, size_t salt_len,
     const uint8_t *secret, size_t secret_len,
     const uint8_t *ad, size_t ad_len,
@@ -206,14 +208,14 @@ uint32_t proved_argon2_hash_encoded(
 
 /*
  * Verifies a password against a raw hash of hash_len bytes. It returns PROVED_ARGON2_OK only if hash is the tag, and
- * PROVED_ARGON2_MISMATCH only if it is not; any other number says that nothing was compared.
+ * PROVED_ARGON2_MISMATCH only if it is not. Any other number means that nothing was compared.
  *
- * Compare the result with PROVED_ARGON2_OK and accept nothing else. settings->hash_length is ignored, and a hash of
- * fewer than 4 bytes returns PROVED_ARGON2_OUTPUT_TOO_SHORT.
+ * Compare the result with PROVED_ARGON2_OK and accept nothing else. settings->hash_length is ignored. For a hash of
+ * fewer than 4 bytes the call returns PROVED_ARGON2_OUTPUT_TOO_SHORT.
  */
 PROVED_ARGON2_CHECKED
 uint32_t proved_argon2_verify_raw(
-    const uint8_t *pwd, size_t pwd_len,
+    const void *pwd, size_t pwd_len,
     const uint8_t *salt, size_t salt_len,
     const uint8_t *secret, size_t secret_len,
     const uint8_t *ad, size_t ad_len,
@@ -224,15 +226,15 @@ uint32_t proved_argon2_verify_raw(
  * Verifies a password against an encoded hash, with this secret and this associated data: PROVED_ARGON2_OK only if it
  * matches, and PROVED_ARGON2_MISMATCH only if it does not, as above.
  *
- * text_len is the length of the string without its terminating zero. A string that is not UTF-8 returns
- * PROVED_ARGON2_NOT_UTF8, and one that decodes to no hash PROVED_ARGON2_DECODING_FAIL. Then its settings are checked,
- * before any memory is allocated. Memory and passes are those that the encoded hash names, up to 4 TiB and 2^32 - 1:
- * for a hash that others may have written use proved_argon2_verify_encoded_within.
+ * text_len is the length of the string without its terminating zero. For a string with a byte above 127 the call
+ * returns PROVED_ARGON2_NOT_ASCII, and for any other that is not an encoded hash PROVED_ARGON2_DECODING_FAIL. Then it
+ * checks the settings, before it allocates memory. It uses the memory and the passes that the encoded hash names, up to
+ * 4 TiB and 2^32 - 1: for a hash that others may have written, use proved_argon2_verify_encoded_within.
  */
 PROVED_ARGON2_CHECKED
 uint32_t proved_argon2_verify_encoded(
     const char *text, size_t text_len,
-    const uint8_t *pwd, size_t pwd_len,
+    const void *pwd, size_t pwd_len,
     const uint8_t *secret, size_t secret_len,
     const uint8_t *ad, size_t ad_len);
 
@@ -244,20 +246,20 @@ proved_argon2_limits proved_argon2_default_limits(void);
 
 /*
  * The same within limits. It returns PROVED_ARGON2_TOO_COSTLY only if the encoded hash names more memory, passes or
- * lanes than its limit, or more memory times passes: then no memory is allocated and nothing is compared. A string that
- * decodes to no hash returns its error first, as above, and a hash within the limits is verified as above.
+ * lanes than the limits allow, or more memory times passes. Then it allocates no memory and compares nothing. For a
+ * string that is not an encoded hash it returns the error above first.
  */
 PROVED_ARGON2_CHECKED
 uint32_t proved_argon2_verify_encoded_within(
     const char *text, size_t text_len,
-    const uint8_t *pwd, size_t pwd_len,
+    const void *pwd, size_t pwd_len,
     const uint8_t *secret, size_t secret_len,
     const uint8_t *ad, size_t ad_len,
     const proved_argon2_limits *limits);
 
 /*
- * Decodes an encoded hash to stored, and verifies nothing: settings that no hash is made with are decoded too. A string
- * that decodes to no hash returns its error as above. A length above 2^32 - 1 is reported as 2^32 - 1.
+ * Decodes an encoded hash to stored, and verifies nothing. Settings that no hash can have are decoded too. For a string
+ * that is not an encoded hash it returns the errors above. A length above 2^32 - 1 is reported as 2^32 - 1.
  */
 PROVED_ARGON2_CHECKED
 uint32_t proved_argon2_read(const char *text, size_t text_len, proved_argon2_stored *stored);
@@ -268,8 +270,8 @@ uint32_t proved_argon2_read_within(
     const char *text, size_t text_len, const proved_argon2_limits *limits, proved_argon2_stored *stored);
 
 /*
- * Writes the salt and the hash of an encoded hash to buffers of the lengths that proved_argon2_read reports: any other
- * length returns PROVED_ARGON2_WRONG_LENGTH. A string that decodes to no hash returns its error as above.
+ * Writes the salt and the hash of an encoded hash to buffers of the lengths that proved_argon2_read reports. For any
+ * other length it returns PROVED_ARGON2_WRONG_LENGTH, and for a string that is not an encoded hash the errors above.
  */
 PROVED_ARGON2_CHECKED
 uint32_t proved_argon2_read_bytes(
@@ -278,25 +280,25 @@ uint32_t proved_argon2_read_bytes(
 /*
  * Whether an encoded hash was made with these settings: PROVED_ARGON2_OK only if its variant, version, memory cost,
  * passes, lanes and length of the hash are the given ones, and PROVED_ARGON2_NEEDS_REHASH only if one differs. The
- * numbers of variant and version are checked first, then the string as above; no other setting is checked. Call it once
- * the password has matched.
+ * numbers of variant and version are checked first, and then the string, as above. No other setting is checked. Call it
+ * after the password has matched.
  */
 PROVED_ARGON2_CHECKED
 uint32_t proved_argon2_needs_rehash(
     const char *text, size_t text_len, const proved_argon2_settings *settings);
 
 /*
- * Whether a hash with these settings is made of inputs of these lengths: PROVED_ARGON2_OK only if a call that hashes
- * such inputs returns no error but one of its buffers or of memory, and otherwise the error that it returns. Nothing is
- * computed, and no input is passed.
+ * Whether a hash with these settings can be made from inputs of these lengths. It returns PROVED_ARGON2_OK only if a
+ * call that hashes such inputs can fail only because of its buffers or of memory, and otherwise the error of that call.
+ * Nothing is computed, and no input is passed.
  */
 PROVED_ARGON2_CHECKED
 uint32_t proved_argon2_check(
     const proved_argon2_settings *settings, uint64_t pwd_len, uint64_t salt_len, uint64_t secret_len, uint64_t ad_len);
 
 /*
- * The same of an encoded hash within limits, for a call that verifies it with inputs of these lengths. The errors of
- * proved_argon2_read_within come first, and what it writes is in stored.
+ * The same for an encoded hash within limits, and a call that verifies it with inputs of these lengths. It returns the
+ * errors of proved_argon2_read_within first, and writes the same to stored.
  */
 PROVED_ARGON2_CHECKED
 uint32_t proved_argon2_check_encoded(
@@ -305,12 +307,12 @@ uint32_t proved_argon2_check_encoded(
 
 /*
  * The length in bytes of the encoded hash that proved_argon2_hash_encoded writes for a salt of salt_len bytes, without
- * the zero behind it. It returns 0 if no variant or no version has the given number, and for null settings.
+ * the terminating zero. It returns 0 if no variant or no version has the given number, and for null settings.
  */
 PROVED_ARGON2_CHECKED
 uint64_t proved_argon2_encoded_len(const proved_argon2_settings *settings, uint32_t salt_len);
 
-/* The message of the error with this number, a constant: that of PROVED_ARGON2_UNKNOWN_NUMBER where no error has it. */
+/* The message of the error with this number, a constant. If no error has it, that of PROVED_ARGON2_UNKNOWN_NUMBER. */
 const char *proved_argon2_message(uint32_t number);
 
 /* clang-format on */

@@ -1,7 +1,6 @@
-/* What copies and sets bytes for all that an archive is made of: build/link has its objects call these in place of
- * memcpy, memmove and memset. Where a processor has AVX-512, those of the system leave what they copied in registers
- * that nothing writes to before a program does. These take registers that the driver clears. It is tested and not
- * proved. */
+/* Functions that copy and set bytes. build/link makes all objects of the archive call these in place of memcpy, memmove
+ * and memset: on a processor with AVX-512 those of the system leave copied bytes in registers that keep them until the
+ * program writes there. These functions use registers that the driver clears. They are tested, not proved. */
 #include <stddef.h>
 #include <stdint.h>
 
@@ -9,9 +8,9 @@
 
 typedef ANYWHERE uint32_t four;
 typedef ANYWHERE uint64_t eight;
-typedef uint64_t __attribute__((vector_size(16), may_alias, aligned(1))) sixteen; /* in a register of every processor */
+typedef uint64_t __attribute__((vector_size(16), may_alias, aligned(1))) sixteen; /* for registers of all builds */
 
-/* Has a compiler take a loop as it is written, and not as a call of what it does or by wider registers. */
+/* Keeps the compiler from replacing a loop by a call of memcpy or by wider registers. */
 #define AS_WRITTEN() __asm__ volatile("" ::: "memory")
 
 #pragma GCC visibility push(hidden)
@@ -20,7 +19,7 @@ void *proved_driver_memmove(void *to, const void *from, size_t len);
 void *proved_driver_memset(void *to, int byte, size_t len);
 #pragma GCC visibility pop
 
-/* Less than 16 bytes: a first and a last few of them, which may overlap. */
+/* Copies fewer than 16 bytes: the first 8 and the last 8, which may overlap, or byte by byte. */
 static inline void copy_few(unsigned char *to, const unsigned char *from, size_t len)
 {
     if (len >= sizeof(eight)) {
@@ -49,7 +48,7 @@ void *proved_driver_memcpy(void *restrict to, const void *restrict from, size_t 
     return to;
 }
 
-/* Where the end of what is read would be overwritten first, it is read first. */
+/* If writing from the front would overwrite bytes that are still to be read, it copies from the end. */
 void *proved_driver_memmove(void *to, const void *from, size_t len)
 {
     if ((uintptr_t)to - (uintptr_t)from >= len) {

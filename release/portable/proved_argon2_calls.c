@@ -1,15 +1,19 @@
-/* The calls of the library for C that hash or verify, put together of what is proved; this is tested and not proved. */
+/* The calls for C that hash or verify. They combine proved calls, and are themselves tested, not proved. */
 #include "driver.h"
 
-static const options plain = PROVED_ARGON2_OPTIONS; /* one thread, and memory of the call's own */
+static const options plain = PROVED_ARGON2_OPTIONS; /* one thread, and memory that the call allocates */
 
-/* Judges the inputs of a hash before it takes memory, and makes its job. */
-static uint32_t make_job(struct call *call, INPUTS, int is_length_right)
+/* Checks the inputs of a hash and the length of its output, and makes its job. An error of the inputs comes first. */
+static uint32_t make_job(struct call *call, INPUTS, bool is_length_right)
 {
     const uint32_t code = proved_argon2_check(settings, pwd_len, salt_len, secret_len, ad_len);
-    return code != PROVED_ARGON2_OK ? code
-        : !is_length_right          ? PROVED_ARGON2_WRONG_LENGTH
-                                    : proved_argon2_job_make(OF_INPUTS, &call->job);
+    if (code != PROVED_ARGON2_OK) {
+        return code;
+    }
+    if (!is_length_right) {
+        return PROVED_ARGON2_WRONG_LENGTH;
+    }
+    return proved_argon2_job_make(OF_INPUTS, &call->job);
 }
 
 uint32_t proved_argon2_hash_raw_with(const options *with, INPUTS, uint8_t *out, size_t out_len)
@@ -52,6 +56,7 @@ uint32_t proved_argon2_hash_encoded_with(const options *with, INPUTS, char *text
     if (code != PROVED_ARGON2_OK) {
         goto end;
     }
+    memset(text, 0, text_len); /* (the proof assumes initialized memory, and this call does not fail) */
     code = proved_argon2_encode(salt, salt_len, settings, call.bytes, call.len, text, text_len);
 end:
     return proved_driver_end_call(&call, code);
@@ -98,24 +103,31 @@ static bool are_same(const proved_argon2_settings *one, const proved_argon2_sett
         && one->time_cost == other->time_cost && one->lanes == other->lanes && one->hash_length == other->hash_length;
 }
 
-/* Reads the job of an encoded hash, its tag with as much room behind it for the computed one, and its salt. A rejected
- * hash costs no memory: it is judged first. */
+/* Reads the job of an encoded hash, with its tag and its salt. The tag to be computed gets its place between them. The
+ * hash is checked first, so that a rejected one costs no memory. */
 static uint32_t read_text(struct call *call, STORED)
 {
     static const proved_argon2_limits none = {UINT32_MAX, UINT32_MAX, UINT32_MAX, UINT64_MAX};
     const proved_argon2_limits *const limits = call->with.limits != NULL ? call->with.limits : &none;
-    proved_argon2_stored stored;
+    proved_argon2_stored stored = {0};
     uint32_t code = proved_argon2_check_encoded(text, text_len, limits, pwd_len, secret_len, ad_len, &stored);
     if (code != PROVED_ARGON2_OK) {
         return code;
     }
-    call->is_rehash_due = call->with.today != NULL && !are_same(&stored.settings, call->with.today);
+    call->is_rehash_due = call->with.new_settings != NULL && !are_same(&stored.settings, call->with.new_settings);
     const size_t len = stored.settings.hash_length, salt_len = stored.salt_length;
     code = proved_driver_take_bytes(call, 2 * (uint64_t)len + salt_len);
     if (code != PROVED_ARGON2_OK) {
         return code;
     }
     return proved_argon2_job_read(OF_STORED, &call->job, call->bytes + 2 * len, salt_len, call->bytes, len);
+}
+
+static void limit_threads(struct call *call)
+{
+    if (call->with.threads > PROVED_ARGON2_MAX_VERIFYING_THREADS) {
+        call->with.threads = PROVED_ARGON2_MAX_VERIFYING_THREADS;
+    }
 }
 
 uint32_t proved_argon2_verify_encoded_with(const options *with, STORED)
@@ -125,15 +137,13 @@ uint32_t proved_argon2_verify_encoded_with(const options *with, STORED)
     if (code != PROVED_ARGON2_OK) {
         goto end;
     }
-    if (call.with.threads > PROVED_ARGON2_MAX_VERIFYING_THREADS) {
-        call.with.threads = PROVED_ARGON2_MAX_VERIFYING_THREADS;
-    }
+    limit_threads(&call);
     code = read_text(&call, OF_STORED);
     if (code != PROVED_ARGON2_OK) {
         goto end;
     }
     code = proved_driver_compute(&call, call.bytes, call.bytes + call.job.hash_length);
-    /* (in this order, so that no branch depends on a verdict where no rehash is asked about) */
+    /* (In this order no branch depends on the verdict, unless the caller asked whether a rehash is due.) */
     if (call.is_rehash_due && code == PROVED_ARGON2_OK) {
         code = PROVED_ARGON2_NEEDS_REHASH;
     }
@@ -152,13 +162,14 @@ uint32_t proved_argon2_verify_encoded_within(STORED, const proved_argon2_limits 
     return proved_argon2_verify_encoded_with(limits == NULL ? NULL : &with, OF_STORED);
 }
 
-/* A copy goes through registers, which a callback's signal would leave on its stack if other threads took all parts. */
+/* Copies a job. The copy passes through vector registers, so they are cleared: a signal that arrives in a callback
+ * would otherwise save them on its stack. */
 static CLEARS_REGISTERS void take_job(struct call *call, const proved_argon2_job *job)
 {
     call->job = *job;
 }
 
-/* A run of a job. */
+/* Computes the tag of a job or, with a hash, returns whether that is the tag. */
 static uint32_t run(const options *with, const proved_argon2_job *job, const uint8_t *hash, uint8_t *tag, size_t len)
 {
     struct call call;
@@ -204,7 +215,7 @@ uint32_t proved_argon2_memory_new(const proved_argon2_settings *settings, void *
     }
     const caller saved = proved_driver_keep_caller();
     const uint64_t len = proved_argon2_memory_len(settings);
-    void *const blocks = proved_driver_take_blocks(len);
+    void *const blocks = proved_driver_take_buffer(len);
     proved_driver_restore_caller(saved);
     if (blocks == NULL) {
         return PROVED_ARGON2_OUT_OF_MEMORY;
@@ -215,7 +226,7 @@ uint32_t proved_argon2_memory_new(const proved_argon2_settings *settings, void *
 }
 
 uint32_t proved_argon2_password_hash_with(const options *with, const proved_argon2_settings *settings, char *text,
-    const char *password, size_t length, const uint8_t *pepper, size_t pepper_len)
+    const void *password, size_t length, const uint8_t *pepper, size_t pepper_len)
 {
     uint8_t salt[PROVED_ARGON2_SALT_SIZE];
     if (with == NULL || settings == NULL || text == NULL || (password == NULL && length != 0) || IS_MISSING(pepper)) {
@@ -227,26 +238,52 @@ uint32_t proved_argon2_password_hash_with(const options *with, const proved_argo
     if (!has_salt) {
         return PROVED_ARGON2_NO_RANDOM_BYTES;
     }
-    return proved_argon2_hash_encoded_with(with, (const uint8_t *)password, length, salt, sizeof salt, pepper,
-        pepper_len, NULL, 0, settings, text, PROVED_ARGON2_TEXT_SIZE);
+    return proved_argon2_hash_encoded_with(with, password, length, salt, sizeof salt, pepper, pepper_len, NULL, 0,
+        settings, text, PROVED_ARGON2_TEXT_SIZE);
 }
 
-uint32_t proved_argon2_password_hash(char text[PROVED_ARGON2_TEXT_SIZE], const char *password, size_t length)
+uint32_t proved_argon2_password_hash(char text[PROVED_ARGON2_TEXT_SIZE], const void *password, size_t length)
 {
     const proved_argon2_settings settings = proved_argon2_owasp2();
     return proved_argon2_password_hash_with(&plain, &settings, text, password, length, NULL, 0);
 }
 
-uint32_t proved_argon2_password_verify_with(const options *with, const char *text, const char *password, size_t length,
+uint32_t proved_argon2_password_verify_with(const options *with, const char *text, const void *password, size_t length,
     const uint8_t *pepper, size_t pepper_len)
 {
     return proved_argon2_verify_encoded_with(text == NULL ? NULL : with, text, text == NULL ? 0 : strlen(text),
-        (const uint8_t *)password, length, pepper, pepper_len, NULL, 0);
+        password, length, pepper, pepper_len, NULL, 0);
 }
 
-uint32_t proved_argon2_password_verify(const char *text, const char *password, size_t length)
+uint32_t proved_argon2_password_verify(const char *text, const void *password, size_t length)
 {
     const proved_argon2_limits limits = proved_argon2_default_limits();
     const options with = {.size = sizeof with, .limits = &limits};
     return proved_argon2_password_verify_with(&with, text, password, length, NULL, 0);
+}
+
+/* Computes what the verification of a hash with these settings computes. The salt is fixed: nobody learns the tag. */
+uint32_t proved_argon2_password_verify_unknown(const options *with, const proved_argon2_settings *settings,
+    const void *password, size_t length, const uint8_t *pepper, size_t pepper_len)
+{
+    static const uint8_t salt[PROVED_ARGON2_SALT_SIZE] = {0};
+    const bool is_missing = settings == NULL || (password == NULL && length != 0) || IS_MISSING(pepper);
+    struct call call;
+    uint32_t code = proved_driver_begin_call(&call, with, is_missing);
+    if (code != PROVED_ARGON2_OK) {
+        goto end;
+    }
+    limit_threads(&call);
+    code = make_job(&call, password, length, salt, sizeof salt, pepper, pepper_len, NULL, 0, settings, true);
+    if (code != PROVED_ARGON2_OK) {
+        goto end;
+    }
+    code = proved_driver_take_bytes(&call, call.job.hash_length);
+    if (code != PROVED_ARGON2_OK) {
+        goto end;
+    }
+    code = proved_driver_compute(&call, NULL, call.bytes);
+end:
+    code = proved_driver_end_call(&call, code);
+    return code == PROVED_ARGON2_OK ? PROVED_ARGON2_MISMATCH : code;
 }

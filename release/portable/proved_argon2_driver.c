@@ -1,5 +1,6 @@
 /* How the library for C computes: this provides memory and threads for the proved calls of proved_argon2_jobs.h, clears
- * both, and returns what those returned. It is tested, not proved. */
+ * both, and returns what those returned. It is tested, not proved. Its threads have a model, of which much is proved
+ * (crates/argon2_c/specs/Team.antt and Threads.antt): "Moves" names what the model calls the steps of a thread here. */
 #include "driver.h"
 #include <stdlib.h>
 #include <string.h>
@@ -8,6 +9,7 @@
 #define WORK_FOR_THREADS (2 * HUGE_PAGE) /* bytes of blocks that are written */
 #define SHORT_PART 2048                  /* blocks: less work than a thread does before it is displaced */
 #define MOST_OPTIONS 4096                /* bytes: no version has more */
+#define SLICES 4                         /* of the blocks, by RFC 9106, section 3.4 */
 #define STACK_BELOW 16384                /* bytes: a call needs two thirds */
 
 /* Whether memory is mapped: to map less than a huge page takes longer than a hash over it. */
@@ -16,10 +18,24 @@ static bool is_mapped(uint64_t bytes)
     return bytes >= HUGE_PAGE;
 }
 
-void *proved_driver_take_blocks(uint64_t bytes)
+/* Memory for the blocks of one call, or null. Mapped pages are zero. Smaller memory is the heap's, and not initialized:
+ * to overwrite it first would take 2 to 15 % of the call, and the proved calls write each block before they read it. */
+static void *take_blocks(uint64_t bytes)
 {
     const size_t len = (size_t)bytes;
-    return len != bytes ? NULL : is_mapped(len) ? proved_driver_map_pages(len) : proved_driver_take_lines(len);
+    if (len != bytes) {
+        return NULL;
+    }
+    return is_mapped(len) ? proved_driver_map_pages(len) : proved_driver_take_lines(len);
+}
+
+void *proved_driver_take_buffer(uint64_t bytes)
+{
+    void *const blocks = take_blocks(bytes);
+    if (blocks != NULL && !is_mapped(bytes)) {
+        proved_driver_overwrite(blocks, (size_t)bytes);
+    }
+    return blocks;
 }
 
 void proved_argon2_memory_free(void *memory, size_t memory_len)
@@ -34,11 +50,12 @@ void proved_argon2_memory_free(void *memory, size_t memory_len)
     proved_driver_restore_caller(saved);
 }
 
-/* Whether options are known, or longer ones of a later version with nothing in what they have more. */
+/* Whether these are the options of this version, or those of a later one whose further fields are all zero, so that the
+ * caller wants nothing that is unknown here. Shorter ones are of no version: half a field would be read. */
 static bool are_known(const options *with)
 {
     const uint8_t *const bytes = (const uint8_t *)with;
-    if (with->size < sizeof with->size || with->size > MOST_OPTIONS) {
+    if (with->size < sizeof *with || with->size > MOST_OPTIONS) {
         return false;
     }
     for (size_t i = sizeof *with; i < with->size; i++) {
@@ -57,14 +74,17 @@ uint32_t proved_driver_begin_call(struct call *call, const options *with, int is
     if (with == NULL || is_missing) {
         return PROVED_ARGON2_NULL_POINTER;
     }
-    memcpy(&call->with, with, with->size < sizeof *with ? with->size : sizeof *with);
-    return are_known(with) ? PROVED_ARGON2_OK : PROVED_ARGON2_WRONG_LENGTH;
+    if (!are_known(with)) {
+        return PROVED_ARGON2_WRONG_LENGTH;
+    }
+    call->with = *with;
+    return PROVED_ARGON2_OK;
 }
 
 uint32_t proved_driver_take_bytes(struct call *call, uint64_t len)
 {
     call->len = (size_t)len;
-    call->bytes = call->len == len ? malloc(call->len) : NULL;
+    call->bytes = call->len == len ? calloc(call->len, 1) : NULL;
     return call->bytes == NULL ? PROVED_ARGON2_OUT_OF_MEMORY : PROVED_ARGON2_OK;
 }
 
@@ -100,33 +120,56 @@ static uint32_t populate(const struct call *call, uint32_t number)
         : PROVED_ARGON2_OUT_OF_MEMORY;
 }
 
-/* Claims a worker's part of a step: one thread does, once. */
+/* Claims a worker's part of a step. Exactly one thread succeeds, so that each part is taken once, even if threads are
+ * late or a pool runs a task twice. Moves: Claims. */
 static bool claim(struct call *call, uint64_t step, uint32_t number)
 {
     uint64_t before = 2 * step;
     return atomic_compare_exchange_strong(&call->workers[number].state, &before, before + 1);
 }
 
-/* Has a worker take a step for each of its lanes. (What its thread calls next may be bound late: then the loader saves
- * the registers.) */
-CLEARS_REGISTERS static void take_step(struct call *call, uint64_t step, uint32_t number)
+/* Writes the first blocks of a lane, which are in its segment of the first slice. */
+static uint32_t begin_lane(struct call *call, uint32_t lane)
 {
-    const uint32_t slice = step == 0 ? 0 : (uint32_t)((step - 1) % 4), length = call->job.segment_length;
-    const block *const first = call->blocks + (slice == 0 ? 1 : 0) * call->slice;
-    const block *const second = call->blocks + (slice <= 1 ? 2 : 1) * call->slice;
-    const block *const third = call->blocks + (slice <= 2 ? 3 : 2) * call->slice;
-    uint32_t code = step == 0 ? populate(call, number) : PROVED_ARGON2_OK;
-    for (uint64_t lane = number; lane < call->job.lanes && code == PROVED_ARGON2_OK; lane += call->tasks) {
-        block *const own = call->blocks + slice * call->slice + lane * length;
-        code = step == 0 ? proved_argon2_job_begin(&call->job, (uint32_t)lane, own, length)
-                         : proved_argon2_job_fill(&call->job, (uint32_t)((step - 1) / 4), slice, (uint32_t)lane, first,
-                             call->slice, second, call->slice, third, call->slice, own, length);
-    }
-    call->workers[number].code = code;
-    call->workers[number].state = 2 * step + 2;
+    const uint32_t length = call->job.segment_length;
+    return proved_argon2_job_begin(&call->job, lane, call->blocks + (size_t)lane * length, length);
 }
 
-/* A pool's task. */
+/* Fills a lane's segment of a slice. The proved call reads the other three slices, which it takes in rising order. */
+static uint32_t fill_segment(struct call *call, uint32_t pass, uint32_t slice, uint32_t lane)
+{
+    const uint32_t length = call->job.segment_length;
+    const block *others[SLICES - 1];
+    for (uint32_t i = 0; i < SLICES - 1; i++) {
+        others[i] = call->blocks + (i < slice ? i : i + 1) * call->slice;
+    }
+    return proved_argon2_job_fill(&call->job, pass, slice, lane, others[0], call->slice, others[1], call->slice,
+        others[2], call->slice, call->blocks + slice * call->slice + (size_t)lane * length, length);
+}
+
+/* Takes a step of one lane. Step 0 begins the lane, and step n + 1 fills slice number n, counted over all passes.
+ * Moves: Writes. */
+static uint32_t take_step_of_lane(struct call *call, uint64_t step, uint32_t lane)
+{
+    if (step == 0) {
+        return begin_lane(call, lane);
+    }
+    return fill_segment(call, (uint32_t)((step - 1) / SLICES), (uint32_t)((step - 1) % SLICES), lane);
+}
+
+/* Takes a step for all lanes of a worker, up to the first that fails. It clears the registers, since the thread may
+ * call next what the loader has yet to bind, and the loader would save them on the stack. */
+CLEARS_REGISTERS static void take_step(struct call *call, uint64_t step, uint32_t number)
+{
+    uint32_t code = step == 0 ? populate(call, number) : PROVED_ARGON2_OK;
+    for (uint64_t lane = number; lane < call->job.lanes && code == PROVED_ARGON2_OK; lane += call->tasks) {
+        code = take_step_of_lane(call, step, (uint32_t)lane);
+    }
+    call->workers[number].code = code;
+    call->workers[number].state = 2 * step + 2; /* Moves: Completes, Fails, Finishes. */
+}
+
+/* A task of a pool, which may run one twice, leave one out, or run one that does not exist. Moves: Runs, Strays. */
 static void run_task(void *arg, uint32_t number)
 {
     struct call *const call = arg;
@@ -137,21 +180,37 @@ static void run_task(void *arg, uint32_t number)
     }
 }
 
-/* Takes a step for some workers, this one and those before it, and returns for how many. Where parts are short it goes
- * on to the first that another has claimed, who goes on from there: their threads may come late. (A long part's comes
- * before another is through.) */
+/* Whether a worker's part of a step is so short that its thread may well be late for it: others take it then. A long
+ * part's thread has come before another thread is through with its own. */
+static bool are_parts_short(const struct call *call)
+{
+    return call->slice <= (size_t)SHORT_PART * call->tasks;
+}
+
+/* The worker before one, where the last is before the first. */
+static uint32_t worker_before(const struct call *call, uint32_t number)
+{
+    return (number == 0 ? call->tasks : number) - 1;
+}
+
+/* Takes a step for a worker and then for those before it, until one has been claimed by another thread, which goes on
+ * from there. Takes no more than `own` of them, or all where parts are short. Returns how many it took.
+ * Moves: Leaves. */
 static uint32_t take_parts(struct call *call, uint64_t step, uint32_t number, uint32_t own)
 {
-    const uint32_t most = call->slice <= (size_t)SHORT_PART * call->tasks ? call->tasks : own;
-    uint32_t taken = 0;
-    for (uint32_t next = number; taken < most && claim(call, step, next); taken++) {
+    const uint32_t most = are_parts_short(call) ? call->tasks : own;
+    uint32_t taken = 0, next = number;
+    while (taken < most && claim(call, step, next)) {
         take_step(call, step, next);
-        next = (next == 0 ? call->tasks : next) - 1;
+        next = worker_before(call, next);
+        taken++;
     }
     return taken;
 }
 
-/* A thread of the team is woken for each step. It counts them itself: of one to which it comes late nothing is left. */
+/* What each thread of the team does. The caller's thread wakes it for each step, and once more at the end. It counts
+ * the steps itself: if it is late, other threads have taken its part of a step, and it claims nothing. It wakes the
+ * caller's thread once for each part that it took. Moves: Awakes, Enters, Exits, Tells, Waits. */
 static void follow(void *arg, team *own, uint32_t number)
 {
     struct call *const call = arg;
@@ -164,6 +223,7 @@ static void follow(void *arg, team *own, uint32_t number)
     }
 }
 
+/* Wakes each thread of the team, for a step or for the last time. Moves: Wakes, Dismisses. */
 static void wake_team(struct call *call)
 {
     const uint32_t threads = proved_driver_members(call->team);
@@ -172,8 +232,8 @@ static void wake_team(struct call *call)
     }
 }
 
-/* By the call's own threads: the caller's takes worker 0 and the last ones, whose thread was denied, and waits for the
- * parts that others took. */
+/* Takes a step by the call's own threads. The caller's thread takes the part of worker 0, and those of the last workers
+ * if the system denied them a thread. Then it waits for each part that another thread took. Moves: Begins, Counts. */
 static void run_team(struct call *call)
 {
     wake_team(call);
@@ -197,13 +257,14 @@ static uint32_t run_step(struct call *call, uint64_t slices)
     for (uint32_t i = 0; i < call->tasks && code == PROVED_ARGON2_OK; i++) {
         code = call->workers[i].state == 2 * call->step + 2 ? call->workers[i].code : PROVED_ARGON2_WORKER_REFUSED;
     }
-    const bool is_reported = code == PROVED_ARGON2_OK && call->step != 0 && with->tell != NULL;
-    return is_reported && with->tell(with->arg, call->step, slices) != 0 ? PROVED_ARGON2_STOPPED : code;
+    const bool is_reported = code == PROVED_ARGON2_OK && call->step != 0 && with->progress != NULL;
+    return is_reported && with->progress(with->arg, call->step, slices) != 0 ? PROVED_ARGON2_STOPPED : code;
 }
 
+/* Takes all steps, or those before an error, and ends the threads. Moves: Advances, Stops, Returns. */
 static uint32_t fill(struct call *call)
 {
-    const uint64_t slices = 4 * (uint64_t)call->job.passes;
+    const uint64_t slices = SLICES * (uint64_t)call->job.passes;
     uint32_t code = PROVED_ARGON2_OK;
     call->workers = calloc(call->tasks, sizeof(worker));
     if (call->workers == NULL) {
@@ -226,11 +287,13 @@ static uint32_t compute_over(struct call *call, const uint8_t *hash, uint8_t *ta
 {
     const block *const last = call->blocks + 3 * call->slice;
     const size_t all = 4 * call->slice, len = call->job.hash_length;
-    const bool is_alone = call->tasks == 1 && call->with.run == NULL && call->with.tell == NULL;
+    const bool is_alone = call->tasks == 1 && call->with.run == NULL && call->with.progress == NULL;
     const uint32_t code = is_alone ? populate(call, 0) : fill(call);
     if (code != PROVED_ARGON2_OK) {
         return code;
     }
+    /* The proofs assume that what a call writes to is initialized. The calls below do not fail: all was checked. */
+    memset(tag, 0, len);
     if (is_alone) {
         return hash == NULL ? proved_argon2_job_hash_over(&call->job, call->blocks, all, tag, len)
                             : proved_argon2_job_verify_over(&call->job, call->blocks, all, hash, len, tag, len);
@@ -262,7 +325,7 @@ static uint32_t memory_error(const struct call *call, uint64_t bytes)
 uint32_t proved_driver_compute(struct call *call, const uint8_t *hash, uint8_t *tag)
 {
     const uint64_t bytes = bytes_of(&call->job);
-    void *const own = call->with.memory == NULL ? proved_driver_take_blocks(bytes) : NULL;
+    void *const own = call->with.memory == NULL ? take_blocks(bytes) : NULL;
     call->blocks = own == NULL ? call->with.memory : own;
     call->tasks = tasks_of(call, bytes);
     call->slice = (size_t)(bytes / sizeof(block) / 4);

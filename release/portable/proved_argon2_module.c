@@ -154,7 +154,6 @@ static u32 close_instance(struct instance *instance, u32 code)
         return settings; \
     }
 #include "proved_calls.h"
-CALL(message, (uint32_t number, uint8_t *text, size_t text_len), false, (number, BYTES(text)))
 
 uint32_t proved_portable_library_version(void)
 {

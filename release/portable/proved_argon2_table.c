@@ -1,12 +1,12 @@
-/* The proved calls as a program sees them: C that looks at a call's pointers, and then makes it in a build of builds.h.
- * A null pointer whose length is 0 passes none, and any other returns PROVED_ARGON2_NULL_POINTER. Then blocks at an
- * address that no block has return PROVED_ARGON2_MISALIGNED. Where no build runs on the processor, a call returns
- * PROVED_ARGON2_OLD_PROCESSOR, or zeros where it returns no code. It is tested and not proved. */
+/* The proved calls as a program sees them. This C code checks the pointers of a call, and then makes the call in a
+ * build (builds.h). A null pointer with the length 0 means no bytes; any other returns PROVED_ARGON2_NULL_POINTER.
+ * Misaligned blocks return PROVED_ARGON2_MISALIGNED. If no build runs on the processor, a call returns
+ * PROVED_ARGON2_OLD_PROCESSOR, or zeros if it returns no code. It is tested, not proved. */
 #define ONLY_BUILD portable
 #include "builds.h"
 #include "driver.h"
 
-/* An address of nothing in place of a null pointer, which no proved call takes. */
+/* Replaces a null pointer by an address of no bytes, since proved calls take no null pointers. */
 static inline void *some(const void *at, size_t len)
 {
     static const uint64_t none;
@@ -92,7 +92,7 @@ static const struct {
     {PROVED_ARGON2_WORKER_REFUSED, "A worker was refused"},
     {PROVED_ARGON2_MISMATCH, "The password does not match"},
     {PROVED_ARGON2_WRONG_LENGTH, "The buffer has the wrong length"},
-    {PROVED_ARGON2_NOT_UTF8, "The encoded hash is not UTF-8"},
+    {PROVED_ARGON2_NOT_ASCII, "The encoded hash is not ASCII"},
     {PROVED_ARGON2_UNKNOWN_NUMBER, "There is no error of this number"},
     {PROVED_ARGON2_NEEDS_REHASH, "The encoded hash was made with other settings"},
     {PROVED_ARGON2_TOO_COSTLY, "The encoded hash is above the limits"},

@@ -1,6 +1,7 @@
-/* The proved calls, for what makes each in a build (proved_argon2_table.c) or in the module that is translated to C
- * (bindings/portable): a call's name, what it is given, whether a pointer of it is missing, and what it is passed.
- * COMPUTES is a call that writes H0, or takes blocks, of which some may be misaligned. It is tested and not proved. */
+/* A table of the proved calls: the name, the parameters, whether a pointer is missing, and the arguments that are
+ * passed on. proved_argon2_table.c makes each call of it in a build, and bindings/portable makes it in the module
+ * that is translated to C. COMPUTES marks a call that writes H0 or takes blocks, which may be misaligned. It is
+ * tested, not proved. */
 #define SLICE(type, name) type *name, size_t name##_len
 #define IS_MISALIGNED(name) (name##_len != 0 && (uintptr_t)name % _Alignof(proved_argon2_block) != 0)
 
@@ -59,7 +60,7 @@ COMPUTES(verify_over, (INPUTS, SLICE(proved_argon2_block, blocks), SLICE(const u
     ARE_INPUTS_MISSING || IS_MISSING(blocks) || IS_MISSING(hash) || IS_MISSING(tag), IS_MISALIGNED(blocks),
     (BYTES_OF_INPUTS, SETTINGS(settings), BYTES(blocks), BYTES(hash), BYTES(tag)))
 
-/* Those that return a length, which is 0 for no settings, and those that return settings. */
+/* Calls that return a length, which is 0 if the settings are a null pointer, and calls that return settings. */
 LENGTH(encoded_len, (const proved_argon2_settings *settings, uint32_t salt_len), (SETTINGS(settings), salt_len))
 LENGTH(memory_len, (const proved_argon2_settings *settings), (SETTINGS(settings)))
 /* presets, by .ci/pages/presets */
