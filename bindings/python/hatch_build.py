@@ -1,5 +1,6 @@
-"""What hatchling packs beside the package: the licences of the repository and, for a machine that no library is built
-for, the library as C. `./package` puts a library into src/proved_argon2/libs, and its platform into WHEEL_PLATFORM."""
+"""Adds files to the packages that hatchling makes: the repository's licences and, in an archive of sources, the library
+as C. On a machine for which no library is built, it compiles that C. `./package` puts a built library into
+src/proved_argon2/libs, and the name of its platform into WHEEL_PLATFORM."""
 import os
 import platform
 import re
@@ -18,8 +19,8 @@ HAVE_LIBRARIES = ("x86_64", "aarch64")
 
 
 def sources_in_c():
-    """The library as C: in an archive of the sources, or in the repository, where it is of its sources."""
-    released = ROOT.parents[1] / "build/released"
+    """Return the files of the library as C: those of a source archive, or of the repository if they are current."""
+    released = ROOT.parents[1] / "build/check_release"
     if not released.exists():
         return sorted((ROOT / "c").glob("*"))
     is_current = subprocess.run([released, "portable"], capture_output=True, check=False).returncode == 0
@@ -27,11 +28,11 @@ def sources_in_c():
 
 
 def compile_library(made):
-    """The shared object, by the C compiler of this machine; and the platform that it is for."""
+    """Compile the library with this machine's C compiler. Return the name of the platform."""
     sources = [file for file in sources_in_c() if file.suffix == ".c"]
     if not sources:
-        sys.exit(f"proved-argon2: there is no library for {platform.machine()}: nothing is installed")
-    print(f"there is no library for {platform.machine()}: the library as C is compiled", file=sys.stderr)
+        sys.exit(f"proved-argon2: nothing is installed, since there is no library for {platform.machine()}")
+    print(f"there is no library for {platform.machine()}: compiling the library as C", file=sys.stderr)
     compiler = os.environ.get("CC", "cc").split()
     flags = ["-O2", "-fPIC", "-shared", "-pthread", f"-Wl,-soname,{SHARED}", "-o", made]
     subprocess.run([*compiler, *flags, *sources], check=True)
@@ -39,25 +40,27 @@ def compile_library(made):
 
 
 def require_libc():
-    """Stops where the library that ./install puts beside this package cannot be loaded."""
+    """Exit if this system cannot load the library that ./install installs."""
     try:
         found = os.confstr("CS_GNU_LIBC_VERSION") or ""
     except ValueError:
         found = ""
     if tuple(map(int, re.findall(r"\d+", found))) < OLDEST_LIBC:
         sys.exit(
-            f"proved-argon2: the library needs the GNU C library {'.'.join(map(str, OLDEST_LIBC))} or newer, and here"
-            f" is {found or 'another'}: nothing is installed. For musl there is a wheel of ./package, with the library"
-            " in it"
+            "proved-argon2: nothing is installed, since the library needs the GNU C library"
+            f" {'.'.join(map(str, OLDEST_LIBC))} or newer, and here is {found or 'another C library'}. For musl,"
+            " ./package makes a wheel that contains the library"
         )
 
 
 class CustomBuildHook(BuildHookInterface):
     def initialize(self, version, build_data):
         papers = f"proved_argon2-{self.metadata.version}.dist-info/licenses/" if self.target_name == "wheel" else ""
-        for name in ("LICENSE", "NOTICE"):
-            if not (ROOT / name).exists():
-                build_data["force_include"][str(ROOT.parents[1] / name)] = f"{papers}{name}"
+        for name in ("LICENSE", "NOTICE", "proved-argon2.spdx"):
+            # (hatchling itself puts only files with the first two names among a wheel's licences)
+            own = ROOT / name
+            if not own.exists() or papers and name.endswith(".spdx"):
+                build_data["force_include"][str(own if own.exists() else ROOT.parents[1] / name)] = f"{papers}{name}"
         if self.target_name == "sdist":
             build_data["force_include"].update({str(file): f"c/{file.name}" for file in sources_in_c()})
         elif "WHEEL_PLATFORM" in os.environ:

@@ -1,4 +1,4 @@
-"""Against argon2-cffi, in both directions: Debian's python3-argon2."""
+"""Comparison with argon2-cffi: Debian's python3-argon2."""
 import warnings
 
 import proved_argon2
@@ -12,7 +12,7 @@ NO_TAG = "$argon2id$v=19$m=64,t=1,p=1$"
 
 
 def hashing(secret=b"password", salt=b"somesalt", time=1, memory=64, lanes=2, length=16, type="ID", version=19):
-    """A call of `hash_secret` and of `hash_secret_raw`."""
+    """Return a call of `hash_secret` and one of `hash_secret_raw`, as functions of the module."""
     arguments = (secret, salt, time, memory, lanes, length)
     return [
         lambda module: module.low_level.hash_secret(*arguments, module.low_level.Type[type], version),
@@ -21,7 +21,7 @@ def hashing(secret=b"password", salt=b"somesalt", time=1, memory=64, lanes=2, le
 
 
 def verifying(hash, secret=b"password"):
-    """A call of `verify_secret` and two of `PasswordHasher.verify`."""
+    """Return a call of `verify_secret` and two of `PasswordHasher.verify`, as functions of the module."""
     return [
         lambda module: module.low_level.verify_secret(hash.encode(), secret, module.low_level.Type.I),
         lambda module: module.PasswordHasher().verify(hash, secret),
@@ -30,7 +30,7 @@ def verifying(hash, secret=b"password"):
 
 
 def hasher(**settings):
-    """A call that makes a hasher, hashes and tells what the text has."""
+    """Return a call that makes a hasher and returns the length of the salt in its hash."""
     return lambda module: module.extract_parameters(
         module.PasswordHasher(**{**SETTINGS, **settings}).hash("password")).salt_len
 
@@ -40,7 +40,7 @@ def changed(parameters):
     return parameters
 
 
-# Each is called with both modules.
+# Each is made with both modules.
 CALLS = [
     *(call for settings in (
         {}, {"type": "I"}, {"type": "D"}, {"version": 16}, {"secret": b""}, {"secret": b"\0\xff" * 500},
@@ -73,7 +73,7 @@ CALLS = [
 
 
 def outcome(call, module):
-    """What a call gives: its value, or the name of its exception."""
+    """Return the result of a call, or the name of its exception."""
     try:
         with warnings.catch_warnings():
             warnings.simplefilter("ignore")
@@ -83,13 +83,13 @@ def outcome(call, module):
 
 
 @pytest.mark.parametrize("call", CALLS)
-def test_each_call_gives_the_same(call):
+def test_each_call_has_the_same_outcome_in_both_modules(call):
     assert outcome(call, proved_argon2) == outcome(call, argon2)
 
 
 @pytest.mark.parametrize("password", ["", "password", "pass\0word", "\xe9\u20ac", "x" * 10000])
 @pytest.mark.parametrize("writer, reader", [(proved_argon2, argon2), (argon2, proved_argon2)])
-def test_each_verifies_and_reads_the_other_s_texts(writer, reader, password):
+def test_each_module_verifies_and_reads_hashes_of_the_other(writer, reader, password):
     for variant in ("D", "I", "ID"):
         settings = [{**SETTINGS, "type": module.Type[variant]} for module in (writer, reader)]
         text = writer.PasswordHasher(**settings[0]).hash(password)
@@ -99,7 +99,7 @@ def test_each_verifies_and_reads_the_other_s_texts(writer, reader, password):
         assert not reader.PasswordHasher(**settings[1]).check_needs_rehash(text)
 
 
-def test_the_defaults_before_21_2_are_a_profile():
+def test_the_profile_pre_21_2_has_the_defaults_of_that_version():
     assert argon2.__version__.split(".")[:2] == ["21", "1"]
     for name in SETTINGS:
         assert getattr(proved_argon2.profiles.PRE_21_2, name) == getattr(argon2.PasswordHasher(), name), name

@@ -1,4 +1,4 @@
-"""What an import takes, which shared object it loads, and what it says where there is none."""
+"""The import of the package: its time, the library that it loads, and its error if there is none."""
 import os
 import subprocess
 import sys
@@ -9,23 +9,23 @@ import pytest
 from proved_argon2 import _library
 
 MOST_MILLISECONDS = 25
-# So often is an import measured before it counts as too slow: others may need the processor too.
+# An import is measured so often before it counts as too slow: other programs may need the processor.
 TRIES = 40
 FOLDER = Path(proved_argon2.__file__).resolve().parents[1]
 
 
 def fresh(program):
-    """What a program says, in a Python of its own, where `folder` has this package."""
+    """Return the output of a program in a Python of its own, which finds this package in FOLDER."""
     words = [sys.executable, "-I", "-c", f"import sys\nsys.path.insert(0, {str(FOLDER)!r})\n{program}"]
     return subprocess.run(words, capture_output=True, text=True, timeout=60, check=True).stdout
 
 
-def test_an_import_takes_25_milliseconds():
+def test_an_import_takes_at_most_25_milliseconds():
     program = "import time\nbegun = time.process_time()\nimport proved_argon2\nprint(time.process_time() - begun)"
     assert any(float(fresh(program)) * 1000 <= MOST_MILLISECONDS for _ in range(TRIES))
 
 
-def test_an_import_loads_none_of_the_slow_modules():
+def test_an_import_loads_no_slow_module():
     loaded = fresh("before = {*sys.modules}\nimport proved_argon2\nprint(*sys.modules.keys() - before)").split()
     slow = {"ctypes.util", "dataclasses", "inspect", "pathlib", "re", "subprocess", "typing"}
     assert "ctypes" in loaded and slow.isdisjoint(loaded)
@@ -35,10 +35,10 @@ def test_an_import_loads_none_of_the_slow_modules():
     ("/site/proved_argon2", False, [_library.SONAME, f"/prefix/lib/{_library.SONAME}"]),
     ("/site/proved_argon2", True, [
         f"/site/proved_argon2/libs/{_library.SONAME}", _library.SONAME, f"/prefix/lib/{_library.SONAME}"]),
-    # (a build beside the sources is not taken unasked)
+    # The package does not take a build beside its sources unless it is asked to.
     ("/it/bindings/python/src/proved_argon2", False, [_library.SONAME, f"/prefix/lib/{_library.SONAME}"]),
 ])
-def test_it_is_in_the_wheel_or_where_the_loader_looks_or_beside_this_python(monkeypatch, folder, has_libs, expected):
+def test_the_library_is_in_the_wheel_or_found_by_the_loader_or_beside_python(monkeypatch, folder, has_libs, expected):
     monkeypatch.delenv(_library.VARIABLE, raising=False)
     monkeypatch.setattr(sys, "prefix", "/prefix")
     monkeypatch.setattr(_library, "__file__", f"{folder}/_library.py")
@@ -46,7 +46,7 @@ def test_it_is_in_the_wheel_or_where_the_loader_looks_or_beside_this_python(monk
     assert [*_library._files()] == expected
 
 
-def test_an_older_processor_is_refused_by_name():
+def test_a_processor_that_is_too_old_is_named_in_the_error():
     program = ("import os\nos.environ['PROVED_ARGON2_CPU'] = 'none'\n"
                "try:\n    import proved_argon2\nexcept ImportError as error:\n    print(error)")
     assert "has no build for a processor as old as this one" in fresh(program)
@@ -56,16 +56,16 @@ def test_an_older_processor_is_refused_by_name():
     *(("linux", file, "run ./install in the repository") for file in ("/nowhere/library.so", __file__, "libc.so.6")),
     *((system, "/nowhere/library.so", f"built for Linux, and not for {system}; compile the library as C")
       for system in ("darwin", "win32"))])
-def test_the_error_names_the_system_and_what_there_is(monkeypatch, system, file, words):
-    """Where there is no library, what is none, or another one."""
+def test_the_error_says_how_to_get_a_library_on_this_system(monkeypatch, system, file, words):
+    """The file does not exist, or is no library, or is another library."""
     monkeypatch.setattr(sys, "platform", system)
     monkeypatch.setenv(_library.VARIABLE, file)
     with pytest.raises(ImportError, match=f"cannot be loaded: .*{words}.*, or name the file in {_library.VARIABLE}"):
         _library._load()
 
 
-def test_settings_are_refused_first_and_then_memory_is():
-    """With 2 GiB of memory, a hash of 4 GiB. A call leaves the error number of `ctypes`."""
+def test_settings_are_rejected_before_memory_is_allocated():
+    """The process may have 2 GiB, and asks for a hash of 4 GiB. A call does not change the error number of `ctypes`."""
     said = fresh("""
 import ctypes, resource
 from proved_argon2.exceptions import HashingError

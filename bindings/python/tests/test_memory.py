@@ -1,4 +1,4 @@
-"""The memory that is kept from call to call: what it is asked for, holds, and leaves."""
+"""`Memory`, whose buffers several calls reuse: when it allocates, and what a buffer contains after a call."""
 import copy
 import ctypes
 import os
@@ -9,6 +9,7 @@ from pathlib import Path
 from unittest import mock
 
 import pytest
+from processes import resident
 from proved_argon2 import Limits, PasswordHasher, Type, _library
 from proved_argon2.exceptions import HashingError, TooCostlyError, VerificationError, VerifyMismatchError
 from proved_argon2.low_level import Memory, hash_secret, hash_secret_raw, verify_secret
@@ -16,18 +17,18 @@ from proved_argon2.low_level import Memory, hash_secret, hash_secret_raw, verify
 NEW = _library._library.proved_argon2_memory_new
 LARGE = "$argon2id$v=19$m=1048576,t=1,p=1$c29tZXNhbHQ$AAAAAAAAAAAAAAAAAAAAAA"
 SMALL = {"time_cost": 1, "memory_cost": 1024, "parallelism": 2}
+NEEDED = _library.Settings(2, 19, 64, 1, 1, 32)
 
 
 @pytest.fixture
 def new():
-    """The call by which the package asks the library for a memory, which counts. When it is made, and the memory given
-    back, bindings/tests/codes.py tests."""
+    """Count the buffers that the package asks the library for. (bindings/tests/codes.py tests that they are freed.)"""
     with mock.patch.object(_library._library, "proved_argon2_memory_new", side_effect=NEW) as counted:
         yield counted
 
 
 def free_pages(memory):
-    """The one piece of a memory that no call uses, which has to be there."""
+    """Return the only buffer of a memory, which no call uses."""
     (pages,) = memory._free
     return pages
 
@@ -47,7 +48,7 @@ def raw(memory_cost, memory, lanes=1, password=b"password", **named):
 
 
 def outcome(call, memory):
-    """What a call gives, or the error that it raises."""
+    """Return the result of a call, or the error that it raises."""
     try:
         return call(memory)
     except (HashingError, VerificationError) as error:
@@ -55,7 +56,7 @@ def outcome(call, memory):
 
 
 def calls(memory_cost, lanes=1, time_cost=1, variant=Type.ID):
-    """Each call over a memory, as a function of it, with what it gives."""
+    """Yield each call that takes a memory, as a function of the memory, with its expected outcome."""
     arguments = (b"password", b"somesalt", time_cost, memory_cost, lanes, 24, variant)
     text, limits = hash_secret(*arguments), Limits(memory_cost=1 << 20, parallelism=100)
     for call in (
@@ -69,13 +70,13 @@ def calls(memory_cost, lanes=1, time_cost=1, variant=Type.ID):
 
 
 def verifying(*changed, variant=Type.ID, **named):
-    """A call that verifies the large hash, changed."""
+    """Return a call that verifies LARGE after a replacement."""
     text = LARGE.replace(*changed) if changed else LARGE
     return lambda memory: verify_secret(text.encode(), b"password", variant, memory=memory, **named)
 
 
-# Calls that are refused before anything is computed.
-REFUSED = [
+# Calls that are rejected before anything is computed.
+REJECTED = [
     lambda memory: hash_secret(b"password", b"somesalt", 1, 7, 1, 16, Type.ID, memory=memory),
     lambda memory: hash_secret_raw(b"password", b"somesalt", 0, 1 << 20, 1, 16, Type.ID, memory=memory),
     lambda memory: hash_secret_raw(b"password", b"salt", 1, 1 << 20, 1, 16, Type.ID, memory=memory),
@@ -84,7 +85,7 @@ REFUSED = [
 ]
 
 
-def test_a_kept_memory_changes_no_answer_and_is_asked_for_where_it_is_too_small_alone(new):
+def test_a_memory_changes_no_result_and_allocates_only_for_larger_settings(new):
     memory, asked, largest = Memory(), 0, 0
     shapes = ((64, 1), (4096, 4), (64, 2), (8192, 3), (8, 1), (1000, 5), (9000, 1), (320, 40), (8999, 1))
     for place, (memory_cost, lanes) in enumerate(shapes):
@@ -95,12 +96,12 @@ def test_a_kept_memory_changes_no_answer_and_is_asked_for_where_it_is_too_small_
     assert free_pages(memory).length == 9000 << 10
 
 
-def test_a_buffer_that_no_call_used_for_a_minute_is_freed_when_another_call_ends():
+def test_a_call_frees_buffers_that_no_call_has_used_for_a_minute():
     memory, now = Memory(), [1000.0]
     with mock.patch("time.monotonic", lambda: now[0]):
-        with memory.pages_for_call() as large, memory.pages_for_call() as small:
-            assert large.grow(_library.Settings(2, 19, 9000, 1, 1, 32))
-            assert small.grow(_library.Settings(2, 19, 64, 1, 1, 32))
+        needs = [_library.Settings(2, 19, kib, 1, 1, 32) for kib in (9000, 64)]
+        with memory.pages_for_call(needs[0]) as large, memory.pages_for_call(needs[1]) as small:
+            assert large.grow(needs[0]) and small.grow(needs[1])
         for waited, free in ((59, 2), (2, 1), (1000, 1)):
             now[0] += waited
             raw(64, memory)
@@ -109,7 +110,7 @@ def test_a_buffer_that_no_call_used_for_a_minute_is_freed_when_another_call_ends
 
 
 @pytest.mark.parametrize("memory_cost, lanes", [(256, 1), (4096, 4), (1003, 4)])
-def test_each_call_clears_what_it_used_of_a_kept_memory(memory_cost, lanes):
+def test_each_call_clears_what_it_used_of_a_buffer(memory_cost, lanes):
     memory, used = Memory(), memory_cost // (4 * lanes) * 4 * lanes << 10
     raw(5000, memory)
     for call, expected in calls(memory_cost, lanes):
@@ -118,18 +119,18 @@ def test_each_call_clears_what_it_used_of_a_kept_memory(memory_cost, lanes):
         assert held(memory) == bytes(used) + b"\xa5" * ((5000 << 10) - used)
 
 
-def test_what_is_refused_leaves_a_kept_memory_as_it_is(new):
-    memory, expected = Memory(), [outcome(call, None) for call in REFUSED]
+def test_a_rejected_call_does_not_change_a_buffer(new):
+    memory, expected = Memory(), [outcome(call, None) for call in REJECTED]
     assert all(error in (HashingError, VerificationError, TooCostlyError) for error, _ in expected)
-    assert [outcome(call, memory) for call in REFUSED] == expected
+    assert [outcome(call, memory) for call in REJECTED] == expected
     assert (new.call_count, free_pages(memory).length) == (0, 0)
     raw(100, memory)
     fill(memory)
-    assert [outcome(call, memory) for call in REFUSED] == expected
+    assert [outcome(call, memory) for call in REJECTED] == expected
     assert (new.call_count, held(memory)) == (1, b"\xa5" * (100 << 10))
 
 
-def test_calls_at_once_have_one_each():
+def test_calls_at_the_same_time_use_different_buffers():
     memory = Memory()
     inputs = [(512 + number, memory, 2, str(number).encode()) for number in range(64)]
     expected = [raw(memory_cost, None, *others) for memory_cost, _, *others in inputs]
@@ -137,24 +138,24 @@ def test_calls_at_once_have_one_each():
         for _ in range(5):
             assert list(pool.map(lambda arguments: raw(*arguments), inputs)) == expected
     assert len(memory._free) <= 8
-    with memory.pages_for_call():
+    with memory.pages_for_call(NEEDED):
         other = threading.Thread(target=raw, args=(64, memory), daemon=True)
         other.start()
         other.join(60)
         assert not other.is_alive()
 
 
-def test_what_is_raised_in_between_leaves_the_memory_for_the_next_call(new):
+def test_an_exception_returns_the_buffer_to_the_memory(new):
     memory = Memory()
     raw(64, memory)
-    with pytest.raises(KeyboardInterrupt), memory.pages_for_call():
+    with pytest.raises(KeyboardInterrupt), memory.pages_for_call(NEEDED):
         raise KeyboardInterrupt
     raw(64, memory)
     assert (new.call_count, len(memory._free)) == (1, 1)
 
 
 @pytest.mark.parametrize("copied", [copy.copy, copy.deepcopy, lambda hasher: pickle.loads(pickle.dumps(hasher))])
-def test_a_copy_has_a_memory_of_its_own(copied):
+def test_a_copy_of_a_hasher_has_its_own_memory(copied):
     hasher = PasswordHasher(**SMALL, keep_memory=True)
     other = copied(hasher)
     assert other.keep_memory and other.verify(hasher.hash("password"), "password") is True
@@ -162,7 +163,7 @@ def test_a_copy_has_a_memory_of_its_own(copied):
     assert copied is copy.copy or other._memory is not hasher._memory
 
 
-def test_a_child_of_a_fork_has_a_memory_of_its_own():
+def test_a_forked_child_does_not_change_its_parent_s_buffer():
     memory = Memory()
     raw(64, memory)
     child = os.fork()
@@ -175,7 +176,7 @@ def test_a_child_of_a_fork_has_a_memory_of_its_own():
     assert held(memory) == bytes(64 << 10)
 
 
-def test_core_dumps_leave_out_what_is_kept():
+def test_core_dumps_do_not_contain_the_buffer():
     memory = Memory()
     raw(4096, memory)
     lines = iter(Path("/proc/self/smaps").read_text().splitlines())
@@ -184,7 +185,7 @@ def test_core_dumps_leave_out_what_is_kept():
 
 
 @pytest.mark.parametrize("keep_memory", [False, True])
-def test_a_hasher_keeps_memory_by_an_option_alone(new, keep_memory):
+def test_a_hasher_reuses_memory_only_with_keep_memory(new, keep_memory):
     hasher = PasswordHasher(**SMALL, keep_memory=keep_memory)
     assert (PasswordHasher().keep_memory, hasher.keep_memory) == (False, keep_memory)
     for _ in range(3):
@@ -196,18 +197,12 @@ def test_a_hasher_keeps_memory_by_an_option_alone(new, keep_memory):
     assert not keep_memory or held(hasher._memory) == bytes(1024 << 10)
 
 
-def resident():
-    """The bytes that are there of this process, as the system counts them when it looks at each page."""
-    sums = Path("/proc/self/smaps_rollup").read_text(encoding="ascii")
-    return next(int(line.split()[1]) for line in sums.splitlines() if line.startswith("Rss:")) << 10
-
-
 @pytest.mark.parametrize("lanes", [1, 4])
 @pytest.mark.parametrize("memory_cost", [
     2048, 2064, 3072, 4080, 4096, 4112, 6128, 6160, 7168, 9216, 12288, 19456, 65552])
-def test_a_hash_takes_the_memory_of_its_settings_and_little_more(memory_cost, lanes):
-    """At sizes around multiples of a huge page and those of presets."""
-    for _ in range(2):  # (the first one also loads what a later one has)
+def test_a_hash_uses_the_memory_of_its_settings_and_at_most_256_kib_more(memory_cost, lanes):
+    """The sizes are around multiples of a huge page, and those of presets."""
+    for _ in range(2):  # The first call also loads code and data that later calls reuse.
         before, seen = resident(), []
         raw(memory_cost, None, lanes, progress=lambda *_: seen.append(resident()))
     assert memory_cost << 10 <= max(seen) - before < (memory_cost + 256) << 10

@@ -1,5 +1,5 @@
-"""No number wraps: each place that takes one, with numbers that it does not take. The lowest 32 bits of each are a
-number that would be accepted."""
+"""Numbers that are too large or negative are rejected everywhere. The lowest 32 bits of each number here would be
+accepted, so that no call may cut off the others."""
 import copy
 import dataclasses
 import pickle
@@ -20,7 +20,7 @@ from proved_argon2.exceptions import HashingError, TooCostlyError, VerifyMismatc
 from proved_argon2.low_level import error_to_str, hash_secret, hash_secret_raw, verify_secret
 
 NO_NUMBERS = (True, 64.0, "64", None)
-# Each but the first three with 64 more, so that what is cut off leaves settings of which none is refused.
+# All but the first three have 64 more, so that the lowest bits are acceptable settings.
 TOO_MUCH = (-1, 1 << 32, 1 << 64, 64 - (1 << 32), (1 << 32) + 64, (1 << 64) + 64, 64 - (1 << 64), (1 << 1000) + 64)
 SETTINGS = {"time_cost": 1, "memory_cost": 1024, "parallelism": 1, "hash_len": 16}
 LARGE = {"time_cost": DEFAULT_LIMITS.time_cost + 1, "memory_cost": 1360, "parallelism": DEFAULT_LIMITS.parallelism + 1}
@@ -30,7 +30,7 @@ of_each_limit = pytest.mark.parametrize("name, most", [
 
 
 def hashing(settings):
-    """The calls that hash with settings, which take a version or a length of the salt if it is among them."""
+    """Yield the calls that hash with these settings. Some take no version, and some no length of the salt."""
     inputs, numbers = (b"password", b"somesalt"), [settings[name] for name in SETTINGS]
     version = {} if "version" not in settings else {"version": settings["version"]}
     if "salt_len" not in settings:
@@ -45,7 +45,7 @@ def hashing(settings):
 
 
 def of_settings(settings):
-    """Parameters, which take any value."""
+    """Return `Parameters`, which take any value."""
     parameters = profiles.get_default_parameters()
     for name, number in settings.items():
         setattr(parameters, name, number)
@@ -54,7 +54,7 @@ def of_settings(settings):
 
 @pytest.mark.filterwarnings("ignore:.* is deprecated:DeprecationWarning")
 @pytest.mark.parametrize("name", [*SETTINGS, "salt_len", "version"])
-def test_a_setting_is_an_integer_of_32_bits(name):
+def test_a_setting_must_be_an_integer_of_32_bits(name):
     for numbers, error, words in ((TOO_MUCH, HashingError, f"^{name} is"), (NO_NUMBERS, TypeError, f"'{name}'")):
         for number in numbers:
             for call in hashing({**SETTINGS, name: number}):
@@ -62,7 +62,7 @@ def test_a_setting_is_an_integer_of_32_bits(name):
                     call()
 
 
-def test_the_number_of_an_error_is_an_integer_of_32_bits():
+def test_the_number_of_an_error_must_be_an_integer_of_32_bits():
     for number in (*TOO_MUCH, (1 << 32) + 5, 5 - (1 << 32)):
         assert error_to_str(number) == f"There is no error {number}"
     for number in NO_NUMBERS:
@@ -71,7 +71,7 @@ def test_the_number_of_an_error_is_an_integer_of_32_bits():
 
 
 @of_each_limit
-def test_a_limit_is_a_number_of_32_bits_and_that_of_the_work_of_64(name, most):
+def test_a_limit_must_be_an_integer_of_32_bits_or_of_64_for_the_work(name, most):
     for number in (number for number in (*TOO_MUCH, most + 1) if not 0 <= number <= most):
         with pytest.raises(ValueError, match=f"^{name} is"):
             Limits(**{name: number})
@@ -92,7 +92,7 @@ def test_limits_cannot_be_changed(name):
     assert limits == DEFAULT_LIMITS == PasswordHasher().limits
 
 
-def test_limits_are_values():
+def test_limits_are_equal_if_their_fields_are_also_after_copying_and_pickling():
     limits = Limits(memory_cost=1, time_cost=2, parallelism=3, work=4)
     for other in (Limits(1, 2, 3, 4), copy.copy(limits), copy.deepcopy(limits), pickle.loads(pickle.dumps(limits))):
         assert (other, hash(other)) == (limits, hash(limits))
@@ -101,7 +101,7 @@ def test_limits_are_values():
     assert limits not in others
 
 
-def test_dataclasses_works_with_limits_and_parameters():
+def test_the_functions_of_dataclasses_take_limits_and_parameters():
     limits = dataclasses.replace(Limits(1, 2, 3, 4), time_cost=5)
     assert (type(limits), limits) == (Limits, Limits(1, 5, 3, 4))
     with pytest.raises(ValueError):
@@ -116,7 +116,7 @@ def test_dataclasses_works_with_limits_and_parameters():
 
 
 @pytest.mark.parametrize("limits", [(1, 2, 3, 4), 1, "x", profiles.OWASP])
-def test_limits_are_judged_where_they_are_given(limits):
+def test_limits_of_a_wrong_type_are_rejected(limits):
     for call in (lambda: PasswordHasher(limits=limits), lambda: setattr(PasswordHasher(), "limits", limits),
                  lambda: PasswordHasher.from_parameters(profiles.OWASP, limits=limits),
                  lambda: verify_secret(TEXT.encode(), b"password", Type.ID, limits=limits)):
@@ -124,7 +124,7 @@ def test_limits_are_judged_where_they_are_given(limits):
             call()
 
 
-def test_a_hasher_has_other_limits_where_they_are_set():
+def test_the_limits_of_a_hasher_can_be_set():
     hasher = PasswordHasher()
     hasher.limits = Limits(time_cost=3)
     with pytest.raises(TooCostlyError):
@@ -135,10 +135,10 @@ def test_a_hasher_has_other_limits_where_they_are_set():
 
 
 @pytest.mark.parametrize("length", [200, 1000, 100000])
-def test_limits_hold_for_strings_of_any_length(length):
+def test_limits_apply_to_strings_of_any_length(length):
     text = "$argon2id$v=19$m=8,t=1000,p=1$" + "A" * (length - 38) + "$AAAAAAA"
     for verify in (lambda: PasswordHasher().verify(text, "password"),
-                   lambda: PasswordHasher(limits=Limits(memory_cost=7, time_cost=1000)).verify(text, "password"),
+                   lambda: PasswordHasher(1, 1024, 1, limits=Limits(time_cost=999)).verify(text, "password"),
                    lambda: verify_secret(text.encode(), b"password", Type.ID, limits=DEFAULT_LIMITS)):
         with pytest.raises(TooCostlyError):
             verify()
@@ -147,13 +147,13 @@ def test_limits_hold_for_strings_of_any_length(length):
 
 
 @pytest.mark.parametrize("settings", [LARGE, {**LARGE, "time_cost": 1}, {**LARGE, "parallelism": 1}])
-def test_a_hasher_verifies_what_it_hashes(settings):
+def test_a_hasher_verifies_its_own_hashes_above_the_default_limits(settings):
     for hasher in (PasswordHasher(**settings), PasswordHasher(**settings, keep_memory=True),
                    PasswordHasher.from_parameters(of_settings(settings))):
         assert hasher.verify(hasher.hash("password"), "password") is True
 
 
-def test_the_default_limits_are_the_library_s_or_the_settings():
+def test_the_default_limits_are_the_library_s_raised_to_the_settings():
     number = default_limits()
     defaults = Limits(number.mem_cost, number.time_cost, number.lanes, number.work)
     assert DEFAULT_LIMITS == defaults
@@ -174,26 +174,44 @@ def test_the_default_limits_are_the_library_s_or_the_settings():
         assert PasswordHasher(memory_cost=memory_cost, time_cost=time_cost).limits.work == work
 
 
-@pytest.mark.parametrize("limits", [Limits(), Limits(time_cost=3), None])
-def test_limits_that_are_given_stay_as_they_are(limits):
-    hashers = [PasswordHasher(**LARGE, limits=limits),
-               PasswordHasher.from_parameters(of_settings(LARGE), limits=limits, keep_memory=True)]
+@pytest.mark.parametrize("limits", [Limits(memory_cost=1024, time_cost=3), Limits(time_cost=3), None])
+def test_limits_that_are_passed_stay_as_they_are(limits):
+    hashers = [PasswordHasher(**SETTINGS, limits=limits),
+               PasswordHasher.from_parameters(of_settings(SETTINGS), limits=limits, keep_memory=True)]
     assert [(hasher.limits, hasher.keep_memory) for hasher in hashers] == [(limits, False), (limits, True)]
+
+
+@pytest.mark.parametrize("name, own", [
+    ("memory_cost", 1024), ("time_cost", 3), ("parallelism", 4), ("work", 3 * 1024)])
+def test_limits_below_the_hasher_s_own_settings_are_rejected(name, own):
+    """With them it could not verify its own hashes."""
+    settings = {"time_cost": 3, "memory_cost": 1024, "parallelism": 4}
+    least = Limits(memory_cost=1024, time_cost=3, parallelism=4, work=3 * 1024)
+    hasher = PasswordHasher(**settings, limits=least)
+    assert hasher.verify(hasher.hash("password"), "password") is True
+    below = dataclasses.replace(least, **{name: own - 1})
+    words = f"^the limit {name}={own - 1} is below this hasher's own {name}, {own}: "
+    for call in (lambda: PasswordHasher(**settings, limits=below), lambda: setattr(hasher, "limits", below),
+                 lambda: PasswordHasher.from_parameters(of_settings(settings), limits=below)):
+        with pytest.raises(ValueError, match=words):
+            call()
+    assert hasher.limits == least
 
 
 def test_work_above_its_limit_is_too_costly():
     text = PasswordHasher(time_cost=3, memory_cost=64, parallelism=1).hash("password")
-    assert PasswordHasher(limits=Limits(work=192)).verify(text, "password") is True
-    for call in (lambda: PasswordHasher(limits=Limits(work=191)).verify(text, "password"),
+    small = {"time_cost": 1, "memory_cost": 64}
+    assert PasswordHasher(**small, limits=Limits(work=192)).verify(text, "password") is True
+    for call in (lambda: PasswordHasher(**small, limits=Limits(work=191)).verify(text, "password"),
                  lambda: verify_secret(text.encode(), b"password", Type.ID, limits=Limits(work=191)),
-                 lambda: PasswordHasher(limits=Limits()).verify(PasswordHasher(**LARGE).hash("password"), "password")):
+                 lambda: PasswordHasher(**SETTINGS, limits=Limits()).verify(
+                     PasswordHasher(**LARGE).hash("password"), "password")):
         with pytest.raises(TooCostlyError):
             call()
 
 
 @pytest.mark.parametrize("said", [0, 2, 1000])
-def test_the_true_length_of_bytes_counts(said):
-    """Of bytes that say that they have another."""
+def test_a_subclass_of_bytes_cannot_lie_about_its_length(said):
     lying = type("Lying", (bytes,), {"__len__": lambda _: said})
     password, salt, settings = lying(b"password"), lying(b"somesaltsomesalt"), (*SETTINGS.values(), Type.ID)
     right = hash_secret_raw(b"password", b"somesaltsomesalt", *settings)

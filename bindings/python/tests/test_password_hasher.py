@@ -1,10 +1,11 @@
-"""The names, defaults and answers of argon2-cffi."""
+"""`PasswordHasher` and the older calls, with the names, defaults and results of argon2-cffi."""
 import base64
 import inspect
 import pickle
 import re
 import subprocess
 import sys
+import time
 import unicodedata
 from dataclasses import replace
 from pathlib import Path
@@ -27,9 +28,12 @@ from proved_argon2 import (
 )
 from proved_argon2.exceptions import (
     Argon2Error,
+    BusyError,
     HashingError,
     InvalidHash,
     InvalidHashError,
+    TooCostlyError,
+    UnknownPepperError,
     VerificationError,
     VerifyMismatchError,
 )
@@ -37,12 +41,13 @@ from proved_argon2.exceptions import (
 TOP = Path(__file__).resolve().parents[3]
 SMALL = {"time_cost": 1, "memory_cost": 32, "parallelism": 2}
 TEXT = "$argon2i$v=19$m=256,t=2,p=1$c29tZXNhbHQ$iekCn0Y3spW+sCcFanM2xBT63UP2sghkUoHLIUpWRS8"
+OTHER = {**SMALL, "time_cost": 2}
 OLD_CALLS = hash_password, hash_password_raw, verify_password
 of_the_old_calls = pytest.mark.filterwarnings("ignore:.* is deprecated:DeprecationWarning")
 
 
 @pytest.mark.parametrize("keep_memory", [False, True])
-def test_a_password_matches_with_the_secret_of_its_hash_alone(keep_memory):
+def test_a_password_matches_only_with_the_secret_of_its_hash(keep_memory):
     hasher = PasswordHasher(**SMALL, secret=b"pepper", keep_memory=keep_memory)
     text = hasher.hash("password", salt=b"somesalt")
     arguments = b"password", b"somesalt", *SMALL.values(), 32, Type.ID
@@ -55,7 +60,7 @@ def test_a_password_matches_with_the_secret_of_its_hash_alone(keep_memory):
             other.verify(text, password)
 
 
-def test_the_constructor_has_the_arguments_and_defaults_of_argon2_cffi_and_then_its_own():
+def test_the_constructor_has_the_arguments_of_argon2_cffi_and_three_more():
     arguments = inspect.signature(PasswordHasher).parameters
     assert [(name, argument.default) for name, argument in arguments.items()] == [
         ("time_cost", 3), ("memory_cost", 65536), ("parallelism", 4), ("hash_len", 32), ("salt_len", 16),
@@ -74,34 +79,34 @@ def arguments(call):
 @pytest.mark.parametrize("name, call", [
     ("PasswordHasher", PasswordHasher), ("extract_parameters", extract_parameters),
     *((f"hasher.{name}", getattr(PasswordHasher, name)) for name in ("hash", "verify", "check_needs_rehash"))])
-def test_the_page_has_the_arguments_of_a_call(name, call):
-    """In their order and with their defaults."""
+def test_the_page_shows_the_arguments_and_defaults_of_each_call(name, call):
     page, names = " ".join((TOP / "docs/PYTHON.md").read_text("utf-8").split()), dict(vars(proved_argon2))
     exec("def documented({}): pass".format(re.search(rf"`{name}\((.*?)\)`", page)[1]), names)
     assert arguments(names["documented"]) == arguments(call)
 
 
-def test_the_exceptions_stand_under_one_another_as_in_argon2_cffi():
+def test_the_exceptions_have_the_base_classes_of_argon2_cffi():
     for error, above in ((VerifyMismatchError, VerificationError), (VerificationError, Argon2Error),
-                         (HashingError, Argon2Error), (InvalidHashError, ValueError)):
+                         (HashingError, Argon2Error), (InvalidHashError, ValueError), (BusyError, Argon2Error),
+                         (TooCostlyError, VerificationError), (UnknownPepperError, VerificationError)):
         assert issubclass(error, above)
     assert InvalidHash is InvalidHashError
 
 
 @pytest.mark.parametrize("variant", Type)
-def test_a_hasher_of_parameters_has_each_of_them(variant):
+def test_from_parameters_takes_each_parameter(variant):
     parameters = Parameters(variant, 19, salt_len=9, hash_len=5, time_cost=2, memory_cost=97, parallelism=3)
     hasher = PasswordHasher.from_parameters(parameters)
     assert hasher._parameters == extract_parameters(hasher.hash("password")) == parameters
 
 
-def test_a_hasher_shows_its_settings_and_no_secret():
+def test_repr_shows_the_settings_but_not_the_secret():
     assert repr(PasswordHasher(**SMALL, limits=None, keep_memory=True, secret=b"pepper")) == (
         "PasswordHasher(time_cost=1, memory_cost=32, parallelism=2, hash_len=32, salt_len=16, encoding='utf-8', "
         "type=<Type.ID: 2>, limits=None, keep_memory=True)")
 
 
-def test_parameters_can_be_changed_and_the_profiles_stay():
+def test_default_parameters_can_be_changed_without_changing_the_profile():
     changed = profiles.get_default_parameters()
     assert changed == profiles.RFC_9106_LOW_MEMORY and not hasattr(changed, "__dict__")
     changed.salt_len = 8
@@ -114,7 +119,7 @@ def test_parameters_can_be_changed_and_the_profiles_stay():
     *(({"secret": secret}, "'secret' must be bytes") for secret in ("pepper", None, bytearray(b"pepper"))),
     ({"time_cost": "1", "hash_len": None}, "'time_cost' .*, 'hash_len' .*"),
 ])
-def test_wrong_types_are_refused_by_name(wrong, words):
+def test_arguments_of_a_wrong_type_are_named_in_the_error(wrong, words):
     with pytest.raises(TypeError, match=words):
         PasswordHasher(**wrong)
 
@@ -122,7 +127,7 @@ def test_wrong_types_are_refused_by_name(wrong, words):
 @pytest.mark.parametrize("profile, name, lanes", [
     (profiles.OWASP, "owasp2", 1), (profiles.RFC_9106_HIGH_MEMORY, "rfc9106", 4),
     (profiles.RFC_9106_LOW_MEMORY, "rfc9106_low_mem", 4)])
-def test_the_profiles_are_those_that_the_library_recommends(profile, name, lanes):
+def test_profiles_have_the_values_of_the_library_s_presets(profile, name, lanes):
     call = getattr(_library._library, f"proved_argon2_{name}")
     call.argtypes, call.restype = [], _library.Settings
     found = call()
@@ -130,7 +135,7 @@ def test_the_profiles_are_those_that_the_library_recommends(profile, name, lanes
         Type(found.variant), found.version, 16, found.hash_length, found.time_cost, found.mem_cost, lanes)
 
 
-def test_the_profiles_that_argon2_cffi_alone_has():
+def test_the_other_profiles_have_the_values_of_argon2_cffi():
     assert profiles.PRE_21_2 == replace(
         profiles.OWASP, time_cost=2, memory_cost=102400, parallelism=8, hash_len=16, salt_len=16)
     assert profiles.CHEAPEST == replace(
@@ -138,7 +143,7 @@ def test_the_profiles_that_argon2_cffi_alone_has():
 
 
 @of_the_old_calls
-def test_the_salt_is_what_the_system_gives_or_the_given_one():
+def test_the_salt_is_from_urandom_unless_it_is_passed():
     known = bytes(range(0x81, 0xC1))
     encoded = base64.b64encode(known).decode().rstrip("=")
     with mock.patch("os.urandom", lambda length: known[:length]):
@@ -156,7 +161,7 @@ def test_the_salt_is_what_the_system_gives_or_the_given_one():
 
 
 @of_the_old_calls
-def test_the_old_calls_hash_and_verify():
+def test_the_deprecated_calls_hash_and_verify():
     text, raw = (call(b"password", b"somesalt", **SMALL, hash_len=24, type=Type.ID) for call in OLD_CALLS[:2])
     assert text == low_level.hash_secret(b"password", b"somesalt", 1, 32, 2, 24, Type.ID)
     assert text.decode().split("$")[5] == base64.b64encode(raw).decode().rstrip("=")
@@ -167,7 +172,7 @@ def test_the_old_calls_hash_and_verify():
         verify_password(text, b"password")
 
 
-def test_the_old_calls_have_the_arguments_and_defaults_of_argon2_cffi():
+def test_the_deprecated_calls_have_the_arguments_and_defaults_of_argon2_cffi():
     for call in OLD_CALLS[:2]:
         arguments = inspect.signature(call).parameters
         assert list(arguments) == "password salt time_cost memory_cost parallelism hash_len type".split()
@@ -175,7 +180,7 @@ def test_the_old_calls_have_the_arguments_and_defaults_of_argon2_cffi():
     assert str(inspect.signature(verify_password)).split(" ->")[0].count("Type.I") == 1
 
 
-def test_the_old_calls_warn_in_the_words_of_argon2_cffi_where_they_are_called():
+def test_the_deprecated_calls_warn_in_the_words_of_argon2_cffi_at_the_caller_s_line():
     inputs = b"password", b"somesalt", 1, 32, 2
     text = low_level.hash_secret(*inputs, 16, Type.I)
     for call, arguments in zip(OLD_CALLS, (inputs, inputs, (text, b"password"))):
@@ -189,7 +194,7 @@ def run_module(*words):
     return subprocess.run([sys.executable, "-m", "proved_argon2", *words], capture_output=True, text=True, timeout=60)
 
 
-def test_the_module_measures():
+def test_python_m_measures_a_hash():
     words = "-n", "2", "-t", "1", "-m", "64", "-p", "2", "-l", "16"
     done = run_module(*words)
     assert done.returncode == 0, done.stderr
@@ -203,16 +208,16 @@ def test_the_module_measures():
     ("-n", "0", "argument -n: 0 is not above 0"), ("-n", "-1", "argument -n: -1 is not above 0"),
     ("-t", "0", "argument -t: 0 is not above 0"), ("-m", "7", "Memory cost is too small"),
     ("-p", "4294967296", "parallelism is 4294967296"), ("-l", "3", "Output is too short")])
-def test_the_module_names_what_cannot_be_measured(option, number, why):
+def test_python_m_names_a_rejected_argument(option, number, why):
     done = run_module(option, number)
     assert (done.returncode, done.stdout) == (2, "") and why in done.stderr and "Traceback" not in done.stderr
 
 
 @pytest.mark.parametrize("variant", Type)
-def test_a_password_verifies_and_another_does_not(variant):
+def test_verify_accepts_the_password_and_rejects_another_one(variant):
     hasher = PasswordHasher(**SMALL, type=variant)
     texts = {hasher.hash("password") for _ in range(20)}
-    assert len(texts) == 20  # each has another salt
+    assert len(texts) == 20  # Each has a different salt.
     for text in texts:
         assert hasher.verify(text, "password") is PasswordHasher().verify(text.encode(), b"password") is True
         with pytest.raises(VerifyMismatchError):
@@ -221,7 +226,7 @@ def test_a_password_verifies_and_another_does_not(variant):
 
 @pytest.mark.parametrize("password", [
     b"", b"\0", b"pass\0word", b" pass\n", b"\xff\xfe", bytes(range(256)), b"\xff" * (1 << 20)])
-def test_any_bytes_are_a_password(password):
+def test_any_bytes_can_be_a_password(password):
     hasher = PasswordHasher(**SMALL)
     text = hasher.hash(password)
     assert hasher.verify(text, password) is True
@@ -229,7 +234,7 @@ def test_any_bytes_are_a_password(password):
         hasher.verify(text, b"pass")
 
 
-def test_a_string_is_encoded_and_no_form_of_it_is_made_of_another():
+def test_a_str_is_encoded_without_normalizing_it():
     latin, utf8 = PasswordHasher(**SMALL, encoding="latin-1"), PasswordHasher(**SMALL)
     assert utf8.verify(latin.hash("\xe9"), b"\xe9") and latin.verify(utf8.hash(b"\xe9"), "\xe9")
     with pytest.raises(UnicodeEncodeError):
@@ -241,18 +246,18 @@ def test_a_string_is_encoded_and_no_form_of_it_is_made_of_another():
 
 
 @pytest.mark.parametrize("password", [None, 1, bytearray(b"password")])
-def test_a_password_that_is_no_bytes_is_refused(password):
+def test_a_password_that_is_neither_str_nor_bytes_is_rejected(password):
     with pytest.raises(TypeError, match="'password'"):
         PasswordHasher(**SMALL).hash(password)
 
 
-def test_parameters_are_read():
+def test_extract_parameters_reads_each_setting():
     assert extract_parameters(TEXT) == Parameters(
         Type.I, version=19, salt_len=8, hash_len=32, time_cost=2, memory_cost=256, parallelism=1)
     assert extract_parameters(TEXT.replace("v=19$", "")).version == 16
 
 
-def test_a_new_hash_is_needed_where_a_setting_differs():
+def test_check_needs_rehash_compares_each_setting():
     today = {"time_cost": 2, "memory_cost": 256, "parallelism": 1, "salt_len": 8, "type": Type.I}
     needs = PasswordHasher(**today).check_needs_rehash
     assert (needs(TEXT), needs(TEXT.encode()), needs(TEXT.replace("v=19", "v=16"))) == (False, False, True)
@@ -261,8 +266,98 @@ def test_a_new_hash_is_needed_where_a_setting_differs():
         assert PasswordHasher(**{**today, name: value}).check_needs_rehash(TEXT), name
 
 
-def cannot_be_verified(text):
-    """What `verify_secret` raises of a string that decodes to no hash."""
+def test_verify_and_update_renews_a_hash_with_other_settings_for_the_right_password_only():
+    hasher, old = PasswordHasher(**SMALL), PasswordHasher(**OTHER).hash("password")
+    is_match, new = hasher.verify_and_update(old, "password")
+    assert is_match is hasher.verify(new, "password") is True and not hasher.check_needs_rehash(new)
+    assert hasher.verify_and_update(new, "password") == (True, None)
+    for text in (new, old):
+        assert hasher.verify_and_update(text, "Password") == (False, None)
+
+
+@pytest.mark.parametrize("error", [HashingError("Out of memory"), MemoryError()])
+def test_verify_and_update_accepts_the_password_if_the_new_hash_cannot_be_computed(error):
+    old = PasswordHasher(**OTHER).hash("password")
+    with mock.patch.object(PasswordHasher, "hash", side_effect=error):
+        assert PasswordHasher(**SMALL).verify_and_update(old, "password") == (True, None)
+
+
+@pytest.mark.parametrize("text, error", [
+    ("x", InvalidHashError), ("$argon2id$x", VerificationError),
+    (TEXT.replace("m=256", "m=4294967295"), TooCostlyError)])
+def test_verify_and_update_raises_the_errors_of_verify(text, error):
+    with pytest.raises(error):
+        PasswordHasher(**SMALL).verify_and_update(text, "password")
+
+
+@pytest.mark.parametrize("settings", [
+    SMALL, {**OTHER, "type": Type.I, "salt_len": 9, "hash_len": 5}, {**SMALL, "type": Type.D, "salt_len": 10},
+    {"time_cost": 11, "memory_cost": 160, "parallelism": 20, "hash_len": 4, "salt_len": 8}])
+@pytest.mark.parametrize("secret", [b"", b"pepper"])
+def test_verify_unknown_verifies_a_hash_with_the_same_settings_and_returns_false(settings, secret):
+    """A login of a user who does not exist then takes as long as one of a user who does."""
+    hasher, verified = PasswordHasher(**settings, secret=secret), []
+    with mock.patch.object(_library, "verify_pieces", side_effect=_library.verify_pieces) as call, \
+            mock.patch("proved_argon2.low_level.verify_pieces", call):
+        for password in ("password", b"", "x" * 1000):
+            assert hasher.verify_unknown(password) is False
+            verified.append(call.call_args[0][0][0].decode())
+    assert call.call_count == 3
+    for text in verified:
+        assert extract_parameters(text) == hasher._parameters
+        assert not hasher.check_needs_rehash(text)
+
+
+def test_verify_unknown_returns_false_even_if_the_password_matches():
+    with mock.patch.object(PasswordHasher, "verify", return_value=True):
+        assert PasswordHasher().verify_unknown("password") is False
+
+
+def test_verify_unknown_takes_as_long_as_verify():
+    """The shortest of several times differs by less than a third."""
+    hasher = PasswordHasher(time_cost=2, memory_cost=4096, parallelism=1)
+    text, times = hasher.hash("password"), {}
+    for name, call in (("known", lambda: hasher.verify_and_update(text, "Password")),
+                       ("unknown", lambda: hasher.verify_unknown("Password"))) * 20:
+        begun = time.perf_counter()
+        call()
+        times.setdefault(name, []).append(time.perf_counter() - begun)
+    assert 2 / 3 < min(times["unknown"]) / min(times["known"]) < 3 / 2
+
+
+def test_verify_unknown_raises_other_errors_and_stops():
+    def stop(done, slices):
+        raise KeyboardInterrupt
+
+    with pytest.raises(KeyboardInterrupt):
+        PasswordHasher(**SMALL).verify_unknown("password", progress=stop)
+    with pytest.raises(TypeError, match="'password'"):
+        PasswordHasher(**SMALL).verify_unknown(None)
+    with mock.patch.object(PasswordHasher, "verify", side_effect=VerificationError), pytest.raises(VerificationError):
+        PasswordHasher(**SMALL).verify_unknown("password")
+
+
+@pytest.mark.parametrize("hash", [None, 5, bytearray(TEXT.encode()), ["x"]])
+def test_a_hash_that_is_neither_str_nor_bytes_is_rejected(hash):
+    """Such as that of a user who has no password."""
+    hasher = PasswordHasher()
+    for call in (hasher.verify, hasher.verify_and_update):
+        with pytest.raises(TypeError, match="^'hash' must be str or bytes, not "):
+            call(hash, "password")
+    for call in (hasher.check_needs_rehash, extract_parameters):
+        with pytest.raises(TypeError, match="^'hash' must be str or bytes, not "):
+            call(hash)
+
+
+def test_a_password_with_a_lone_surrogate_is_rejected():
+    hasher = PasswordHasher(**SMALL)
+    for call in (lambda: hasher.hash("\ud800"), lambda: hasher.verify(TEXT, "\ud800")):
+        with pytest.raises(UnicodeEncodeError):
+            call()
+
+
+def require_verification_error(text):
+    """Require that `verify_secret` raises `VerificationError` for a string."""
     with pytest.raises(VerificationError) as raised:
         low_level.verify_secret(text if isinstance(text, bytes) else text.encode(errors="surrogatepass"), b"x", Type.I)
     assert raised.type is VerificationError
@@ -271,25 +366,25 @@ def cannot_be_verified(text):
 @pytest.mark.parametrize("text", [
     "", "x", "$argon2x" + TEXT[8:], b"\xff", "\xe9", "\ud800", "$" * (1 << 20), " " + TEXT, "\n" + TEXT],
     ids=lambda text: repr(text[:9]))
-def test_what_is_no_hash_is_invalid(text):
+def test_a_string_that_does_not_begin_as_an_encoded_hash_is_invalid(text):
     for call in (PasswordHasher().check_needs_rehash, extract_parameters,
                  lambda text: PasswordHasher().verify(text, "password")):
         with pytest.raises(InvalidHashError):
             call(text)
-    cannot_be_verified(text)
+    require_verification_error(text)
 
 
 @pytest.mark.parametrize("text", [
     TEXT + "=", TEXT + "\0", TEXT.encode() + b"\0", TEXT.encode() + b"\0$", TEXT[:40] + "\xe9" + TEXT[40:], TEXT + "\n",
     TEXT + " ", TEXT[:-2], TEXT.replace("m=256", "m=7"), "$argon2id$" * (1 << 17)], ids=lambda text: repr(text[-9:]))
-def test_what_begins_as_a_hash_cannot_be_verified(text):
+def test_a_damaged_encoded_hash_cannot_be_verified(text):
     with pytest.raises((VerificationError, InvalidHashError)) as raised:
         PasswordHasher().verify(text, "password")
     assert raised.type is not VerifyMismatchError
-    cannot_be_verified(text)
+    require_verification_error(text)
 
 
-def test_package_library_and_repository_have_one_version():
+def test_package_library_and_repository_have_the_same_version():
     version = (TOP / "VERSION").read_text().strip()
     major, minor, patch = map(int, version.split("."))
     number = _library._library.proved_argon2_library_version()

@@ -1,4 +1,4 @@
-"""How far a call is, and what stops it: what `progress` raises, and what handlers of signals raise."""
+"""The callback `progress`, and how exceptions of it and of signal handlers stop a call."""
 import _thread
 import ctypes
 import os
@@ -31,7 +31,7 @@ except KeyboardInterrupt:
 
 
 def calls(time_cost, memory_cost, lanes, **named):
-    """The calls that can be told how far they are, each with what it gives."""
+    """Return the calls that take `progress`, each with its expected result."""
     arguments = (b"password", b"somesalt", time_cost, memory_cost, lanes, 24, Type.ID)
     text = hash_secret(*arguments)
     hasher = PasswordHasher(time_cost=time_cost, memory_cost=memory_cost, parallelism=lanes, hash_len=24)
@@ -45,7 +45,7 @@ def calls(time_cost, memory_cost, lanes, **named):
 
 
 def long_calls(**named):
-    """The calls, with settings that take longer than a test has."""
+    """Yield the calls with settings that take more than a minute."""
     for lanes in (1, 2):
         arguments = (b"password", b"somesalt", *LONG.values(), lanes, 24, Type.ID)
         yield lambda: hash_secret(*arguments, **named)
@@ -57,7 +57,7 @@ def long_calls(**named):
 
 
 @pytest.mark.parametrize("costs", [(1, 8, 1), (3, 64, 1), (2, 640, 3), (5, 4096, 4)])
-def test_each_slice_is_told_in_the_caller_s_thread_and_no_answer_is_another_one(costs):
+def test_progress_is_called_for_each_slice_in_the_caller_s_thread(costs):
     seen, slices = [], 4 * costs[0]
     told = [(_thread.get_ident(), done, slices) for done in range(1, slices + 1)]
     with ThreadPoolExecutor(1) as pool:
@@ -69,7 +69,7 @@ def test_each_slice_is_told_in_the_caller_s_thread_and_no_answer_is_another_one(
                 seen.clear()
 
 
-def test_what_it_raises_stops_the_call_and_the_next_one_is_right():
+def test_an_exception_of_progress_stops_the_call_and_clears_its_memory():
     class Enough(BaseException):
         pass
 
@@ -95,7 +95,7 @@ def test_what_it_raises_stops_the_call_and_the_next_one_is_right():
 
 @pytest.fixture
 def alarm():
-    """What sets a handler of the alarm, and when that comes."""
+    """Return a function that sets a handler for SIGALRM, and the time of the signal."""
     before = signal.getsignal(signal.SIGALRM)
 
     def set_alarm(handler, *seconds):
@@ -103,7 +103,9 @@ def alarm():
         signal.setitimer(signal.ITIMER_REAL, *seconds)
 
     yield set_alarm
-    set_alarm(before, 0)
+    # (first, since the handler before is that of pytest's timeout, which a signal that still comes must not reach)
+    signal.setitimer(signal.ITIMER_REAL, 0)
+    signal.signal(signal.SIGALRM, before)
 
 
 def is_late(*_):
@@ -111,28 +113,28 @@ def is_late(*_):
 
 
 def stops(call):
-    """Whether the alarm stops a call soon."""
+    """Return whether the handler of SIGALRM stops a call soon."""
     begun = time.monotonic()
     with pytest.raises(TimeoutError):
         call()
     return time.monotonic() - begun < PATIENCE
 
 
-def test_what_a_handler_raises_stops_a_call(alarm):
+def test_an_exception_of_a_signal_handler_stops_a_call(alarm):
     for named in ({}, {"progress": lambda *_: None}):
         for call in long_calls(**named):
             alarm(is_late, 0.05)
             assert stops(call)
 
 
-def test_a_handler_that_raises_nothing_stops_nothing(alarm):
+def test_a_signal_handler_without_an_exception_stops_nothing(alarm):
     for call, answer in calls(40, 1024, 1, progress=None):
         hits = []
         alarm(lambda *_: hits.append(1), 0.001, 0.001)
         assert call() == answer and hits
 
 
-def test_ctrl_c_stops_a_hash_in_a_program_of_threads():
+def test_ctrl_c_stops_a_hash_in_a_program_with_threads():
     with subprocess.Popen([sys.executable, "-c", PROGRAM], stdout=subprocess.PIPE, text=True) as begun:
         try:
             assert begun.stdout.readline() == "begun\n"
@@ -144,8 +146,8 @@ def test_ctrl_c_stops_a_hash_in_a_program_of_threads():
     assert begun.returncode == 0
 
 
-def test_a_call_in_another_thread_goes_on_and_lets_this_one_run(alarm):
-    # (some hundreds of milliseconds, so that the alarm comes first on a fast machine too)
+def test_a_signal_does_not_stop_a_call_in_another_thread(alarm):
+    # The call takes some hundreds of milliseconds, so that the alarm comes first on a fast machine too.
     (call, answer), *_ = calls(600, 2048, 1, progress=None)
     with ThreadPoolExecutor(1) as pool:
         begun = time.monotonic()

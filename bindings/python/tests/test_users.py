@@ -1,6 +1,6 @@
-"""Programs that use argon2-cffi, with this package in its place: Django, and passlib with its own tests; and a store of
-other hashes that moves to Argon2 login by login, by the lines of docs/USE.md and docs/examples/from_scrypt.py. They
-are Debian's python3-django, python3-passlib and python3-pwdlib, and each runs in a process of its own."""
+"""Programs that use argon2-cffi run with this package in its place: Django, passlib with its own tests, and pwdlib. The
+code of docs/USE.md and docs/examples/from_scrypt.py moves other hashes to Argon2. The programs are Debian's
+python3-django, python3-passlib and python3-pwdlib, and each runs in a process of its own."""
 import hashlib
 import re
 import runpy
@@ -16,7 +16,7 @@ from proved_argon2.exceptions import InvalidHashError
 
 DOCS = Path(__file__).resolve().parents[3] / "docs"
 SMALL = {"time_cost": 1, "memory_cost": 64, "parallelism": 1}
-# The lines of docs/PYTHON.md that put this package in argon2-cffi's place.
+# The code of docs/PYTHON.md that puts this package in the place of argon2-cffi.
 IN_PLACE = textwrap.dedent(re.search(
     r"^    import sys, proved_argon2\n(?:    .*\n)+", (DOCS / "PYTHON.md").read_text("utf-8"), re.M)[0])
 DJANGO = """
@@ -46,13 +46,13 @@ def needs(*modules):
 
 
 def lines(title):
-    """The lines of code under a title of the page."""
+    """Return the code under a heading of docs/USE.md."""
     page = (DOCS / "USE.md").read_text("utf-8")
     return re.search(rf"^### {title}.*?^```python\n(.*?)^```", page, re.M | re.S)[1]
 
 
 def run(*pieces):
-    """What a program says that has to succeed."""
+    """Run a program, which must succeed, and return its output."""
     words = [sys.executable, "-W", "ignore", "-c", "\n".join(pieces)]
     done = subprocess.run(words, capture_output=True, text=True, timeout=600)
     assert done.returncode == 0, done.stderr
@@ -89,13 +89,13 @@ for rest, password in (
     assert check_password("x" + password, "argon2$" + rest) is False
     assert get_hasher("argon2").must_update("argon2$" + rest)
     assert get_hasher("argon2").safe_summary("argon2$" + rest)
-"""], ids=["right and wrong passwords", "settings of today and others", "texts of argon2i"])
-def test_django_works_with_it(piece):
+"""], ids=["right and wrong passwords", "current and other settings", "hashes of argon2i"])
+def test_django_hashes_and_verifies(piece):
     run(DJANGO, piece)
 
 
 @needs("django")
-def test_django_renews_what_another_hasher_made():
+def test_django_renews_hashes_of_another_hasher():
     run("from django.conf import settings\nsettings.configure()", lines("Django"), """
 import sys
 settings.PASSWORD_HASHERS = PASSWORD_HASHERS
@@ -111,7 +111,7 @@ assert sys.modules["proved_argon2"] and "argon2" not in sys.modules
 
 
 @needs("passlib")
-def test_passlib_s_own_tests_pass():
+def test_passlib_passes_its_own_tests():
     run(IN_PLACE, """
 import unittest, warnings
 warnings.simplefilter("ignore")
@@ -132,7 +132,7 @@ assert result.wasSuccessful()
     pytest.param("passlib", "from passlib.hash import pbkdf2_sha256\n"
                  "stored = pbkdf2_sha256.using(rounds=10).hash('password')", marks=needs("passlib")),
 ])
-def test_another_library_renews_what_another_scheme_made(name, made):
+def test_pwdlib_and_passlib_renew_hashes_of_another_scheme(name, made):
     run(IN_PLACE, f"""
 {made}
 password = "password"
@@ -150,7 +150,7 @@ assert costly.verify(costly.hash("password"), "password") and not context.verify
 """ if name == "pwdlib" else "")
 
 
-def test_a_login_of_one_s_own_moves_to_ours_and_to_the_settings_of_today():
+def test_the_example_moves_hashes_of_scrypt_and_of_older_settings():
     log_in = runpy.run_path(str(DOCS / "examples/from_scrypt.py"))["log_in"]
     tag = hashlib.scrypt(b"password", salt=b"somesalt", n=16384, r=8, p=1, dklen=32)
     old = f"scrypt:{b'somesalt'.hex()}:{tag.hex()}"
@@ -162,7 +162,7 @@ def test_a_login_of_one_s_own_moves_to_ours_and_to_the_settings_of_today():
         assert log_in(renewed, "Password") == (False, renewed)
 
 
-def test_a_hash_of_another_scheme_or_in_braces_is_an_error():
+def test_a_hash_of_another_scheme_or_with_a_prefix_in_braces_is_invalid():
     stored = PasswordHasher(**SMALL).hash("password")
     for other in ("$2b$04$" + 53 * "a", "{argon2}" + stored):
         with pytest.raises(InvalidHashError):

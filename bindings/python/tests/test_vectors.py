@@ -1,4 +1,4 @@
-"""The outside vectors, those of RFC 9106, and hashes of libargon2 that vectors/drawn.py draws into $RANDOM_HASHES."""
+"""Hashes of other libraries, those of RFC 9106, and random ones of libargon2 in the file that RANDOM_HASHES names."""
 import base64
 import os
 from pathlib import Path
@@ -27,7 +27,7 @@ def bytes_of(field):
 
 
 def answer_of(call, *arguments, **named):
-    """The answer as the vectors spell it."""
+    """Return the result of a call as the vectors have it."""
     try:
         return call(*arguments, **named)
     except VerifyMismatchError:
@@ -36,13 +36,13 @@ def answer_of(call, *arguments, **named):
         return f"ERR {error}"
 
 
-def test_all_are_there():
+def test_all_vectors_are_present():
     assert (len(LINES), len(TEXTS)) == (240 if len(FILES) == 1 else 1040, 147)
 
 
 @pytest.mark.parametrize("memory", [None, Memory()], ids=["own memory", "one memory"])
-def test_each_tag_and_error_also_in_a_string(memory):
-    """A string verifies with this password, this secret and this associated data alone."""
+def test_each_tag_or_error_is_that_of_the_vector(memory):
+    """Encoded hashes have the same tag. They match only with this password, this secret and this associated data."""
     for line in LINES if memory is None else LINES[:240]:
         variant, *numbers, pwd, salt, secret, ad, answer = line.split(" ", 10)
         version, time_cost, memory_cost, lanes, length = map(int, numbers)
@@ -53,18 +53,18 @@ def test_each_tag_and_error_also_in_a_string(memory):
         if answer.startswith("ERR "):
             assert (tag, text) == (answer, answer), line
             continue
-        spelled = text.decode().split("$")[-1]
-        assert [tag.hex(), base64.b64decode(spelled + "=" * (-len(spelled) % 4)).hex()] == [answer] * 2, line
+        encoded_tag = text.decode().split("$")[-1]
+        assert [tag.hex(), base64.b64decode(encoded_tag + "=" * (-len(encoded_tag) % 4)).hex()] == [answer] * 2, line
         assert verify_secret(text, pwd, TYPES[variant], **named) is True, line
         others = {**named, "key": ad, "associated_data": secret}
         for wrong, keys in ((pwd + b"x", named), *([(pwd, others)] if secret != ad else [])):
             assert answer_of(verify_secret, text, wrong, TYPES[variant], **keys) == "false", line
 
 
-def test_each_string():
+def test_each_string_has_the_verdict_of_the_vector():
     for line in TEXTS:
         text, answer = line.split("\t")
-        # (the type that it names, or any)
+        # The type is the one that the string names, or any if it names none.
         variant = TYPES.get(text.split("$")[1].lower() if "$" in text else "", Type.I)
         found = answer_of(verify_secret, text.encode(), b"password", variant)
         assert ("true" if found is True else found) == answer, text
@@ -75,7 +75,7 @@ def test_each_string():
     (Type.I, "c814d9d1dc7f37aa13f0d77f2494bda1c8de6b016dd388d29952a4c4672b6ce8"),
     (Type.ID, "0d640df58d78766c08c037a34a8b53c9d01ef0452d75b65eb52520e96b01e659"),
 ])
-def test_the_tags_of_rfc_9106(variant, tag):
+def test_the_tags_are_those_of_rfc_9106(variant, tag):
     named = {"key": b"\3" * 8, "associated_data": b"\4" * 12}
     arguments = (b"\1" * 32, b"\2" * 16, 3, 32, 4, 32, variant, ARGON2_VERSION)
     assert hash_secret_raw(*arguments, **named).hex() == tag
@@ -85,7 +85,7 @@ def test_the_tags_of_rfc_9106(variant, tag):
         verify_secret(text, b"\1" * 32, variant)
 
 
-def test_errors_have_texts_and_bytes_alone_are_taken():
+def test_errors_have_messages_and_only_bytes_are_accepted():
     assert error_to_str(5) == "Salt is too short" and "12345" in error_to_str(12345)
     text = hash_secret(b"password", b"somesalt", 1, 8, 1, 32, Type.ID)
     with pytest.raises(VerificationError):

@@ -1,17 +1,20 @@
-"""Argon2 password hashing (RFC 9106) by a library whose hashes are computed by proved code, with the names of
-argon2-cffi.
+"""Argon2 password hashing (RFC 9106) with a machine-checked proof. The names are those of argon2-cffi.
 
     >>> from proved_argon2 import PasswordHasher
     >>> hasher = PasswordHasher()
-    >>> text = hasher.hash("correct horse battery staple")
-    >>> hasher.verify(text, "correct horse battery staple")
+    >>> encoded = hasher.hash("correct horse battery staple")
+    >>> hasher.verify(encoded, "correct horse battery staple")
     True
 
-`text` is an encoded hash (PHC string), to be stored. `low_level` has the calls that take bytes and settings,
-`profiles` recommended settings, and `exceptions` what is raised. The values `DEFAULT_*` are a hasher's settings: the
-memory in KiB, lengths in bytes, and the time in passes.
+`encoded` is an encoded hash (PHC string): store it for the user. `AsyncPasswordHasher` is for services that use
+asyncio, `PepperedHasher` for services with a pepper, and `tune` finds settings for this machine. `low_level` has calls
+over bytes, `profiles` has recommended settings, and `exceptions` has what the calls raise.
+
+The constants `DEFAULT_*` are the settings of `PasswordHasher()`: the memory in KiB, lengths in bytes, and the time in
+passes.
 """
 from . import exceptions, low_level, profiles
+from ._async_hasher import AsyncPasswordHasher
 from ._password_hasher import (
     DEFAULT_HASH_LENGTH,
     DEFAULT_MEMORY_COST,
@@ -24,14 +27,15 @@ from ._password_hasher import (
     hash_password_raw,
     verify_password,
 )
-from ._service import AsyncPasswordHasher, PepperedHasher, Tuning, tune
+from ._peppers import PepperedHasher
 from ._settings import DEFAULT_LIMITS, Limits, Parameters
+from ._tuning import Tuning, tune, tune_async
 from .low_level import Type
 
 __version__ = "1.0.0"
 
-# (so that `help` names them as they are imported)
-for _public in (AsyncPasswordHasher, Limits, Parameters, PasswordHasher, PepperedHasher, Tuning, tune):
+# This makes `help` and `repr` name these as users import them.
+for _public in (AsyncPasswordHasher, Limits, Parameters, PasswordHasher, PepperedHasher, Tuning, tune, tune_async):
     _public.__module__ = __name__
 del _public
 
@@ -56,5 +60,6 @@ __all__ = [
     "low_level",
     "profiles",
     "tune",
+    "tune_async",
     "verify_password",
 ]

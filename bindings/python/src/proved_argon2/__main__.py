@@ -1,4 +1,4 @@
-"""Measures a hash with given settings: `python -m proved_argon2 --help`."""
+"""Measures how long a hash takes with given settings: `python -m proved_argon2 --help`."""
 import argparse
 import time
 
@@ -11,7 +11,7 @@ if TYPE_CHECKING:
 
 
 def _positive(word: str) -> int:
-    """The number of an argument, which has to be above 0."""
+    """Return the number of an argument, which must be above 0."""
     number = int(word)
     if number < 1:
         raise argparse.ArgumentTypeError(f"{word} is not above 0")
@@ -20,12 +20,12 @@ def _positive(word: str) -> int:
 
 def _parser() -> argparse.ArgumentParser:
     default = profiles.get_default_parameters()
-    parser = argparse.ArgumentParser(prog="python -m proved_argon2", description="Measures a hash with settings.")
+    parser = argparse.ArgumentParser(prog="python -m proved_argon2", description="Measures how long a hash takes.")
     for letter, number, about in (
-        ("n", 100, "how many hashes are measured"),
-        ("t", default.time_cost, "the passes, time_cost"),
+        ("n", 100, "the number of hashes that are measured"),
+        ("t", default.time_cost, "the number of passes, time_cost"),
         ("m", default.memory_cost, "the memory in KiB, memory_cost"),
-        ("p", default.parallelism, "the lanes, parallelism"),
+        ("p", default.parallelism, "the number of lanes, parallelism"),
         ("l", default.hash_len, "the length of the hash in bytes, hash_len"),
     ):
         parser.add_argument(f"-{letter}", type=_positive, default=number, help=about)
@@ -40,7 +40,7 @@ def _hasher(arguments: argparse.Namespace) -> PasswordHasher:
 
 
 def main(words: "Optional[List[str]]" = None) -> None:
-    """Verify a password with these settings so many times, and print the mean."""
+    """Verify a password several times with the settings of the arguments, and print the mean time."""
     parser = _parser()
     arguments = parser.parse_args(words)
     hasher = _hasher(arguments)

@@ -1,4 +1,4 @@
-"""The shared object, and its calls over `bytes`."""
+"""Loads the shared library, and makes its calls over `bytes`."""
 import ctypes
 import os
 import sys
@@ -7,29 +7,28 @@ TYPE_CHECKING = False
 if TYPE_CHECKING:
     from typing import Any, Callable, Dict, Generator, Iterator, List, Optional, Sequence, Tuple, Type, Union
 
-    from ._memory import Memory, Pages
+    from ._memory import Memory, Pages, ThreadMemory
 
     Progress = Callable[[int, int], object]
 
 SONAME = "libproved_argon2.so.1"
 VARIABLE = "PROVED_ARGON2_LIBRARY"
 
-# What a call returns: done or a match, a wrong password, a buffer of the wrong length, a string that is not UTF-8, a
-# hash above the limits, a number that no error has.
+# Numbers that calls return. OK also means that a password matches, and UNKNOWN_NUMBER is no error's number.
 OK = 0
 DECODING_FAIL = 19
 OUT_OF_MEMORY = 20
 MISMATCH = 64
-NOT_UTF8 = 66
+NOT_ASCII = 66
 UNKNOWN_NUMBER = 67
 TOO_COSTLY = 69
 
-# The greatest number that a setting has.
+# The greatest value of a setting.
 MAX_NUMBER = 0xFFFFFFFF
 
 
 class Settings(ctypes.Structure):
-    """`proved_argon2_settings` of the header."""
+    """The header's `proved_argon2_settings`."""
 
     _fields_ = [
         (name, ctypes.c_uint32)
@@ -38,13 +37,13 @@ class Settings(ctypes.Structure):
 
 
 class Stored(ctypes.Structure):
-    """`proved_argon2_stored` of the header."""
+    """The header's `proved_argon2_stored`."""
 
     _fields_ = [("settings", Settings), ("salt_length", ctypes.c_uint32)]
 
 
 class NumberLimits(ctypes.Structure):
-    """`proved_argon2_limits` of the header."""
+    """The header's `proved_argon2_limits`."""
 
     _fields_ = [
         ("mem_cost", ctypes.c_uint32),
@@ -54,12 +53,12 @@ class NumberLimits(ctypes.Structure):
     ]
 
 
-# `proved_argon2_tell`, which is passed two numbers more: they are counted here.
-_Tell = ctypes.CFUNCTYPE(ctypes.c_int, ctypes.c_void_p)
+# The header's `proved_argon2_progress`, without its last two parameters: this package counts the slices itself.
+_Progress = ctypes.CFUNCTYPE(ctypes.c_int, ctypes.c_void_p)
 
 
 class Options(ctypes.Structure):
-    """`proved_argon2_options` of the header. The call starts its own threads."""
+    """The header's `proved_argon2_options`."""
 
     _fields_ = [
         # options, by .ci/pages/presets
@@ -70,24 +69,25 @@ class Options(ctypes.Structure):
         ("run", ctypes.c_void_p),
         ("pool", ctypes.c_void_p),
         ("limits", ctypes.POINTER(NumberLimits)),
-        ("tell", _Tell),
+        ("progress", _Progress),
         ("arg", ctypes.c_void_p),
-        ("today", ctypes.POINTER(Settings)),
+        ("new_settings", ctypes.POINTER(Settings)),
         # end
     ]
 
 
 class Refused(Exception):
-    """The library returned an error, with this number."""
+    """The library returned the number of an error. A string with a byte above 127 is no encoded hash, as any other."""
 
     def __init__(self, number: int) -> None:
+        number = DECODING_FAIL if number == NOT_ASCII else number
         super().__init__(message(number))
         self.number = number
 
 
 def _files() -> "Iterator[str]":
-    """Where the shared object may be: where the environment says; otherwise in the wheel, where the loader looks, or
-    beside this Python.
+    """Yield the files that the library may be: only the one that the environment names, if it names one. Otherwise the
+    file in the wheel, what the system's loader finds, and the file that `./install` puts beside this Python.
     """
     named = os.environ.get(VARIABLE)
     if named:
@@ -100,7 +100,7 @@ def _files() -> "Iterator[str]":
     yield os.path.join(sys.prefix, "lib", SONAME)
 
 
-# The types of what each call takes, and of what it returns.
+# The types of each call's parameters, and of its result.
 _BYTES: "List[Any]" = [ctypes.c_char_p, ctypes.c_size_t]
 _SETTINGS: "List[Any]" = [ctypes.POINTER(Settings)]
 _HASHING: "List[Any]" = [ctypes.POINTER(Options), *4 * _BYTES, *_SETTINGS, *_BYTES]
@@ -121,7 +121,7 @@ _CALLS: "Dict[str, Tuple[List[Any], Any]]" = {
 
 
 def _load() -> ctypes.CDLL:
-    """The shared object, with the types of its calls."""
+    """Load the library, and declare the types of its calls."""
     reasons = []
     for file in _files():
         try:
@@ -145,20 +145,23 @@ _library = _load()
 
 
 def require_number(name: str, number: object, error: "Type[Exception]", bits: int = 32) -> None:
-    """Raise if a number is no integer, or has more bits: `ctypes` would pass its lowest ones."""
+    """Raise `TypeError` if a number is not an integer, and `error` if it is negative or has more bits.
+
+    `ctypes` would pass only the lowest bits.
+    """
     if not isinstance(number, int) or isinstance(number, bool):
         raise TypeError(f"'{name}' must be int, not {number.__class__.__name__}")
     if not 0 <= number < 1 << bits:
-        raise error(f"{name} is {number}: no number of {bits} bits")
+        raise error(f"{name} is {number}, which is not a number of {bits} bits")
 
 
 def _length(piece: bytes) -> int:
-    """How many bytes there are, whatever a subclass says."""
+    """Return the number of bytes, even if a subclass defines another length."""
     return bytes.__len__(piece)
 
 
 def _slices(pieces: "Sequence[bytes]") -> "List[Union[bytes, int]]":
-    """Each piece and its length. An empty piece has an address too."""
+    """Return each piece followed by its length, as the library takes them."""
     arguments: "List[Union[bytes, int]]" = []
     for piece in pieces:
         arguments += [piece, _length(piece)]
@@ -171,7 +174,7 @@ def _require(number: int) -> None:
 
 
 def _buffer(length: int) -> "ctypes.Array[ctypes.c_char]":
-    """So many zeros to write to."""
+    """Return a buffer of zeros for a result."""
     try:
         return ctypes.create_string_buffer(length)
     except (MemoryError, OverflowError):
@@ -179,11 +182,11 @@ def _buffer(length: int) -> "ctypes.Array[ctypes.c_char]":
 
 
 class Telling:
-    """The progress callback of a call, if there is anything to call: `progress`, and handlers of signals. What they
-    raise stops the call, and is raised out of `with`.
+    """The progress callback of a call. It calls `progress` and lets the handlers of signals run. An exception of these
+    stops the call, and leaves the `with` block.
 
-    The callback resumes a generator, since handlers run when that is resumed, which is within its `try`. In a function
-    they would run before its first line, and what they raise would be lost.
+    The callback resumes a generator, because Python runs handlers when it resumes one, and then the generator's `try`
+    catches what they raise. In a function, handlers would run before the first line, and their exceptions be lost.
     """
 
     def __init__(self, progress: "Optional[Progress]", slices: int) -> None:
@@ -194,7 +197,7 @@ class Telling:
         self.send = generator.send
 
     def _answers(self, progress: "Optional[Progress]", slices: int) -> "Generator[int, object, None]":
-        """Yields whether to stop, once for each slice that is filled, and once before."""
+        """Yield 1 to stop the call and 0 to go on: once before the call, and then once for each slice."""
         try:
             yield 0
             for done in range(1, slices + 1):
@@ -202,7 +205,7 @@ class Telling:
                     progress(done, slices)
                 yield 0
         except BaseException as error:
-            if not self._is_entered:  # the generator is closed
+            if not self._is_entered:  # Python is closing the generator.
                 raise
             self._raised.append(error)
         while True:
@@ -219,7 +222,7 @@ class Telling:
 
 
 def _runs_handlers() -> bool:
-    """Whether handlers of signals run in this thread: Python runs them in the main one alone."""
+    """Return whether Python runs the handlers of signals in this thread, which it does in the main thread only."""
     threading = sys.modules.get("threading")
     return threading is None or threading.get_ident() == threading.main_thread().ident
 
@@ -227,35 +230,38 @@ def _runs_handlers() -> bool:
 def _options(
     threads: int, limits: "Optional[NumberLimits]", pages: "Optional[Pages]", telling: "Optional[Telling]"
 ) -> Options:
-    """Options of at most so many threads. They keep the limits and the progress callback alive, but not the pages."""
+    """Return options for a call. They keep the limits and the progress callback alive, but not the pages."""
     options = Options(ctypes.sizeof(Options), threads)
     if pages is not None:
         options.memory, options.memory_len = pages.address, pages.length
     if limits is not None:
         options.limits = ctypes.pointer(limits)
     if telling is not None:
-        options.tell = _Tell(telling.send)
+        options.progress = _Progress(telling.send)
     return options
 
 
 def _compute(
     call: "Callable[[Options], int]",
     settings: Settings,
-    memory: "Optional[Memory]",
+    memory: "Union[Memory, ThreadMemory, None]",
     progress: "Optional[Progress]",
     limits: "Optional[NumberLimits]" = None,
 ) -> None:
-    """Make a call of a thread a lane, in the pages of a memory or in its own. A call that finds the pages too small is
-    repeated in pages that fit its settings: only then are they known to be accepted.
+    """Make a call with a thread for each lane, in a buffer of `memory` or, without one, in memory of its own.
+
+    A call that finds the buffer too small is made again with a larger one: only then is it known that the library
+    accepts the settings. If the system denies the larger buffer, the call allocates memory of its own.
     """
 
     def over_memory(telling: "Optional[Telling]") -> int:
         if memory is None:
             return call(_options(settings.lanes, limits, None, telling))
-        with memory.pages_for_call() as pages:
+        with memory.pages_for_call(settings) as pages:
             number = call(_options(settings.lanes, limits, pages, telling))
-            if number == OUT_OF_MEMORY and pages.grow(settings):
-                number = call(_options(settings.lanes, limits, pages, telling))
+            if number == OUT_OF_MEMORY and pages is not None and pages.is_too_small(settings):
+                grown = pages if pages.grow(settings) else None
+                number = call(_options(settings.lanes, limits, grown, telling))
         return number
 
     if progress is None and not _runs_handlers():
@@ -270,11 +276,12 @@ def hash_pieces(
     is_encoded: bool,
     pieces: "Sequence[bytes]",
     settings: Settings,
-    memory: "Optional[Memory]",
+    memory: "Union[Memory, ThreadMemory, None]",
     progress: "Optional[Progress]",
 ) -> bytes:
-    """The tag, or the encoded hash, of password, salt, secret and associated data. The settings are checked first,
-    before any memory is allocated.
+    """Return the tag, or the encoded hash, of four pieces: password, salt, secret and associated data.
+
+    The library checks the settings first, before any memory is allocated.
     """
     arguments = [*_slices(pieces), settings]
     _require(_library.proved_argon2_check(settings, *map(_length, pieces)))
@@ -292,11 +299,13 @@ def verify_pieces(
     pieces: "Sequence[bytes]",
     settings: Settings,
     limits: "Optional[NumberLimits]",
-    memory: "Optional[Memory]",
+    memory: "Union[Memory, ThreadMemory, None]",
     progress: "Optional[Progress]",
 ) -> None:
-    """Return if the encoded hash, of these settings, matches password, secret and associated data and is within the
-    limits, and otherwise raise `Refused`. By the library's own maximum it takes fewer threads than lanes.
+    """Verify four pieces: an encoded hash with these settings, password, secret and associated data.
+
+    Raises `Refused` if they do not match, or the hash is above the limits. The library uses at most 16 threads for
+    this, even if there are more lanes.
     """
     arguments = _slices(pieces)
     call = _library.proved_argon2_verify_encoded_with
@@ -304,35 +313,38 @@ def verify_pieces(
 
 
 def memory_len(settings: Settings) -> int:
-    """The bytes that a call with these settings needs for its blocks."""
+    """Return the bytes that a call with these settings needs for its blocks."""
     return int(_library.proved_argon2_memory_len(settings))
 
 
 def memory_new(settings: Settings) -> "Tuple[int, int]":
-    """The address and the length of a memory for calls with these settings."""
+    """Allocate a buffer for calls with these settings. Return its address and its length."""
     address, length = ctypes.c_void_p(), ctypes.c_size_t()
     _require(_library.proved_argon2_memory_new(settings, address, length))
     return address.value or 0, length.value
 
 
 def memory_free(address: int, length: int, library: ctypes.CDLL = _library) -> None:
-    """Clear a memory and free it, also when Python ends and its modules are gone."""
+    """Clear a buffer and free it.
+
+    The default argument keeps the library usable while Python ends, when this module's names may be gone.
+    """
     library.proved_argon2_memory_free(address, length)
 
 
 def default_limits() -> NumberLimits:
-    """The library's default limits."""
+    """Return the library's default limits."""
     limits: NumberLimits = _library.proved_argon2_default_limits()
     return limits
 
 
 def read(text: bytes) -> Stored:
-    """What an encoded hash decodes to."""
+    """Decode an encoded hash. Raises `Refused` if that is not possible."""
     stored = Stored()
     _require(_library.proved_argon2_read(text, _length(text), stored))
     return stored
 
 
 def message(number: int) -> str:
-    """The message of an error's number, which has 32 bits."""
+    """Return the message of an error's number, which has 32 bits."""
     return str(_library.proved_argon2_message(number), "ascii")

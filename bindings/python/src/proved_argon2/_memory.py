@@ -1,5 +1,6 @@
-"""Reusable buffers: the memory of hashes."""
+"""Buffers for the blocks of hashes, which several calls reuse."""
 import ctypes
+import threading
 import time
 from collections import deque
 from contextlib import contextmanager
@@ -8,18 +9,20 @@ from ._library import Refused, Settings, memory_free, memory_len, memory_new
 
 TYPE_CHECKING = False
 if TYPE_CHECKING:
-    from typing import Callable, Deque, Iterator, Tuple, Type
+    from typing import Callable, Deque, Iterator, Optional, Tuple, Type
 
-# So many seconds is a buffer kept that no call uses.
+# A `Memory` frees a buffer that no call has used for so many seconds.
 IDLE_SECONDS = 60
+# A `ThreadMemory` frees a buffer if all calls of so many seconds needed at most half of it.
+OVERSIZED_SECONDS = 10
 
-# Where a memory of no bytes is: a call without an address would allocate memory of its own.
+# The address of an empty buffer: a call without an address would allocate memory of its own.
 _NOTHING = ctypes.c_uint64()
 _NOWHERE = ctypes.addressof(_NOTHING)
 
 
 class Pages:
-    """A memory that the library allocated, or none yet. Each call clears what it uses of it."""
+    """One buffer that the library allocated, or an empty one. Each call clears the part that it used."""
 
     __slots__ = ("address", "length", "used")
 
@@ -27,10 +30,12 @@ class Pages:
         self.address, self.length = _NOWHERE, 0
         self.used = time.monotonic()
 
+    def is_too_small(self, settings: Settings) -> bool:
+        """Return whether settings need more bytes than the buffer has."""
+        return self.length < memory_len(settings)
+
     def grow(self, settings: Settings) -> bool:
-        """Whether it was too small for settings, and was grown to what they need. The old memory is freed first."""
-        if self.length >= memory_len(settings):
-            return False
+        """Free the buffer and allocate one that fits settings. Return whether the system allowed that."""
         self.give_back()
         try:
             self.address, self.length = memory_new(settings)
@@ -39,7 +44,7 @@ class Pages:
         return True
 
     def give_back(self, free: "Callable[[int, int], None]" = memory_free) -> None:
-        """Clear and free the memory."""
+        """Clear and free the buffer."""
         if self.length:
             address, length = self.address, self.length
             self.address, self.length = _NOWHERE, 0
@@ -50,9 +55,11 @@ class Pages:
 
 
 class Memory:
-    """Reusable buffers: the memory of hashes. There is one buffer a concurrent call: as many as have run at once, each
-    as large as the largest call in it needed. When a call ends, those are freed that none has used for a minute. A
-    memory that no call uses any more keeps what it has until it is deleted.
+    """Reusable buffers for the blocks of hashes.
+
+    There is one buffer for each call that runs at the same time. A buffer grows to what the largest call in it needed.
+    When a call ends, the buffers are freed that no call has used for a minute. If no call ends any more, the buffers
+    stay until the `Memory` is deleted.
 
     A copy starts without buffers, and so does an unpickled one.
     """
@@ -66,8 +73,8 @@ class Memory:
         return Memory, ()
 
     @contextmanager
-    def pages_for_call(self) -> "Iterator[Pages]":
-        """For `with`: pages that no other call uses meanwhile."""
+    def pages_for_call(self, settings: Settings) -> "Iterator[Pages]":
+        """Lend a buffer, which may be too small for the settings, to one call: the body of `with`."""
         try:
             pages = self._free.pop()
         except IndexError:
@@ -80,7 +87,10 @@ class Memory:
             self._give_back_idle(pages.used - IDLE_SECONDS)
 
     def _give_back_idle(self, since: float) -> None:
-        """Free what no call has used since then: it is at the left. Other threads take from the right meanwhile."""
+        """Free the buffers that no call has used since then.
+
+        They are at the left end of the queue. Other threads take buffers from the right end at the same time.
+        """
         while self._free:
             try:
                 longest_idle = self._free.popleft()
@@ -90,3 +100,49 @@ class Memory:
                 self._free.appendleft(longest_idle)
                 return
             longest_idle.give_back()
+
+
+class ThreadMemory:
+    """The one buffer of a thread of a pool, for its calls one after another."""
+
+    __slots__ = ("_is_lent", "_pages")
+
+    def __init__(self) -> None:
+        self._pages, self._is_lent = Pages(), False
+
+    @contextmanager
+    def pages_for_call(self, settings: Settings) -> "Iterator[Optional[Pages]]":
+        """Lend the buffer to one call: the body of `with`. A call that the progress callback of another call makes
+        gets `None`, since the other call still uses the buffer.
+        """
+        if self._is_lent:
+            yield None
+            return
+        self._is_lent = True
+        try:
+            yield self._pages
+        finally:
+            self._is_lent = False
+            self._give_back_oversized(memory_len(settings))
+
+    def _give_back_oversized(self, needed: int) -> None:
+        """Free a buffer that is larger than recent calls needed: one costly hash must not hold memory for ever."""
+        now = time.monotonic()
+        if 2 * needed > self._pages.length:
+            self._pages.used = now
+        elif now - self._pages.used > OVERSIZED_SECONDS:
+            self._pages.give_back()
+
+    def give_back(self) -> None:
+        """Clear and free the buffer."""
+        self._pages.give_back()
+
+
+class _CurrentThread(threading.local):
+    """What belongs to the current thread: `memory` is set in the threads of a pool."""
+
+    memory: "Optional[ThreadMemory]" = None
+
+
+#: The buffer of the current thread, which calls use that are passed no `Memory`.
+current_thread = _CurrentThread()

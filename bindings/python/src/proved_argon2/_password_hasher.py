@@ -1,11 +1,10 @@
-"""Passwords as encoded hashes, to be stored; and the calls that argon2-cffi had before `PasswordHasher`, each of which
-warns that it is deprecated, as there."""
+"""`PasswordHasher`, and the deprecated calls that argon2-cffi had before it."""
 import os
 import warnings
 
 from ._library import Refused, Settings, read, require_number
 from ._memory import Memory
-from ._settings import DEFAULT_LIMITS, Limits, Parameters, default_limits_of
+from ._settings import DEFAULT_LIMITS, Limits, Parameters, default_limits_of, require_own_settings_within
 from .exceptions import HashingError, InvalidHashError, VerificationError, VerifyMismatchError
 from .low_level import (
     ARGON2_VERSION,
@@ -35,14 +34,14 @@ _BEGINNINGS = (b"$argon2i$", b"$argon2d$", b"$argon2id")
 
 
 def extract_parameters(hash: "Union[str, bytes]") -> Parameters:
-    """Decode the settings of an encoded hash, and verify nothing.
+    """Return the settings of an encoded hash. Nothing is verified.
 
-    Raises `InvalidHashError` if the string decodes to no hash, and `MemoryError` if there is no memory to decode it. An
-    encoded hash that names no version has version 16, which is 0x10.
+    An encoded hash that names no version has version 16, which is 0x10.
+
+    Raises `InvalidHashError` if the string is not an encoded hash, and `MemoryError` if memory cannot be allocated.
     """
-    text = hash.encode("utf-8", "surrogatepass") if isinstance(hash, str) else hash
     try:
-        stored = read(text)
+        stored = read(_encoded_bytes(hash))
     except Refused as refused:
         raise reading_error(refused) from None
     settings = stored.settings
@@ -52,8 +51,20 @@ def extract_parameters(hash: "Union[str, bytes]") -> Parameters:
     )
 
 
-def _require_types(**settings: "Tuple[Any, Any]") -> None:
-    """Name all settings of another type than theirs. A bool is no number."""
+def _encoded_bytes(hash: "Union[str, bytes]") -> bytes:
+    """Return an encoded hash as bytes."""
+    if isinstance(hash, bytes):
+        return hash
+    if not isinstance(hash, str):
+        raise TypeError(f"'hash' must be str or bytes, not {hash.__class__.__name__}")
+    try:
+        return hash.encode("ascii")
+    except UnicodeEncodeError:
+        raise InvalidHashError("an encoded hash has only ASCII characters") from None
+
+
+def require_types(**settings: "Tuple[Any, Any]") -> None:
+    """Raise `TypeError` with the names of all settings that have the wrong type. A bool is not a number here."""
     wrong = [
         f"'{name}' must be {kind.__name__}, not {value.__class__.__name__}"
         for name, (value, kind) in settings.items()
@@ -64,18 +75,20 @@ def _require_types(**settings: "Tuple[Any, Any]") -> None:
 
 
 class PasswordHasher:
-    """Hashes passwords with these settings, and verifies encoded hashes of any settings within limits.
+    """Hashes passwords with these settings. Verifies encoded hashes with any settings that are within `limits`.
 
-    `time_cost` is the passes over the memory, `memory_cost` the memory in KiB, at least 8 a lane, and `parallelism` the
-    lanes. The lengths are in bytes: `hash_len` is at least 4 and `salt_len` at least 8. A password that is a `str` is
-    encoded in `encoding`.
+    `time_cost` is the number of passes over the memory, `memory_cost` the memory in KiB (at least 8 for each lane), and
+    `parallelism` the number of lanes. `hash_len` is the length of the hash in bytes, at least 4, and `salt_len` that of
+    the salt, at least 8. A password that is a `str` is encoded with `encoding`.
 
-    `limits` are what an encoded hash may cost that is verified: the given ones; `None` for whatever the hash names;
-    without the argument `DEFAULT_LIMITS`, raised to these settings. With `keep_memory` the hasher reuses the buffers of
-    its calls, as `low_level.Memory` does.
+    `limits` is the most that a verified hash may cost. Pass `None` to accept whatever a hash names. Without the
+    argument, the hasher uses `DEFAULT_LIMITS`, raised to its own settings. Limits below its own settings raise
+    `ValueError`.
 
-    `secret` is a key (pepper) that is kept apart from the encoded hashes. With another secret no password matches.
-    Copies and pickles of the hasher have it, and `repr` does not.
+    With `keep_memory`, the hasher reuses the memory of its calls, as `low_level.Memory` does.
+
+    `secret` is a key (pepper), which you store apart from the hashes. No password matches with another secret. Copies
+    and pickles of the hasher contain the secret, but its `repr` does not.
     """
 
     __slots__ = ("_limits", "_memory", "_parameters", "_secret", "encoding")
@@ -94,15 +107,17 @@ class PasswordHasher:
         keep_memory: bool = False,
         secret: bytes = b"",
     ) -> None:
-        _require_types(
+        require_types(
             time_cost=(time_cost, int), memory_cost=(memory_cost, int), parallelism=(parallelism, int),
             hash_len=(hash_len, int), salt_len=(salt_len, int), encoding=(encoding, str), type=(type, Type),
             keep_memory=(keep_memory, bool), secret=(secret, bytes),
         )
         self._parameters = Parameters(type, ARGON2_VERSION, salt_len, hash_len, time_cost, memory_cost, parallelism)
         self.encoding = encoding
-        is_default = limits is DEFAULT_LIMITS
-        self.limits = default_limits_of(memory_cost, time_cost, parallelism) if is_default else limits
+        if limits is DEFAULT_LIMITS:
+            self._limits: "Optional[Limits]" = default_limits_of(memory_cost, time_cost, parallelism)
+        else:
+            self.limits = limits
         self._memory = Memory() if keep_memory else None
         self._secret = secret
 
@@ -115,7 +130,7 @@ class PasswordHasher:
         keep_memory: bool = False,
         secret: bytes = b"",
     ) -> "PasswordHasher":
-        """A hasher with these settings. Its version is `ARGON2_VERSION`, whatever theirs is."""
+        """Return a hasher with these settings, except for the version, which is always `ARGON2_VERSION`."""
         return cls(
             params.time_cost, params.memory_cost, params.parallelism, params.hash_len, params.salt_len,
             type=params.type, limits=limits, keep_memory=keep_memory, secret=secret,
@@ -123,7 +138,7 @@ class PasswordHasher:
 
     @property
     def time_cost(self) -> int:
-        """The passes over the memory."""
+        """The number of passes over the memory."""
         return self._parameters.time_cost
 
     @property
@@ -133,7 +148,7 @@ class PasswordHasher:
 
     @property
     def parallelism(self) -> int:
-        """The lanes."""
+        """The number of lanes."""
         return self._parameters.parallelism
 
     @property
@@ -148,23 +163,25 @@ class PasswordHasher:
 
     @property
     def type(self) -> Type:
-        """The variant."""
+        """The variant of Argon2."""
         return self._parameters.type
 
     @property
     def keep_memory(self) -> bool:
-        """Whether the hasher reuses the buffers of its calls."""
+        """Whether the hasher reuses the memory of its calls."""
         return self._memory is not None
 
     @property
     def limits(self) -> "Optional[Limits]":
-        """What an encoded hash may cost that is verified, or `None` for whatever it names."""
+        """The most that a verified hash may cost, or `None` for whatever it names."""
         return self._limits
 
     @limits.setter
     def limits(self, limits: "Optional[Limits]") -> None:
         if limits is not None and not isinstance(limits, Limits):
             raise TypeError(f"'limits' must be Limits or None, not {limits.__class__.__name__}")
+        if limits is not None:
+            require_own_settings_within(limits, self.memory_cost, self.time_cost, self.parallelism)
         self._limits = limits
 
     def __repr__(self) -> str:
@@ -179,10 +196,12 @@ class PasswordHasher:
         salt: "Optional[bytes]" = None,
         progress: "Optional[Progress]" = None,
     ) -> str:
-        """Hash a password to an encoded hash (PHC string), to be stored, with a random salt if none is passed.
-        `low_level` says what `progress` is.
+        """Hash a password, with a random salt if none is passed. Return an encoded hash (PHC string), to be stored.
 
-        Raises `HashingError` if the settings are rejected or memory cannot be allocated.
+        The module `low_level` describes `progress`.
+
+        Raises `HashingError` if the settings are rejected or memory cannot be allocated, and `UnicodeEncodeError` if
+        the password has characters that `encoding` cannot represent, such as lone surrogates.
         """
         if salt is None:
             require_number("salt_len", self.salt_len, HashingError)
@@ -195,16 +214,17 @@ class PasswordHasher:
     def verify(
         self, hash: "Union[str, bytes]", password: "Union[str, bytes]", *, progress: "Optional[Progress]" = None
     ) -> "Literal[True]":
-        """Return `True` if a password matches an encoded hash, and raise if it does not. `low_level` says what
-        `progress` is.
+        """Return `True` if a password matches an encoded hash. A wrong password raises `VerifyMismatchError`.
 
-        Raises `VerifyMismatchError` if the password is wrong, `TooCostlyError` if the hash is above `limits`,
-        `InvalidHashError` if the string does not begin as a hash, and `VerificationError` if it decodes to none, its
-        settings are rejected or memory cannot be allocated.
+        The module `low_level` describes `progress`.
+
+        Raises `TooCostlyError` if the hash is above `limits`, and `InvalidHashError` if `hash` does not begin as an
+        encoded hash. Raises `VerificationError` if the rest of it is invalid, its settings are rejected or memory
+        cannot be allocated. Raises `UnicodeEncodeError` as `hash` does.
         """
-        text, secret = self._text_bytes(hash), self._password_bytes(password)
-        settings, limits = self._settings_of(text), numbers_of(self.limits)
-        return verify_of_settings(settings, (text, secret, self._secret, b""), limits, self._memory, progress)
+        encoded, secret = _encoded_bytes(hash), self._password_bytes(password)
+        settings, limits = self._settings_of(encoded), numbers_of(self.limits)
+        return verify_of_settings(settings, (encoded, secret, self._secret, b""), limits, self._memory, progress)
 
     def verify_and_update(
         self,
@@ -214,11 +234,13 @@ class PasswordHasher:
         progress: "Optional[Progress]" = None,
         renew_by: "Optional[PasswordHasher]" = None,
     ) -> "Tuple[bool, Optional[str]]":
-        """Whether a password matches an encoded hash, and the encoded hash to store in its place, or `None` if nothing:
-        where the password matches, and the hash has other settings than these, or a salt of another length. If the new
-        hash cannot be computed, the old one stays. With `renew_by` another hasher makes the new one.
+        """Return whether a password matches an encoded hash, and a new encoded hash to store in place of the old one.
 
-        Raises as `verify` does, but for a wrong password.
+        The second value is `None` if there is nothing to store: if the password does not match, or the hash has these
+        settings and a salt of this length, or the new hash cannot be computed. `renew_by` is another hasher, which
+        makes the new hash.
+
+        Raises what `verify` raises, but for a wrong password.
         """
         try:
             self.verify(hash, password, progress=progress)
@@ -231,22 +253,47 @@ class PasswordHasher:
         except (HashingError, MemoryError):
             return True, None
 
-    def check_needs_rehash(self, hash: "Union[str, bytes]") -> bool:
-        """Whether an encoded hash was made with other settings than these, or with a salt of another length.
+    def verify_unknown(
+        self, password: "Union[str, bytes]", *, progress: "Optional[Progress]" = None
+    ) -> "Literal[False]":
+        """Take as long as verifying a hash with these settings, and return `False`: for a user who does not exist.
 
-        Raises `InvalidHashError` if the string decodes to no hash.
+        Otherwise the time of a login would tell which users exist.
+
+        Raises what `verify` raises, but for a wrong password.
         """
-        return self._parameters != extract_parameters(self._text_bytes(hash))
+        try:
+            self.verify(self._hash_of_nobody(), password, progress=progress)
+        except VerifyMismatchError:
+            pass
+        return False
+
+    def check_needs_rehash(self, hash: "Union[str, bytes]") -> bool:
+        """Return whether an encoded hash has other settings than these, or a salt of another length.
+
+        Raises what `extract_parameters` raises.
+        """
+        return self._parameters != extract_parameters(hash)
+
+    def _hash_of_nobody(self) -> str:
+        """Return an encoded hash with these settings. Its salt and its hash are zeros, for which base64 has `A`."""
+        numbers = f"v={ARGON2_VERSION}$m={self.memory_cost},t={self.time_cost},p={self.parallelism}"
+        salt, tag = ("A" * -(-length * 4 // 3) for length in (self.salt_len, self.hash_len))
+        return f"$argon2{self.type.name.lower()}${numbers}${salt}${tag}"
 
     @staticmethod
-    def _settings_of(text: bytes) -> Settings:
-        """The settings of an encoded hash. A string that begins as a hash and decodes to none cannot be verified."""
+    def _settings_of(encoded: bytes) -> Settings:
+        """Return the settings of an encoded hash.
+
+        As in argon2-cffi, a string that does not begin as one raises `InvalidHashError`, and all other strings that
+        cannot be decoded raise `VerificationError`.
+        """
         try:
-            settings: Settings = read(text).settings
+            settings: Settings = read(encoded).settings
             return settings
         except Refused as refused:
             error = reading_error(refused)
-        if isinstance(error, InvalidHashError) and not text.startswith(_BEGINNINGS):
+        if isinstance(error, InvalidHashError) and not encoded.startswith(_BEGINNINGS):
             raise error
         raise VerificationError(str(error))
 
@@ -257,18 +304,9 @@ class PasswordHasher:
             raise TypeError(f"'password' must be str or bytes, not {password.__class__.__name__}")
         return password
 
-    @staticmethod
-    def _text_bytes(hash: "Union[str, bytes]") -> bytes:
-        if isinstance(hash, bytes):
-            return hash
-        try:
-            return hash.encode("ascii")
-        except UnicodeEncodeError:
-            raise InvalidHashError("a hash is ASCII") from None
-
 
 def _warn(name: str) -> None:
-    """Warn in the words of argon2-cffi, by which programs choose the warnings that they ignore."""
+    """Warn in the words of argon2-cffi, since programs select the warnings that they ignore by the words."""
     warnings.warn(f"argon2.{name} is deprecated, use argon2.PasswordHasher instead", DeprecationWarning, stacklevel=3)
 
 
@@ -285,7 +323,7 @@ def hash_password(
     hash_len: int = DEFAULT_HASH_LENGTH,
     type: Type = Type.I,
 ) -> bytes:
-    """Deprecated. Call `low_level.hash_secret` with defaults, Argon2i, and a random salt if none is passed."""
+    """Call `low_level.hash_secret` with default settings, Argon2i and a random salt. Deprecated."""
     _warn("hash_password")
     return hash_secret(password, _salt_or_random(salt), time_cost, memory_cost, parallelism, hash_len, type)
 
@@ -299,12 +337,12 @@ def hash_password_raw(
     hash_len: int = DEFAULT_HASH_LENGTH,
     type: Type = Type.I,
 ) -> bytes:
-    """Deprecated. Call `low_level.hash_secret_raw` with defaults, Argon2i, and a random salt if none is passed."""
+    """Call `low_level.hash_secret_raw` with default settings, Argon2i and a random salt. Deprecated."""
     _warn("hash_password_raw")
     return hash_secret_raw(password, _salt_or_random(salt), time_cost, memory_cost, parallelism, hash_len, type)
 
 
 def verify_password(hash: bytes, password: bytes, type: Type = Type.I) -> "Literal[True]":
-    """Deprecated. Call `low_level.verify_secret`, with Argon2i if no variant is named."""
+    """Call `low_level.verify_secret`, with Argon2i unless another variant is passed. Deprecated."""
     _warn("verify_password")
     return verify_secret(hash, password, type)

@@ -1,5 +1,8 @@
-"""The settings of a hash, and what an encoded hash may cost at most: records that `dataclasses` works with, made
-without it, since importing it takes longer than this whole package."""
+"""The settings of a hash, and the limits of what an encoded hash may cost.
+
+The functions of `dataclasses` work with these records. The records are made without `dataclasses`, since importing that
+takes longer than importing this whole package.
+"""
 from ._library import MAX_NUMBER, default_limits, require_number
 
 TYPE_CHECKING = False
@@ -10,7 +13,7 @@ if TYPE_CHECKING:
 
 
 class _Fields:
-    """`__dataclass_fields__`, which the functions of `dataclasses` ask for: made where they do."""
+    """The attribute `__dataclass_fields__`, made when a function of `dataclasses` reads it."""
 
     def __get__(self, record: "Optional[Record]", kind: "type[Record]") -> "Dict[str, Any]":
         from dataclasses import make_dataclass
@@ -20,7 +23,7 @@ class _Fields:
 
 
 class Record:
-    """A value of the fields that its class names in `__slots__`. Two of a class are equal where their fields are."""
+    """A record with the fields that its class names in `__slots__`. Records of a class are equal if all fields are."""
 
     __slots__: "Tuple[str, ...]" = ()
     __dataclass_fields__ = _Fields()
@@ -39,9 +42,9 @@ class Record:
 
 
 class Parameters(Record):
-    """The settings of a hash: lengths in bytes, and memory in KiB.
+    """The settings of a hash: lengths are in bytes, and the memory is in KiB.
 
-    They can be changed, as those of argon2-cffi: Django sets the length of the salt.
+    As in argon2-cffi, the fields can be changed: Django sets `salt_len`.
     """
 
     __slots__ = ("type", "version", "salt_len", "hash_len", "time_cost", "memory_cost", "parallelism")
@@ -69,12 +72,13 @@ _DEFAULT = default_limits()
 
 
 class Limits(Record):
-    """The highest memory in KiB, passes and lanes that an encoded hash may name, and the highest `work`: the memory in
-    KiB times the passes, by which the time grows.
+    """The most memory in KiB, passes and lanes that a verified hash may name, and the most `work`.
+
+    `work` is the memory in KiB times the passes. The time of a hash is proportional to it.
 
     The defaults are the library's: 2 GiB, 10 passes, 16 lanes, and the work of 4 GiB in one pass. The recommendations
-    of RFC 9106, OWASP, libsodium and Django are within. No field can be changed: `dataclasses.replace` makes another
-    `Limits`.
+    of RFC 9106, OWASP, libsodium and Django are within these limits. The fields cannot be changed;
+    `dataclasses.replace` makes new `Limits`.
     """
 
     __slots__ = ("memory_cost", "time_cost", "parallelism", "work")
@@ -107,12 +111,22 @@ class Limits(Record):
         return Limits, self._values()
 
 
-#: The limits of a hasher that is passed none: these, raised to its own settings.
+#: The limits of a `PasswordHasher` without the argument `limits`, which are raised to its own settings.
 DEFAULT_LIMITS = Limits()
 
 
 def default_limits_of(memory_cost: int, time_cost: int, parallelism: int) -> Limits:
-    """The default limits of a hasher with these settings, which has to verify what it hashes."""
+    """Return the default limits, raised to settings, so that a hasher can verify its own hashes."""
     memory, passes, lanes = (min(max(number, 0), MAX_NUMBER) for number in (memory_cost, time_cost, parallelism))
     own = (memory, passes, lanes, memory * passes)
     return Limits(*(max(limit, number) for limit, number in zip(DEFAULT_LIMITS._values(), own)))
+
+
+def require_own_settings_within(limits: Limits, memory_cost: int, time_cost: int, parallelism: int) -> None:
+    """Raise `ValueError` if a hasher with these settings and limits could not verify its own hashes."""
+    own = (memory_cost, time_cost, parallelism, memory_cost * time_cost)
+    for name, limit, number in zip(Limits.__slots__, limits._values(), own):
+        if number > limit:
+            raise ValueError(
+                f"the limit {name}={limit} is below this hasher's own {name}, {number}: it could not verify its hashes"
+            )

@@ -1,4 +1,4 @@
-"""What is raised."""
+"""The exceptions of this package. All that argon2-cffi has are among them, under the same names."""
 
 
 class Argon2Error(Exception):
@@ -6,7 +6,7 @@ class Argon2Error(Exception):
 
 
 class VerificationError(Argon2Error):
-    """A password could not be verified."""
+    """A password could not be verified, for example because memory could not be allocated."""
 
 
 class VerifyMismatchError(VerificationError):
@@ -14,23 +14,34 @@ class VerifyMismatchError(VerificationError):
 
 
 class TooCostlyError(VerificationError):
-    """The hash is above the limits of memory, passes, lanes or work. No password was compared."""
+    """The encoded hash is above a limit of memory, passes, lanes or work. The password was not compared."""
+
+
+class UnknownPepperError(VerificationError):
+    """The `PepperedHasher` has no pepper with the ID that is stored beside the hash. The password was not compared.
+
+    The ID `None`, which stands for no pepper, is unknown too, unless the hasher was made with `accept_unpeppered`.
+    """
 
 
 class HashingError(Argon2Error):
-    """A password could not be hashed."""
+    """A password could not be hashed: the settings were rejected, or memory could not be allocated."""
 
 
 class BusyError(Argon2Error):
-    """As many calls compute and wait as an `AsyncPasswordHasher` lets: try again later."""
+    """The `AsyncPasswordHasher` cannot take another call now; try again later.
+
+    As many calls compute and wait as may, or the system denied the first thread.
+    """
 
 
 class InvalidHashError(ValueError):
-    """The string decodes to no hash."""
+    """The string is not an encoded hash of Argon2."""
 
 
+#: The name that argon2-cffi gave `InvalidHashError` before its version 23.
 InvalidHash = InvalidHashError
 
 
 class UnsupportedParametersError(ValueError):
-    """The settings cannot be used on this machine. Never raised: each machine of the library has all of them."""
+    """The settings cannot be used on this machine. This is never raised, since every build supports all settings."""

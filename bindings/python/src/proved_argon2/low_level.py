@@ -1,20 +1,20 @@
 """The calls that take bytes and settings.
 
-`secret` is the password here, as in argon2-cffi. A key (also called pepper) and associated data, which RFC 9106 calls
-secret value and associated data, are `key` and `associated_data`. A hash is computed by as many threads as it has
-lanes, of which one is the caller's; an encoded hash is verified by at most 16. With a `Memory` a call reuses a buffer,
-and allocates none if that is large enough.
+As in argon2-cffi, `secret` is the password here. `key` is what RFC 9106 calls the secret value (a pepper), and
+`associated_data` is other data that the hash depends on.
 
-An exception that is raised meanwhile stops a call: by the handler of a signal in the main thread, as
-`KeyboardInterrupt` at Ctrl-C, or by `progress`, which is called as `progress(done, all)` each time that one of all
-slices is filled, four in a pass. The call raises it once the slice at work is filled.
+A hash is computed by one thread for each lane, the caller's among them, and verified by at most 16 threads. If `memory`
+is a `Memory`, the call reuses a buffer of it.
+
+`progress` is called as `progress(done, all)` after each slice of the computation; there are four slices in a pass. If
+it raises an exception, the call stops, clears its memory and raises the same. So does a call in the main thread if the
+handler of a signal raises, as Ctrl-C does with `KeyboardInterrupt`.
 """
 from enum import Enum
 
 from ._library import (
     DECODING_FAIL,
     MISMATCH,
-    NOT_UTF8,
     OUT_OF_MEMORY,
     TOO_COSTLY,
     UNKNOWN_NUMBER,
@@ -27,7 +27,7 @@ from ._library import (
     require_number,
     verify_pieces,
 )
-from ._memory import Memory
+from ._memory import Memory, current_thread
 from ._settings import Limits
 from .exceptions import (
     Argon2Error,
@@ -45,7 +45,7 @@ if TYPE_CHECKING:
     from ._library import Progress
 
 ARGON2_VERSION = 19
-"""The version of RFC 9106, 0x13."""
+"""The version that RFC 9106 defines, 0x13."""
 
 __all__ = [
     "ARGON2_VERSION",
@@ -60,16 +60,16 @@ __all__ = [
 
 
 class Type(Enum):
-    """The variants of Argon2."""
+    """The variants of Argon2 (RFC 9106, section 3.4). Choose `ID` for passwords."""
 
     D = 0
-    """References are drawn from the blocks."""
+    """Argon2d: memory accesses depend on the password."""
 
     I = 1  # noqa: E741
-    """References are drawn from no block."""
+    """Argon2i: memory accesses do not depend on the password."""
 
     ID = 2
-    """References are drawn from no block in the first half of the first pass. The one to choose."""
+    """Argon2id: memory accesses do not depend on the password in the first half of the first pass."""
 
 
 def _require_bytes(**pieces: bytes) -> None:
@@ -93,7 +93,10 @@ def hash_secret(
     memory: "Optional[Memory]" = None,
     progress: "Optional[Progress]" = None,
 ) -> bytes:
-    """Hash the password `secret` to an encoded hash (PHC string), in `memory_cost` KiB.
+    """Hash the password `secret`. Return an encoded hash (PHC string).
+
+    `time_cost` is the number of passes, `memory_cost` the memory in KiB, `parallelism` the number of lanes, and
+    `hash_len` the length of the hash in bytes.
 
     Raises `HashingError` if the settings are rejected or memory cannot be allocated.
     """
@@ -117,7 +120,7 @@ def hash_secret_raw(
     memory: "Optional[Memory]" = None,
     progress: "Optional[Progress]" = None,
 ) -> bytes:
-    """Hash the password `secret` to a raw hash of `hash_len` bytes, in `memory_cost` KiB.
+    """Hash the password `secret` with the settings of `hash_secret`. Return the `hash_len` bytes of the hash alone.
 
     Raises `HashingError` if the settings are rejected or memory cannot be allocated.
     """
@@ -134,11 +137,12 @@ def _hash(
     memory: "Optional[Memory]",
     progress: "Optional[Progress]",
 ) -> bytes:
-    """Hash with settings, if each is a number of 32 bits."""
+    """Hash with settings. Each number must have at most 32 bits."""
     for name, number in zip(("version", "memory_cost", "time_cost", "parallelism", "hash_len"), numbers):
         require_number(name, number, HashingError)
+    settings = Settings(Type(type).value, *numbers)
     try:
-        return hash_pieces(is_encoded, pieces, Settings(Type(type).value, *numbers), memory, progress)
+        return hash_pieces(is_encoded, pieces, settings, memory or current_thread.memory, progress)
     except Refused as refused:
         raise HashingError(str(refused)) from None
 
@@ -154,11 +158,13 @@ def verify_secret(
     memory: "Optional[Memory]" = None,
     progress: "Optional[Progress]" = None,
 ) -> "Literal[True]":
-    """Return `True` if the password `secret` matches the encoded hash `hash`, and that is of this type.
+    """Return `True` if the password `secret` matches the encoded hash `hash` of this type.
 
-    Raises `VerifyMismatchError` if the password is wrong, `TooCostlyError` if the hash is above the limits, and
-    `VerificationError` if the string decodes to no hash of this type, its settings are rejected or memory cannot be
-    allocated. Without limits, memory and passes are those that the hash names.
+    Without `limits`, the call uses as much memory and time as the hash names.
+
+    Raises `VerifyMismatchError` if the password is wrong, and `TooCostlyError` if the hash is above `limits`. Raises
+    `VerificationError` if `hash` is not an encoded hash of this type, its settings are rejected or memory cannot be
+    allocated.
     """
     _require_bytes(hash=hash, secret=secret, key=key, associated_data=associated_data)
     numbers = numbers_of(limits)
@@ -178,9 +184,9 @@ def verify_of_settings(
     memory: "Optional[Memory]",
     progress: "Optional[Progress]",
 ) -> "Literal[True]":
-    """`verify_secret` of an encoded hash that was read: of these settings."""
+    """Do what `verify_secret` does, for an encoded hash whose settings were read."""
     try:
-        verify_pieces(pieces, settings, limits, memory, progress)
+        verify_pieces(pieces, settings, limits, memory or current_thread.memory, progress)
     except Refused as refused:
         errors = {MISMATCH: VerifyMismatchError, TOO_COSTLY: TooCostlyError}
         raise errors.get(refused.number, VerificationError)(str(refused)) from None
@@ -188,7 +194,7 @@ def verify_of_settings(
 
 
 def numbers_of(limits: "Optional[Limits]") -> "Optional[NumberLimits]":
-    """Limits as the library takes them, or none."""
+    """Return limits as the library takes them, or `None`."""
     if limits is None:
         return None
     if not isinstance(limits, Limits):
@@ -197,7 +203,7 @@ def numbers_of(limits: "Optional[Limits]") -> "Optional[NumberLimits]":
 
 
 def error_to_str(error: int) -> str:
-    """The message of an error's number, which is the library's own and not libargon2's."""
+    """Return the message of an error's number. The numbers are this library's, not those of libargon2."""
     try:
         require_number("error", error, ValueError)
     except ValueError:
@@ -207,7 +213,7 @@ def error_to_str(error: int) -> str:
 
 
 def reading_error(refused: Refused) -> Exception:
-    """What is raised if an encoded hash cannot be decoded: it is none, or there is no memory to decode it."""
-    if refused.number in (DECODING_FAIL, NOT_UTF8):
+    """Return the exception for an encoded hash that cannot be decoded: it is invalid, or memory ran out."""
+    if refused.number == DECODING_FAIL:
         return InvalidHashError(str(refused))
     return MemoryError(str(refused)) if refused.number == OUT_OF_MEMORY else Argon2Error(str(refused))

@@ -1,0 +1,89 @@
+"""A `PasswordHasher` for asyncio."""
+from ._machine import memory, processors
+from ._password_hasher import PasswordHasher, require_types
+from ._pool import Pool
+
+TYPE_CHECKING = False
+if TYPE_CHECKING:
+    from typing import Any, Callable, Literal, Optional, Tuple, TypeVar, Union
+
+    Result = TypeVar("Result")
+
+_WAITING_FOR_EACH = 16
+_LEAST_KIB = 8  # of a hash
+
+
+def _default_concurrency(hasher: PasswordHasher) -> int:
+    """How many hashes fit into the processors, with a lane each, and into a quarter of the memory; at least one."""
+    by_processors = processors() // max(1, hasher.parallelism)
+    by_memory = memory() // (4 * 1024 * max(_LEAST_KIB, hasher.memory_cost))
+    return max(1, min(by_processors, by_memory))
+
+
+class AsyncPasswordHasher:
+    """A `PasswordHasher` for asyncio, which limits how many hashes are computed at a time.
+
+    At most `concurrency` calls compute at a time, each in a thread. At most `waiting` more calls wait for them. A call
+    beyond these raises `BusyError` at once, so that a service can answer "try again later" before memory runs out.
+    `BusyError` is also raised if the system denies the first thread; if it denies a later one, calls wait for the
+    threads that there are.
+
+    By default, `concurrency` is the number of hashes that fit into the processors, with a lane each, and into a quarter
+    of the memory that this process may use. `waiting` is 16 times as many.
+
+    Cancelling a task takes its call out of the queue, or stops it after the slice that it computes. Then its place is
+    free.
+
+    A thread keeps the memory of its hashes for the next one. Each hash clears what it used, and a thread that has had
+    no call for ten seconds frees the memory and ends.
+
+    Several event loops and threads may share an `AsyncPasswordHasher`. A forked child may use it too: the child has
+    threads of its own, and calls of the parent take none of its places.
+    """
+
+    def __init__(
+        self,
+        hasher: "Optional[PasswordHasher]" = None,
+        *,
+        concurrency: "Optional[int]" = None,
+        waiting: "Optional[int]" = None,
+    ) -> None:
+        self.hasher = PasswordHasher() if hasher is None else hasher
+        require_types(hasher=(self.hasher, PasswordHasher))
+        self.concurrency = _default_concurrency(self.hasher) if concurrency is None else concurrency
+        require_types(concurrency=(self.concurrency, int))
+        self.waiting = _WAITING_FOR_EACH * self.concurrency if waiting is None else waiting
+        require_types(waiting=(self.waiting, int))
+        if self.concurrency < 1 or self.waiting < 0:
+            raise ValueError("'concurrency' must be at least 1, and 'waiting' at least 0")
+        self._pool = Pool(self.concurrency, self.waiting)
+
+    async def hash(self, password: "Union[str, bytes]", *, salt: "Optional[bytes]" = None) -> str:
+        """Do what `PasswordHasher.hash` does, or raise `BusyError`."""
+        return await self.run(self.hasher.hash, password, salt=salt)
+
+    async def verify(self, hash: "Union[str, bytes]", password: "Union[str, bytes]") -> "Literal[True]":
+        """Do what `PasswordHasher.verify` does, or raise `BusyError`."""
+        return await self.run(self.hasher.verify, hash, password)
+
+    async def verify_and_update(
+        self, hash: "Union[str, bytes]", password: "Union[str, bytes]"
+    ) -> "Tuple[bool, Optional[str]]":
+        """Do what `PasswordHasher.verify_and_update` does, or raise `BusyError`."""
+        return await self.run(self.hasher.verify_and_update, hash, password)
+
+    async def verify_unknown(self, password: "Union[str, bytes]") -> "Literal[False]":
+        """Do what `PasswordHasher.verify_unknown` does, or raise `BusyError`."""
+        return await self.run(self.hasher.verify_unknown, password)
+
+    def check_needs_rehash(self, hash: "Union[str, bytes]") -> bool:
+        """Do what `PasswordHasher.check_needs_rehash` does, at once: it computes no hash."""
+        return self.hasher.check_needs_rehash(hash)
+
+    async def run(self, call: "Callable[..., Result]", *arguments: "Any", **named: "Any") -> "Result":
+        """Make another call in the same threads, such as one of a `PepperedHasher`, and return its result.
+
+        The call is also passed `progress`, by which it is stopped if the task is cancelled.
+        """
+        result: "Result" = await self._pool.run(call, arguments, named)
+        return result

@@ -1,0 +1,338 @@
+"""`AsyncPasswordHasher`: its results, its limits, cancellation, forked children, and denied threads."""
+import asyncio
+import gc
+import multiprocessing
+import subprocess
+import sys
+import threading
+import time
+import weakref
+
+import pytest
+from processes import PATIENCE, status_of_child
+from proved_argon2 import AsyncPasswordHasher, PasswordHasher, PepperedHasher, _pool
+from proved_argon2.exceptions import BusyError, TooCostlyError, VerifyMismatchError
+
+HASHER = PasswordHasher(time_cost=1, memory_cost=64, parallelism=2)
+# A hash that takes more than a minute.
+LONG = PasswordHasher(time_cost=200000, memory_cost=8192, parallelism=1)
+HASHES = """
+import asyncio, resource, threading
+from proved_argon2 import AsyncPasswordHasher, PasswordHasher
+from proved_argon2.exceptions import BusyError
+hasher = AsyncPasswordHasher(PasswordHasher(1, 64, 1), concurrency=4, waiting=8)
+"""
+# The address space is limited, so that the system denies each thread that asks for a stack of 4 GiB.
+DENIALS = HASHES + """
+resource.setrlimit(resource.RLIMIT_AS, (2 << 30, resource.RLIM_INFINITY))
+
+def deny_threads(are_denied):
+    threading.stack_size(4 << 30 if are_denied else 0)
+
+async def hash_many(count):
+    return [await call for call in [asyncio.ensure_future(hasher.hash("password")) for _ in range(count)]]
+
+def threads():
+    return sum(thread.name == "proved-argon2" for thread in threading.enumerate())
+
+async def main():
+    deny_threads(True)
+    try:
+        await hasher.hash("password")
+    except BusyError as error:
+        print("no thread:", error)
+    deny_threads(False)
+    await hash_many(1)
+    deny_threads(True)
+    print(len(await hash_many(12)), "hashes by", threads(), "thread")
+    try:
+        await hash_many(13)
+    except BusyError as error:
+        print(error)
+    await hash_many(12)
+    deny_threads(False)
+    print(len(await hash_many(12)), "hashes by", threads(), "threads")
+
+asyncio.run(main())
+"""
+# A program that ends while one call computes, which would take more than a minute, and another one waits.
+ENDS = """
+import asyncio, threading, time
+from proved_argon2 import AsyncPasswordHasher, PasswordHasher
+long, hasher = PasswordHasher(200000, 8192, 1), AsyncPasswordHasher(concurrency=1, waiting=1)
+
+def call(progress):
+    try:
+        long.hash("password", progress=progress)
+    finally:
+        print("the call ends", flush=True)
+
+for _ in range(2):
+    threading.Thread(target=lambda: asyncio.run(hasher.run(call)), daemon=True).start()
+time.sleep(0.5)
+print("the program ends", flush=True)
+"""
+
+
+def run(program):
+    """Return what a program prints, which must succeed."""
+    words = [sys.executable, "-W", "error", "-c", program]
+    done = subprocess.run(words, capture_output=True, text=True, timeout=PATIENCE)
+    assert done.returncode == 0, done.stderr
+    return done.stdout
+
+
+def test_calls_have_the_results_of_password_hasher():
+    async def compare():
+        hasher = AsyncPasswordHasher(HASHER)
+        encoded = await hasher.hash("password", salt=b"saltsaltsaltsalt")
+        assert encoded == HASHER.hash("password", salt=b"saltsaltsaltsalt")
+        assert await hasher.verify(encoded, "password") is True
+        with pytest.raises(VerifyMismatchError):
+            await hasher.verify(encoded, "Password")
+        with pytest.raises(TooCostlyError):
+            await hasher.verify(encoded.replace("m=64", "m=4294967295"), "password")
+        assert await hasher.verify_and_update(encoded, "Password") == (False, None)
+        assert await hasher.verify_and_update(encoded, "password") == (True, None)
+        assert await hasher.verify_unknown("password") is False
+        assert not hasher.check_needs_rehash(encoded)
+
+    asyncio.run(compare())
+
+
+def test_run_makes_calls_of_a_peppered_hasher():
+    async def log_in():
+        hasher = AsyncPasswordHasher(HASHER)
+        peppered = PepperedHasher({"2026": b"key"}, time_cost=1, memory_cost=64)
+        key_id, encoded = await hasher.run(peppered.hash, "password")
+        assert await hasher.run(peppered.verify_and_update, key_id, encoded, "password") == (True, None)
+        assert await hasher.run(peppered.verify_and_update, key_id, encoded, "Password") == (False, None)
+        assert await hasher.run(peppered.verify_unknown, "password") is False
+
+    asyncio.run(log_in())
+
+
+def test_concurrent_and_waiting_calls_are_limited():
+    most, running, lock, go = 0, 0, threading.Lock(), threading.Event()
+
+    def call(progress):
+        nonlocal most, running
+        with lock:
+            running += 1
+            most = max(most, running)
+        go.wait(5)
+        with lock:
+            running -= 1
+
+    async def exceed():
+        hasher = AsyncPasswordHasher(concurrency=2, waiting=3)
+        calls = [asyncio.ensure_future(hasher.run(call)) for _ in range(5)]
+        await asyncio.sleep(0.05)
+        with pytest.raises(BusyError, match="5 calls compute or wait"):
+            await hasher.hash("password")
+        go.set()
+        await asyncio.gather(*calls)
+        await hasher.run(call)
+
+    asyncio.run(exceed())
+    assert most == 2
+
+
+def test_cancelled_calls_free_their_places():
+    async def cancel():
+        hasher = AsyncPasswordHasher(LONG, concurrency=1, waiting=1)
+        computing, waiting = (asyncio.ensure_future(hasher.hash("password")) for _ in range(2))
+        await asyncio.sleep(0.1)
+        for call in (waiting, computing):
+            call.cancel()
+            with pytest.raises(asyncio.CancelledError):
+                await call
+        hasher.hasher = HASHER
+        assert HASHER.verify(await hasher.hash("password"), "password")
+
+    begun = time.monotonic()
+    asyncio.run(cancel())
+    assert time.monotonic() - begun < PATIENCE
+
+
+def test_an_ended_or_cancelled_call_keeps_no_argument():
+    class Argument:
+        """It would be kept if a password was."""
+
+    async def end(hasher, is_cancelled):
+        argument = Argument()
+        kept = weakref.ref(argument)
+        task = asyncio.ensure_future(hasher.run(lambda argument, progress: None, argument))
+        await asyncio.sleep(0)
+        if is_cancelled:
+            task.cancel()
+        del argument
+        await asyncio.wait([task])
+        return kept
+
+    async def end_all():
+        go = threading.Event()
+        hasher = AsyncPasswordHasher(concurrency=1, waiting=1)
+        ended = await end(hasher, is_cancelled=False)
+        blocking = asyncio.ensure_future(hasher.run(lambda progress: go.wait(5)))
+        await asyncio.sleep(0.05)
+        cancelled = await end(hasher, is_cancelled=True)
+        gc.collect()
+        assert (ended(), cancelled()) == (None, None)
+        go.set()
+        await blocking
+
+    asyncio.run(end_all())
+
+
+@pytest.mark.parametrize("bounds", [{"concurrency": 0}, {"waiting": -1}])
+def test_limits_that_allow_no_call_are_rejected(bounds):
+    with pytest.raises(ValueError, match="'concurrency' must be at least 1"):
+        AsyncPasswordHasher(**bounds)
+
+
+@pytest.mark.parametrize("arguments", [
+    {"concurrency": "4"}, {"waiting": 1.5}, {"concurrency": True}, {"hasher": PepperedHasher({"2026": b"key"})}])
+def test_arguments_of_a_wrong_type_are_named_in_the_error(arguments):
+    (name,) = arguments
+    with pytest.raises(TypeError, match=f"^'{name}' must be (int|PasswordHasher), not "):
+        AsyncPasswordHasher(**arguments)
+
+
+# ---- forked children
+
+of_threads_that_fork = pytest.mark.filterwarnings("ignore:.*multi-threaded.*fork:DeprecationWarning")
+
+
+async def hash_and_verify(hasher, count=3):
+    """Make as many calls as `hasher` takes at a time, again and again."""
+    for _ in range(count):
+        encoded = await asyncio.wait_for(asyncio.gather(*[hasher.hash("password") for _ in range(3)]), PATIENCE / 4)
+        assert await asyncio.wait_for(hasher.verify(encoded[0], "password"), PATIENCE / 4)
+
+
+@pytest.fixture
+def used():
+    """A hasher for three calls at a time, which this process has used."""
+    hasher = AsyncPasswordHasher(HASHER, concurrency=2, waiting=1)
+    asyncio.run(hash_and_verify(hasher, 1))
+    return hasher
+
+
+@of_threads_that_fork
+def test_a_child_that_is_forked_between_calls_can_make_calls(used):
+    def run_in_child():
+        asyncio.run(hash_and_verify(used))
+        assert status_of_child(lambda: asyncio.run(hash_and_verify(used))) == 0
+
+    assert status_of_child(run_in_child) == 0
+    asyncio.run(hash_and_verify(used))
+
+
+@of_threads_that_fork
+def test_a_child_that_is_forked_during_calls_has_all_places(used):
+    """In the parent two calls compute and one waits, so that there is no place left."""
+    async def fork():
+        used.hasher = LONG
+        calls = [asyncio.ensure_future(used.hash("password")) for _ in range(3)]
+        await asyncio.sleep(0.1)
+        used.hasher = HASHER
+        status = await asyncio.get_running_loop().run_in_executor(None, status_of_child, run_in_child)
+        with pytest.raises(BusyError):
+            await used.hash("password")
+        for call in calls:
+            call.cancel()
+        await asyncio.wait(calls)
+        while used._pool._jobs:  # A call that computes ends after its slice.
+            await asyncio.sleep(0.01)
+        return status
+
+    def run_in_child():
+        asyncio.run(hash_and_verify(used))
+
+    assert asyncio.run(fork()) == 0
+    asyncio.run(hash_and_verify(used))
+
+
+@of_threads_that_fork
+def test_a_child_that_is_forked_while_a_thread_holds_the_lock_can_make_calls(used):
+    is_held, go = threading.Event(), threading.Event()
+
+    def hold():
+        with used._pool._lock:
+            is_held.set()
+            go.wait(PATIENCE)
+
+    holding = threading.Thread(target=hold)
+    holding.start()
+    is_held.wait()
+    status = status_of_child(lambda: asyncio.run(hash_and_verify(used)))
+    go.set()
+    holding.join()
+    assert status == 0
+
+
+@of_threads_that_fork
+def test_a_call_of_the_parent_that_ends_in_the_child_frees_no_place_there(used):
+    """The child has a copy of the parent's futures, and may cancel them."""
+    go = threading.Event()
+    jobs = [used._pool.submit(lambda progress: go.wait(PATIENCE), (), {}) for _ in range(3)]
+
+    def run_in_child():
+        for job in jobs:
+            job.future.cancel()
+        asyncio.run(hash_and_verify(used))
+        for _ in range(3):
+            used._pool.submit(lambda progress: threading.Event().wait(1), (), {})
+        with pytest.raises(BusyError):
+            asyncio.run(used.hash("password"))
+
+    status = status_of_child(run_in_child)
+    go.set()
+    assert status == 0
+
+
+@of_threads_that_fork
+def test_processes_of_multiprocessing_can_make_calls(used):
+    process = multiprocessing.get_context("fork").Process(target=lambda: asyncio.run(hash_and_verify(used)))
+    process.start()
+    process.join(PATIENCE)
+    if process.is_alive():
+        process.kill()
+    assert process.exitcode == 0
+
+
+# ---- denied threads, and the end of a program
+
+def test_denied_threads_leave_the_calls_to_the_other_threads():
+    assert run(DENIALS).splitlines() == [
+        "no thread: the system denied a thread: can't start new thread", "12 hashes by 1 thread",
+        "12 calls compute or wait", "12 hashes by 4 threads"]
+
+
+@pytest.mark.filterwarnings("ignore::pytest.PytestUnhandledThreadExceptionWarning")
+def test_a_thread_that_fails_is_replaced(monkeypatch):
+    """Such as one that cannot deliver a result since memory ran out."""
+    delivers, go = _pool.Job.run, threading.Event()
+
+    def fail_once(job):
+        go.wait(PATIENCE)
+        monkeypatch.setattr(_pool.Job, "run", delivers)
+        raise MemoryError
+
+    async def lose_a_thread():
+        hasher = AsyncPasswordHasher(HASHER, concurrency=1, waiting=1)
+        monkeypatch.setattr(_pool.Job, "run", fail_once)
+        lost, waiting = (asyncio.ensure_future(hasher.hash("password")) for _ in range(2))
+        await asyncio.sleep(0.05)
+        go.set()
+        assert HASHER.verify(await asyncio.wait_for(waiting, PATIENCE / 4), "password")
+        assert HASHER.verify(await asyncio.wait_for(hasher.hash("password"), PATIENCE / 4), "password")
+        lost.cancel()
+        assert not hasher._pool._jobs
+
+    asyncio.run(lose_a_thread())
+
+
+def test_a_program_that_ends_stops_its_calls():
+    assert run(ENDS) == "the program ends\nthe call ends\n"

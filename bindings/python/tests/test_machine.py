@@ -1,0 +1,70 @@
+"""The default limits of `AsyncPasswordHasher`: from the processors, the memory, and cgroups of versions 1 and 2."""
+from unittest import mock
+
+import pytest
+from proved_argon2 import AsyncPasswordHasher, PasswordHasher, _machine
+
+GIB = 1 << 30
+NO_LIMIT_OF_VERSION_1 = "9223372036854771712"
+
+
+@pytest.fixture
+def cgroups(monkeypatch, tmp_path):
+    """Make cgroups in a folder in place of the system's: what this process is in, and files with limits."""
+    def make(own, limits):
+        for name, text in limits.items():
+            file = tmp_path / "cgroup" / name
+            file.parent.mkdir(parents=True, exist_ok=True)
+            file.write_text(f"{text}\n")
+        if own is not None:
+            (tmp_path / "own").write_text(own)
+
+    monkeypatch.setattr(_machine, "OWN_CGROUPS", str(tmp_path / "own"))
+    monkeypatch.setattr(_machine, "ALL_CGROUPS", str(tmp_path / "cgroup"))
+    monkeypatch.setattr("os.sysconf", {"SC_PHYS_PAGES": 4 * GIB // 4096, "SC_PAGE_SIZE": 4096}.get)
+    return make
+
+
+@pytest.mark.parametrize("own, limits, expected", [
+    # Version 2: a unit of systemd with MemoryMax or MemoryHigh, a limit of the slice above it, and a container.
+    ("0::/system.slice/it.service\n", {"system.slice/it.service/memory.max": GIB}, GIB),
+    ("0::/system.slice/it.service\n", {"system.slice/it.service/memory.high": GIB,
+                                       "system.slice/it.service/memory.max": 2 * GIB}, GIB),
+    ("0::/system.slice/it.service\n", {"system.slice/memory.max": GIB,
+                                       "system.slice/it.service/memory.max": "max"}, GIB),
+    ("0::/system.slice/it.service\n", {"system.slice/other.service/memory.max": GIB}, 4 * GIB),
+    ("0::/\n", {"memory.max": GIB}, GIB),
+    ("0::/\n", {"memory.max": 8 * GIB}, 4 * GIB),
+    ("0::/a:b c\n", {"a:b c/memory.max": GIB}, GIB),
+    # Version 1: a cgroup, a limit of the one above it, and a container, in which the path is the host's.
+    ("5:cpu,cpuacct:/x\n4:memory:/a/b\n0::/\n", {"memory/a/b/memory.limit_in_bytes": GIB}, GIB),
+    ("4:memory:/a/b\n", {"memory/a/memory.limit_in_bytes": GIB,
+                         "memory/a/b/memory.limit_in_bytes": NO_LIMIT_OF_VERSION_1}, GIB),
+    ("4:memory:/docker/1234\n", {"memory/memory.limit_in_bytes": GIB}, GIB),
+    ("4:hugetlb,memory:/a\n", {"memory/a/memory.limit_in_bytes": GIB}, GIB),
+    ("4:cpu:/a\n", {"memory/a/memory.limit_in_bytes": GIB}, 4 * GIB),
+    # A system without cgroups, and one whose cgroups of this process cannot be read.
+    ("", {}, 4 * GIB),
+    (None, {}, 4 * GIB),
+    (None, {"memory.max": GIB}, GIB),
+])
+def test_the_memory_is_limited_by_each_cgroup_above_the_process(cgroups, own, limits, expected):
+    cgroups(own, limits)
+    assert _machine.memory() == expected
+
+
+@pytest.mark.parametrize("limit, expected", [("max", 8), (GIB, 4), (GIB // 4, 1), (1, 1)])
+def test_the_default_concurrency_follows_the_cgroup(cgroups, limit, expected):
+    cgroups("0::/system.slice/it.service\n", {"system.slice/it.service/memory.max": limit})
+    with mock.patch("os.sched_getaffinity", return_value=range(8)):
+        hasher = AsyncPasswordHasher(PasswordHasher(memory_cost=65536, parallelism=1))
+    assert (hasher.concurrency, hasher.waiting) == (expected, 16 * expected)
+
+
+@pytest.mark.parametrize("kib, lanes, expected", [
+    (65536, 1, 8), (65536, 4, 2), (65536, 9, 1), (1 << 17, 1, 8), (1 << 18, 1, 4), (1 << 30, 1, 1)])
+def test_the_default_concurrency_follows_processors_lanes_and_memory(cgroups, kib, lanes, expected):
+    cgroups("", {})
+    with mock.patch("os.sched_getaffinity", return_value=range(8)):
+        hasher = AsyncPasswordHasher(PasswordHasher(memory_cost=kib, parallelism=lanes))
+    assert (hasher.concurrency, hasher.waiting) == (expected, 16 * expected)
