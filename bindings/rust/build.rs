@@ -1,6 +1,6 @@
-//! Finds `libproved_argon2.a` for the target and links it: in the folder that `PROVED_ARGON2_LIB_DIR` names, in this
-//! crate as `./package` makes it, in the repository's `release/`, or where `pkg-config` says that it was installed.
-//! Where `release/` has none for the target, a C compiler makes it of the library as C.
+//! Finds `libproved_argon2.a` for the target and links it. It looks in the folder that `PROVED_ARGON2_LIB_DIR` names,
+//! in this crate, where `./package` puts it, in the repository's `release/`, and where `pkg-config` finds it. If
+//! `release/` has no archive for the target, a C compiler builds one from the library as C.
 
 use std::env;
 use std::fs;
@@ -22,7 +22,7 @@ fn main() {
     println!("cargo:rustc-link-lib=static=proved_argon2");
 }
 
-/// The folder of the archive, or why there is none.
+/// The folder of the archive, or the reason why there is none.
 fn library_folder() -> Result<PathBuf, String> {
     if let Some(folder) = env::var_os(VARIABLE).map(PathBuf::from) {
         let reason = format!("{VARIABLE} is {}, which has no {ARCHIVE}", folder.display());
@@ -44,12 +44,12 @@ fn library_folder() -> Result<PathBuf, String> {
     }
 }
 
-/// The folder of the archive that the repository keeps by this name, or that is installed.
+/// The folder of the archive in `release/` for this name, or of the installed one.
 fn found_folder(name: &str) -> Result<PathBuf, String> {
     released_folder(name).or_else(|reason| {
         installed_folder().ok_or_else(|| {
             format!(
-                "there is no {ARCHIVE} for {}{reason}: run ./install at the top of the repository, or build/all \
+                "there is no {ARCHIVE} for {}{reason}: run ./install at the top of the repository, or build/make \
                  there and name its folder in {VARIABLE}",
                 named("TARGET")
             )
@@ -62,18 +62,18 @@ fn here() -> &'static Path {
     Path::new(env!("CARGO_MANIFEST_DIR"))
 }
 
-/// What cargo tells in a variable.
+/// The value of a variable of cargo.
 fn named(variable: &str) -> String {
     env::var(variable).unwrap_or_default()
 }
 
-/// What is built for, as cargo names it.
+/// A part of the target, as cargo names it.
 fn target(part: &str) -> String {
     named(&format!("CARGO_CFG_TARGET_{part}"))
 }
 
-/// The name of the folder that has an archive for the target, or why there is none for its system, C library and kind
-/// of processor at all.
+/// The name of the folder that has an archive for the target, or the reason why no folder can have one: its system, C
+/// library or kind of processor.
 fn name_of_target() -> Result<String, String> {
     let is_wide = target("POINTER_WIDTH") == "64" && target("ENDIAN") == "little";
     match (&*target("OS"), &*target("ENV")) {
@@ -87,12 +87,12 @@ fn name_of_target() -> Result<String, String> {
     }
 }
 
-/// The repository, where this crate stands in it.
+/// The repository that contains this crate, if one does.
 fn repository() -> Option<&'static Path> {
-    here().ancestors().nth(2).filter(|root| root.join("build/released").is_file())
+    here().ancestors().nth(2).filter(|root| root.join("build/check_release").is_file())
 }
 
-/// The folder of what the repository keeps, where no source has changed; or else why not.
+/// The folder of the archive in `release/`, if no source has changed, or the reason why not.
 fn released_folder(name: &str) -> Result<PathBuf, String> {
     let root = repository().ok_or_else(String::new)?;
     let folder = with_archive(root.join("release").join(name)).ok_or_else(String::new)?;
@@ -100,16 +100,16 @@ fn released_folder(name: &str) -> Result<PathBuf, String> {
     Ok(folder)
 }
 
-/// Whether a file or a folder of `release/` is of the sources.
+/// Checks that a file or a folder of `release/` was built from these sources.
 fn require_released(root: &Path, part: &str) -> Result<(), String> {
-    match Command::new(root.join("build/released")).arg(part).output() {
+    match Command::new(root.join("build/check_release")).arg(part).output() {
         Ok(answer) if answer.status.success() => Ok(()),
         Ok(answer) => Err(String::from_utf8_lossy(&answer.stderr).trim_end().to_string()),
         Err(error) => Err(format!("release/ cannot be compared with its sources: {error}")),
     }
 }
 
-/// The library as C, where the target is one for which `release/` has no archive.
+/// The library as C, if `release/` has no archive for the target.
 fn sources_in_c() -> Option<PathBuf> {
     let release = repository()?.join("release");
     let has_none = name_of_target().ok().and_then(|name| with_archive(release.join(name))).is_none();
@@ -117,7 +117,7 @@ fn sources_in_c() -> Option<PathBuf> {
     (has_none && target("OS") == "linux" && sources.is_dir()).then_some(sources)
 }
 
-/// The folder of the archive that a C compiler makes of the library as C, where that is of the repository's sources.
+/// Compiles the library as C, if it was built from these sources, and returns the folder of the archive.
 fn compiled_folder(sources: &Path) -> Result<PathBuf, String> {
     let entries = fs::read_dir(sources).map_err(|error| format!("{}: {error}", sources.display()))?;
     let files = entries.flatten().map(|entry| entry.path());
@@ -132,7 +132,7 @@ fn compiled_folder(sources: &Path) -> Result<PathBuf, String> {
     Ok(folder)
 }
 
-/// A tool for the target, as cargo's variables name it, or this machine's own.
+/// A tool for the target, as the environment names it, or that of this machine.
 fn tool(variable: &str, usual: &str) -> Result<String, String> {
     let for_target = format!("{variable}_{}", named("TARGET").replace('-', "_"));
     println!("cargo:rerun-if-env-changed={for_target}");
@@ -151,7 +151,7 @@ fn run(command: &mut Command) -> Result<(), String> {
     }
 }
 
-/// The folder that `pkg-config` names, where it has the archive. It tells of this machine's libraries alone.
+/// The folder that `pkg-config` names, if it has the archive. `pkg-config` only knows libraries of this machine.
 fn installed_folder() -> Option<PathBuf> {
     if !named("HOST").starts_with(&format!("{}-", target("ARCH"))) {
         return None;
@@ -160,7 +160,7 @@ fn installed_folder() -> Option<PathBuf> {
     with_archive(PathBuf::from(String::from_utf8(answer.stdout).ok()?.trim_end_matches('\n')))
 }
 
-/// A folder that has an archive.
+/// The folder, if it has an archive.
 fn with_archive(folder: PathBuf) -> Option<PathBuf> {
     folder.join(ARCHIVE).is_file().then_some(folder)
 }

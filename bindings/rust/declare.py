@@ -1,12 +1,12 @@
 #!/usr/bin/env -S python3 -B
-"""Writes src/face/calls.rs: the C library's calls that src/face.rs names, for Rust, as the headers declare them."""
+"""Writes src/ffi/calls.rs: declares for Rust the calls of the C library that src/ffi.rs makes, as in the headers."""
 import re
 import sys
 from pathlib import Path
 
 HERE = Path(__file__).resolve().parent
-HEADERS = HERE.parents[1] / "crates/argon2_c/include"
-FACE = HERE / "src/face.rs"
+HEADERS = HERE.parents[1] / "bindings/c/include"
+FFI = HERE / "src/ffi.rs"
 COMMENT = re.compile(r"/\*.*?\*/", re.S)
 CALL = re.compile(
     r"^(void|uint32_t|uint64_t|const char \*|proved_argon2_\w+) ?(proved_argon2_\w+)\(([^()]*)\);", re.M)
@@ -41,11 +41,11 @@ def declaration(returned, name, taken):
 def main():
     text = "".join(COMMENT.sub("", header.read_text(encoding="utf-8")) for header in HEADERS.glob("*.h"))
     calls = {name: (returned, name, taken) for returned, name, taken in CALL.findall(text)}
-    named = sorted({*re.findall(r"\b(proved_argon2_\w+)[(,]", FACE.read_text(encoding="utf-8"))})
+    named = sorted({*re.findall(r"\b(proved_argon2_\w+)[(,]", FFI.read_text(encoding="utf-8"))})
     if not named or (missing := [name for name in named if name not in calls]):
         sys.exit(f"no header declares {missing or 'any call'}")
     made = "".join(declaration(*calls[name]) for name in named)
-    (HERE / "src/face/calls.rs").write_text(f"{HEAD}{made}}}\n", encoding="utf-8")
+    (HERE / "src/ffi/calls.rs").write_text(f"{HEAD}{made}}}\n", encoding="utf-8")
 
 
 if __name__ == "__main__":

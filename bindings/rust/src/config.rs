@@ -3,7 +3,7 @@ use std::fmt;
 
 /// The settings of a hash.
 ///
-/// `Debug` shows all but the secret.
+/// `Debug` shows all fields except the secret.
 ///
 /// # Examples
 ///
@@ -28,16 +28,16 @@ pub struct Config<'a> {
     /// The length of the hash in bytes, at least 4.
     pub hash_length: u32,
 
-    /// The lanes, at most 2^24 - 1. The tag depends on them.
+    /// The number of lanes (the degree of parallelism), from 1 to 2^24 - 1. The tag depends on it.
     pub lanes: u32,
 
     /// The memory in KiB, at least 8 for each lane.
     pub mem_cost: u32,
 
-    /// The secret, which is also called the key or the pepper.
+    /// The secret, also called key or pepper.
     pub secret: &'a [u8],
 
-    /// The thread mode, which the tag does not depend on.
+    /// How many threads compute the lanes. The tag does not depend on it.
     pub thread_mode: ThreadMode,
 
     /// The passes over the memory, at least 1.
@@ -53,20 +53,20 @@ pub struct Config<'a> {
 /// How many threads compute the lanes of a hash. The tag does not depend on it.
 #[derive(Clone, Copy, Debug, Default, Eq, PartialEq)]
 pub enum ThreadMode {
-    /// In the caller's thread.
+    /// The caller's thread computes all lanes.
     #[default]
     Sequential,
 
-    /// As many threads as lanes, of which one is the caller's.
+    /// One thread for each lane, counting the caller's.
     Parallel,
 
-    /// At most this many threads, and no more than there are lanes. With 0 or 1 the caller's thread computes one lane
-    /// after another.
+    /// At most this many threads, counting the caller's, and no more than there are lanes. With 0 or 1 the caller's
+    /// thread computes all lanes.
     AtMost(u32),
 }
 
 impl ThreadMode {
-    /// The mode for a number of threads: [`ThreadMode::Parallel`] where it is more than 1.
+    /// The mode for this many threads: [`ThreadMode::Parallel`] if there are more than 1.
     #[must_use]
     pub fn from_threads(threads: u32) -> ThreadMode {
         if threads > 1 {
@@ -77,7 +77,7 @@ impl ThreadMode {
     }
 }
 
-/// The presets are of one lane; RFC 9106 takes four with its own.
+/// The presets have one lane. RFC 9106 recommends four for its two: set `lanes`.
 impl<'a> Config<'a> {
     // presets, by .ci/pages/presets
     /// The defaults of the original C program: Argon2i, 4 MiB, 3 passes.
@@ -135,7 +135,7 @@ impl<'a> Config<'a> {
         self.workers() == 1
     }
 
-    /// How many threads compute the lanes, of which one is the caller's.
+    /// How many threads compute the lanes, counting the caller's.
     #[must_use]
     pub fn workers(&self) -> u32 {
         match self.thread_mode {
@@ -145,7 +145,7 @@ impl<'a> Config<'a> {
         }
     }
 
-    /// One lane in the caller's thread, with a hash of 32 bytes.
+    /// Settings with one lane and a hash of 32 bytes.
     fn preset(variant: Variant, mem_cost: u32, time_cost: u32) -> Config<'a> {
         Config {
             ad: &[],

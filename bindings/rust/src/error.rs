@@ -1,124 +1,160 @@
 use std::fmt;
 
+/// The library's number for a string with a byte above 127. Such a string is no encoded hash.
+const NOT_ASCII: u32 = 66;
+
 /// What a call returns that can fail.
 pub type Result<T> = std::result::Result<T, Error>;
 
-/// The type of the errors: each with its number in the library, and its text.
+/// Defines the errors: first those of the library, with their numbers, and then those of this crate.
 macro_rules! errors {
-    ($($(#[$documented:meta])* $name:ident = $number:literal, $text:literal;)*) => {
+    (
+        of_the_library { $($(#[$documented:meta])* $name:ident = $number:literal, $text:literal;)* }
+        of_this_crate { $($(#[$documented_here:meta])* $name_here:ident, $text_here:literal;)* }
+    ) => {
         /// Why a call failed.
         #[derive(Clone, Debug, PartialEq)]
         #[cfg_attr(feature = "serde", derive(serde::Serialize, serde::Deserialize))]
         #[cfg_attr(feature = "serde", serde(rename_all = "snake_case"))]
         pub enum Error {
             $($(#[$documented])* $name,)*
+            $($(#[$documented_here])* $name_here,)*
+
+            /// The library returned a number that this version of the crate does not know.
+            Unknown(u32),
         }
 
         impl Error {
-            /// The error of a number. It panics if that has none, which the library never returns.
+            /// The error with this number in the library.
             pub(crate) fn of_number(number: u32) -> Error {
                 match number {
                     $($number => Error::$name,)*
-                    _ => panic!("the library returned {number}, which is no error"),
+                    NOT_ASCII => Error::DecodingFail,
+                    _ => Error::Unknown(number),
                 }
             }
         }
 
         impl fmt::Display for Error {
             fn fmt(&self, f: &mut fmt::Formatter<'_>) -> fmt::Result {
-                f.write_str(match self { $(Error::$name => $text,)* })
+                match self {
+                    $(Error::$name => f.write_str($text),)*
+                    $(Error::$name_here => f.write_str($text_here),)*
+                    Error::Unknown(number) => write!(f, "The library returned the unknown error {number}"),
+                }
             }
         }
     };
 }
 
 errors! {
-    /// The hash is shorter than 4 bytes.
-    OutputTooShort = 1, "Output is too short";
+    of_the_library {
+        /// The hash is shorter than 4 bytes.
+        OutputTooShort = 1, "Output is too short";
 
-    /// The hash is longer than 2^32 - 1 bytes.
-    OutputTooLong = 2, "Output is too long";
+        /// The hash is longer than 2^32 - 1 bytes.
+        OutputTooLong = 2, "Output is too long";
 
-    /// Never returned: no password is too short.
-    PwdTooShort = 3, "Password is too short";
+        /// Never returned: no password is too short.
+        PwdTooShort = 3, "Password is too short";
 
-    /// The password is longer than 2^32 - 1 bytes.
-    PwdTooLong = 4, "Password is too long";
+        /// The password is longer than 2^32 - 1 bytes.
+        PwdTooLong = 4, "Password is too long";
 
-    /// The salt is shorter than 8 bytes.
-    SaltTooShort = 5, "Salt is too short";
+        /// The salt is shorter than 8 bytes.
+        SaltTooShort = 5, "Salt is too short";
 
-    /// The salt is longer than 2^32 - 1 bytes.
-    SaltTooLong = 6, "Salt is too long";
+        /// The salt is longer than 2^32 - 1 bytes.
+        SaltTooLong = 6, "Salt is too long";
 
-    /// Never returned: no associated data is too short.
-    AdTooShort = 7, "Associated data is too short";
+        /// Never returned: no associated data is too short.
+        AdTooShort = 7, "Associated data is too short";
 
-    /// The associated data is longer than 2^32 - 1 bytes.
-    AdTooLong = 8, "Associated data is too long";
+        /// The associated data is longer than 2^32 - 1 bytes.
+        AdTooLong = 8, "Associated data is too long";
 
-    /// Never returned: no secret is too short.
-    SecretTooShort = 9, "Secret is too short";
+        /// Never returned: no secret is too short.
+        SecretTooShort = 9, "Secret is too short";
 
-    /// The secret is longer than 2^32 - 1 bytes.
-    SecretTooLong = 10, "Secret is too long";
+        /// The secret is longer than 2^32 - 1 bytes.
+        SecretTooLong = 10, "Secret is too long";
 
-    /// There is no pass.
-    TimeTooSmall = 11, "Time cost is too small";
+        /// There is no pass.
+        TimeTooSmall = 11, "Time cost is too small";
 
-    /// Never returned: no number of passes is too large.
-    TimeTooLarge = 12, "Time cost is too large";
+        /// Never returned: no number of passes is too large.
+        TimeTooLarge = 12, "Time cost is too large";
 
-    /// There are less than 8 KiB for each lane.
-    MemoryTooLittle = 13, "Memory cost is too small";
+        /// There are fewer than 8 KiB for each lane.
+        MemoryTooLittle = 13, "Memory cost is too small";
 
-    /// Never returned: no memory is too much.
-    MemoryTooMuch = 14, "Memory cost is too large";
+        /// Never returned: no memory is too much.
+        MemoryTooMuch = 14, "Memory cost is too large";
 
-    /// There is no lane.
-    LanesTooFew = 15, "Too few lanes";
+        /// There is no lane.
+        LanesTooFew = 15, "Too few lanes";
 
-    /// There are more than 2^24 - 1 lanes.
-    LanesTooMany = 16, "Too many lanes";
+        /// There are more than 2^24 - 1 lanes.
+        LanesTooMany = 16, "Too many lanes";
 
-    /// No variant has this number.
-    IncorrectType = 17, "There is no such type of Argon2";
+        /// No variant has this number.
+        IncorrectType = 17, "There is no such type of Argon2";
 
-    /// No version has this number.
-    IncorrectVersion = 18, "There is no such version of Argon2";
+        /// No version has this number.
+        IncorrectVersion = 18, "There is no such version of Argon2";
 
-    /// The string decodes to no hash.
-    DecodingFail = 19, "Decoding failed";
+        /// The string is not an encoded hash.
+        DecodingFail = 19, "Decoding failed";
 
-    /// An allocation failed.
-    OutOfMemory = 20, "Out of memory";
+        /// The system denied memory.
+        OutOfMemory = 20, "Out of memory";
 
-    /// Never returned here: if the system denies a thread, others do its work.
-    WorkerRefused = 21, "A worker was refused";
+        /// Never returned here: if the system denies a thread, other threads do its work.
+        WorkerRefused = 21, "A worker was refused";
 
-    /// A [`Run`](crate::Run) was stopped.
-    Stopped = 130, "The call was stopped";
+        /// The system returned no random bytes for a salt.
+        NoRandomBytes = 129, "There are no random bytes";
 
-    /// The library has no build for a processor as old as this one.
-    OldProcessor = 131, "The processor is too old";
+        /// The progress callback of a [`Run`](crate::Run) stopped the call.
+        Stopped = 130, "The hash was stopped";
 
-    /// The system had no random bytes for a salt.
-    NoRandomBytes = 129, "There are no random bytes";
+        /// The library has no build for a processor as old as this one.
+        OldProcessor = 131, "The processor is too old";
+    }
+
+    of_this_crate {
+        /// No key of the [`Peppers`](crate::Peppers) has this ID, or a hash without a pepper is not accepted.
+        UnknownPepper, "There is no pepper with this ID";
+
+        /// The keys that were given to [`Peppers::new`](crate::Peppers::new) are none, one is empty, or two have the
+        /// same ID.
+        InvalidPeppers, "The peppers are none, one is empty, or two have the same ID";
+    }
 }
 
 impl std::error::Error for Error {}
 
 #[cfg(test)]
 mod tests {
-    use super::Error;
-    use crate::face::{message, TOO_COSTLY};
+    use super::{Error, NOT_ASCII};
+    use crate::ffi::{message, TOO_COSTLY};
     use crate::Unverified;
 
+    /// The numbers that only a call with other results than an error returns, or only a call that this crate does not
+    /// make.
+    const OF_OTHER_CALLS: [u32; 10] = [64, 65, NOT_ASCII, 68, 69, 70, 71, 72, 128, 132];
+
     #[test]
-    fn each_text_is_the_library_s() {
-        for number in (1..=21).chain([129, 131]) {
-            assert_eq!(message(number), Error::of_number(number).to_string());
+    fn every_number_of_the_library_is_an_error_with_the_library_s_message_or_unknown() {
+        let unknown = message(0);
+        for number in (0..1000).chain([u32::MAX]).filter(|number| *number != NOT_ASCII) {
+            let error = Error::of_number(number);
+            let is_known = message(number) != unknown && !OF_OTHER_CALLS.contains(&number);
+            assert_eq!(error != Error::Unknown(number), is_known, "{number}");
+            let expected = format!("The library returned the unknown error {number}");
+            assert_eq!(error.to_string(), if is_known { message(number) } else { expected });
         }
+        assert_eq!(Error::of_number(NOT_ASCII), Error::DecodingFail);
         assert_eq!(message(TOO_COSTLY), Unverified::TooCostly.to_string());
     }
 }

@@ -1,5 +1,5 @@
-use crate::face;
-use crate::{Config, Error, Result, Run, Variant};
+use crate::ffi;
+use crate::{Config, Result, Run, Variant};
 
 /// The length in bytes of an encoded hash.
 ///
@@ -21,17 +21,17 @@ pub fn encoded_len(
 ) -> u64 {
     let (hash_length, lanes) = (hash_len, parallelism);
     let config = Config { hash_length, lanes, mem_cost, time_cost, variant, ..Config::default() };
-    face::encoded_len(&config, salt_len)
+    ffi::encoded_len(&config, salt_len)
 }
 
 /// Hashes a password to an encoded hash (PHC string), which contains the settings, the salt and the
 /// tag.
 ///
-/// Use a fresh salt of 16 random bytes for each password.
+/// Use a new salt of 16 random bytes for each password, or call [`hash_password_with`], which makes one.
 ///
 /// # Errors
 ///
-/// The first parameter error of the settings, or [`Error::OutOfMemory`].
+/// The first parameter error of the settings, or [`Error::OutOfMemory`](crate::Error::OutOfMemory).
 ///
 /// # Examples
 ///
@@ -50,7 +50,7 @@ pub fn hash_encoded(pwd: &[u8], salt: &[u8], config: &Config<'_>) -> Result<Stri
 ///
 /// # Errors
 ///
-/// The first parameter error of the settings, or [`Error::OutOfMemory`].
+/// The first parameter error of the settings, or [`Error::OutOfMemory`](crate::Error::OutOfMemory).
 ///
 /// # Examples
 ///
@@ -72,7 +72,7 @@ pub fn hash_raw(pwd: &[u8], salt: &[u8], config: &Config<'_>) -> Result<Vec<u8>>
 }
 
 /// Hashes a password to an encoded hash (PHC string) with the default settings and a new salt of 16
-/// random bytes of the system.
+/// random bytes from the system.
 ///
 /// # Errors
 ///
@@ -97,7 +97,7 @@ pub fn hash_password(pwd: &[u8]) -> Result<String> {
 ///
 /// # Errors
 ///
-/// [`Error::NoRandomBytes`]; otherwise as [`hash_encoded`].
+/// [`Error::NoRandomBytes`](crate::Error::NoRandomBytes); otherwise as [`hash_encoded`].
 ///
 /// # Examples
 ///
@@ -110,7 +110,7 @@ pub fn hash_password(pwd: &[u8]) -> Result<String> {
 /// # Ok::<(), argon2::Error>(())
 /// ```
 pub fn hash_password_with(pwd: &[u8], config: &Config<'_>) -> Result<String> {
-    hash_encoded(pwd, &face::new_salt().ok_or(Error::NoRandomBytes)?, config)
+    Run::new().hash_password_with(pwd, config)
 }
 
 #[cfg(test)]

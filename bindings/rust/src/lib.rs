@@ -33,33 +33,35 @@
 //!
 //! # What is proved
 //!
-//! The calls of the library that compute Argon2, and encode and decode its hashes, are proved to do
-//! so. A driver in C provides memory and threads for them, and this crate passes bytes to it: both are
-//! tested, not proved. The crate's only `unsafe` code is the module `face`.
+//! The calls of the library that compute Argon2, and that encode and decode its hashes, are proved. A
+//! driver in C provides memory and threads for them, and this crate calls the driver. Both are tested,
+//! not proved. The only `unsafe` code of the crate is in the module `ffi`.
 //!
 //! # Threads
 //!
-//! With [`ThreadMode::Parallel`] or [`ThreadMode::AtMost`] the lanes are computed by threads, which
-//! are started and joined in each call. An encoded hash is verified by as many threads as it has
-//! lanes, and at most 16. The code that fills a lane is proved; the C code that starts the threads
-//! is tested, not proved. A [`Run`] reports the progress of a call, and can stop it.
+//! With [`ThreadMode::Parallel`] or [`ThreadMode::AtMost`] several threads compute the lanes. Each call
+//! starts and joins them. An encoded hash is verified by one thread for each lane, but at most 16. The
+//! code that fills a lane is proved; the C code that starts the threads is tested, not proved. A
+//! [`Run`] reports the progress of a call, and can stop it. A [`Line`] limits how many hashes a service
+//! computes at a time.
 //!
 //! # Limits
 //!
-//! The memory of a hash is cleared, and passwords are not. An encoded hash names the memory that it
-//! is verified with, up to 4 TiB, and the passes: use [`verify_encoded_within`] for a hash that
-//! others may have written.
+//! The memory of a hash is cleared; the caller has to clear passwords. An encoded hash names the memory
+//! and the passes that verifying it takes, up to 4 TiB. For a hash that others may have written, use
+//! [`verify_password`] or [`verify_encoded_within`].
 #![deny(unsafe_code)]
 #![warn(missing_docs, clippy::missing_errors_doc, clippy::must_use_candidate)]
 
 mod config;
 mod error;
 #[allow(unsafe_code)]
-mod face;
+mod ffi;
 mod hashing;
 mod limits;
 mod line;
 mod memory;
+mod peppers;
 mod run;
 mod service;
 #[cfg(feature = "password-hash")]
@@ -74,8 +76,9 @@ pub use hashing::{encoded_len, hash_encoded, hash_password, hash_password_with, 
 pub use limits::{Limits, Unverified};
 pub use line::{Busy, Enter, Line, Place};
 pub use memory::{hash_encoded_in, hash_raw_in, verify_encoded_in, verify_encoded_within_in, verify_raw_in, Memory};
+pub use peppers::Peppers;
 pub use run::Run;
-pub use service::{verify_and_update, Peppers};
+pub use service::{verify_and_update, verify_unknown};
 pub use tuning::{tune, Tuning};
 pub use variant::{Variant, Version};
 pub use verifying::{

@@ -1,4 +1,4 @@
-use crate::{face, Config, Error};
+use crate::{ffi, Config, Error};
 use std::{error, fmt};
 
 /// The highest memory, passes and lanes that an encoded hash may name, and the highest product of
@@ -15,13 +15,13 @@ pub struct Limits {
     /// The lanes.
     pub lanes: u32,
 
-    /// The memory in KiB times the passes, by which the time grows.
+    /// The memory in KiB times the passes, which the time is proportional to.
     pub work: u64,
 }
 
 impl Limits {
-    /// The default limits, each raised to the settings' if that is higher: a hash made with these
-    /// settings is within.
+    /// The default limits, each raised to that of these settings if that is higher, so that a hash with these settings
+    /// is within the limits.
     ///
     /// # Examples
     ///
@@ -47,7 +47,7 @@ impl Limits {
         }
     }
 
-    /// Whether settings are within.
+    /// Whether settings are within the limits.
     #[cfg(feature = "password-hash")]
     pub(crate) fn allow(self, config: &Config<'_>) -> bool {
         self.raised_to(config) == self
@@ -55,10 +55,10 @@ impl Limits {
 }
 
 impl Default for Limits {
-    /// The library's: 2 GiB, 10 passes, 16 lanes, and the work of 4 GiB in one pass. The recommendations of RFC 9106,
-    /// OWASP, libsodium and Django are within.
+    /// The limits of the library: 2 GiB, 10 passes, 16 lanes, and the work of 4 GiB in one pass. The recommendations of
+    /// RFC 9106, OWASP, libsodium and Django are within.
     fn default() -> Limits {
-        face::default_limits()
+        ffi::default_limits()
     }
 }
 
@@ -68,7 +68,7 @@ pub enum Unverified {
     /// The encoded hash exceeds a limit.
     TooCostly,
 
-    /// The error of the call without limits.
+    /// The call without limits would return this error too.
     Refused(Error),
 }
 

@@ -1,101 +1,136 @@
-use crate::face::{self, Settings};
-use crate::Config;
+use crate::ffi::{self, Settings};
+use crate::{Config, Memory, Run};
 use std::collections::VecDeque;
 use std::future::Future;
 use std::pin::Pin;
-use std::sync::{Arc, Mutex, MutexGuard};
+use std::sync::{Arc, Mutex, MutexGuard, Weak};
 use std::task::{Context, Poll, Wake, Waker};
-use std::{error, fmt, thread};
+use std::time::{Duration, Instant};
+use std::{error, fmt, mem, process, thread};
 
-/// A bound on how many hashes are computed at once, and on how many callers wait for that: a semaphore whose line
-/// has an end, for threads and for async code of any runtime.
+/// How long a buffer that no place uses is kept.
+const IDLE: Duration = Duration::from_secs(10);
+
+/// A limit on how many hashes are computed at a time, and on how many callers wait for that. It serves threads and
+/// async code of any runtime.
 ///
-/// # Examples
+/// Make one for the whole service. A clone is the same line, as with [`Arc`]. A caller waits in the line for a
+/// [`Place`], and computes with it:
 ///
 /// ```
 /// use proved_argon2::{self as argon2, Config, Line};
 ///
-/// let line = Line::of(&Config::default(), 256 << 20); // one for the service: hashes take at most 256 MiB
-/// let stored = {
-///     let _place = line.wait()?; // or Err(Busy): try again later
-///     argon2::hash_password(b"correct horse")?
-/// };
+/// let line = Line::of(&Config::default(), 256 << 20); // hashes use at most 256 MiB
+/// let stored = argon2::hash_password(b"correct horse")?;
+/// let mut place = line.wait()?; // or Err(Busy): answer with HTTP status 503
+/// assert!(place.run().verify_password(&stored, b"correct horse")?);
 /// # Ok::<(), Box<dyn std::error::Error>>(())
 /// ```
 ///
-/// In tokio, where a request that is cancelled leaves the line:
+/// In async code the place has to move into the closure that computes. A request whose client leaves is dropped, but
+/// its hash goes on: only a place in the closure is held until the hash is complete.
 ///
 /// ```text
-/// let _place = line.enter().await?;
-/// tokio::task::spawn_blocking(move || argon2::verify_password(&stored, &pwd)).await?
+/// let mut place = line.enter().await?;
+/// tokio::task::spawn_blocking(move || place.run().verify_password(&stored, &pwd)).await?
 /// ```
+///
+/// # Buffers
+///
+/// Each place has a reusable buffer, which the calls of [`Place::run`] use. This saves the time in which the system
+/// maps, clears and unmaps memory. Each call clears the buffer before it returns. There are never more buffers than
+/// places. A buffer that nobody has used for ten seconds is freed, by a thread that sleeps meanwhile.
+///
+/// # Fork
+///
+/// In a forked child all places of the line are free, no caller waits, and no buffer is kept, whatever the parent was
+/// doing. As with every lock, fork no process while another of its threads enters or leaves the line.
+#[derive(Clone, Debug)]
+pub struct Line(Arc<Shared>);
+
 #[derive(Debug)]
-pub struct Line {
+struct Shared {
     state: Mutex<State>,
+    concurrency: usize,
     waiting: usize,
+    idle: Duration,
 }
 
 #[derive(Debug)]
 struct State {
+    /// The process in which this state is true.
+    process: u32,
+    /// The places that nobody holds.
     free: usize,
     next_ticket: u64,
-    line: VecDeque<(u64, Waker)>,
+    /// Those who wait, the first of whom gets the next place.
+    queue: VecDeque<(u64, Waker)>,
+    /// The buffers that no place uses, and since when: the oldest first.
+    kept: Vec<(Memory, Instant)>,
+    /// Whether a thread frees what is kept for too long.
+    is_watched: bool,
 }
 
-/// As many callers compute and wait as a [`Line`] lets.
+/// As many callers compute and wait as the [`Line`] allows: answer "try again later", with HTTP status 503.
 #[derive(Clone, Copy, Debug, Eq, PartialEq)]
 pub struct Busy;
 
 impl fmt::Display for Busy {
     fn fmt(&self, f: &mut fmt::Formatter<'_>) -> fmt::Result {
-        f.write_str("Too many hashes are computed at once")
+        f.write_str("Too many hashes are computed at a time")
     }
 }
 
 impl error::Error for Busy {}
 
-/// A place among those that compute, until it is dropped.
+/// The right to compute one hash at a time. Dropping the place gives it to the next caller in the line.
+///
+/// The place is owned, so that it can move into a closure, a thread or a task.
 #[derive(Debug)]
-pub struct Place<'a>(&'a Line);
+pub struct Place {
+    line: Arc<Shared>,
+    process: u32,
+    memory: Memory,
+}
 
-/// What [`Line::enter`] returns. Dropping it leaves the line.
+/// The future that [`Line::enter`] returns. Dropping it leaves the line.
 #[derive(Debug)]
-pub struct Enter<'a> {
-    line: &'a Line,
-    ticket: Option<u64>,
+pub struct Enter {
+    line: Arc<Shared>,
+    /// The process and the number of a caller who waits.
+    ticket: Option<(u32, u64)>,
 }
 
 impl Line {
-    /// A line in which so many compute, at least one, and so many more wait.
+    /// A line with this many places, at least one, in which this many more callers may wait.
     #[must_use]
-    pub fn new(concurrency: usize, waiting: usize) -> Line {
-        let state = State { free: concurrency.max(1), next_ticket: 0, line: VecDeque::new() };
-        Line { state: Mutex::new(state), waiting }
+    pub fn new(places: usize, waiting: usize) -> Line {
+        Line::keeping(places, waiting, IDLE)
     }
 
-    /// A line in which as many compute as there are processors, each with the lanes of these settings, and as fit
-    /// into so many bytes of memory; and 16 times as many wait.
+    /// A line with as many places as there are processors, divided by the lanes of these settings, and as their hashes
+    /// fit into this many bytes of memory; and in which 16 times as many callers may wait.
     #[must_use]
     pub fn of(config: &Config<'_>, memory: usize) -> Line {
         let processors = thread::available_parallelism().map_or(1, usize::from);
         let lanes = usize::try_from(config.lanes.max(1)).unwrap_or(usize::MAX);
-        let hash = usize::try_from(face::memory_len(&Settings::of(config))).unwrap_or(usize::MAX);
-        let by_memory = memory / hash.max(1);
-        let concurrency = (processors / lanes).min(by_memory).max(1);
-        Line::new(concurrency, 16 * concurrency)
+        let hash = usize::try_from(ffi::memory_len(&Settings::of(config))).unwrap_or(usize::MAX);
+        let places = (processors / lanes).min(memory / hash.max(1)).max(1);
+        Line::new(places, 16 * places)
     }
 
-    /// Waits in line for a place, in async code. Dropping the place gives it to the next.
-    pub fn enter(&self) -> Enter<'_> {
-        Enter { line: self, ticket: None }
+    /// Waits for a place in async code. The future returns [`Busy`] at once if no more callers may wait.
+    #[must_use]
+    pub fn enter(&self) -> Enter {
+        Enter { line: Arc::clone(&self.0), ticket: None }
     }
 
-    /// Waits in line for a place, in a thread.
+    /// Waits for a place in a thread.
     ///
     /// # Errors
     ///
-    /// [`Busy`] at once, if as many wait as may.
-    pub fn wait(&self) -> Result<Place<'_>, Busy> {
+    /// [`Busy`] at once if no more callers may wait.
+    pub fn wait(&self) -> Result<Place, Busy> {
         let waker = Waker::from(Arc::new(Unpark(thread::current())));
         let (mut context, mut enter) = (Context::from_waker(&waker), self.enter());
         loop {
@@ -106,20 +141,97 @@ impl Line {
         }
     }
 
-    fn lock(&self) -> MutexGuard<'_, State> {
-        self.state.lock().unwrap_or_else(|poisoned| poisoned.into_inner())
+    /// A line that keeps idle buffers for this long.
+    fn keeping(places: usize, waiting: usize, idle: Duration) -> Line {
+        let concurrency = places.max(1);
+        Line(Arc::new(Shared { state: Mutex::new(State::new(concurrency)), concurrency, waiting, idle }))
+    }
+}
+
+impl Place {
+    /// Calls that compute in this place's buffer. If the system denies memory for it, a call allocates its own memory.
+    pub fn run(&mut self) -> Run<'_> {
+        if self.process != process::id() {
+            self.memory = Memory::new(); // in a forked child it would be a copy of the parent's
+        }
+        Run::new().over_if_granted(&mut self.memory)
+    }
+}
+
+impl State {
+    fn new(free: usize) -> State {
+        let (queue, kept) = (VecDeque::new(), Vec::new());
+        State { process: process::id(), free, next_ticket: 0, queue, kept, is_watched: false }
     }
 
-    /// Gives a place to the first in line, if there is one.
-    fn leave(&self) {
-        let mut state = self.lock();
-        match state.line.pop_front() {
-            Some((_, waker)) => {
-                drop(state);
-                waker.wake();
-            }
-            None => state.free += 1,
+    /// Takes the buffers that have been idle for this long, and says in what time the next one has.
+    fn take_idle(&mut self, idle: Duration) -> (Vec<(Memory, Instant)>, Option<Duration>) {
+        let age = |since: &Instant| since.elapsed();
+        let count = self.kept.iter().take_while(|(_, since)| age(since) >= idle).count();
+        let taken = self.kept.drain(..count).collect();
+        (taken, self.kept.first().map(|(_, since)| idle.saturating_sub(age(since))))
+    }
+}
+
+impl Shared {
+    /// The state, which is a new one in a forked child: the threads that hold places or wait are the parent's.
+    fn lock(&self) -> MutexGuard<'_, State> {
+        let mut state = self.state.lock().unwrap_or_else(|poisoned| poisoned.into_inner());
+        if state.process != process::id() {
+            let parents = mem::replace(&mut *state, State::new(self.concurrency));
+            // (a waker may lead to a runtime whose threads are the parent's)
+            mem::forget(parents.queue);
         }
+        state
+    }
+
+    /// Takes back a place with its buffer, and gives the place to the first in the queue, if there is one.
+    fn leave(self: &Arc<Self>, memory: Memory) {
+        let mut state = self.lock();
+        if memory.size() > 0 {
+            state.kept.push((memory, Instant::now()));
+        }
+        let is_unwatched = !state.kept.is_empty() && !state.is_watched;
+        state.is_watched |= is_unwatched;
+        let next = state.queue.pop_front();
+        state.free += usize::from(next.is_none());
+        drop(state);
+        if is_unwatched {
+            self.watch(); // first, since a waker may panic
+        }
+        if let Some((_, waker)) = next {
+            waker.wake();
+        }
+    }
+
+    /// Starts the thread that frees idle buffers. If the system denies it, nothing is kept.
+    fn watch(self: &Arc<Self>) {
+        let line = Arc::downgrade(self);
+        let watcher = thread::Builder::new().name("argon2 buffers".to_owned()).spawn(move || free_idle(&line));
+        if watcher.is_err() {
+            let mut state = self.lock();
+            state.is_watched = false;
+            let kept = mem::take(&mut state.kept);
+            drop(state);
+            drop(kept);
+        }
+    }
+
+    /// Frees what is idle, and returns when to look again, unless nothing is kept.
+    fn free_idle(&self) -> Option<Duration> {
+        let mut state = self.lock();
+        let (_idle, next) = state.take_idle(self.idle);
+        state.is_watched = next.is_some();
+        drop(state);
+        next
+    }
+}
+
+/// Frees idle buffers until none is kept or the line is gone.
+fn free_idle(line: &Weak<Shared>) {
+    let look = || line.upgrade().and_then(|line| line.free_idle());
+    while let Some(next) = look() {
+        thread::sleep(next);
     }
 }
 
@@ -131,132 +243,63 @@ impl Wake for Unpark {
     }
 }
 
-impl Drop for Place<'_> {
+impl Drop for Place {
     fn drop(&mut self) {
-        self.0.leave();
+        if self.process == process::id() {
+            self.line.leave(mem::take(&mut self.memory));
+        }
     }
 }
 
-impl<'a> Future for Enter<'a> {
-    type Output = Result<Place<'a>, Busy>;
+impl Future for Enter {
+    type Output = Result<Place, Busy>;
 
     fn poll(mut self: Pin<&mut Self>, context: &mut Context<'_>) -> Poll<Self::Output> {
-        let line = self.line;
+        let line = Arc::clone(&self.line);
         let mut state = line.lock();
-        match self.ticket {
-            Some(ticket) => match state.line.iter_mut().find(|entry| entry.0 == ticket) {
-                Some(entry) => {
+        let process = state.process;
+        match self.ticket.filter(|ticket| ticket.0 == process) {
+            Some((_, ticket)) => {
+                if let Some(entry) = state.queue.iter_mut().find(|entry| entry.0 == ticket) {
                     entry.1 = context.waker().clone();
                     return Poll::Pending;
-                }
-                None => self.ticket = None, // who left a place gave it to this one
-            },
+                } // otherwise who left a place gave it to this caller
+            }
             None if state.free > 0 => state.free -= 1,
-            None if state.line.len() >= line.waiting => return Poll::Ready(Err(Busy)),
+            None if state.queue.len() >= line.waiting => return Poll::Ready(Err(Busy)),
             None => {
-                // (a waker that panics as it is cloned leaves no ticket, whose place nobody would give)
+                // (if the waker panics while it is cloned, no ticket is left that nobody would give a place to)
                 let ticket = state.next_ticket;
-                state.line.push_back((ticket, context.waker().clone()));
+                state.queue.push_back((ticket, context.waker().clone()));
                 state.next_ticket += 1;
-                drop(state);
-                self.ticket = Some(ticket);
+                self.ticket = Some((process, ticket));
                 return Poll::Pending;
             }
         }
-        Poll::Ready(Ok(Place(line)))
+        self.ticket = None;
+        let memory = state.kept.pop().map(|(memory, _)| memory).unwrap_or_default();
+        drop(state);
+        Poll::Ready(Ok(Place { line, process, memory }))
     }
 }
 
-impl Drop for Enter<'_> {
+impl Drop for Enter {
     fn drop(&mut self) {
-        if let Some(ticket) = self.ticket {
+        if let Some((process, ticket)) = self.ticket {
             let mut state = self.line.lock();
-            let before = state.line.len();
-            state.line.retain(|entry| entry.0 != ticket);
-            let has_place = state.line.len() == before;
+            if state.process != process {
+                return; // the parent's queue is not here
+            }
+            let before = state.queue.len();
+            state.queue.retain(|entry| entry.0 != ticket);
+            let has_place = state.queue.len() == before;
             drop(state);
             if has_place {
-                self.line.leave();
+                self.line.leave(Memory::new());
             }
         }
     }
 }
 
 #[cfg(test)]
-mod tests {
-    use super::{Busy, Line, Unpark};
-    use crate::Config;
-    use std::future::Future;
-    use std::pin::Pin;
-    use std::sync::atomic::{AtomicUsize, Ordering::SeqCst};
-    use std::sync::Arc;
-    use std::task::{Context, Poll, Waker};
-    use std::thread;
-
-    /// The free places, and how many wait.
-    fn state_of(line: &Line) -> (usize, usize) {
-        let state = line.lock();
-        (state.free, state.line.len())
-    }
-
-    #[test]
-    fn so_many_compute_and_so_many_wait() {
-        let line = Line::new(2, 3);
-        let (running, most, busy) = (AtomicUsize::new(0), AtomicUsize::new(0), AtomicUsize::new(0));
-        let held = [line.wait().unwrap(), line.wait().unwrap()];
-        thread::scope(|scope| {
-            for _ in 0..6 {
-                scope.spawn(|| match line.wait() {
-                    Ok(_place) => {
-                        most.fetch_max(running.fetch_add(1, SeqCst) + 1, SeqCst);
-                        thread::yield_now();
-                        running.fetch_sub(1, SeqCst);
-                    }
-                    Err(Busy) => {
-                        busy.fetch_add(1, SeqCst);
-                    }
-                });
-            }
-            while busy.load(SeqCst) < 3 {
-                thread::yield_now();
-            }
-            drop(held);
-        });
-        assert_eq!(busy.into_inner(), 3);
-        assert!(most.into_inner() <= 2);
-        let places = [line.wait().unwrap(), line.wait().unwrap()];
-        assert_eq!(line.lock().free, 0);
-        drop(places);
-        assert_eq!(state_of(&line), (2, 0));
-    }
-
-    #[test]
-    fn who_leaves_the_line_passes_a_place_on() {
-        let waker = Waker::from(Arc::new(Unpark(thread::current())));
-        let mut context = Context::from_waker(&waker);
-        let line = Line::new(1, 3);
-        let place = line.wait().unwrap();
-        let mut waiting: Vec<_> = (0..3).map(|_| line.enter()).collect();
-        for enter in &mut waiting {
-            assert!(Pin::new(enter).poll(&mut context).is_pending());
-        }
-        assert!(matches!(Pin::new(&mut line.enter()).poll(&mut context), Poll::Ready(Err(Busy))));
-        drop(waiting.remove(1)); // it has no place yet
-        drop(place); // the first has it now, and goes away before it is polled
-        drop(waiting.remove(0));
-        assert!(matches!(Pin::new(&mut waiting[0]).poll(&mut context), Poll::Ready(Ok(_))));
-        drop(waiting);
-        assert_eq!(state_of(&line), (1, 0));
-    }
-
-    #[test]
-    fn the_bounds_are_of_the_settings() {
-        let config = Config { mem_cost: 1024, lanes: 1 << 20, ..Config::default() };
-        assert_eq!((Line::of(&config, 1 << 40).lock().free, Line::of(&config, 1 << 40).waiting), (1, 16));
-        let config = Config { mem_cost: 1024, ..Config::default() };
-        let processors = thread::available_parallelism().map_or(1, usize::from);
-        assert_eq!(Line::of(&config, 1 << 40).lock().free, processors);
-        assert_eq!(Line::of(&config, 2 << 20).lock().free, processors.min(2));
-        assert_eq!(Line::of(&config, 0).lock().free, 1);
-    }
-}
+mod tests;

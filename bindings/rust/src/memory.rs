@@ -1,15 +1,15 @@
 #![allow(clippy::missing_errors_doc)] // each call has the errors of the one that it names
-use crate::face::{self, Buffer, Settings, OUT_OF_MEMORY};
+use crate::ffi::{self, Buffer, Settings, OUT_OF_MEMORY};
 use crate::{Config, Limits, Result, Run, Unverified};
 use std::{fmt, result};
 
-/// A reusable buffer: the memory of hashes, for the calls whose names end in `_in`, and for
+/// A reusable buffer, in which the calls whose names end in `_in` compute, and those of
 /// [`Run::over`](crate::Run::over).
 ///
-/// It grows to what a call needs, and never shrinks. Before it grows, its old memory is freed, so
-/// that a call holds no more memory than one without it. Settings that are rejected leave it
-/// unchanged. After an allocation failed it is empty, and usable by the next call. Each call clears
-/// it before it returns, and [`drop`] clears and frees it.
+/// It grows to what a call needs, and never shrinks. Before it grows, its old memory is freed, so that a call never
+/// holds more memory than it would without the buffer. Settings that are rejected leave it unchanged. If an allocation
+/// fails, the buffer is empty, and the next call can use it. Each call clears the buffer before it returns, and
+/// [`drop`] clears and frees it.
 ///
 /// # Examples
 ///
@@ -40,8 +40,9 @@ impl Memory {
         self.buffer.length()
     }
 
-    /// What a call returns that computes in this buffer. A call that finds it too small is repeated
-    /// in one that fits its settings: only then are they known to be accepted.
+    /// What a call returns that computes in this buffer. If the buffer is too small, it is replaced by one that fits
+    /// the settings, and the call is made again. Only a call whose settings are accepted says that a buffer is too
+    /// small.
     pub(crate) fn call(
         &mut self,
         settings: impl FnOnce() -> Settings,
@@ -54,9 +55,9 @@ impl Memory {
         call(&mut self.buffer)
     }
 
-    /// Whether it held less than settings need, and was grown to that.
+    /// Whether the buffer was smaller than the settings need, and has grown to that.
     fn grow(&mut self, settings: &Settings) -> bool {
-        if self.size() as u64 >= face::memory_len(settings) {
+        if self.size() as u64 >= ffi::memory_len(settings) {
             return false;
         }
         self.buffer = Buffer::default();

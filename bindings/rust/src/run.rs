@@ -1,4 +1,4 @@
-use crate::face::{self, Extras, Progress, Settings, MISMATCH, OK, TOO_COSTLY};
+use crate::ffi::{self, Extras, Progress, Settings, MISMATCH, OK, OUT_OF_MEMORY, TOO_COSTLY};
 use crate::{Config, Error, Limits, Memory, Result, Unverified};
 use std::ops::ControlFlow;
 use std::{fmt, result};
@@ -6,7 +6,8 @@ use std::{fmt, result};
 /// How calls run: in a reusable buffer, and with a progress callback, which can stop them.
 ///
 /// Each call returns what the crate's call of the same name does ([`verify_encoded_ext`](crate::verify_encoded_ext) for
-/// [`Run::verify_encoded`]), or [`Error::Stopped`], which calls with limits return in [`Unverified::Refused`].
+/// [`Run::verify_encoded`]). If the callback stops it, it returns [`Error::Stopped`]; calls with limits return that in
+/// [`Unverified::Refused`].
 ///
 /// # Examples
 ///
@@ -15,11 +16,11 @@ use std::{fmt, result};
 /// use std::ops::ControlFlow;
 /// use std::time::{Duration, Instant};
 ///
-/// let late = Instant::now() + Duration::from_millis(1);
+/// let deadline = Instant::now() + Duration::from_millis(1);
 /// let mut memory = Memory::new();
-/// let mut run = Run::new().over(&mut memory).telling(|done, all| {
+/// let mut run = Run::new().over(&mut memory).with_progress(|done, all| {
 ///     println!("{done} of {all} slices");
-///     if Instant::now() < late { ControlFlow::Continue(()) } else { ControlFlow::Break(()) }
+///     if Instant::now() < deadline { ControlFlow::Continue(()) } else { ControlFlow::Break(()) }
 /// });
 /// let endless = Config { time_cost: u32::MAX, ..Config::default() };
 /// assert_eq!(run.hash_raw(b"password", b"somesalt", &endless), Err(Error::Stopped));
@@ -27,53 +28,61 @@ use std::{fmt, result};
 #[derive(Default)]
 pub struct Run<'a> {
     memory: Option<&'a mut Memory>,
+    /// Whether a call whose buffer is denied allocates its own memory.
+    is_memory_optional: bool,
     progress: Option<Progress<'a>>,
 }
 
 /// A call that writes what it computes.
 type Writing = fn(&[u8], &[u8], &Config<'_>, Extras<'_, '_>, &mut [u8]) -> u32;
 
-#[allow(clippy::missing_errors_doc)] // `Run` says it for all
+#[allow(clippy::missing_errors_doc)] // `Run` documents the errors of all its calls
 impl<'a> Run<'a> {
-    /// As the calls of the crate: each call allocates its memory, and there is no progress
-    /// callback.
+    /// Calls that allocate their own memory, and report no progress.
     #[must_use]
     pub fn new() -> Run<'a> {
         Run::default()
     }
 
-    /// The same, in a reusable buffer.
+    /// The same calls, in a reusable buffer.
     #[must_use]
     pub fn over(self, memory: &'a mut Memory) -> Run<'a> {
         Run { memory: Some(memory), ..self }
     }
 
-    /// The same, with a progress callback: it is passed how many slices of all are filled, four in
-    /// a pass, each time that one is, in the caller's thread. [`ControlFlow::Break`] stops the
-    /// call, which clears its memory and returns [`Error::Stopped`].
+    /// The same calls, in a reusable buffer or, if the system denies memory for it, in memory of their own.
+    pub(crate) fn over_if_granted(self, memory: &'a mut Memory) -> Run<'a> {
+        Run { memory: Some(memory), is_memory_optional: true, ..self }
+    }
+
+    /// The same calls, with a progress callback. A call makes it in the caller's thread each time a slice is filled,
+    /// four times in a pass, with the number of slices that are filled and of all slices.
+    ///
+    /// If the callback returns [`ControlFlow::Break`], the call clears its memory and returns [`Error::Stopped`]. If it
+    /// panics, the call clears its memory too, and the panic goes on in the caller.
     #[must_use]
-    pub fn telling(self, tell: impl FnMut(u64, u64) -> ControlFlow<()> + 'a) -> Run<'a> {
-        Run { progress: Some(Progress::new(tell)), ..self }
+    pub fn with_progress(self, progress: impl FnMut(u64, u64) -> ControlFlow<()> + 'a) -> Run<'a> {
+        Run { progress: Some(Progress::new(progress)), ..self }
     }
 
     /// As [`hash_raw`](crate::hash_raw).
     pub fn hash_raw(&mut self, pwd: &[u8], salt: &[u8], config: &Config<'_>) -> Result<Vec<u8>> {
-        self.hash(pwd, salt, config, config.hash_length.into(), face::hash_raw)
+        self.hash(pwd, salt, config, config.hash_length.into(), ffi::hash_raw)
     }
 
     /// As [`hash_encoded`](crate::hash_encoded).
     pub fn hash_encoded(&mut self, pwd: &[u8], salt: &[u8], config: &Config<'_>) -> Result<String> {
-        let salt_len = u32::try_from(salt.len()).unwrap_or(u32::MAX); // (a longer one is rejected)
-        let size = face::encoded_len(config, salt_len) + 1;
-        let mut text = self.hash(pwd, salt, config, size, face::hash_encoded)?;
+        let salt_len = u32::try_from(salt.len()).unwrap_or(u32::MAX); // (a longer salt is rejected)
+        let size = ffi::encoded_len(config, salt_len) + 1;
+        let mut text = self.hash(pwd, salt, config, size, ffi::hash_encoded)?;
         text.pop();
-        Ok(String::from_utf8(text).expect("a text is ASCII"))
+        Ok(String::from_utf8(text).expect("an encoded hash is ASCII"))
     }
 
     /// As [`verify_raw`](crate::verify_raw).
     pub fn verify_raw(&mut self, pwd: &[u8], salt: &[u8], hash: &[u8], config: &Config<'_>) -> Result<bool> {
         let settings = || Settings { hash_length: u32::MAX, ..Settings::of(config) };
-        verdict(self.call(settings, |extras| face::verify_raw(pwd, salt, hash, config, extras)))
+        verdict(self.call(settings, |extras| ffi::verify_raw(pwd, salt, hash, config, extras)))
     }
 
     /// As [`verify_encoded_ext`](crate::verify_encoded_ext).
@@ -96,9 +105,19 @@ impl<'a> Run<'a> {
         }
     }
 
-    /// The bytes that a call writes, so many. The settings are checked before memory is allocated for them.
+    /// As [`verify_password`](crate::verify_password).
+    pub fn verify_password(&mut self, encoded: &str, pwd: &[u8]) -> result::Result<bool, Unverified> {
+        self.verify_encoded_within(encoded, pwd, &[], &[], &Limits::default())
+    }
+
+    /// As [`hash_password_with`](crate::hash_password_with).
+    pub fn hash_password_with(&mut self, pwd: &[u8], config: &Config<'_>) -> Result<String> {
+        self.hash_encoded(pwd, &ffi::new_salt().ok_or(Error::NoRandomBytes)?, config)
+    }
+
+    /// Computes what a call writes, which is this many bytes. The settings are checked before memory is allocated.
     fn hash(&mut self, pwd: &[u8], salt: &[u8], config: &Config<'_>, length: u64, call: Writing) -> Result<Vec<u8>> {
-        require_done(face::check(pwd, salt, config))?;
+        require_done(ffi::check(pwd, salt, config))?;
         let (length, mut out) = (usize::try_from(length).map_err(|_| Error::OutOfMemory)?, Vec::new());
         out.try_reserve_exact(length).map_err(|_| Error::OutOfMemory)?;
         out.resize(length, 0);
@@ -108,20 +127,22 @@ impl<'a> Run<'a> {
 
     /// Verifies with limits or without.
     fn verify(&mut self, encoded: &str, pwd: &[u8], secret: &[u8], ad: &[u8], limits: Option<&Limits>) -> u32 {
-        let settings = || face::read(encoded).1.settings;
-        self.call(settings, |extras| face::verify_encoded(encoded, pwd, secret, ad, limits, extras))
+        let settings = || ffi::read(encoded).1.settings;
+        self.call(settings, |extras| ffi::verify_encoded(encoded, pwd, secret, ad, limits, extras))
     }
 
     /// What a call returns that is passed the buffer and the callback. The settings are computed
     /// only if the buffer is too small.
     fn call(&mut self, settings: impl FnOnce() -> Settings, mut call: impl FnMut(Extras<'_, 'a>) -> u32) -> u32 {
-        let Run { memory, progress } = self;
-        let number = match memory {
-            None => call(Extras { buffer: None, progress: progress.as_mut() }),
-            Some(memory) => {
-                memory.call(settings, |buffer| call(Extras { buffer: Some(buffer), progress: progress.as_mut() }))
-            }
-        };
+        let Run { memory, is_memory_optional, progress } = self;
+        let mut number = OUT_OF_MEMORY;
+        if let Some(memory) = memory {
+            number = memory.call(settings, |buffer| call(Extras { buffer: Some(buffer), progress: progress.as_mut() }));
+        }
+        let is_denied = |memory: &Memory| *is_memory_optional && number == OUT_OF_MEMORY && memory.size() == 0;
+        if memory.as_deref().map_or(true, is_denied) {
+            number = call(Extras { buffer: None, progress: progress.as_mut() });
+        }
         if let Some(progress) = progress {
             progress.resume_panic();
         }
@@ -131,11 +152,11 @@ impl<'a> Run<'a> {
 
 impl fmt::Debug for Run<'_> {
     fn fmt(&self, f: &mut fmt::Formatter<'_>) -> fmt::Result {
-        f.debug_struct("Run").field("memory", &self.memory).field("tells", &self.progress.is_some()).finish()
+        f.debug_struct("Run").field("memory", &self.memory).field("has_progress", &self.progress.is_some()).finish()
     }
 }
 
-/// Whether a verifying call returned a match; any number but a verdict is an error.
+/// Whether a verifying call returned a match. Any number that is not a verdict is an error.
 fn verdict(number: u32) -> Result<bool> {
     match number {
         MISMATCH => Ok(false),
@@ -143,7 +164,7 @@ fn verdict(number: u32) -> Result<bool> {
     }
 }
 
-/// The error of a call, unless it is done.
+/// The error of a call, unless it succeeded.
 pub(crate) fn require_done(number: u32) -> Result<()> {
     match number {
         OK => Ok(()),

@@ -1,7 +1,7 @@
-//! The traits of the crate `password-hash`, for programs that use RustCrypto's `argon2`.
+//! The traits of the crate `password-hash`, for programs that were written for RustCrypto's `argon2`.
 
 use crate::run::require_done;
-use crate::{face, Config, Error, Limits, Variant, Version};
+use crate::{ffi, Config, Error, Limits, Variant, Version};
 use password_hash::{
     Decimal, Encoding, Error as HashError, Ident, Output, ParamsString, PasswordHash, PasswordHasher, Result, Salt,
 };
@@ -9,8 +9,7 @@ use password_hash::{
 /// The most bytes of a salt in a string of the crate `password-hash`.
 const MOST_OF_A_SALT: usize = 64;
 
-/// The memory in KiB, the passes, the lanes and the length of the hash; or, by default, those of the
-/// hasher.
+/// The memory in KiB, the passes, the lanes and the length of the hash. The default stands for those of the hasher.
 #[derive(Clone, Copy, Debug, Default, Eq, PartialEq)]
 pub struct Params(Option<Config<'static>>);
 
@@ -21,7 +20,7 @@ fn with_costs<'a>(config: &Config<'a>, costs: &Config<'_>) -> Config<'a> {
 }
 
 impl Params {
-    /// These settings, and a hash of 32 bytes if no length is given.
+    /// These settings, with a hash of 32 bytes unless a length is given.
     ///
     /// # Errors
     ///
@@ -31,7 +30,7 @@ impl Params {
         let length = output_len.map_or(Ok(default.hash_length), u32::try_from);
         let hash_length = length.map_err(|_| Error::OutputTooLong)?;
         let costs = Config { mem_cost: m_cost, time_cost: t_cost, lanes: p_cost, hash_length, ..default };
-        require_done(face::check(&[], &[0; 8], &costs))?;
+        require_done(ffi::check(&[], &[0; 8], &costs))?;
         Ok(Params(Some(costs)))
     }
 
@@ -88,7 +87,7 @@ impl TryFrom<Params> for ParamsString {
     }
 }
 
-/// An error of this crate, as the traits tell it.
+/// The traits' error for an error of this crate.
 impl From<Error> for HashError {
     fn from(error: Error) -> HashError {
         match error {
@@ -99,15 +98,15 @@ impl From<Error> for HashError {
     }
 }
 
-/// A hasher with settings of its own, as RustCrypto's of this name. By default it has those of
+/// A hasher with settings, like the type of this name in RustCrypto's crate. By default the settings are
 /// [`Config::default`].
 ///
-/// A stored hash is verified within [`Limits::at_least`] those settings.
+/// It verifies stored hashes within [`Limits::at_least`] of those settings.
 ///
 /// # Examples
 ///
 /// ```
-/// use proved_argon2 as argon2; // what stands below is RustCrypto's
+/// use proved_argon2 as argon2; // the lines below are as for RustCrypto's crate
 /// use argon2::password_hash::{rand_core::OsRng, PasswordHash, PasswordHasher, PasswordVerifier, SaltString};
 /// use argon2::Argon2;
 ///
@@ -143,7 +142,7 @@ impl<'key> Argon2<'key> {
         params: Params,
     ) -> crate::Result<Argon2<'key>> {
         let config = Config { secret, ..Argon2::new(algorithm, version, params).config };
-        require_done(face::check(&[], &[0; 8], &config))?;
+        require_done(ffi::check(&[], &[0; 8], &config))?;
         Ok(config.into())
     }
 
@@ -167,7 +166,7 @@ impl<'key> Argon2<'key> {
     /// The settings that a stored hash names, if they are within limits.
     fn config_of(&self, name: Ident<'_>, version: Option<Decimal>, params: Params) -> Result<Config<'key>> {
         let variant = Variant::from_str(name.as_str()).map_err(|_| HashError::Algorithm)?;
-        // (without a version it is of the older one)
+        // (a hash without a version is of the older one)
         let version = version.map_or(Ok(Version::Version10), Version::from_u32)?;
         let config = Config { variant, version, ..self.with(params) };
         Limits::at_least(&self.config).allow(&config).then_some(config).ok_or(HashError::Crypto)

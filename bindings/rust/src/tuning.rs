@@ -2,7 +2,8 @@ use crate::{hash_raw, Config, Limits, Result};
 use std::fs;
 use std::time::{Duration, Instant};
 
-/// Of OWASP's choices the least memory, and the least work: of less a hash protects no password.
+/// The least memory in KiB, and the least work (memory times passes), of OWASP's recommendations. A hash with less does
+/// not protect a password well.
 const LEAST_MEMORY: u32 = 7168;
 const LEAST_WORK: u32 = 5 * LEAST_MEMORY;
 const ROUNDS: u32 = 3;
@@ -13,17 +14,17 @@ pub struct Tuning<'a> {
     /// The settings.
     pub config: Config<'a>,
 
-    /// What a hash takes, the least of several.
+    /// The time that a hash takes, the least of several.
     pub time: Duration,
 
-    /// How many programs ran at once in the last minute, beside which hashes take longer, where Linux says it.
+    /// The load of the machine in the last minute, if Linux reports it. Under load hashes take longer.
     pub load: Option<f64>,
 }
 
-/// The strongest settings whose hash takes at most so long here: as much memory as that leaves time for, at most
-/// that of `config`, and then as many passes, within the default limits. All else is as in `config`.
+/// Finds the strongest settings whose hash takes at most this long on this machine: as much memory as possible, up to
+/// that of `config`, and then as many passes as possible, within the default limits. Everything else is as in `config`.
 ///
-/// It is `None` if the least settings for passwords (7 MiB, 5 passes, or their work) take longer.
+/// It returns `None` if even the least settings for passwords (7 MiB and 5 passes, or as much work) take longer.
 ///
 /// # Errors
 ///
@@ -60,7 +61,7 @@ fn search<'a>(within: Duration, most: &Config<'a>, measure: &Measure<'a>) -> Res
     Ok(None)
 }
 
-/// Settings with as many passes as there is time for.
+/// Adds as many passes as there is time for.
 fn with_passes<'a>(within: Duration, least: Config<'a>, took: Duration, measure: &Measure<'a>) -> Result<Tuning<'a>> {
     let limits = Limits::default();
     let by_work = u32::try_from(limits.work / u64::from(least.mem_cost)).unwrap_or(u32::MAX);
@@ -76,7 +77,7 @@ fn with_passes<'a>(within: Duration, least: Config<'a>, took: Duration, measure:
     Ok(Tuning { config: least, time: took, load: load() })
 }
 
-/// What a hash takes, the least of a few.
+/// The time that a hash takes, the least of a few.
 fn measure(config: &Config<'_>) -> Result<Duration> {
     let mut least = Duration::MAX;
     for _ in 0..ROUNDS {
@@ -110,7 +111,7 @@ mod tests {
     }
 
     #[test]
-    fn there_is_as_much_memory_as_there_is_time_for_and_then_passes() {
+    fn the_memory_is_raised_first_and_then_the_passes_until_the_time_is_used() {
         let linear = |memory, passes| memory * passes;
         let limits = Limits::default();
         for (within, memory, passes) in
@@ -127,7 +128,7 @@ mod tests {
     }
 
     #[test]
-    fn settings_are_measured_here() {
+    fn hashes_are_measured_on_this_machine() {
         let most = Config { mem_cost: 16384, secret: b"pepper", ..Config::default() };
         let found = tune(Duration::from_secs(60), &most).unwrap().unwrap();
         assert!(found.time > Duration::ZERO && found.config.time_cost >= 3);

@@ -4,17 +4,17 @@ use std::fmt;
 const VARIANTS: [Variant; 3] = [Variant::Argon2d, Variant::Argon2i, Variant::Argon2id];
 const VERSIONS: [Version; 2] = [Version::Version10, Version::Version13];
 
-/// The variants of Argon2 (RFC 9106, 1): where the references of a block are drawn from.
+/// The variants of Argon2 (RFC 9106, 1). They differ in what determines which earlier block a block refers to.
 #[derive(Clone, Copy, Debug, Default, Eq, PartialEq, PartialOrd, Ord)]
 pub enum Variant {
-    /// From the blocks, and so from the password.
+    /// The blocks determine it, and so the password.
     Argon2d = 0,
 
-    /// From no block: the places that are read say nothing about the password.
+    /// Only the block's position determines it: which memory is read says nothing about the password.
     #[default]
     Argon2i = 1,
 
-    /// From no block in the first half of the first pass, and then from the blocks. The one to choose.
+    /// The position determines it in the first half of the first pass, and then the blocks. Choose this variant.
     Argon2id = 2,
 }
 
@@ -81,10 +81,10 @@ impl fmt::Display for Variant {
 /// The versions of Argon2.
 #[derive(Clone, Copy, Debug, Default, Eq, PartialEq, PartialOrd, Ord)]
 pub enum Version {
-    /// 0x10: later passes write over the blocks.
+    /// 0x10: later passes overwrite the blocks.
     Version10 = 0x10,
 
-    /// 0x13, that of RFC 9106. The one to choose.
+    /// 0x13, the version of RFC 9106. Choose this version.
     #[default]
     Version13 = 0x13,
 }

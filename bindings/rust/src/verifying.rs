@@ -1,4 +1,4 @@
-use crate::face::{self, NEEDS_REHASH, OK};
+use crate::ffi::{self, NEEDS_REHASH, OK};
 use crate::run::require_done;
 use crate::{Config, Error, Limits, Result, Run, Unverified, Variant, Version};
 use std::result;
@@ -8,7 +8,7 @@ use std::result;
 ///
 /// # Errors
 ///
-/// [`Error::DecodingFail`] for a string that decodes to no hash; otherwise the first parameter
+/// [`Error::DecodingFail`] for a string that is not an encoded hash; otherwise the first parameter
 /// error of its settings, or [`Error::OutOfMemory`]. There are as many threads as the hash has
 /// lanes, and at most 16.
 ///
@@ -51,7 +51,7 @@ pub fn verify_encoded_ext(encoded: &str, pwd: &[u8], secret: &[u8], ad: &[u8]) -
 ///
 /// # Errors
 ///
-/// [`Unverified::Refused`] with [`Error::DecodingFail`] for a string that decodes to no hash. Then
+/// [`Unverified::Refused`] with [`Error::DecodingFail`] for a string that is not an encoded hash. Then
 /// [`Unverified::TooCostly`] for a hash above a limit of memory, passes, lanes, or memory times
 /// passes, before any memory is allocated. Otherwise [`Unverified::Refused`] with the error of
 /// [`verify_encoded_ext`](crate::verify_encoded_ext).
@@ -86,7 +86,7 @@ pub fn verify_encoded_within(
 ///
 /// As [`verify_encoded_within`].
 pub fn verify_password(encoded: &str, pwd: &[u8]) -> result::Result<bool, Unverified> {
-    verify_encoded_within(encoded, pwd, &[], &[], &Limits::default())
+    Run::new().verify_password(encoded, pwd)
 }
 
 /// Verifies a password against a raw hash (tag). `config.hash_length` is ignored.
@@ -111,11 +111,11 @@ pub fn verify_raw(pwd: &[u8], salt: &[u8], hash: &[u8], config: &Config<'_>) -> 
 /// Whether an encoded hash was made with another variant, version, memory, passes, lanes or length
 /// of the hash.
 ///
-/// Call it once the password has matched, and hash the password again if it returns true.
+/// Call it after the password has matched, and hash the password again if it returns true.
 ///
 /// # Errors
 ///
-/// [`Error::DecodingFail`] for a string that decodes to no hash, or [`Error::OutOfMemory`].
+/// [`Error::DecodingFail`] for a string that is not an encoded hash, or [`Error::OutOfMemory`].
 ///
 /// # Examples
 ///
@@ -128,7 +128,7 @@ pub fn verify_raw(pwd: &[u8], salt: &[u8], hash: &[u8], config: &Config<'_>) -> 
 /// # Ok::<(), argon2::Error>(())
 /// ```
 pub fn needs_rehash(encoded: &str, config: &Config<'_>) -> Result<bool> {
-    match face::needs_rehash(encoded, config) {
+    match ffi::needs_rehash(encoded, config) {
         OK => Ok(false),
         NEEDS_REHASH => Ok(true),
         number => Err(Error::of_number(number)),
@@ -139,7 +139,7 @@ pub fn needs_rehash(encoded: &str, config: &Config<'_>) -> Result<bool> {
 /// bytes.
 #[derive(Clone, Copy, Debug, Eq, PartialEq)]
 pub struct Stored {
-    /// The length of the hash in bytes; 2^32 - 1 for a longer one.
+    /// The length of the hash in bytes. For a longer hash it is 2^32 - 1.
     pub hash_length: u32,
 
     /// The lanes.
@@ -148,7 +148,7 @@ pub struct Stored {
     /// The memory in KiB.
     pub mem_cost: u32,
 
-    /// The length of the salt in bytes; 2^32 - 1 for a longer one.
+    /// The length of the salt in bytes. For a longer salt it is 2^32 - 1.
     pub salt_length: u32,
 
     /// The passes over the memory.
@@ -161,14 +161,13 @@ pub struct Stored {
     pub version: Version,
 }
 
-/// Decodes an encoded hash. Nothing is verified, and settings that no hash is made with are decoded
-/// too.
+/// Decodes an encoded hash. Nothing is verified, and settings that no hash can have are decoded too.
 ///
 /// To verify a hash that others may have written, use [`verify_encoded_within`].
 ///
 /// # Errors
 ///
-/// [`Error::DecodingFail`] for a string that decodes to no hash, or [`Error::OutOfMemory`].
+/// [`Error::DecodingFail`] for a string that is not an encoded hash, or [`Error::OutOfMemory`].
 ///
 /// # Examples
 ///
@@ -181,7 +180,7 @@ pub struct Stored {
 /// # Ok::<(), argon2::Error>(())
 /// ```
 pub fn read(encoded: &str) -> Result<Stored> {
-    let (number, stored) = face::read(encoded);
+    let (number, stored) = ffi::read(encoded);
     require_done(number)?;
     let settings = stored.settings;
     Ok(Stored {

@@ -1,11 +1,12 @@
-//! How far a call is, and what stops it. Which calls pass it on, bindings/tests/test_rust.py tests.
+//! The progress callback of a `Run`: when it is called, and how it stops a call. bindings/tests/test_rust.py tests
+//! which calls pass it on.
 
 use proved_argon2::{hash_raw, Config, Error, Memory, Run, ThreadMode};
 use std::ops::ControlFlow::{self, Break, Continue};
 use std::panic::{catch_unwind, AssertUnwindSafe};
 use std::thread;
 
-/// Settings of a hash that takes seconds, in slices of a millisecond.
+/// Settings of a hash that takes seconds. Each of its slices takes about a millisecond.
 fn long() -> Config<'static> {
     Config { lanes: 2, mem_cost: 8192, thread_mode: ThreadMode::Parallel, time_cost: 1000, ..Config::default() }
 }
@@ -24,13 +25,13 @@ fn third(done: u64, _: u64) -> ControlFlow<()> {
 }
 
 #[test]
-fn each_slice_is_reported_in_the_caller_s_thread_and_no_answer_changes() {
+fn each_slice_is_reported_in_the_caller_s_thread_and_the_hash_is_the_same() {
     for (mem_cost, time_cost, thread_mode) in
         [(16, 1, ThreadMode::Sequential), (640, 2, ThreadMode::Parallel), (4096, 5, ThreadMode::AtMost(2))]
     {
         let config = Config { mem_cost, time_cost, thread_mode, ..long() };
         let mut seen = Vec::new();
-        let mut run = Run::new().telling(|done, all| {
+        let mut run = Run::new().with_progress(|done, all| {
             seen.push((done, all, thread::current().id()));
             Continue(())
         });
@@ -43,25 +44,25 @@ fn each_slice_is_reported_in_the_caller_s_thread_and_no_answer_changes() {
 }
 
 #[test]
-fn a_call_is_stopped_and_the_next_one_is_right() {
+fn a_call_can_be_stopped_and_the_next_one_is_right() {
     let right = hash_raw(b"password", b"somesalt", &short());
     for thread_mode in [ThreadMode::Sequential, ThreadMode::Parallel] {
         let mut memory = Memory::new();
-        let mut run = Run::new().over(&mut memory).telling(third);
-        assert_eq!(format!("{run:?}"), "Run { memory: Some(Memory { size: 0 }), tells: true }");
+        let mut run = Run::new().over(&mut memory).with_progress(third);
+        assert_eq!(format!("{run:?}"), "Run { memory: Some(Memory { size: 0 }), has_progress: true }");
         let answer = run.hash_raw(b"password", b"somesalt", &Config { thread_mode, ..long() });
         assert_eq!(answer, Err(Error::Stopped));
         drop(run);
         assert_eq!(memory.size(), 8192 << 10);
         assert_eq!(Run::new().over(&mut memory).hash_raw(b"password", b"somesalt", &short()), right);
     }
-    assert_eq!(format!("{:?}", Run::new()), "Run { memory: None, tells: false }");
+    assert_eq!(format!("{:?}", Run::new()), "Run { memory: None, has_progress: false }");
 }
 
 #[test]
-fn a_panic_in_the_callback_stops_the_call_and_comes_out_of_it() {
+fn a_panic_in_the_callback_stops_the_call_and_goes_on_in_the_caller() {
     let mut memory = Memory::new();
-    let mut run = Run::new().over(&mut memory).telling(|done, _| {
+    let mut run = Run::new().over(&mut memory).with_progress(|done, _| {
         assert!(done < 3, "it is the third");
         Continue(())
     });

@@ -1,4 +1,4 @@
-//! What settings, names, numbers, errors and limits are, show and turn into.
+//! The values of settings, names, numbers, errors and limits, and how they convert.
 
 use proved_argon2::{
     encoded_len, hash_encoded, hash_raw, needs_rehash, read, verify_encoded, verify_encoded_within, Config, Error,
@@ -9,7 +9,7 @@ use Variant::{Argon2d, Argon2i, Argon2id};
 use Version::{Version10, Version13};
 
 #[test]
-fn the_tags_of_rfc_9106() {
+fn hash_raw_computes_the_test_vectors_of_rfc_9106() {
     let config = Config { time_cost: 3, mem_cost: 32, lanes: 4, secret: &[3; 8], ad: &[4; 12], ..Config::default() };
     for (variant, tag) in [
         (Argon2d, "512b391b6f1162975371d30919734294f868e3be3984f3c1a13a4db9fabe4acb"),
@@ -24,7 +24,7 @@ fn the_tags_of_rfc_9106() {
 }
 
 #[test]
-fn variants_from_and_to_numbers_and_names() {
+fn variants_convert_from_and_to_numbers_and_names() {
     for (variant, number, lower, upper) in
         [(Argon2d, 0, "argon2d", "Argon2d"), (Argon2i, 1, "argon2i", "Argon2i"), (Argon2id, 2, "argon2id", "Argon2id")]
     {
@@ -44,7 +44,7 @@ fn variants_from_and_to_numbers_and_names() {
 }
 
 #[test]
-fn versions_from_and_to_numbers_and_names() {
+fn versions_convert_from_and_to_numbers_and_names() {
     for (version, number, name) in [(Version10, 16, "16"), (Version13, 19, "19")] {
         assert_eq!((Version::from_u32(number), Version::from_str(name)), (Ok(version), Ok(version)));
         assert_eq!((version.as_u32(), version.to_string().as_str()), (number, name));
@@ -60,7 +60,7 @@ fn versions_from_and_to_numbers_and_names() {
 }
 
 #[test]
-fn thread_modes_from_numbers_and_what_they_ask_for() {
+fn thread_modes_convert_from_numbers_and_limit_the_workers() {
     for threads in (0..40).chain([u32::MAX]) {
         let mode = if threads < 2 { ThreadMode::Sequential } else { ThreadMode::Parallel };
         assert_eq!(ThreadMode::from_threads(threads), mode);
@@ -79,7 +79,7 @@ fn thread_modes_from_numbers_and_what_they_ask_for() {
 }
 
 #[test]
-fn any_bytes_are_a_password() {
+fn a_password_can_be_any_bytes() {
     let config = Config { mem_cost: 256, ..Config::default() };
     let all: Vec<u8> = (0..=255).collect();
     let long = vec![0xff; 1 << 20];
@@ -92,9 +92,9 @@ fn any_bytes_are_a_password() {
     assert_eq!(encoded_len(Argon2id, u32::MAX, u32::MAX, u32::MAX, u32::MAX, u32::MAX), 11_453_246_175);
 }
 
-/// Those that no line of a file of vectors can have.
+/// These strings cannot be written in a line of a file of vectors.
 #[test]
-fn strings_of_any_bytes_and_lengths_are_passed_whole() {
+fn strings_with_any_bytes_and_lengths_are_passed_completely() {
     let text = "$argon2i$v=19$m=4096,t=3,p=1$c2FsdDEyMzQ$MTIzNDU2Nzg5MDEyMzQ1Njc4OTAxMjM0NTY3ODkwMTI";
     assert_eq!(verify_encoded(text, b"password"), Ok(false));
     let changed = ["\n", " ", "\0"].map(|byte| [format!("{byte}{text}"), format!("{text}{byte}"), byte.to_string()]);
@@ -105,14 +105,14 @@ fn strings_of_any_bytes_and_lengths_are_passed_whole() {
     }
 }
 
-/// Whether a text is that of a password, by calls whose errors are of two types.
+/// Whether a password matches an encoded hash, and its lanes: by calls with two types of errors.
 fn is_of(text: &str, pwd: &[u8], limits: &Limits) -> Result<(bool, u32), Unverified> {
     let lanes = read(text)?.lanes;
     Ok((verify_encoded_within(text, pwd, &[], &[], limits)?, lanes))
 }
 
 #[test]
-fn one_question_mark_serves_both_errors() {
+fn the_question_mark_converts_both_types_of_errors() {
     let text = hash_encoded(b"password", b"somesalt", &Config::owasp5()).unwrap();
     assert_eq!(is_of(&text, b"password", &Limits::default()), Ok((true, 1)));
     assert_eq!(is_of(&text, b"Password", &Limits::default()), Ok((false, 1)));
@@ -126,9 +126,9 @@ fn one_question_mark_serves_both_errors() {
     assert!(Unverified::TooCostly.source().is_none());
 }
 
-/// Settings above each of the default limits, and above all: what is hashed with them is within their limits.
+/// Settings above one of the default limits, and above all: a hash with these settings is within the raised limits.
 #[test]
-fn limits_are_raised_to_settings() {
+fn at_least_raises_the_default_limits_to_the_settings() {
     let small = Config { mem_cost: 1360, time_cost: 1, ..Config::default() };
     let default = Limits::default();
     assert_eq!(default, Limits { lanes: 16, mem_cost: 2_097_152, time_cost: 10, work: 4_194_304 });

@@ -1,4 +1,5 @@
-//! The outside vectors in bindings/vectors, and hashes of libargon2 that drawn.py there draws into $RANDOM_HASHES.
+//! The vectors of other implementations in bindings/vectors, and random hashes of libargon2. The script drawn.py there
+//! writes these to the file $RANDOM_HASHES.
 
 use proved_argon2::{
     needs_rehash, read, verify_encoded, verify_encoded_in, Config, Error, Limits, Memory, Run, ThreadMode, Variant,
@@ -8,13 +9,13 @@ use proved_argon2::{
 const RAW: &str = include_str!("../../vectors/raw.txt");
 const TEXTS: &str = include_str!("../../vectors/texts.txt");
 
-/// The bytes of hexadecimal digits, or of `-` none.
+/// The bytes of hexadecimal digits. `-` stands for no bytes.
 fn bytes_of(field: &str) -> Vec<u8> {
     let digits = if field == "-" { "" } else { field };
     (0..digits.len()).step_by(2).map(|at| u8::from_str_radix(&digits[at..at + 2], 16).unwrap()).collect()
 }
 
-/// The lines of raw.txt, and those that were drawn, if there are any.
+/// The lines of raw.txt, and the random hashes, if there are any.
 fn lines() -> Vec<String> {
     let drawn = std::env::var("RANDOM_HASHES").map(|file| std::fs::read_to_string(file).unwrap());
     let lines: Vec<_> = RAW.lines().chain(drawn.as_deref().unwrap_or("").lines()).map(str::to_owned).collect();
@@ -26,8 +27,8 @@ fn answer_of(error: &Error) -> String {
     format!("ERR {error}")
 }
 
-/// Takes the calls of a run through a line: a password's tag and text verify, with its secret alone, or all that hashes
-/// has the line's error.
+/// Makes the calls of a run with the inputs of a line. The tag and the encoded hash have to verify with this secret
+/// only, or the calls that hash have to return the error of the line.
 fn check(run: &mut Run<'_>, line: &str) {
     let fields: Vec<&str> = line.splitn(11, ' ').collect();
     let number = |index: usize| fields[index].parse().unwrap();

@@ -1,9 +1,10 @@
-//! The traits of the crate `password-hash` 0.6 over `proved-argon2`, for programs that use RustCrypto's `argon2` 0.6.
+//! The traits of the crate `password-hash` 0.6, implemented with `proved-argon2`, for programs that were written for
+//! RustCrypto's `argon2` 0.6.
 //!
 //! # Examples
 //!
 //! ```
-//! use proved_argon2_password_hash as argon2; // what stands below is RustCrypto's
+//! use proved_argon2_password_hash as argon2; // the lines below are as for RustCrypto's crate
 //! use argon2::password_hash::{phc::PasswordHash, PasswordHasher, PasswordVerifier};
 //! use argon2::Argon2;
 //!
@@ -23,27 +24,27 @@ use proved_argon2::{hash_encoded, verify_encoded_within, Error as Refusal, Limit
 pub use password_hash::{self, phc::PasswordHash, PasswordHasher, PasswordVerifier};
 pub use proved_argon2::{Config, ThreadMode, Variant, Version};
 
-/// A hasher with settings of its own, as RustCrypto's of this name. By default it has those of
+/// A hasher with settings, like the type of this name in RustCrypto's crate. By default the settings are
 /// [`Config::default`].
 ///
-/// A stored hash is verified within [`Limits::at_least`] those settings.
+/// It verifies stored hashes within [`Limits::at_least`] of those settings.
 #[derive(Clone, Copy, Debug, Default)]
 pub struct Argon2<'key> {
     config: Config<'key>,
 }
 
-/// All settings, among them a secret (pepper), associated data and threads.
+/// A hasher with all of these settings, among them a secret (pepper), associated data and threads.
 impl<'key> From<Config<'key>> for Argon2<'key> {
     fn from(config: Config<'key>) -> Argon2<'key> {
         Argon2 { config }
     }
 }
 
-/// It holds a salt of 8 to 48 bytes and a hash of 10 to 64: other lengths are [`Error::SaltInvalid`] and
+/// The salt has 8 to 48 bytes and the hash 10 to 64. Other lengths are [`Error::SaltInvalid`] and
 /// [`Error::OutputSize`].
 impl PasswordHasher<PasswordHash> for Argon2<'_> {
     fn hash_password_with_salt(&self, password: &[u8], salt: &[u8]) -> Result<PasswordHash> {
-        // (what the traits do not hold is refused before it is computed)
+        // (a length that the traits cannot represent is rejected before the hash is computed)
         Output::init_with(self.config.hash_length as usize, |_| Ok(()))?;
         Salt::new(salt)?;
         let text = hash_encoded(password, salt, &self.config).map_err(told)?;
@@ -51,8 +52,8 @@ impl PasswordHasher<PasswordHash> for Argon2<'_> {
     }
 }
 
-/// Of an encoded hash, which `proved-argon2` decodes and compares. One above the limits is [`Error::Crypto`], another
-/// algorithm [`Error::Algorithm`], and what decodes to no hash [`Error::EncodingInvalid`].
+/// Verifies an encoded hash, which `proved-argon2` decodes and compares. A hash above the limits is [`Error::Crypto`],
+/// another algorithm [`Error::Algorithm`], and a string that is not an encoded hash [`Error::EncodingInvalid`].
 impl PasswordVerifier<str> for Argon2<'_> {
     fn verify_password(&self, password: &[u8], hash: &str) -> Result<()> {
         let name = hash.split('$').nth(1).ok_or(Error::EncodingInvalid)?;
@@ -67,14 +68,14 @@ impl PasswordVerifier<str> for Argon2<'_> {
     }
 }
 
-/// As of its string.
+/// Verifies the string of this hash.
 impl PasswordVerifier<PasswordHash> for Argon2<'_> {
     fn verify_password(&self, password: &[u8], hash: &PasswordHash) -> Result<()> {
         self.verify_password(password, hash.to_string().as_str())
     }
 }
 
-/// An error of `proved-argon2`, as the traits tell it.
+/// The traits' error for an error of `proved-argon2`.
 fn told(error: Refusal) -> Error {
     match error {
         Refusal::DecodingFail => Error::EncodingInvalid,

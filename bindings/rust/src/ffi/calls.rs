@@ -12,7 +12,7 @@ extern "C" {
     pub fn proved_argon2_encoded_len(settings: *const Settings, salt_len: u32) -> u64;
     pub fn proved_argon2_hash_encoded_with(
         options: *const Options,
-        pwd: *const u8, pwd_len: usize,
+        pwd: *const c_void, pwd_len: usize,
         salt: *const u8, salt_len: usize,
         secret: *const u8, secret_len: usize,
         ad: *const u8, ad_len: usize,
@@ -20,7 +20,7 @@ extern "C" {
         text: *mut u8, text_len: usize) -> u32;
     pub fn proved_argon2_hash_raw_with(
         options: *const Options,
-        pwd: *const u8, pwd_len: usize,
+        pwd: *const c_void, pwd_len: usize,
         salt: *const u8, salt_len: usize,
         secret: *const u8, secret_len: usize,
         ad: *const u8, ad_len: usize,
@@ -37,12 +37,12 @@ extern "C" {
     pub fn proved_argon2_verify_encoded_with(
         options: *const Options,
         text: *const u8, text_len: usize,
-        pwd: *const u8, pwd_len: usize,
+        pwd: *const c_void, pwd_len: usize,
         secret: *const u8, secret_len: usize,
         ad: *const u8, ad_len: usize) -> u32;
     pub fn proved_argon2_verify_raw_with(
         options: *const Options,
-        pwd: *const u8, pwd_len: usize,
+        pwd: *const c_void, pwd_len: usize,
         salt: *const u8, salt_len: usize,
         secret: *const u8, secret_len: usize,
         ad: *const u8, ad_len: usize,

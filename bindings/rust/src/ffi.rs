@@ -1,12 +1,12 @@
-//! The calls of the C library, as safe functions that return its number. All `unsafe` code is here.
+//! The calls of the C library, as safe functions that return the library's number. All `unsafe` code is here.
 //!
-//! The library is passed a pointer and a length of each slice. It reads what is passed as `*const`, writes
-//! what is passed as `*mut` within its length, and keeps no pointer. A slice's pointer is never null.
+//! Each slice is passed as a pointer and a length. The library reads what is passed as `*const`, writes only within the
+//! length of what is passed as `*mut`, and keeps no pointer. The pointer of a slice is never null.
 
 mod calls;
 mod salt;
 
-pub use salt::new_salt;
+pub use salt::{new_salt, SALT_SIZE};
 
 use crate::{Config, Limits};
 use calls::*;
@@ -18,7 +18,7 @@ use std::os::raw::c_int;
 use std::panic::{catch_unwind, resume_unwind, AssertUnwindSafe};
 use std::ptr::{null, null_mut, NonNull};
 
-/// Done, or a match.
+/// Success, or a match.
 pub const OK: u32 = 0;
 
 /// An allocation failed, or the caller's buffer is too small.
@@ -33,7 +33,7 @@ pub const NEEDS_REHASH: u32 = 68;
 /// The encoded hash is above the limits.
 pub const TOO_COSTLY: u32 = 69;
 
-/// As many threads as the library has for an encoded hash.
+/// As many threads as the library allows for an encoded hash.
 const ALL_THREADS: u32 = u32::MAX;
 
 /// `proved_argon2_settings` of the header.
@@ -67,21 +67,20 @@ pub struct Options {
     run: *const c_void,
     pool: *mut c_void,
     limits: *const Limits,
-    tell: Option<extern "C" fn(*mut c_void, u64, u64) -> c_int>,
+    progress: Option<extern "C" fn(*mut c_void, u64, u64) -> c_int>,
     arg: *mut c_void,
-    today: *const Settings,
+    new_settings: *const Settings,
     // end
 }
 
-/// What the caller provides: a memory, without which the call allocates one, and a progress
-/// callback.
+/// What the caller provides: a buffer, without which the call allocates memory, and a progress callback.
 pub struct Extras<'call, 'a> {
     pub buffer: Option<&'call mut Buffer>,
     pub progress: Option<&'call mut Progress<'a>>,
 }
 
 impl Options {
-    /// The fields that C leaves out of an initializer.
+    /// The values of fields that an initializer in C leaves out.
     const NONE: Options = Options {
         // no options, by .ci/pages/presets
         size: 0,
@@ -91,14 +90,13 @@ impl Options {
         run: null(),
         pool: null_mut(),
         limits: null(),
-        tell: None,
+        progress: None,
         arg: null_mut(),
-        today: null(),
+        new_settings: null(),
         // end
     };
 
-    /// Options of so many threads. They point to what the caller provides, which has to outlive
-    /// them.
+    /// Options with this many threads. They point to what the caller provides, which has to outlive them.
     fn by(threads: u32, extras: Extras<'_, '_>) -> Options {
         let (memory, memory_len) = extras.buffer.map_or((null_mut(), 0), |buffer| (buffer.address, buffer.length));
         Options {
@@ -106,7 +104,7 @@ impl Options {
             threads,
             memory,
             memory_len,
-            tell: extras.progress.as_ref().map(|_| report as _),
+            progress: extras.progress.as_ref().map(|_| report as _),
             arg: extras.progress.map_or(null_mut(), |progress| (progress as *mut Progress<'_>).cast()),
             ..Options::NONE
         }
@@ -121,25 +119,24 @@ impl Settings {
     }
 }
 
-/// A memory that the library allocated, or none. Its contents are never looked at here: each call
-/// clears what it used.
+/// Memory that the library allocated, or none. This crate never reads it, and each call clears what it used.
 pub struct Buffer {
     /// Some address if the length is 0: a call without one would allocate memory of its own.
     address: *mut c_void,
     length: usize,
 }
 
-// SAFETY: nobody else has the address, and the library binds no memory to a thread.
+// SAFETY: nothing else has the address, and the library does not bind memory to a thread.
 unsafe impl Send for Buffer {}
 
-// SAFETY: what is shared can only be asked for its length.
+// SAFETY: a shared reference only gives the length.
 unsafe impl Sync for Buffer {}
 
 impl Buffer {
-    /// A memory that fits calls with these settings, or none if it is denied.
+    /// Memory that is large enough for these settings, or none if the system denies it.
     pub fn of(settings: &Settings) -> Buffer {
         let (mut address, mut length) = (null_mut(), 0);
-        // SAFETY: the settings are read, and what is written to is this function's own.
+        // SAFETY: the library reads the settings, and writes to variables of this function.
         let number = unsafe { proved_argon2_memory_new(settings, &mut address, &mut length) };
         if number == OK {
             Buffer { address, length }
@@ -162,14 +159,15 @@ impl Default for Buffer {
 impl Drop for Buffer {
     fn drop(&mut self) {
         if self.length > 0 {
-            // SAFETY: the library allocated it, with this length, and it is freed once.
+            // SAFETY: the library allocated this memory, with this length, and it is freed once.
             unsafe { proved_argon2_memory_free(self.address, self.length) }
         }
     }
 }
 
-/// The progress callback of a call: it is passed how many slices of all are filled, and returns whether the call goes
-/// on. A panic in it stops the call, and goes on once the call has returned: none passes through C.
+/// The progress callback of a call. It gets the number of slices that are filled and of all slices, and returns whether
+/// the call goes on. If it panics, the call stops, and the panic goes on after the call has returned: no panic passes
+/// through C.
 pub struct Progress<'a> {
     callback: Box<dyn FnMut(u64, u64) -> ControlFlow<()> + 'a>,
     panic: Option<Box<dyn Any + Send>>,
@@ -188,7 +186,7 @@ impl<'a> Progress<'a> {
     }
 }
 
-/// `proved_argon2_tell` of the header.
+/// `proved_argon2_progress` of the header.
 extern "C" fn report(arg: *mut c_void, done: u64, all: u64) -> c_int {
     // SAFETY: `Options::by` passes this with its argument, which is borrowed for the call alone.
     // The library calls it in the caller's thread, and never twice at once.
@@ -208,11 +206,11 @@ macro_rules! call {
         let options = $options;
         // SAFETY: each pointer and length are those of a slice, what is written to is borrowed for this call alone, and
         // what the options point to outlives it, as do the settings. Threads that it starts end before it returns.
-        unsafe { $name(&options, $($bytes.as_ptr(), $bytes.len(),)* $($rest,)*) }
+        unsafe { $name(&options, $($bytes.as_ptr().cast(), $bytes.len(),)* $($rest,)*) }
     }};
 }
 
-/// Whether a hash with these settings is made of such inputs: of them the lengths alone are passed.
+/// Whether a hash with these settings can be made from such inputs. Only their lengths are passed.
 pub fn check(pwd: &[u8], salt: &[u8], config: &Config<'_>) -> u32 {
     let [pwd, salt, secret, ad] = [pwd, salt, config.secret, config.ad].map(|bytes| bytes.len() as u64);
     // SAFETY: the settings are read, and nothing is written.
@@ -226,7 +224,7 @@ pub fn hash_raw(pwd: &[u8], salt: &[u8], config: &Config<'_>, extras: Extras<'_,
     call!(proved_argon2_hash_raw_with, options, [pwd, salt, config.secret, config.ad], &settings, to, length)
 }
 
-/// Writes the encoded hash and then zeros to `out`, which has more bytes than the encoded hash.
+/// Writes the encoded hash and then zeros to `out`, which is longer than the encoded hash.
 pub fn hash_encoded(pwd: &[u8], salt: &[u8], config: &Config<'_>, extras: Extras<'_, '_>, out: &mut [u8]) -> u32 {
     let (options, settings) = (Options::by(config.workers(), extras), Settings::of(config));
     let (to, length) = (out.as_mut_ptr(), out.len());
@@ -256,11 +254,11 @@ pub fn verify_encoded(
 
 /// The library's default limits.
 pub fn default_limits() -> Limits {
-    // SAFETY: the call takes nothing.
+    // SAFETY: the call has no arguments.
     unsafe { proved_argon2_default_limits() }
 }
 
-/// What an encoded hash decodes to, if the number is that of success.
+/// What an encoded hash decodes to, if the number is `OK`.
 pub fn read(text: &str) -> (u32, Stored) {
     let mut stored = Stored::default();
     // SAFETY: the pointer and the length are those of a slice, and `stored` is this function's own.
@@ -268,7 +266,7 @@ pub fn read(text: &str) -> (u32, Stored) {
     (number, stored)
 }
 
-/// The bytes that a call with these settings needs for its blocks.
+/// How many bytes a call with these settings needs for its blocks.
 pub fn memory_len(settings: &Settings) -> u64 {
     // SAFETY: the settings are read, and nothing is written.
     unsafe { proved_argon2_memory_len(settings) }
@@ -289,7 +287,7 @@ pub fn encoded_len(config: &Config<'_>, salt_len: u32) -> u64 {
 /// The message of an error's number.
 #[cfg(test)]
 pub fn message(number: u32) -> String {
-    // SAFETY: the call gives a constant of the library, which a zero ends.
+    // SAFETY: the call returns a constant of the library, which ends with a zero.
     let text = unsafe { std::ffi::CStr::from_ptr(proved_argon2_message(number).cast()) };
     text.to_string_lossy().into_owned()
 }
@@ -298,7 +296,7 @@ pub fn message(number: u32) -> String {
 mod tests {
     #[test]
     fn the_library_has_the_version_of_this_crate() {
-        // SAFETY: the call takes nothing.
+        // SAFETY: the call has no arguments.
         let number = unsafe { super::proved_argon2_library_version() };
         let version = format!("{}.{}.{}", number / 1_000_000, number / 1_000 % 1_000, number % 1_000);
         assert_eq!(version, env!("CARGO_PKG_VERSION"));

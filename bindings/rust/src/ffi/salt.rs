@@ -1,17 +1,18 @@
-//! Random bytes of the system.
+//! Random bytes from the system.
 
 use std::ffi::c_void;
 
-/// The bytes of a salt (RFC 9106, 3.1).
-const SALT_SIZE: usize = 16;
+/// The length of a new salt in bytes (RFC 9106, 3.1).
+pub const SALT_SIZE: usize = 16;
 
-/// The bytes of a new salt, or none if the system has no random bytes.
+/// A new salt, or none if the system returns no random bytes.
 pub fn new_salt() -> Option<[u8; SALT_SIZE]> {
     let mut salt = [0; SALT_SIZE];
     fill(&mut salt).then_some(salt)
 }
 
-/// Fills the bytes, as the header for C takes so few, and returns whether the system had them.
+/// Fills the salt, and returns whether the system had random bytes. The system returns so few bytes
+/// completely or not at all.
 #[cfg(not(windows))]
 fn fill(salt: &mut [u8; SALT_SIZE]) -> bool {
     use std::io::{Error, ErrorKind};
@@ -29,7 +30,7 @@ fn fill(salt: &mut [u8; SALT_SIZE]) -> bool {
     }
 }
 
-/// The same.
+/// Fills the salt, and returns whether the system had random bytes.
 #[cfg(windows)]
 fn fill(salt: &mut [u8; SALT_SIZE]) -> bool {
     use std::os::raw::{c_long, c_ulong};
@@ -39,7 +40,7 @@ fn fill(salt: &mut [u8; SALT_SIZE]) -> bool {
         fn BCryptGenRandom(none: *mut c_void, buffer: *mut u8, length: c_ulong, flags: c_ulong) -> c_long;
     }
 
-    /// That no algorithm is passed, and the system chooses one.
+    /// The system chooses the algorithm.
     const BCRYPT_USE_SYSTEM_PREFERRED_RNG: c_ulong = 2;
     // SAFETY: the pointer and the length are those of an array that this function may write to.
     let status = unsafe {

@@ -1,0 +1,166 @@
+//! Places, the queue, and the buffers that places keep.
+
+use super::{Busy, Line, Unpark};
+use crate::Config;
+use std::future::Future;
+use std::pin::Pin;
+use std::sync::atomic::{AtomicUsize, Ordering::SeqCst};
+use std::sync::Arc;
+use std::task::{Context, Poll, Waker};
+use std::thread;
+use std::time::{Duration, Instant};
+
+/// Longer than any test takes.
+const LONG: Duration = Duration::from_secs(3600);
+
+/// The free places, and how many callers wait.
+fn state_of(line: &Line) -> (usize, usize) {
+    let state = line.0.lock();
+    (state.free, state.queue.len())
+}
+
+/// The bytes of each buffer that no place uses.
+fn kept_by(line: &Line) -> Vec<usize> {
+    line.0.lock().kept.iter().map(|(memory, _)| memory.size()).collect()
+}
+
+fn small(mem_cost: u32) -> Config<'static> {
+    Config { mem_cost, time_cost: 1, ..Config::default() }
+}
+
+/// Computes a hash in a new place, in this many KiB.
+fn hash_in(line: &Line, mem_cost: u32) {
+    line.wait().unwrap().run().hash_raw(b"password", b"somesalt", &small(mem_cost)).unwrap();
+}
+
+fn waker() -> Waker {
+    Waker::from(Arc::new(Unpark(thread::current())))
+}
+
+#[test]
+fn no_more_callers_compute_or_wait_than_the_line_allows() {
+    let line = Line::new(2, 3);
+    let (running, most, busy) = (AtomicUsize::new(0), AtomicUsize::new(0), AtomicUsize::new(0));
+    let held = [line.wait().unwrap(), line.wait().unwrap()];
+    thread::scope(|scope| {
+        for _ in 0..6 {
+            scope.spawn(|| match line.wait() {
+                Ok(_place) => {
+                    most.fetch_max(running.fetch_add(1, SeqCst) + 1, SeqCst);
+                    thread::yield_now();
+                    running.fetch_sub(1, SeqCst);
+                }
+                Err(Busy) => {
+                    busy.fetch_add(1, SeqCst);
+                }
+            });
+        }
+        while busy.load(SeqCst) < 3 {
+            thread::yield_now();
+        }
+        drop(held);
+    });
+    assert_eq!(busy.into_inner(), 3);
+    assert!(most.into_inner() <= 2);
+    let places = [line.wait().unwrap(), line.clone().wait().unwrap()];
+    assert_eq!(state_of(&line), (0, 0));
+    drop(places);
+    assert_eq!(state_of(&line), (2, 0));
+}
+
+#[test]
+fn a_caller_who_leaves_passes_the_place_on() {
+    let waker = waker();
+    let mut context = Context::from_waker(&waker);
+    let line = Line::new(1, 3);
+    let place = line.wait().unwrap();
+    let mut waiting: Vec<_> = (0..3).map(|_| line.enter()).collect();
+    for enter in &mut waiting {
+        assert!(Pin::new(enter).poll(&mut context).is_pending());
+    }
+    assert!(matches!(Pin::new(&mut line.enter()).poll(&mut context), Poll::Ready(Err(Busy))));
+    drop(waiting.remove(1)); // it has no place yet
+    drop(place); // the first has it now, and leaves before it is polled
+    drop(waiting.remove(0));
+    assert!(matches!(Pin::new(&mut waiting[0]).poll(&mut context), Poll::Ready(Ok(_))));
+    drop(waiting);
+    assert_eq!(state_of(&line), (1, 0));
+}
+
+#[test]
+fn the_number_of_places_fits_the_settings_the_processors_and_the_memory() {
+    let places = |config: &Config<'_>, memory| state_of(&Line::of(config, memory)).0;
+    let many_lanes = Config { mem_cost: 1024, lanes: 1 << 20, ..Config::default() };
+    assert_eq!((places(&many_lanes, 1 << 40), Line::of(&many_lanes, 1 << 40).0.waiting), (1, 16));
+    let processors = thread::available_parallelism().map_or(1, usize::from);
+    assert_eq!(places(&small(1024), 1 << 40), processors);
+    assert_eq!(places(&small(1024), 2 << 20), processors.min(2));
+    assert_eq!(places(&small(1024), 0), 1);
+}
+
+#[test]
+fn a_place_keeps_its_buffer_for_the_next_caller() {
+    let line = Line::keeping(2, 0, LONG);
+    drop(line.wait().unwrap()); // it computes nothing, and so has no buffer
+    assert_eq!(kept_by(&line), []);
+    hash_in(&line, 64);
+    hash_in(&line, 32); // a smaller hash is computed in the same buffer
+    assert_eq!(kept_by(&line), [64 << 10]);
+    hash_in(&line, 128); // a larger hash gets a new one
+    assert_eq!(kept_by(&line), [128 << 10]);
+    let (mut one, mut other) = (line.wait().unwrap(), line.wait().unwrap());
+    assert_eq!(kept_by(&line), []);
+    for place in [&mut one, &mut other] {
+        place.run().hash_raw(b"password", b"somesalt", &small(64)).unwrap();
+    }
+    drop((one, other));
+    assert_eq!(kept_by(&line), [128 << 10, 64 << 10]);
+}
+
+#[test]
+fn there_are_never_more_buffers_than_places() {
+    let line = Line::keeping(3, 100, LONG);
+    thread::scope(|scope| {
+        for _ in 0..12 {
+            scope.spawn(|| (0..50).for_each(|turn| hash_in(&line, 8 + turn % 3)));
+        }
+    });
+    assert!((1..=3).contains(&kept_by(&line).len()), "{:?}", kept_by(&line));
+    assert_eq!(state_of(&line), (3, 0));
+}
+
+#[test]
+fn only_buffers_that_are_idle_for_long_enough_are_freed() {
+    let idle = Duration::from_millis(400);
+    let line = Line::keeping(2, 0, idle);
+    let mut other = line.wait().unwrap();
+    hash_in(&line, 64);
+    thread::sleep(idle / 2);
+    other.run().hash_raw(b"password", b"somesalt", &small(32)).unwrap();
+    drop(other);
+    let begun = Instant::now();
+    while kept_by(&line).len() == 2 {
+        assert!(begun.elapsed() < 50 * idle, "no buffer is freed");
+        thread::yield_now();
+    }
+    assert_eq!(kept_by(&line), [32 << 10]);
+    while line.0.lock().is_watched {
+        thread::yield_now();
+    }
+    assert!(begun.elapsed() >= idle);
+    assert_eq!(kept_by(&line), []);
+    hash_in(&line, 64); // the next buffer is watched anew
+    assert!(line.0.lock().is_watched);
+}
+
+#[test]
+fn a_line_that_is_gone_keeps_no_buffer() {
+    let line = Line::keeping(1, 0, LONG);
+    let mut place = line.wait().unwrap();
+    place.run().hash_raw(b"password", b"somesalt", &small(64)).unwrap();
+    let shared = Arc::downgrade(&line.0);
+    drop(line);
+    assert!(shared.upgrade().is_some(), "a place keeps its line");
+    drop(place);
+    assert!(shared.upgrade().is_none());
+}
