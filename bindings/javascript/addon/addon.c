@@ -1,15 +1,14 @@
-/* The library as an addon of Node: its calls, and runs in threads of their own. The package's own code calls it
- * (src/native.js), and passes typed arrays of the right lengths, which stay as they are while a call or a run has
- * them. It is tested and not proved. */
+/* The library as an addon of Node: its calls, and runs in threads of its own. Only the package's own code calls it
+ * (src/native.js). It passes typed arrays of the right lengths, which stay as they are until a call or a run has ended.
+ * The addon is tested and not proved. */
 #define _GNU_SOURCE
 #include "node_api.h"
-#include <proved_argon2.h>
-#include <pthread.h>
+#include "buffers.h"
+#include <errno.h>
 #include <signal.h>
 #include <stdatomic.h>
-#include <stdlib.h>
 
-#define MOST 8
+#define MOST_PARTS 8
 #define MOST_IDLE 8
 #define STACK ((size_t)1 << 20)
 
@@ -19,37 +18,47 @@ typedef struct part {
     size_t len;
 } part;
 
-/* What a run's code tells it, and JavaScript may change meanwhile. */
+/* What JavaScript tells a run, also while it computes. */
 typedef struct control {
     _Atomic uint32_t is_stopped;
     uint32_t threads;
     uint32_t is_reported;
 } control;
 
-typedef struct run {
-    part parts[MOST];
+/* A kind of run: how many arrays it is passed, what it computes of them, and which settings that takes. */
+typedef struct kind {
+    size_t parts;
     uint32_t (*compute)(const proved_argon2_options *with, const part *parts);
+    proved_argon2_settings (*settings)(const part *parts);
+} kind;
+
+typedef struct run {
+    part parts[MOST_PARTS];
+    const kind *kind;
     napi_threadsafe_function listener;
     struct run *next;
     _Atomic uint64_t slices;
     uint32_t code;
+    bool is_queued;            /* no thread computes it yet */
     bool is_over;              /* no thread of the pool looks at it any more */
     _Atomic bool is_abandoned; /* the thread of JavaScript ends */
 } run;
 
-/* Threads compute one run after another, since the first milliseconds of a new thread are slow ones. */
+/* Threads that compute one run after another, since a new thread is slow in its first milliseconds. */
 static struct {
     pthread_mutex_t lock;
-    pthread_cond_t is_waiting, is_over;
-    run *waiting;
-    size_t idle; /* threads without a run, but for those that one is waiting for */
-} pool = {PTHREAD_MUTEX_INITIALIZER, PTHREAD_COND_INITIALIZER, PTHREAD_COND_INITIALIZER, NULL, 0};
+    pthread_cond_t has_run, is_over;
+    run *first, **end; /* runs that no thread computes yet, in their order */
+    size_t queued;     /* how many these are */
+    size_t threads;    /* all threads */
+    size_t idle;       /* those that wait for a run */
+} pool = {.lock = PTHREAD_MUTEX_INITIALIZER, .is_over = PTHREAD_COND_INITIALIZER, .end = &pool.first};
 
 /* Reads so many arguments that are arrays, and returns what is behind them. */
 static napi_value take(napi_env env, napi_callback_info info, part *parts, size_t count)
 {
-    size_t passed = MOST;
-    napi_value values[MOST];
+    size_t passed = MOST_PARTS;
+    napi_value values[MOST_PARTS];
     napi_get_cb_info(env, info, &passed, values, NULL, NULL);
     for (size_t i = 0; i < count; i++) {
         parts[i] = (part){NULL, 0};
@@ -105,15 +114,6 @@ static napi_value encode(napi_env env, napi_callback_info info)
     return number(env, proved_argon2_encode(of[0].at, of[0].len, of[1].at, of[2].at, of[2].len, of[3].at, of[3].len));
 }
 
-static napi_value message(napi_env env, napi_callback_info info)
-{
-    part of[1];
-    napi_value text = NULL;
-    take(env, info, of, 1);
-    napi_create_string_utf8(env, proved_argon2_message(*(uint32_t *)of[0].at), AUTO_LENGTH, &text);
-    return text;
-}
-
 /* ---- runs */
 
 static uint32_t compute_hash(const proved_argon2_options *with, const part *of)
@@ -128,6 +128,22 @@ static uint32_t compute_verdict(const proved_argon2_options *with, const part *o
         with, of[2].at, of[2].len, of[1].at, of[1].len, of[3].at, of[3].len, of[4].at, of[4].len);
 }
 
+static proved_argon2_settings settings_of_hash(const part *of)
+{
+    return *(const proved_argon2_settings *)of[5].at;
+}
+
+/* The settings of the string that is verified. Those of a string that cannot be read are not valid. */
+static proved_argon2_settings settings_of_string(const part *of)
+{
+    proved_argon2_stored stored = {0};
+    const uint32_t code = proved_argon2_read(of[2].at, of[2].len, &stored);
+    return code == PROVED_ARGON2_OK ? stored.settings : (proved_argon2_settings){0};
+}
+
+static const kind hashing = {7, compute_hash, settings_of_hash};
+static const kind verifying = {5, compute_verdict, settings_of_string};
+
 /* Reports the progress, and says whether to stop. */
 static int tell(void *arg, uint64_t done, uint64_t all)
 {
@@ -140,34 +156,89 @@ static int tell(void *arg, uint64_t done, uint64_t all)
     return atomic_load(&told->is_stopped) != 0 || self->is_abandoned;
 }
 
-static void compute(run *self)
+/* Has JavaScript hear that a run has ended. */
+static void tell_end(run *self)
 {
-    proved_argon2_options with = PROVED_ARGON2_OPTIONS;
-    with.threads = ((control *)self->parts[0].at)->threads;
-    with.tell = tell;
-    with.arg = self;
-    self->code = self->compute(&with, self->parts);
     napi_call_threadsafe_function(self->listener, NULL, NONBLOCKING);
     napi_release_threadsafe_function(self->listener, RELEASE);
 }
 
-/* A thread, which ends where enough others are idle. */
+/* Computes a run in a kept buffer. Without one the call allocates the memory itself, or returns that it cannot. The
+ * buffer is kept before JavaScript hears of the end, so that the next run can use it. */
+static void compute(run *self)
+{
+    const proved_argon2_settings settings = self->kind->settings(self->parts);
+    buffer *const own = take_buffer(&settings);
+    proved_argon2_options with = PROVED_ARGON2_OPTIONS;
+    with.threads = ((control *)self->parts[0].at)->threads;
+    with.memory = own == NULL ? NULL : own->memory;
+    with.memory_len = own == NULL ? 0 : own->len;
+    with.progress = tell;
+    with.arg = self;
+    self->code = self->kind->compute(&with, self->parts);
+    keep_buffer(own, &settings);
+    tell_end(self);
+}
+
+/* Waits for a run. Frees the kept buffers that have been unused for too long meanwhile. The pool is locked. */
+static void wait_for_run(void)
+{
+    const struct timespec end = {.tv_sec = next_end_of_buffer()};
+    int error = 0;
+    pool.idle++;
+    if (end.tv_sec == 0) {
+        error = pthread_cond_wait(&pool.has_run, &pool.lock);
+    } else {
+        error = pthread_cond_timedwait(&pool.has_run, &pool.lock, &end);
+    }
+    pool.idle--;
+    if (error == ETIMEDOUT) {
+        pthread_mutex_unlock(&pool.lock);
+        free_unused_buffers();
+        pthread_mutex_lock(&pool.lock);
+    }
+}
+
+/* Takes a queued run out of the queue. The pool is locked. */
+static void unqueue(run *self)
+{
+    run **place = &pool.first;
+    while (*place != self) {
+        place = &(*place)->next;
+    }
+    *place = self->next;
+    pool.end = self->next == NULL ? place : pool.end;
+    pool.queued--;
+    self->is_queued = false;
+}
+
+/* The first queued run, once there is one, or null if enough other threads wait for it. The pool is locked. */
+static run *next_run(void)
+{
+    while (pool.first == NULL) {
+        if (pool.idle == MOST_IDLE) {
+            return NULL;
+        }
+        wait_for_run();
+    }
+    run *const next = pool.first;
+    unqueue(next);
+    return next;
+}
+
+/* A thread of the pool. */
 static void *compute_all(void *arg)
 {
     pthread_mutex_lock(&pool.lock);
-    for (;; pool.idle++) {
-        while (pool.waiting == NULL) {
-            pthread_cond_wait(&pool.is_waiting, &pool.lock);
-        }
-        run *const self = pool.waiting;
-        pool.waiting = self->next;
+    for (run *self; (self = next_run()) != NULL;) {
         pthread_mutex_unlock(&pool.lock);
         compute(self);
         pthread_mutex_lock(&pool.lock);
         self->is_over = true;
         pthread_cond_broadcast(&pool.is_over);
-        if (pool.idle == MOST_IDLE) break;
     }
+    pool.threads--;
+    pthread_cond_signal(&pool.has_run); /* (another thread frees the buffer that was kept here) */
     pthread_mutex_unlock(&pool.lock);
     return arg;
 }
@@ -181,11 +252,20 @@ static void await_end(run *self)
     pthread_mutex_unlock(&pool.lock);
 }
 
-/* What depends on the arrays of a thread of JavaScript ends before it. */
+/* What depends on the arrays of a thread of JavaScript ends before it. A queued run does not begin, since it would wait
+ * for others that end later. */
 static void abandon(void *arg)
 {
     run *const self = arg;
     self->is_abandoned = true;
+    pthread_mutex_lock(&pool.lock);
+    if (self->is_queued) {
+        unqueue(self);
+        self->code = PROVED_ARGON2_STOPPED;
+        self->is_over = true;
+        tell_end(self);
+    }
+    pthread_mutex_unlock(&pool.lock);
     await_end(self);
 }
 
@@ -223,38 +303,43 @@ static int start(void)
     return denied;
 }
 
-/* Has an idle thread compute a run, or a new one. */
-static int submit(run *self)
+/* Queues a run. If more runs are queued than threads wait for one, it starts a thread. If that is denied, the threads
+ * that there are compute the run in its turn. Returns whether there is one. */
+static bool submit(run *self)
 {
-    int denied = 0;
     pthread_mutex_lock(&pool.lock);
-    self->next = pool.waiting;
-    pool.waiting = self;
-    if (pool.idle > 0) {
-        pool.idle--;
-        pthread_cond_signal(&pool.is_waiting);
-    } else if ((denied = start()) != 0) {
-        pool.waiting = self->next;
+    self->is_queued = true;
+    *pool.end = self;
+    pool.end = &self->next;
+    pool.queued++;
+    if (pool.queued <= pool.idle) {
+        pthread_cond_signal(&pool.has_run);
+    } else if (start() == 0) {
+        pool.threads++;
+    }
+    const bool has_thread = pool.threads > 0;
+    if (!has_thread) {
+        unqueue(self);
     }
     pthread_mutex_unlock(&pool.lock);
-    return denied;
+    return has_thread;
 }
 
-/* Begins a run of so many arrays, of which the listener hears, which is passed behind them. */
-static napi_value begin(napi_env env, napi_callback_info info, const run *made, size_t count)
+/* Begins a run of some arrays. The listener, which is passed behind them, hears of it. */
+static napi_value begin(napi_env env, napi_callback_info info, const kind *kind)
 {
     napi_value name = NULL;
-    run *const self = malloc(sizeof *self);
+    run *const self = calloc(1, sizeof *self);
     if (self == NULL) return number(env, PROVED_ARGON2_OUT_OF_MEMORY);
-    *self = *made;
-    const napi_value listener = take(env, info, self->parts, count);
+    self->kind = kind;
+    const napi_value listener = take(env, info, self->parts, kind->parts);
     napi_create_string_utf8(env, "proved-argon2", AUTO_LENGTH, &name);
     if (napi_create_threadsafe_function(env, listener, NULL, name, 0, 1, NULL, NULL, self, hear, &self->listener)
         != 0) {
         free(self);
         return number(env, PROVED_ARGON2_OUT_OF_MEMORY);
     }
-    if (submit(self) != 0) {
+    if (!submit(self)) {
         napi_release_threadsafe_function(self->listener, ABORT);
         free(self);
         return number(env, PROVED_ARGON2_WORKER_REFUSED);
@@ -265,12 +350,22 @@ static napi_value begin(napi_env env, napi_callback_info info, const run *made, 
 
 static napi_value hash(napi_env env, napi_callback_info info)
 {
-    return begin(env, info, &(run){.compute = compute_hash}, 7);
+    return begin(env, info, &hashing);
 }
 
 static napi_value verify(napi_env env, napi_callback_info info)
 {
-    return begin(env, info, &(run){.compute = compute_verdict}, 5);
+    return begin(env, info, &verifying);
+}
+
+/* Has idle threads wait by the clock that nobody sets. */
+static void make_pool(void)
+{
+    pthread_condattr_t monotonic;
+    pthread_condattr_init(&monotonic);
+    pthread_condattr_setclock(&monotonic, CLOCK_MONOTONIC);
+    pthread_cond_init(&pool.has_run, &monotonic);
+    pthread_condattr_destroy(&monotonic);
 }
 
 napi_value napi_register_module_v1(napi_env env, napi_value exports);
@@ -280,7 +375,9 @@ napi_value napi_register_module_v1(napi_env env, napi_value exports)
         const char *name;
         napi_callback call;
     } calls[] = {{"check", check}, {"checkEncoded", check_encoded}, {"needsRehash", needs_rehash},
-        {"encodedLength", encoded_len}, {"encode", encode}, {"message", message}, {"hash", hash}, {"verify", verify}};
+        {"encodedLength", encoded_len}, {"encode", encode}, {"hash", hash}, {"verify", verify}};
+    static pthread_once_t once = PTHREAD_ONCE_INIT;
+    pthread_once(&once, make_pool);
     for (size_t i = 0; i < sizeof calls / sizeof *calls; i++) {
         napi_value function = NULL;
         napi_create_function(env, calls[i].name, AUTO_LENGTH, calls[i].call, NULL, &function);

@@ -1,9 +1,9 @@
-// The other files of the package, which lie beside this one. In the package's single file they are inlined instead.
+// The other files of the package, which lie beside this one. The package's single file contains them instead.
 import { fileOf, readFile } from './platform.js';
 
-// (each address is written out where it is used, so that bundlers see the files)
+// (Each address is written out where it is used, so that bundlers find the files.)
 
-/** The bytes of a module. */
+/** The bytes of a WebAssembly module. */
 export const readModule = (isShared) => readFile(isShared
     ? new URL('./proved_argon2_shared.wasm', import.meta.url)
     : new URL('./proved_argon2.wasm', import.meta.url));

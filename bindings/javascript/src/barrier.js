@@ -1,12 +1,12 @@
-// How workers that fill one memory wait for each other after each slice: by words of it. Messages would take an engine
-// as long as a slice.
+// Workers that fill the same memory wait for each other after each slice, by words in that memory. Messages would take
+// an engine as long as it takes to fill a slice.
 
-/** What a word has once there is no further step. */
+/** The value of a word when no further step follows. */
 const OVER = -1;
 
 /**
- * Word 0 has how many steps the leader has begun, and word i how many helper i has taken. Behind them are the codes of
- * these steps.
+ * Word 0 counts the steps that the leader has begun, and word i the steps that helper i has finished. The codes of the
+ * helpers' last steps follow.
  */
 export class Barrier {
     #words;
@@ -17,7 +17,7 @@ export class Barrier {
         this.#helpers = (place.length - 1) / 2;
     }
 
-    /** How many words there are. */
+    /** The number of words. */
     static size(helpers) {
         return 1 + 2 * helpers;
     }
@@ -27,7 +27,7 @@ export class Barrier {
         Atomics.notify(this.#words, word);
     }
 
-    /** Waits until a word is above a number, or has no further step. Returns it. */
+    /** Waits until a word is above a number, or says that no further step follows. Returns the word. */
     #waitFor(word, below) {
         for (;;) {
             const value = Atomics.load(this.#words, word);
@@ -42,12 +42,12 @@ export class Barrier {
         return Array.from({ length: this.#helpers }, (_, i) => call(i + 1));
     }
 
-    /** Has the helpers take a step. */
+    /** Starts a step of the helpers. */
     begin(step) {
         this.#write(0, step + 1);
     }
 
-    /** The codes of a step, once all helpers have taken it. */
+    /** Waits until all helpers have finished a step, and returns their codes. */
     codesOf(step) {
         return this.#eachHelper((helper) => {
             this.#waitFor(helper, step);
@@ -55,13 +55,13 @@ export class Barrier {
         });
     }
 
-    /** Ends the steps, and waits until no helper looks at the memory any more. */
+    /** Ends the steps, and waits until no helper uses the memory any more. */
     close() {
         this.#write(0, OVER);
         this.#eachHelper((helper) => this.#waitFor(helper, Infinity));
     }
 
-    /** Whether a helper is to take a step, as soon as that is known. */
+    /** Waits until a step begins, and returns true; or false if no further step follows. */
     hasStep(step) {
         return this.#waitFor(0, step) !== OVER;
     }

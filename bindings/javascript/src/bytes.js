@@ -1,8 +1,9 @@
-// Bytes that a caller passes, copied at once. Nothing that a caller can override is asked for their length.
+// Bytes that a caller passes. They are copied at once. Their lengths are read by the language's own getters, which a
+// caller cannot override.
 
 const TypedArray = Object.getPrototypeOf(Uint8Array.prototype);
 
-/** A getter of the language's own, as a function of what it is read from. */
+/** A getter of the language, as a function of the object that it reads. */
 function getterOf(prototype, name) {
     const { get } = Object.getOwnPropertyDescriptor(prototype, name);
     return (value) => get.call(value);
@@ -15,10 +16,10 @@ const ofDataView = gettersOf(DataView.prototype);
 const kindOf = getterOf(TypedArray, Symbol.toStringTag);
 const lengthOfBuffer = getterOf(ArrayBuffer.prototype, 'byteLength');
 const { keys: requireInBounds } = TypedArray;
-/** What a unit of UTF-16 takes in UTF-8, at most. */
+/** The maximum number of bytes that a UTF-16 code unit takes in UTF-8. */
 const MOST_BYTES_OF_UNIT = 3;
 
-/** Bytes outside the engine's own heap. There the garbage collector would move them, and leave a copy behind. */
+/** Allocates bytes outside the engine's heap, where the garbage collector would move them and leave copies behind. */
 export const allocate = (length) => new Uint8Array(new ArrayBuffer(length));
 
 export function copyOf(bytes) {
@@ -27,7 +28,7 @@ export function copyOf(bytes) {
     return copy;
 }
 
-/** The bytes of a view or a buffer. All else is a TypeError, and so are bytes that are detached or out of bounds. */
+/** The bytes of a view or a buffer. Throws a TypeError for anything else, and for detached or out-of-bounds bytes. */
 function viewOf(value) {
     if (!ArrayBuffer.isView(value)) {
         return new Uint8Array(value, 0, lengthOfBuffer(value));
@@ -41,7 +42,7 @@ function viewOf(value) {
 
 const BYTES = 'bytes: a typed array, a DataView or an ArrayBuffer, neither detached nor out of bounds';
 
-/** A copy of what a caller passes as bytes. */
+/** A copy of the bytes that a caller passes. */
 export function bytesOf(name, value, expected = BYTES) {
     try {
         return copyOf(viewOf(value));
@@ -53,7 +54,10 @@ export function bytesOf(name, value, expected = BYTES) {
     }
 }
 
-/** A password as bytes: characters are UTF-8. Half a surrogate pair has none, and other text would have the same. */
+/**
+ * A password as bytes, a string in UTF-8. Half of a surrogate pair has no UTF-8: it is rejected, since an encoder would
+ * replace it, and different passwords would become the same bytes.
+ */
 export function passwordOf(value) {
     if (typeof value !== 'string') {
         return bytesOf('password', value, `a string or ${BYTES}`);
@@ -65,20 +69,20 @@ export function passwordOf(value) {
     return most.subarray(0, new TextEncoder().encodeInto(value, most).written);
 }
 
-/** What a hash is computed from: bytes that are overwritten once the job is made of them. */
+/** The inputs of a hash. They are overwritten as soon as the job is made from them. */
 export class Inputs {
     constructor({ password, salt, secret, associatedData }) {
         Object.assign(this, { password, salt, secret, associatedData });
     }
 
-    /** What is moved to a worker, so that no copy stays here: all but the salt, which is no secret. */
+    /** The buffers to move to a worker, so that no copy stays here: all but the salt, which is not secret. */
     get moved() {
         return [this.password, this.secret, this.associatedData].map((bytes) => bytes.buffer);
     }
 
     clear() {
         for (const bytes of Object.values(this)) {
-            // (what was moved to a worker has no bytes left here)
+            // (A buffer that was moved to a worker has no bytes left here.)
             if (bytes?.length > 0) {
                 bytes.fill(0);
             }

@@ -11,18 +11,18 @@ import { canStartWorkers } from './platform.js';
 import { runByWorkers } from './pool.js';
 import { lanesOf } from './run.js';
 
-/** The most threads for a stored string, as in the library's other languages. */
+/** The maximum number of threads that verify a stored string, as in the library's other languages. */
 // most threads of a string, by .ci/pages/presets
 const MAX_THREADS_OF_STRING = 16;
 // end
 
-/** How a call runs, with the addon that it runs by, if any, and what stops it. */
+/** How a call runs: its options, with the addon if it uses that, and with its progress. */
 function waysOf(own) {
     const { native, onProgress, signal, ...running } = runningOf(own);
     return { ...running, addon: addonFor(native), progress: new Progress(onProgress, signal) };
 }
 
-/** The code and the tag of a task whose settings the library has checked, computed where the call wants it. */
+/** Computes a task whose settings were checked: by the addon, by workers, or in this thread. Returns code and tag. */
 async function compute(task, { addon, worker, threads, progress }) {
     progress.throwIfStopped();
     const most = Math.min(threads, lanesOf(task.settings));
@@ -36,7 +36,7 @@ async function compute(task, { addon, worker, threads, progress }) {
     }
 }
 
-/** What a call gives, in the caller's line if there is one. The inputs are overwritten. */
+/** Makes a call, in the caller's line if there is one, and returns its result. Then the inputs are overwritten. */
 async function callInLine(line, running, inputs, call) {
     try {
         if (line !== undefined && !(line instanceof Line)) {
@@ -48,14 +48,14 @@ async function callInLine(line, running, inputs, call) {
     }
 }
 
-/** .. by an encoder. An error's number becomes the error of that name. */
+/** Does the same with an encoder. The number of an error becomes the error with that name. */
 function callWith({ line, addon, progress }, inputs, work) {
     return callInLine(line, progress, inputs, async () => {
         const encoder = new Encoder(addon ?? await openCalls());
         try {
             return await work(encoder);
         } catch (error) {
-            throw error instanceof Rejected ? errorOf(error, encoder.message(error.code)) : error;
+            throw error instanceof Rejected ? errorOf(error) : error;
         }
     });
 }
@@ -72,20 +72,53 @@ export async function hash(password, options = {}) {
         encoder.checkSettings(settings, inputs);
         const { code, tag } = await compute({ settings, saltLength: 0, encoded: undefined, inputs }, ways);
         check(code);
-        return raw ? tag : encoder.encode(salt, settings, tag);
+        return raw ? tag : encodeAndClear(encoder, salt, settings, tag);
     });
+}
+
+/** The PHC string of a tag. The tag is overwritten. */
+function encodeAndClear(encoder, salt, settings, tag) {
+    try {
+        return encoder.encode(salt, settings, tag);
+    } finally {
+        tag.fill(0);
+    }
+}
+
+/** How a verification runs, and the limits of its PHC string. */
+function verifyingWaysOf(own) {
+    const limits = limitsOf(own);
+    const ways = waysOf(own);
+    return { ...ways, limits, threads: Math.min(ways.threads, MAX_THREADS_OF_STRING) };
 }
 
 /** Verifies a password against a PHC string. If that cannot be decided, it rejects. */
 export async function verify(encoded, password, options = {}) {
     const own = optionsOf(options);
     const { bytes, data } = encodedOf(encoded);
-    const limits = limitsOf(own);
-    const ways = waysOf(own);
+    const ways = verifyingWaysOf(own);
     const inputs = inputsOf(password, { __proto__: null, associatedData: data, ...own, salt: allocate(0) });
-    ways.threads = Math.min(ways.threads, MAX_THREADS_OF_STRING);
+    return verifyBytes(ways, inputs, () => bytes);
+}
+
+/**
+ * Verifies a password for a user who does not exist, against a PHC string of these settings that no password matches.
+ * It takes as long as a real verification, and gives false.
+ */
+export async function verifyUnknown(password, options = {}) {
+    const own = optionsOf(options);
+    const settings = settingsOf(own);
+    const ways = verifyingWaysOf(own);
+    const inputs = inputsOf(password, { ...own, salt: allocate(0) });
+    await verifyBytes(ways, inputs, (encoder) => encoder.encodeUnknown(settings, inputs));
+    return false;
+}
+
+/** Verifies a password against the bytes of a PHC string, which `bytesBy` returns. */
+function verifyBytes(ways, inputs, bytesBy) {
     return callWith(ways, inputs, async (encoder) => {
-        const task = { ...encoder.decode(bytes, limits, inputs), encoded: bytes, inputs };
+        const bytes = bytesBy(encoder);
+        const task = { ...encoder.decode(bytes, ways.limits, inputs), encoded: bytes, inputs };
         const { code } = await compute(task, ways);
         if (code !== MISMATCH) {
             check(code);
@@ -102,14 +135,14 @@ export async function needsRehash(encoded, options = {}) {
 }
 
 /**
- * Verifies a password, and hashes it anew where it matches and the PHC string has other settings than the options. A
- * new hash that cannot be computed is left out: the password matches all the same.
+ * Verifies a password. If it matches, and the PHC string has other settings than the options, it is also hashed anew.
+ * If that hash cannot be computed, the password matches all the same.
  */
 export async function verifyAndUpdate(encoded, password, options = {}) {
     return verifyAndRenew(encoded, password, options);
 }
 
-/** The same. With a new secret, which is another one, the new hash has that, and a match is always hashed anew. */
+/** Does the same. If a new secret is passed, a match is always hashed anew, with that secret. */
 export async function verifyAndRenew(encoded, password, options, newSecret) {
     const { line, ...all } = optionsOf(options);
     const copyOfOption = (name) => all[name] && bytesOf(name, all[name]);
@@ -122,7 +155,7 @@ export async function verifyAndRenew(encoded, password, options, newSecret) {
     });
 }
 
-/** The PHC string to store in place of one, or null if there is none. */
+/** The PHC string to store in place of the old one, or null if the old one stays. */
 async function renewed(encoded, password, options, newSecret) {
     try {
         const isDue = newSecret !== undefined || await needsRehash(encoded, options);

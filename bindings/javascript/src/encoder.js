@@ -1,9 +1,10 @@
-// What takes no password and no blocks, so that its errors come before a worker starts: settings are checked, and
-// strings decoded and encoded, by the calls of the addon or of the module, which take and fill the same arrays.
+// Calls that need neither a password nor memory for blocks: they check settings, and decode and encode strings. Their
+// errors come before a worker starts. The addon and the module have the same calls, with the same arrays.
 import { NEEDS_REHASH, check } from './codes.js';
-import { SETTINGS } from './run.js';
+import { SALT_LENGTH } from './options.js';
+import { SETTINGS, hashLengthOf } from './run.js';
 
-/** Limits, as C lays them out: the work is a number of 64 bits. */
+/** Limits as C lays them out, where the work has 64 bits. */
 const limitsAsNumbers = ({ memoryCost, timeCost, parallelism, work }) => Uint32Array.of(
     memoryCost, timeCost, parallelism, 0, Number(BigInt.asUintN(32, BigInt(work))), Number(BigInt(work) >> 32n));
 
@@ -16,17 +17,12 @@ export class Encoder {
         this.#calls = calls;
     }
 
-    /** The words for an error. */
-    message(code) {
-        return this.#calls.message(Uint32Array.of(code));
-    }
-
-    /** Throws where settings and inputs make no hash. */
+    /** Throws if no hash can be computed with these settings and inputs. */
     checkSettings(settings, { password, salt, secret, associatedData }) {
         check(this.#calls.check(Uint32Array.from(settings), lengthsOf(password, salt, secret, associatedData)));
     }
 
-    /** The settings of a PHC string and the length of its salt. It is checked here, against the limits first. */
+    /** The settings of a PHC string, and the length of its salt. Throws if it is invalid or above the limits. */
     decode(encoded, limits, { password, secret, associatedData }) {
         const stored = new Uint32Array(SETTINGS + 1);
         const lengths = lengthsOf(password, secret, associatedData);
@@ -40,6 +36,13 @@ export class Encoder {
         const text = new Uint8Array(this.#calls.encodedLength(salt, numbers) + 1);
         check(this.#calls.encode(salt, numbers, tag, text));
         return new TextDecoder().decode(text).slice(0, -1);
+    }
+
+    /** The bytes of a PHC string of these settings whose tag is zero, as no password has it. */
+    encodeUnknown(settings, inputs) {
+        const salt = new Uint8Array(SALT_LENGTH);
+        this.checkSettings(settings, { ...inputs, salt });
+        return new TextEncoder().encode(this.encode(salt, settings, new Uint8Array(hashLengthOf(settings))));
     }
 
     /** Whether a PHC string has other settings than these. */

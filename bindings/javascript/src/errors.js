@@ -1,9 +1,9 @@
-// Why a call fails: a class for each `Error` of the library, by the number that it has for C.
+// The errors of calls: a class for each error of the library, with the number that it has in C.
 
-/** A call to Argon2 failed. `name` is that of its class, and `code` the number of the error. */
+/** A call failed. `name` is the name of the error's class, and `code` is its number. */
 export class Argon2Error extends Error {}
 
-/** The class of one error. */
+/** Defines the class of an error. */
 function define(name, code) {
     const error = class extends Argon2Error {};
     Object.defineProperty(error, 'name', { value: name });
@@ -41,13 +41,18 @@ export const WorkerRefused = define('WorkerRefused', 21);
 export const TooCostly = define('TooCostly', 69);
 export const NoRandomBytes = define('NoRandomBytes', 129);
 
-// (the library for C has neither)
+// (the library for C has none of these)
 /** The engine lacks what the package needs. */
 export const Unsupported = define('Unsupported', 256);
-/** As many calls compute and wait as a line lets. */
+/** As many calls compute and wait as the line allows. */
 export const BusyError = define('BusyError', 257);
+/** A hasher has no pepper with the ID of a stored hash, or the stored hash has no pepper. */
+export const UnknownPepper = define('UnknownPepper', 258);
 
-/** A signal without a reason of its own has stopped the call. */
+/**
+ * An aborted signal stopped the call, and `abort` was given no reason. The platform's own error would have the code 20,
+ * which is that of `OutOfMemory`.
+ */
 export class AbortError extends Error {}
 
 for (const [key, value] of Object.entries({ name: 'AbortError', code: 'ABORT_ERR' })) {

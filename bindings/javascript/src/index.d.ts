@@ -1,20 +1,20 @@
 /** Argon2 password hashing (RFC 9106) by proved code: an addon in Node, and a WebAssembly module elsewhere. */
 
-/** The variant whose references are drawn from the blocks, and so from the password (RFC 9106, 1). */
+/** Argon2d: each block's reference depends on other blocks, and so on the password (RFC 9106, section 1). */
 export const argon2d: 0;
-/** The variant whose references are drawn from no block. */
+/** Argon2i: the references depend on no block. */
 export const argon2i: 1;
-/** The variant to choose: no block in the first half of the first pass, and then the blocks. */
+/** Argon2id, the one to choose: Argon2i in the first half of the first pass, and then Argon2d. */
 export const argon2id: 2;
 
 /** The number of a variant: `argon2d`, `argon2i` or `argon2id`. */
 export type Type = 0 | 1 | 2;
-/** The versions of Argon2: 0x13 is that of RFC 9106, 0x10 an older one. */
+/** The versions of Argon2: RFC 9106 defines 0x13, and 0x10 is older. */
 export type Version = 0x10 | 0x13;
 /** Bytes. They are copied when the call is made. */
 export type Bytes = ArrayBuffer | ArrayBufferView;
 
-/** The settings of a hash. Those that are left out are OWASP's: Argon2id, version 0x13, 19 MiB, 2 passes, 1 lane. */
+/** The settings of a hash. The defaults are OWASP's: Argon2id, version 0x13, 19 MiB, 2 passes, 1 lane. */
 export interface Settings {
     /** The variant. */
     type?: Type;
@@ -32,59 +32,59 @@ export interface Settings {
 
 /** What stops a call: an `AbortSignal`. The types need neither a page's library nor Node's. */
 export interface StopSignal {
-    /** Whether it has stopped the call. */
+    /** Whether it was aborted. */
     readonly aborted: boolean;
-    /** Has the call hear of it. */
+    /** Calls a function when it is aborted. */
     addEventListener(type: 'abort', listener: () => void, options?: { once?: boolean }): void;
-    /** Has the call hear no more. */
+    /** No longer calls this function. */
     removeEventListener(type: 'abort', listener: () => void): void;
 }
 
 /** How a call runs. */
 export interface Running {
-    /** The progress callback: `done` of `all` slices are filled, four in a pass. What it throws stops the call. */
+    /** The progress callback: `done` of `all` slices are filled, four in a pass. If it throws, the call stops. */
     onProgress?: (done: number, all: number) => void;
-    /** Stops the call once the slice at work is filled. The call is rejected by the signal's reason, or `AbortError`. */
+    /** Stops the call once the current slice is filled. The call rejects with the signal's reason, or `AbortError`. */
     signal?: StopSignal;
-    /** `true` computes by the addon of Node alone, `false` by WebAssembly. Without it, by the addon where it loads. */
+    /** `true` computes only by Node's addon, `false` only by WebAssembly. By default the addon computes if it loads. */
     native?: boolean;
-    /** `false` computes by WebAssembly in the caller's thread, one call after another. It yields to other tasks after
-     * each slice. */
+    /** `false` computes by WebAssembly in the caller's thread, one call after another. After each slice other tasks of
+     * the thread run. */
     worker?: boolean;
-    /** The most workers or threads, at least 1, for the lanes of a slice. Without it there is one a lane, if there are enough
+    /** The maximum number of workers or threads, at least 1. Without it, a lane has one each, if there are enough
      * processors. */
     threads?: number;
-    /** The line in which the call takes a place while it computes. */
+    /** The line in which the call waits for its turn. */
     line?: Line;
 }
 
-/** The options of a `Line`: how much a hash takes, and the bounds. */
+/** The options of a `Line`: its limits, and the settings of a hash, from which the default limits are computed. */
 export interface LineOptions extends Settings {
-    /** How many calls compute at a time. Without it as many as fit into the processors, a lane each, and into a quarter of
-     * the memory. */
+    /** How many calls compute at the same time. Without it, as many as fit into the processors, with one lane each, and
+     * into a quarter of the memory. */
     concurrency?: number;
-    /** How many more calls may wait. Without it 16 times as many as compute. */
+    /** How many more calls may wait. Without it, 16 times as many as may compute. */
     waiting?: number;
 }
 
 /**
- * A bound on how many calls compute at a time, and on how many more wait for that: one beyond them is rejected with
- * `BusyError` at once. One whose signal is aborted leaves the line, or stops computing; its place is free then.
+ * Limits how many calls compute at the same time, and how many more may wait. Any further call rejects with `BusyError`
+ * at once. If a call's signal is aborted, the call leaves the line or stops, and its place is free.
  */
 export class Line {
-    /** By default the bounds are of this machine, and of the default settings. */
+    /** By default the limits fit this machine and the default settings. */
     constructor(options?: LineOptions);
-    /** How many calls compute at a time. */
+    /** How many calls compute at the same time. */
     readonly concurrency: number;
     /** How many more may wait. */
     readonly waiting: number;
-    /** Makes a call in its turn, in one place until it has ended, such as one of calls that have no line of their own. */
+    /** Calls a function in its turn, and counts it until it has ended. It may make calls without a line. */
     run<T>(call: () => T | PromiseLike<T>, options?: { signal?: StopSignal }): Promise<T>;
 }
 
 /**
- * What a hash depends on besides the password, the salt and the settings. It is not in the PHC string, except for the
- * associated data in strings of node-argon2, by which these are verified if none is passed.
+ * Further inputs of a hash. The PHC string does not contain them. (A string of node-argon2 may contain the associated
+ * data. It is verified with that, unless other data is passed.)
  */
 export interface Keys {
     /** A key that is stored apart from the encoded hashes (a pepper). */
@@ -95,11 +95,11 @@ export interface Keys {
 
 /** The options of `hash`. */
 export interface HashOptions extends Settings, Keys, Running {
-    /** At least 8 bytes. Without it there are 16 random ones. */
+    /** The salt, at least 8 bytes. Without it, 16 random bytes are used. */
     salt?: Bytes;
 }
 
-/** The highest costs that a PHC string may name. Those that are left out are `defaultLimits`'. */
+/** The limits on the costs of a PHC string. The defaults are those of `defaultLimits`. */
 export interface Limits {
     /** The memory in KiB. */
     memoryCost?: number;
@@ -107,17 +107,17 @@ export interface Limits {
     timeCost?: number;
     /** The lanes. */
     parallelism?: number;
-    /** The memory in KiB times the passes, by which the time grows. */
+    /** The memory in KiB times the passes, which determines the time. */
     work?: number;
 }
 
 /** The options of `verify`. */
 export interface VerifyOptions extends Keys, Running {
-    /** The limits of what the PHC string may cost; `null` sets none. */
+    /** The limits on the costs of the PHC string. `null` means no limits. */
     limits?: Limits | null;
 }
 
-/** Hashes a password to a raw hash, as bytes, in place of the PHC string. A password that is a string is encoded in UTF-8. */
+/** Hashes a password to a raw hash (tag), as bytes. A password that is a string is encoded in UTF-8. */
 export function hash(password: string | Bytes, options: HashOptions & { raw: true }): Promise<Uint8Array>;
 /**
  * Hashes a password to an encoded hash (PHC string), to be stored. The salt is random unless one is passed. A password
@@ -128,7 +128,7 @@ export function hash(password: string | Bytes, options?: HashOptions & { raw?: f
 export function hash(password: string | Bytes, options?: HashOptions & { raw?: boolean }): Promise<string | Uint8Array>;
 
 /**
- * Verifies a password against a PHC string. It rejects with `DecodingFail` if the string decodes to no hash, with
+ * Verifies a password against a PHC string. It rejects with `DecodingFail` if the string is not an encoded hash, with
  * `TooCostly` if it is above the limits, and with other errors if its settings are invalid or memory is denied.
  */
 export function verify(encoded: string, password: string | Bytes, options?: VerifyOptions): Promise<boolean>;
@@ -136,7 +136,7 @@ export function verify(encoded: string, password: string | Bytes, options?: Veri
 /** The options of `verifyAndUpdate`: the settings are those of the new hash. */
 export interface UpdateOptions extends Settings, VerifyOptions {}
 
-/** What `verifyAndUpdate` found. */
+/** The result of `verifyAndUpdate`. */
 export interface Updated {
     /** Whether the password matches. */
     matches: boolean;
@@ -145,15 +145,28 @@ export interface Updated {
 }
 
 /**
- * Verifies a password against a PHC string as `verify` does, and hashes it anew where it matches and the string was made
- * with other settings than the options. If only the new hash fails, the old string stays.
+ * Verifies a password against a PHC string as `verify` does. If it matches, and the string has other settings than the
+ * options, it also hashes the password anew. If only the new hash fails, the old string stays.
  */
 export function verifyAndUpdate(encoded: string, password: string | Bytes, options?: UpdateOptions): Promise<Updated>;
 
-/** The options of a `PepperedHasher`, of all its calls or of one. */
+/**
+ * Verifies a password for a user who does not exist. It takes as long as `verify` with a PHC string of these settings,
+ * and always gives `false`. Without it an attacker can measure which users exist. It rejects as `verify` does.
+ */
+export function verifyUnknown(password: string | Bytes, options?: UpdateOptions): Promise<false>;
+
+/** The options of a call of a `PepperedHasher`. */
 export type PepperOptions = Omit<UpdateOptions, 'secret'>;
 
-/** What to store for a user: the ID of the pepper, and the PHC string, which does not contain it. */
+/** The options of a `PepperedHasher`, which all its calls have. */
+export interface PepperedHasherOptions extends PepperOptions {
+    /** `true` accepts stored hashes that have no pepper, whose ID is null. Set it only while you add the first pepper:
+     * with it, whoever can write to the store can choose a hash without a pepper. */
+    acceptUnpeppered?: boolean;
+}
+
+/** The values to store for a user: the ID of the pepper, and the PHC string, which does not contain the ID. */
 export interface Peppered {
     /** The ID. */
     keyId: string;
@@ -167,25 +180,27 @@ export interface Peppered {
  */
 export class PepperedHasher {
     /** The peppers are pairs of an ID and a key, the newest first, as in an array or a `Map`. Keys are copied. */
-    constructor(peppers: Iterable<readonly [string, Bytes]>, options?: PepperOptions);
+    constructor(peppers: Iterable<readonly [string, Bytes]>, options?: PepperedHasherOptions);
     /** The ID of the newest pepper. */
     readonly newest: string;
     /** Hashes a password with the newest pepper. */
     hash(password: string | Bytes, options?: PepperOptions): Promise<Peppered>;
     /**
-     * As the function of this name, with the pepper of an ID, or none for null. A hash of another pepper than the newest
-     * is hashed anew with that. For an unknown ID it rejects with `RangeError`.
+     * As the function of this name, with the pepper of an ID. A hash of another pepper than the newest is hashed anew
+     * with the newest. For an unknown ID, and for null without `acceptUnpeppered`, it rejects with `UnknownPepper`.
      */
     verifyAndUpdate(
         keyId: string | null, encoded: string, password: string | Bytes, options?: PepperOptions,
     ): Promise<{ matches: boolean, update: Peppered | null }>;
+    /** As the function of this name, with the newest pepper. */
+    verifyUnknown(password: string | Bytes, options?: PepperOptions): Promise<false>;
 }
 
 /** The options of `tune`. */
 export interface TuneOptions extends Running {
-    /** The most memory in KiB. Without it 64 MiB. */
+    /** The maximum memory in KiB. Without it, 64 MiB. */
     memoryCost?: number;
-    /** The lanes. Without it one. */
+    /** The lanes. Without it, one. */
     parallelism?: number;
 }
 
@@ -195,18 +210,18 @@ export interface Tuning {
     parameters: Required<Settings>;
     /** The milliseconds that a hash takes, the least of several. */
     milliseconds: number;
-    /** How many programs ran at once in the last minute, beside which hashes take longer, or null in a page. */
+    /** The system's load in the last minute, or null in a page. Under load hashes take longer. */
     load: number | null;
 }
 
 /**
- * The strongest settings whose hash takes at most so many milliseconds here: as much memory as that leaves time for, and
+ * The strongest settings whose hash takes at most so many milliseconds here: as much memory as there is time for, and
  * then as many passes, within the default limits. It rejects with `RangeError` if the least settings for passwords (7
  * MiB, 5 passes, or their work) take longer.
  */
 export function tune(milliseconds: number, options?: TuneOptions): Promise<Tuning>;
 
-/** Whether a PHC string was made with other settings than these; those that are left out are the defaults. */
+/** Whether a PHC string has other settings than these. Settings that are left out have their defaults. */
 export function needsRehash(encoded: string, options?: Settings): Promise<boolean>;
 
 /** Settings of which none is left out. */
@@ -292,10 +307,12 @@ export class NoRandomBytes extends Argon2Error {}
 /** The engine has no WebAssembly, is a Node that is too old, or has no addon where `native` is `true`. */
 export class Unsupported extends Argon2Error {}
 
-/** As many calls compute and wait as their line lets: try again later. */
+/** As many calls compute and wait as the line allows: try again later. */
 export class BusyError extends Argon2Error {}
+/** A `PepperedHasher` has no pepper with the ID of a stored hash, or the hash has none. No password was compared. */
+export class UnknownPepper extends Argon2Error {}
 
-/** A signal has stopped the call, by `abort()` without a reason. `cause` is the platform's error. */
+/** An aborted signal stopped the call, and `abort` was given no reason. `cause` is the platform's error. */
 export class AbortError extends Error {
     /** The name of its class. */
     readonly name: 'AbortError';
@@ -303,11 +320,11 @@ export class AbortError extends Error {
     readonly code: 'ABORT_ERR';
 }
 
-/** The same by one name, for `import argon2 from`. */
+/** All of these as one object, for `import argon2 from`. */
 declare namespace argon2 {
     export {
-        hash, verify, verifyAndUpdate, needsRehash, Line, PepperedHasher, tune, argon2d, argon2i, argon2id, presets,
-        defaultLimits,
+        hash, verify, verifyAndUpdate, verifyUnknown, needsRehash, Line, PepperedHasher, tune, argon2d, argon2i,
+        argon2id, presets, defaultLimits,
     };
 }
 export default argon2;

@@ -1,13 +1,13 @@
-// A worker, as its pool sees it: one call at a time, and an end when it has nothing to do.
+// A worker as its pool sees it. It works for one call at a time, and ends after some idle time.
 import { newPageWorker, newThread } from './assets.js';
 import { nodeThreads } from './platform.js';
 
-/** How long a worker without work stays, in milliseconds. Its memory goes with it. */
+/** How long an idle worker stays, in milliseconds. When it ends, its memory is freed. */
 const STAYS = 5000;
 
 /** A worker of Node. */
 function startThread(onMessage, onEnd) {
-    // (the flags of the process are not for a file of ours: `--input-type` would keep it from starting)
+    // (The flags of the process are not passed on: with `--input-type` the worker's file could not start.)
     const worker = newThread(nodeThreads.Worker, { execArgv: [] });
     worker.on('message', onMessage);
     worker.on('error', onEnd);
@@ -28,9 +28,9 @@ function startInPage(onMessage, onEnd) {
 const start = nodeThreads ? startThread : startInPage;
 
 export class LaneWorker {
-    /** What hears of its messages and of its end while it works. */
+    /** The call that receives its messages and learns of its end. */
     call;
-    /** Whether it has a memory of its own, since it has led a run. */
+    /** Whether it has a memory of its own, because it has led a run. */
     hasMemory = false;
     /** The workers whose memory it has joined. An engine may keep these memories as long as this worker lives. */
     joined = new Set();
@@ -55,7 +55,7 @@ export class LaneWorker {
         return this;
     }
 
-    /** Has it wait for work. It keeps no process of Node alive meanwhile. */
+    /** Lets it wait for work. Meanwhile it does not keep a process of Node alive. */
     rest() {
         this.#worker.unref?.();
         this.#timer = setTimeout(() => this.end(), STAYS);

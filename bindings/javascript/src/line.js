@@ -1,19 +1,19 @@
-// How calls are stopped, and wait in their order: for what a pool has, or for a place in a caller's line.
+// How calls are stopped, and how they wait for their turn: for threads of a pool, or in a caller's line.
 import { Rejected, STOPPED } from './codes.js';
 import { AbortError, BusyError } from './errors.js';
 import { DEFAULTS, numberOf, ownOf, signalOf } from './options.js';
 import { memoryOfSystem, processors } from './platform.js';
 
 /**
- * What a signal's call is rejected by: its reason. The platform's own has as its `code` a number of an error here: its
- * place takes an error like those of Node's calls.
+ * The error of a call whose signal was aborted: the signal's reason. The platform's default reason has a `code` that is
+ * the number of another error here, so it is replaced by an error like that of Node's own calls.
  */
 function reasonOf({ reason }) {
     const isPlatforms = reason instanceof DOMException && reason.name === 'AbortError';
     return isPlatforms ? new AbortError(reason.message, { cause: reason }) : reason;
 }
 
-/** The progress of a call: the callback, and what stops it. */
+/** The progress of a call: its callback, and the signal that stops it. */
 export class Progress {
     #onProgress;
     #thrown;
@@ -23,7 +23,7 @@ export class Progress {
         this.signal = signal;
     }
 
-    /** Whether somebody listens. */
+    /** Whether there is a callback. */
     get isReported() {
         return this.#onProgress !== undefined;
     }
@@ -32,7 +32,7 @@ export class Progress {
         return this.#thrown !== undefined || this.signal?.aborted === true;
     }
 
-    /** Reports that some slices of all are filled, and returns whether to stop. */
+    /** Reports that `done` of all slices are filled, and returns whether the call has to stop. */
     report(done, all) {
         if (!this.isStopped) {
             try {
@@ -44,7 +44,7 @@ export class Progress {
         return this.isStopped;
     }
 
-    /** Has `stop` called once the signal is aborted, until what this returns is called. */
+    /** Calls `stop` when the signal is aborted. Call the function that this returns to end that. */
     whenAborted(stop) {
         this.signal?.addEventListener('abort', stop, { once: true });
         return () => this.signal?.removeEventListener('abort', stop);
@@ -61,13 +61,13 @@ export class Progress {
     }
 }
 
-/** So many places, which are taken at once, or in turn once others leave theirs. */
+/** A number of places. A call takes some of them at once or, when others leave theirs, in its turn. */
 export class Places {
     #taken = 0;
     #waiting = [];
     #all;
 
-    /** `all` says how many there are, which may change. */
+    /** `all` returns how many places there are, which may change. */
     constructor(all) {
         this.#all = all;
     }
@@ -77,14 +77,14 @@ export class Places {
         return this.#waiting.length;
     }
 
-    /** Takes what is free, but no more than so many. Returns how many. */
+    /** Takes the free places, up to a maximum. Returns how many it took. */
     take(most) {
         const count = Math.max(0, Math.min(most, this.#all() - this.#taken));
         this.#taken += count;
         return count;
     }
 
-    /** Takes one in turn. A call that is aborted meanwhile goes. */
+    /** Waits for its turn, and takes a place. An aborted call leaves the queue. */
     wait(progress) {
         let forget;
         const turn = new Promise((resolve, reject) => {
@@ -98,7 +98,7 @@ export class Places {
         return turn.finally(forget);
     }
 
-    /** Takes one at once or in turn, and what else is free, but no more than so many. */
+    /** Takes a place, at once or in its turn, and other free places, up to a maximum. Returns how many it took. */
     async takeInTurn(most, progress) {
         return this.take(most) || await this.wait(progress) + this.take(most - 1);
     }
@@ -114,13 +114,13 @@ export class Places {
 const NAMES_OF_LINE = new Set([...Object.keys(DEFAULTS), 'concurrency', 'waiting']);
 const WAITING_FOR_EACH = 16;
 
-/** How many hashes fit into the processors, a lane each, and into a quarter of the memory; at least one. */
+/** How many hashes fit into the processors, with one lane each, and into a quarter of the memory; at least one. */
 function fittingIn({ memoryCost, parallelism }) {
     const byProcessors = processors() / Math.max(1, parallelism);
     return Math.max(1, Math.floor(Math.min(byProcessors, memoryOfSystem() / (4 * 1024 * Math.max(8, memoryCost)))));
 }
 
-/** A bound on how many calls compute at once, and on how many more wait for that. */
+/** Limits how many calls compute at the same time, and how many more may wait. */
 export class Line {
     #places = new Places(() => this.concurrency);
 
@@ -135,7 +135,7 @@ export class Line {
         Object.freeze(this);
     }
 
-    /** What a call gives that is made once it has a place, which is free when it has ended. */
+    /** Makes a call when a place is free, and returns its result. The place is free again when the call has ended. */
     async run(call, { signal } = {}) {
         const progress = new Progress(undefined, signalOf(signal));
         progress.throwIfStopped();

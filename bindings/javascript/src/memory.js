@@ -1,15 +1,15 @@
-// A memory with the proved module over it: what the calls are passed, and what is overwritten after them.
+// A memory with an instance of the proved module. It holds what calls are passed, and is overwritten after them.
 import { copyOf } from './bytes.js';
 import { OUT_OF_MEMORY, Rejected } from './codes.js';
 
 const PAGE = 65536;
-/** The stack of an instance, PROVED_ARGON2_STACK_SIZE. The default one is in front of all else. */
+/** The size of an instance's stack, PROVED_ARGON2_STACK_SIZE. The default stack is at the start of the memory. */
 export const STACK = 65536;
-/** What the shared module says that its memory has at most: 4 GiB. */
+/** The maximum size that the shared module declares for its memory: 4 GiB. */
 const MAX_SHARED_PAGES = 65536;
 const SMALLEST = 4;
 
-/** Elements of a memory, as the calls take them: where the first one is, and how many there are. */
+/** A place in a memory, as calls take it: the address of the first element, and the number of elements. */
 export class Place {
     constructor(at, length) {
         this.at = at;
@@ -17,10 +17,10 @@ export class Place {
     }
 }
 
-/** Where a structure is, for the calls that take one. */
+/** The address of a structure, for calls that take one. */
 export const pointer = (place) => BigInt(place.at);
 
-/** A memory that workers can share. Phones have fewer addresses than it may grow to: then it may grow to less. */
+/** A memory that workers can share. If a phone's address space is too small for the maximum, that is lowered. */
 function makeShared() {
     for (let maximum = MAX_SHARED_PAGES; maximum >= SMALLEST; maximum /= 2) {
         try {
@@ -57,14 +57,14 @@ export class Memory {
         return new Memory(instance, memory ?? instance.exports.memory);
     }
 
-    /** The memory of another worker, with a stack of one's own in it. */
+    /** Joins the memory of another worker, with a stack of its own in it. */
     static async join(module, memory, stack) {
         const instance = await WebAssembly.instantiate(module, { env: { memory } });
         instance.exports.__stack_pointer.value = BigInt(stack.at + stack.length);
         return new Memory(instance, memory);
     }
 
-    /** What another worker joins. */
+    /** The memory that another worker can join. */
     get shared() {
         return this.#memory;
     }
@@ -73,11 +73,11 @@ export class Memory {
         return this.#memory.buffer.byteLength;
     }
 
-    /** Room for so many elements, of so many bytes each. It is zeros where nothing was taken before. */
+    /** Takes a place for some elements of a size in bytes. It is zero where nothing was taken before. */
     take(length, size = 1) {
         const alignment = size === 1 ? 16 : size;
         const at = Math.ceil(this.#top / alignment) * alignment;
-        // (behind no bytes there is an address too)
+        // (A place of no bytes needs an address too.)
         this.#reach(at + length * size + 1);
         this.#top = at + length * size;
         return new Place(at, length);
@@ -98,7 +98,7 @@ export class Memory {
         this.view(place).set(bytes);
     }
 
-    /** Room with each of these bytes in it. All of it is taken first, since an engine may copy a memory that grows. */
+    /** Copies arrays into the memory. All places are taken first, since an engine may copy a memory that grows. */
     putAll(pieces) {
         const places = pieces.map((bytes) => this.take(bytes.length));
         places.forEach((place, i) => this.write(place, pieces[i]));
@@ -109,7 +109,7 @@ export class Memory {
         return this.putAll([bytes])[0];
     }
 
-    /** Room with these numbers of 32 bits in it. */
+    /** Copies numbers of 32 bits into the memory. */
     putNumbers(numbers) {
         return this.put(new Uint8Array(Uint32Array.from(numbers).buffer));
     }
@@ -123,19 +123,19 @@ export class Memory {
         return [...new Uint32Array(this.#memory.buffer, at, count)];
     }
 
-    /** A copy of some bytes, which stays. */
+    /** A copy of the bytes at a place. */
     read(place) {
         return copyOf(this.view(place));
     }
 
-    /** What a call returns: a place is passed as an address and a length. */
+    /** Makes a call, and returns its result. A place is passed as an address and a length. */
     call(name, ...values) {
         const passed = values.flatMap((value) =>
             (value instanceof Place ? [BigInt(value.at), BigInt(value.length)] : value));
         return this.#exports[`proved_argon2_${name}`](...passed);
     }
 
-    /** Overwrites all that was handed out since it was opened or cleared, and the stack. */
+    /** Overwrites all places that were taken since the memory was opened or cleared, and the stack. */
     clear() {
         this.#overwrite(0, STACK);
         this.#overwrite(this.#base, this.#top);
@@ -147,7 +147,7 @@ export class Memory {
         this.#overwrite(at, at + length);
     }
 
-    /** By words, since an engine may write to shared bytes one by one. Places of bytes begin at words. */
+    /** Overwrites by words, since an engine may write shared bytes one by one. Places of bytes begin at words. */
     #overwrite(from, to) {
         new BigUint64Array(this.#memory.buffer, from, Math.ceil((to - from) / 8)).fill(0n);
     }

@@ -1,18 +1,15 @@
-// The proved module in the caller's thread: compiled once, with the addon's calls that take no time, and runs.
+// The proved module in the caller's thread. It is compiled once, and used for quick calls and for runs.
 import { readModule } from './assets.js';
-import { OK } from './codes.js';
 import { Unsupported } from './errors.js';
 import { Line } from './line.js';
 import { Memory, pointer } from './memory.js';
 import { canShare, yieldToTasks } from './platform.js';
 import { run } from './run.js';
 
-/** Room for the words of each error, PROVED_ARGON2_MESSAGE_SIZE. */
-const MESSAGE = 64;
-/** What a memory may have grown to and still be reused by the next call. */
+/** The largest memory, in bytes, that the next call uses again. */
 const MAX_REUSED = 2 ** 20;
 
-/** Makes something once, and anew where that has failed, or it was dropped. */
+/** Makes something once, and makes it anew after a failure or when it was dropped. */
 function keep(make) {
     let made;
     const drop = () => {
@@ -26,7 +23,7 @@ function keep(make) {
     return { get, drop };
 }
 
-/** The module for a memory that workers share, where they can, else the one with a memory of its own. */
+/** The module for a shared memory, if workers can share one; otherwise the module with a memory of its own. */
 const compiled = keep(async () => {
     if (globalThis.WebAssembly === undefined) {
         throw new Unsupported('This engine has no WebAssembly');
@@ -36,19 +33,19 @@ const compiled = keep(async () => {
 
 export const compiledModule = compiled.get;
 
-/** The memory of the calls that take no time. */
+/** The memory of quick calls. */
 const opened = keep(() => compiledModule().then(Memory.open));
 
 const asBytes = ({ buffer, byteOffset, byteLength }) => new Uint8Array(buffer, byteOffset, byteLength);
 
-/** What a call is passed for a value, which is at a place if it is an array: numbers by an address, bytes by two. */
+/** The argument for a value. Numbers in an array are passed by an address, bytes by a place, and others as they are. */
 function placeFor(value, place) {
     return value instanceof Uint32Array ? pointer(place) : place ?? value;
 }
 
 /**
- * Calls with arrays, and copies back what is written to them. The memory is overwritten. One that has grown much, or
- * whose instance failed, is used no more.
+ * Makes a call with arrays, and copies back what it wrote to them. Then the memory is overwritten. It is dropped if it
+ * has become large, or if its instance failed.
  */
 function callOver(memory, name, ...values) {
     let isReusable = false;
@@ -67,16 +64,11 @@ function callOver(memory, name, ...values) {
     }
 }
 
-/** The addon's calls that take no time, by the module. */
+/** The addon's quick calls, made by the module. */
 export async function openCalls() {
     const memory = await opened.get();
     const call = (...values) => callOver(memory, ...values);
     return {
-        message([code]) {
-            const text = new Uint8Array(MESSAGE);
-            const isKnown = call('message', code, text) === OK;
-            return isKnown ? new TextDecoder().decode(text).replace(/\0.*/s, '') : `error ${code}`;
-        },
         check: (settings, lengths) => call('check', settings, ...lengths),
         checkEncoded: (encoded, limits, lengths, stored) => call('check_encoded', encoded, limits, ...lengths, stored),
         encodedLength: (salt, settings) => Number(call('encoded_len', settings, salt.length)),
@@ -86,7 +78,7 @@ export async function openCalls() {
 }
 
 const line = new Line({ concurrency: 1, waiting: 2 ** 32 - 1 });
-/** The memory of the run before, overwritten, unless the engine has collected it. */
+/** The memory of the previous run, overwritten, unless the engine has collected it. */
 let previous;
 
 async function runNow(task, progress) {

@@ -1,4 +1,4 @@
-// The library as an addon of Node, where it loads: its calls, and runs in threads of its own.
+// The native addon of Node, if it loads: its quick calls, and runs in its own threads.
 import { addonFile } from './assets.js';
 import { allocate } from './bytes.js';
 import { check, OK, OUT_OF_MEMORY, Rejected, STOPPED } from './codes.js';
@@ -7,13 +7,13 @@ import { Places } from './line.js';
 import { nodeThreads, processors } from './platform.js';
 import { hashLengthOf } from './run.js';
 
-/** The threads that compute. */
+/** The threads that compute: at most one for each processor. */
 const computing = new Places(processors);
-/** What a thread reads and writes, which is not to be collected meanwhile. */
+/** Arrays that a thread reads and writes, kept here so that they are not collected meanwhile. */
 const kept = new Set();
 let loaded;
 
-/** The addon, or why there is none. */
+/** Loads the addon. Returns it, or the reason why there is none. */
 function load() {
     const { process } = globalThis;
     const made = { exports: {} };
@@ -22,7 +22,7 @@ function load() {
             throw new Error('PROVED_ARGON2_NATIVE is 0');
         }
         process.dlopen(made, addonFile(`./${process.platform}-${process.arch}.node`));
-        // (the library may have no build for this processor)
+        // (The library may have no build that runs on this processor.)
         check(made.exports.check(Uint32Array.of(2, 0x13, 8, 1, 1, 4), BigUint64Array.of(0n, 8n, 0n, 0n)));
         return { addon: made.exports };
     } catch (cause) {
@@ -30,7 +30,7 @@ function load() {
     }
 }
 
-/** The addon: none where `native` is false or it does not load, an error where that is true. */
+/** The addon, or undefined if `native` is false or it does not load. If `native` is true, it throws instead. */
 export function addonFor(native) {
     if (native === false || nodeThreads === undefined && native === undefined) {
         return undefined;
@@ -45,7 +45,7 @@ export function addonFor(native) {
     return addon;
 }
 
-/** Room for a tag. The engine may have none. */
+/** Allocates a tag. The engine may deny the memory. */
 function allocateTag(length) {
     try {
         return allocate(length);
@@ -54,7 +54,7 @@ function allocateTag(length) {
     }
 }
 
-/** What the addon is passed of a task: what it looks at while it computes, the inputs, and where a tag goes. */
+/** The arrays that the addon is passed: the control, which it reads while it computes, the inputs, and the tag. */
 function partsOf({ settings, encoded, inputs }, control) {
     const { password, salt, secret, associatedData } = inputs;
     if (encoded !== undefined) {
@@ -64,7 +64,7 @@ function partsOf({ settings, encoded, inputs }, control) {
     return [control, password, salt, secret, associatedData, Uint32Array.from(settings), tag];
 }
 
-/** The code of a run, once it is over. */
+/** Waits for the end of a run, and returns its code. */
 function codeOf(begin, parts, progress) {
     const [control] = parts;
     const stop = () => Atomics.store(control, 0, 1);
@@ -88,7 +88,7 @@ function codeOf(begin, parts, progress) {
     });
 }
 
-/** Runs a task by at most so many threads, and returns its code and its tag. */
+/** Runs a task by some threads, up to a maximum. Returns its code and its tag. */
 export async function runByThreads(addon, task, most, progress) {
     const threads = await computing.takeInTurn(most, progress);
     try {

@@ -1,25 +1,26 @@
-// What a caller passes: checked, and copied at once, since it may change what it has passed. Options are read once, and
-// only an object's own ones: what somebody adds to Object.prototype is nobody's option.
+// The options that a caller passes. They are checked and copied at once, since the caller may change them later. Each
+// is read once, and only if it is an object's own property: properties of Object.prototype are ignored.
 import { allocate, bytesOf, Inputs, passwordOf } from './bytes.js';
 import { NoRandomBytes } from './errors.js';
 import { requireEngine } from './platform.js';
 
-/** The variants: where a block's reference is drawn from (RFC 9106, 1). */
+/** The variants, which differ in how a block's reference is chosen (RFC 9106, section 1). */
 export const argon2d = 0;
 export const argon2i = 1;
 export const argon2id = 2;
 
 const MAX_NUMBER = 0xffffffff;
-const SALT_LENGTH = 16;
+/** The bytes of a salt that the package draws. */
+export const SALT_LENGTH = 16;
 
-/** The settings of a hash that names none: the first to choose of OWASP's. */
+/** The default settings: the ones that OWASP names first. */
 export const DEFAULTS = Object.freeze({
     type: argon2id, version: 0x13, memoryCost: 19456, timeCost: 2, parallelism: 1, hashLength: 32,
 });
 
 const preset = (memoryCost, timeCost) => Object.freeze({ ...DEFAULTS, memoryCost, timeCost });
 
-/** The recommended settings. OWASP holds its five to be equal in strength; RFC 9106 takes four lanes. */
+/** Recommended settings. OWASP calls its five equal in strength. RFC 9106 recommends its own with four lanes. */
 export const presets = Object.freeze({
     // presets, by .ci/pages/presets
     owasp1: preset(47104, 1),
@@ -32,7 +33,7 @@ export const presets = Object.freeze({
     // end
 });
 
-/** The highest costs of a PHC string that is verified. */
+/** The default limits on the costs of a PHC string that is verified. */
 export const defaultLimits = Object.freeze({ memoryCost: 2097152, timeCost: 10, parallelism: 16, work: 4194304 });
 
 const NO_LIMITS = Object.freeze({
@@ -76,8 +77,8 @@ export function numberOf(name, value, most = MAX_NUMBER) {
     return value;
 }
 
-/** `null` is something, and mostly of a wrong type. */
-function optionOf(name, value, type) {
+/** An option of a type. `null` is a value, and mostly of a wrong type. */
+export function optionOf(name, value, type) {
     if (value !== undefined && typeof value !== type) {
         throw typeError(name, `a ${type}`);
     }
@@ -90,7 +91,7 @@ export function settingsOf(own) {
     return Object.keys(DEFAULTS).map((name) => numberOf(name, all[name]));
 }
 
-/** The limits of a string: `null` are none. */
+/** The limits of a string. `null` means no limits. */
 export function limitsOf({ limits = {} }) {
     if (limits === null) {
         return NO_LIMITS;
@@ -101,11 +102,11 @@ export function limitsOf({ limits = {} }) {
     return all;
 }
 
-// The strings of node-argon2 that have the associated data in them, as `data=..` behind the lanes. RFC 9106 and the
-// reference know no such part, and neither does the proved decoder, which reads the rest of the string.
+// Strings of node-argon2 may contain the associated data, as `data=..` behind the lanes. RFC 9106 and the reference
+// implementation do not know this part. The proved decoder does not either: it reads the string without the part.
 const WITH_DATA = /^(\$argon2(?:id|i|d)\$(?:v=\d+\$)?m=\d+,t=\d+,p=\d+),data=([A-Za-z0-9+/]+)(\$[^$]*\$[^$]*)$/;
 
-/** Bytes of base64 without padding, or nothing where it is not how these bytes are encoded. */
+/** Decodes base64 without padding. Returns undefined if the text is not how these bytes are encoded. */
 function decodeBase64(text) {
     try {
         const characters = atob(text);
@@ -116,7 +117,7 @@ function decodeBase64(text) {
     }
 }
 
-/** The bytes of a string without its associated data, and the data. What is no such string stays as it is. */
+/** The bytes of a string without its associated data, and the data. Any other string stays as it is. */
 export function encodedOf(encoded) {
     if (typeof encoded !== 'string') {
         throw typeError('encoded', 'a string');
@@ -126,7 +127,7 @@ export function encodedOf(encoded) {
     return { bytes: new TextEncoder().encode(data ? front + rest : encoded), data };
 }
 
-/** The bytes of an option, or none. */
+/** The bytes of an option, or no bytes if it is missing. */
 const bytesOrNone = (name, value) => (value === undefined ? allocate(0) : bytesOf(name, value));
 
 /** A new salt of 16 bytes (RFC 9106, 3.1). */
@@ -138,7 +139,7 @@ function randomSalt() {
     }
 }
 
-/** The inputs of a hash, or of a verification, whose salt is in the string. */
+/** The inputs of a hash or of a verification. */
 export function inputsOf(password, { salt, secret, associatedData }) {
     return new Inputs({
         salt: salt === undefined ? randomSalt() : bytesOf('salt', salt),

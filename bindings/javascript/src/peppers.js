@@ -1,14 +1,17 @@
-// A pepper that rotates: keys by an ID, which is stored beside each encoded hash.
+// Peppers that rotate: secret keys, each with an ID that is stored beside the hashes made with it.
 import { bytesOf } from './bytes.js';
-import { hash, verifyAndRenew } from './calls.js';
+import { hash, verifyAndRenew, verifyUnknown } from './calls.js';
+import { UnknownPepper } from './errors.js';
+import { optionOf } from './options.js';
 
-/** Hashes with the newest of several peppers, and verifies with the one of a stored hash. */
+/** Hashes with the newest of several peppers, and verifies with the pepper that a stored hash names. */
 export class PepperedHasher {
     #keys = new Map();
+    #acceptsUnpeppered;
     #options;
 
     /** The peppers are pairs of an ID and a key, the newest first: an object would sort IDs that are numbers. */
-    constructor(peppers, options = {}) {
+    constructor(peppers, { acceptUnpeppered = false, ...options } = {}) {
         for (const [keyId, value] of peppers) {
             const key = bytesOf('key', value);
             if (typeof keyId !== 'string' || key.length === 0 || this.#keys.has(keyId)) {
@@ -19,25 +22,45 @@ export class PepperedHasher {
         if (this.#keys.size === 0) {
             throw new RangeError('there has to be a pepper');
         }
-        this.#options = { ...options };
+        this.#acceptsUnpeppered = optionOf('acceptUnpeppered', acceptUnpeppered, 'boolean');
+        this.#options = options;
         [this.newest] = this.#keys.keys();
         Object.freeze(this);
+    }
+
+    get #newestKey() {
+        return this.#keys.get(this.newest);
+    }
+
+    /** The key of a stored ID, or undefined for none. Whoever can write to the store could write null there. */
+    #keyOf(keyId) {
+        if (keyId === null && this.#acceptsUnpeppered) {
+            return undefined;
+        }
+        if (!this.#keys.has(keyId)) {
+            throw new UnknownPepper(keyId === null
+                ? "The stored hash has no pepper, which only 'acceptUnpeppered' accepts"
+                : `There is no pepper with the ID '${keyId}'`);
+        }
+        return this.#keys.get(keyId);
     }
 
     /** Hashes a password with the newest pepper: its ID and the PHC string, to be stored. */
     async hash(password, options = {}) {
         const own = { ...this.#options, ...options, salt: undefined, raw: undefined };
-        return { keyId: this.newest, encoded: await hash(password, { ...own, secret: this.#keys.get(this.newest) }) };
+        return { keyId: this.newest, encoded: await hash(password, { ...own, secret: this.#newestKey }) };
     }
 
     /** Whether a password matches, and what to store in place of these: an ID and a PHC string, or null. */
     async verifyAndUpdate(keyId, encoded, password, options = {}) {
-        if (keyId !== null && !this.#keys.has(keyId)) {
-            throw new RangeError(`there is no pepper '${keyId}'`);
-        }
-        const own = { ...this.#options, ...options, secret: keyId === null ? undefined : this.#keys.get(keyId) };
-        const newSecret = keyId === this.newest ? undefined : this.#keys.get(this.newest);
+        const own = { ...this.#options, ...options, secret: this.#keyOf(keyId) };
+        const newSecret = keyId === this.newest ? undefined : this.#newestKey;
         const { matches, update } = await verifyAndRenew(encoded, password, own, newSecret);
         return { matches, update: update === null ? null : { keyId: this.newest, encoded: update } };
+    }
+
+    /** Takes as long as a verification, for a user who does not exist, and gives false. */
+    async verifyUnknown(password, options = {}) {
+        return verifyUnknown(password, { ...this.#options, ...options, secret: this.#newestKey });
     }
 }

@@ -1,13 +1,13 @@
-// What Node and browsers do differently: files, how many processors there are, and how other tasks get their turn.
+// What Node and browsers do differently: files, workers, the number of processors, and how other tasks get their turn.
 import { Unsupported } from './errors.js';
 
-// Node's own modules are had without an import, which browsers and bundlers would stumble over.
+// Node's own modules are loaded without an import, which would fail in browsers and bundlers.
 const builtin = (name) => globalThis.process?.getBuiltinModule?.(`node:${name}`);
 
-/** Node's workers, where this is Node. */
+/** Node's module for workers, in Node. */
 export const nodeThreads = builtin('worker_threads');
 
-/** Throws where Node is too old to give its modules without an import. */
+/** Throws if Node is too old to load its modules without an import. */
 export function requireEngine() {
     const node = globalThis.process?.versions?.node;
     if (node !== undefined && nodeThreads === undefined) {
@@ -29,7 +29,7 @@ export function processors() {
     return nodeThreads ? builtin('os').availableParallelism() : globalThis.navigator?.hardwareConcurrency ?? 1;
 }
 
-/** The bytes of memory that this process may come to, as far as the engine says it. */
+/** The memory in bytes that this process may use, as far as the engine knows. */
 export function memoryOfSystem() {
     const { navigator, process } = globalThis;
     return nodeThreads
@@ -37,13 +37,13 @@ export function memoryOfSystem() {
         : (navigator?.deviceMemory ?? Infinity) * 2 ** 30;
 }
 
-/** How many programs ran at once in the last minute, as far as Node says it: on Windows always 0. */
+/** The system's load in the last minute, as Node reports it: on Windows always 0. */
 export const loadOfSystem = () => builtin('os')?.loadavg()[0] ?? null;
 
 /** The name of a file, in Node. */
 export const fileOf = (url) => builtin('url').fileURLToPath(url);
 
-/** What a file of the package has. */
+/** Reads a file of the package. */
 export async function readFile(url) {
     if (url.protocol === 'file:' && nodeThreads) {
         return builtin('fs/promises').readFile(url);
@@ -55,10 +55,10 @@ export async function readFile(url) {
     return response.arrayBuffer();
 }
 
-/** Where a worker hears from whom it works for. */
+/** In a worker, the port to the thread that started it. */
 export const caller = nodeThreads?.parentPort ?? globalThis;
 
-/** Yields to what waits in this thread: messages, timers and, in a page, what is drawn. */
+/** Lets other tasks of this thread run: messages, timers and, in a page, drawing. */
 export function yieldToTasks() {
     return new Promise((resume) => {
         if (globalThis.setImmediate) {

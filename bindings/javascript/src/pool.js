@@ -1,16 +1,18 @@
-// The workers of this thread: at most as many as there are processors. A worker leads a call, and others help it.
+// The workers of this thread, at most as many as there are processors. One worker leads a call, and others help it: if
+// the thread of the caller led, a hash would wait for whatever a page does. The worker also computes H0, so that a long
+// password does not stop a server.
 import { Rejected, STOPPED, WORKER_REFUSED } from './codes.js';
 import { LaneWorker } from './lane_worker.js';
 import { Places } from './line.js';
 import { compiledModule } from './module.js';
 import { canShare, processors } from './platform.js';
 
-/** The workers with a call. */
+/** The workers that have a call. */
 const working = new Places(processors);
-/** Workers with nothing to do. The last one to work is taken first, so that others can go. */
+/** Idle workers. The one that worked last is taken first, so that others can end. */
 const idle = [];
 
-/** The last idle worker with a memory or without one, if there is any, or else the last one, or else a new one. */
+/** An idle worker, if possible one with a memory or one without, as asked for; otherwise a new worker. */
 function takeWorker(hasMemory) {
     const index = idle.findLastIndex((worker) => worker.hasMemory === hasMemory);
     const [worker] = idle.splice(index, 1);
@@ -22,8 +24,8 @@ function takeWorker(hasMemory) {
 }
 
 /**
- * A worker has ended, and its memory is to go. Those that have joined this memory end too, once they have nothing to
- * do: nothing else makes an engine let it go.
+ * Forgets a worker that has ended. Workers that joined its memory end too, as soon as they are idle: engines free the
+ * memory only then.
  */
 function forgetWorker(ended) {
     if (idle.includes(ended)) {
@@ -32,7 +34,7 @@ function forgetWorker(ended) {
     idle.filter((worker) => worker.joined.has(ended)).forEach((worker) => worker.end());
 }
 
-/** A worker has done its part of a call. */
+/** Takes back a worker that has done its part of a call. */
 function release(worker) {
     worker.call = undefined;
     if ([...worker.joined].some((leader) => leader.isEnded)) {
@@ -59,7 +61,7 @@ class Call {
         this.#leader.hasMemory = true;
         this.#helpers.forEach((helper) => helper.joined.add(this.#leader));
         this.#progress = progress;
-        this.#ended.catch(() => {}); // (whoever awaits it may not do so yet)
+        this.#ended.catch(() => {}); // (Nobody may await it yet, and then a rejection would end the process.)
         for (const worker of taken) {
             worker.call = this;
         }
@@ -75,7 +77,7 @@ class Call {
         return this.#ended.finally(forget);
     }
 
-    /** A channel from the leader to each helper passes the memory: this thread would hold it until it is collected. */
+    /** The leader passes the memory to each helper by a channel: in this thread it would stay until it is collected. */
     #begin(task) {
         const channels = this.#helpers.map(() => new MessageChannel());
         const ports = channels.map(({ port1 }) => port1);
@@ -89,7 +91,7 @@ class Call {
         this.#leader.post({ stop: true });
     }
 
-    /** What a worker says: that it has failed, what has come of the call, how far it is, or who joins its memory. */
+    /** Handles a message of a worker: a failure, the result of the call, an invitation to a helper, or the progress. */
     hear(message) {
         if (message.failure !== undefined) {
             this.fail(new Error(message.failure));
@@ -112,12 +114,12 @@ class Call {
     }
 }
 
-/** Runs a task by at most so many workers, and returns its code and its tag. */
+/** Runs a task by some workers, up to a maximum. Returns its code and its tag. */
 export async function runByWorkers(task, most, progress) {
     const count = await working.takeInTurn(canShare() ? most : 1, progress);
     const taken = [];
     try {
-        // (one with a memory leads, so that helpers need none)
+        // (A worker with a memory leads, so that helpers need none.)
         while (taken.length < count) {
             taken.push(takeWorker(taken.length === 0));
         }

@@ -1,25 +1,25 @@
-// A run of a task: it makes the job, fills the memory slice by slice, alone or with helpers, and overwrites it whatever
-// happens.
+// A run of a task: it makes the job, and fills the memory slice by slice, alone or with helpers. Then the memory is
+// overwritten, whatever happened.
 import { Barrier } from './barrier.js';
 import { OK, Rejected, STOPPED, check } from './codes.js';
 import { Place, pointer, STACK } from './memory.js';
 
-// ---- a job, as proved_argon2_jobs.h lays it out, and its steps over the blocks of a memory
+// ---- a job as proved_argon2_jobs.h defines it, and its steps over the blocks of a memory
 
 const SLICES = 4;
 const BLOCK = 1024;
-/** The numbers of proved_argon2_settings, and where the lanes and the length of a hash are among them. */
+/** How many numbers proved_argon2_settings has, and the places of the lanes and of the hash's length in it. */
 export const SETTINGS = 6;
 const LANES = 4;
 const HASH_LENGTH = 5;
-/** Where a job has its numbers: behind H0. */
+/** The offset of a job's numbers, behind H0. */
 const NUMBERS = 64;
 const JOB = NUMBERS + 6 * 4;
 
 export const lanesOf = (settings) => settings[LANES];
 export const hashLengthOf = (settings) => settings[HASH_LENGTH];
 
-/** A slice, whole. */
+/** The place of a slice. */
 function sliceOf(layout, slice) {
     const length = layout.lanes * layout.segmentLength;
     return new Place(layout.blocks.at + slice * length * BLOCK, length);
@@ -29,7 +29,7 @@ function segmentOf(layout, slice, lane) {
     return new Place(sliceOf(layout, slice).at + lane * layout.segmentLength * BLOCK, layout.segmentLength);
 }
 
-/** Takes a step of a lane: step 0 writes its first blocks, step n + 1 fills its segment of slice n, over all passes. */
+/** Takes a step of one lane. Step 0 writes its first blocks; step n + 1 fills slice n, counted over all passes. */
 function takeStepOfLane(memory, layout, step, lane) {
     const job = pointer(layout.job);
     if (step === 0) {
@@ -41,7 +41,7 @@ function takeStepOfLane(memory, layout, step, lane) {
     return memory.call('job_fill', job, pass, slice, lane, ...others, segmentOf(layout, slice, lane));
 }
 
-/** Takes a step of the lanes first, first + stride, first + 2 stride .. */
+/** Takes a step of the lanes first, first + stride, first + 2 stride and so on. Returns the first error. */
 function takeStep(memory, layout, step, first, stride) {
     let code = OK;
     for (let lane = first; lane < layout.lanes && code === OK; lane += stride) {
@@ -52,7 +52,7 @@ function takeStep(memory, layout, step, first, stride) {
 
 // ---- a run
 
-/** Where a memory has what a run needs. All of it is taken before a secret is there: an engine may copy what grows. */
+/** Takes all places that a run needs, before the memory has a secret: an engine may copy a memory that grows. */
 function takePlaces(memory, { settings, saltLength }, helpers) {
     const numbers = memory.putNumbers(settings);
     const blocks = Number(memory.call('memory_len', pointer(numbers))) / BLOCK;
@@ -68,7 +68,7 @@ function takePlaces(memory, { settings, saltLength }, helpers) {
     };
 }
 
-/** Writes the job: that of a hash, or that of the string that is verified, with the hash in it. */
+/** Writes the job of a hash or, for a verification, the job of the string and the hash in it. */
 function makeJob(memory, { encoded, inputs }, places) {
     const { password, salt, secret, associatedData } = inputs;
     const inputPlaces = memory.putAll([encoded ?? salt, password, secret, associatedData]);
@@ -80,12 +80,12 @@ function makeJob(memory, { encoded, inputs }, places) {
         : memory.call('job_read', first, ofPassword, ...keys, job, places.salt, places.hash);
     inputPlaces.forEach((place) => memory.clearPlace(place));
     check(code);
-    // (these numbers say how many steps there are, and over which blocks)
+    // (These numbers determine the steps and their blocks.)
     const [, , lanes, segmentLength, passes] = memory.numbersAt({ at: places.job.at + NUMBERS }, 5);
     return { lanes, segmentLength, passes, job: { ...places.job }, blocks: { ...places.blocks } };
 }
 
-/** Has helpers take each step, and takes it too. `report` is called with the progress, and returns whether to stop. */
+/** Takes each step together with the helpers. `report` is called with the progress, and returns whether to stop. */
 async function fill(memory, layout, barrier, helpers, report) {
     const slices = SLICES * layout.passes;
     for (let step = 0; step <= slices; step++) {
@@ -98,7 +98,7 @@ async function fill(memory, layout, barrier, helpers, report) {
     }
 }
 
-/** A helper's part: the same steps, of other lanes. */
+/** The part of a helper: the same steps for other lanes. */
 export function help(memory, { layout, barrier: place, helper, helpers }) {
     const barrier = new Barrier(memory.shared, place);
     for (let step = 0; barrier.hasStep(step); step++) {
@@ -107,7 +107,7 @@ export function help(memory, { layout, barrier: place, helper, helpers }) {
     barrier.leave(helper);
 }
 
-/** The tag or, of a string, the verdict on it. */
+/** The tag of a hash or, for a verification, the verdict. */
 function finish(memory, layout, { hash, tag }, isVerified) {
     const last = sliceOf(layout, 3);
     const job = pointer(layout.job);
@@ -117,7 +117,7 @@ function finish(memory, layout, { hash, tag }, isVerified) {
     return { code: memory.call('job_finish', job, last, tag), tag: memory.read(tag) };
 }
 
-/** What each helper is told, so that it joins the memory, with a stack of its own. */
+/** An invitation for each helper: all it needs to join the memory, with a stack of its own. */
 function invitationsTo(memory, layout, { stacks, barrier }) {
     const common = { memory: memory.shared, layout, barrier: { ...barrier }, helpers: stacks.length };
     return stacks.map((stack, i) => ({ ...common, stack: { ...stack }, helper: i + 1 }));
@@ -139,8 +139,8 @@ async function computeOver(memory, task, { helpers, invite, report }) {
 }
 
 /**
- * The code of a run, with the tag of a hash. `invite` has so many helpers join the memory, and waits for them. The
- * inputs are overwritten, and so is the memory.
+ * Runs a task, and returns its code and the tag of a hash. `invite` asks helpers to join the memory, and waits for
+ * them. The inputs and the memory are overwritten.
  */
 export async function run(memory, task, company) {
     try {

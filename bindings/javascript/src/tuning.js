@@ -1,10 +1,10 @@
-// Settings for this machine, by measuring hashes.
+// Finds settings for this machine by measuring hashes.
 import { allocate } from './bytes.js';
 import { hash } from './calls.js';
 import { DEFAULTS, defaultLimits } from './options.js';
 import { loadOfSystem } from './platform.js';
 
-/** Of OWASP's choices the least memory, and the least work: of less a hash protects no password. */
+/** The least memory and the least work among OWASP's choices. With less, a hash does not protect a password. */
 const LEAST_MEMORY = 7168;
 const LEAST_WORK = 5 * LEAST_MEMORY;
 const ROUNDS = 3;
@@ -17,7 +17,7 @@ export async function tune(milliseconds, { memoryCost = 65536, parallelism = 1, 
     return { parameters: settingsOf(memory, passes), milliseconds: took, load: loadOfSystem() };
 }
 
-/** As much memory as there is time for, and then as many passes. */
+/** Takes as much memory as the time allows, and then as many passes. */
 export async function fittingCosts(milliseconds, memoryCost, measure) {
     if (typeof milliseconds !== 'number') {
         throw new TypeError("'milliseconds' has to be a number");
@@ -32,7 +32,7 @@ export async function fittingCosts(milliseconds, memoryCost, measure) {
     throw new RangeError(`no settings for passwords within ${memoryCost} KiB take ${milliseconds} milliseconds here`);
 }
 
-/** Costs with as many passes as there is time for. */
+/** Raises the passes as far as the time allows. */
 async function withPasses(milliseconds, costs, measure) {
     const { memory, passes: least, took: tookLeast } = costs;
     const { timeCost, work } = defaultLimits;
@@ -46,7 +46,7 @@ async function withPasses(milliseconds, costs, measure) {
     return costs;
 }
 
-/** The milliseconds of a hash, the least of a few. */
+/** The milliseconds that a hash takes: the least of a few. */
 async function leastOf(options) {
     let least = Infinity;
     for (let round = 0; round < ROUNDS; round += 1) {

@@ -1,10 +1,10 @@
-// What a worker does: it leads runs in its own memory, or helps another worker to fill that one's.
+// The program of a worker. It leads runs in its own memory, or helps another worker to fill that worker's memory.
 import { Inputs } from './bytes.js';
 import { Memory } from './memory.js';
 import { caller, yieldToTasks } from './platform.js';
 import { help, run } from './run.js';
 
-/** The worker's own, once it has led a run. It was overwritten. */
+/** The worker's own memory, once it has led a run. Between runs it is overwritten. */
 let memory;
 let isStopped = false;
 
@@ -12,8 +12,8 @@ let isStopped = false;
 let leader;
 
 /**
- * Invites helpers, each by a port of its own, and waits until they have joined. Where an engine does not pass a memory
- * by a port, the thread that has started both workers passes it on: WebKit never does, Firefox now and then loses it.
+ * Invites helpers, each by a port of its own, and waits until they have joined. Some engines do not pass a memory by a
+ * port: WebKit never does, and Firefox sometimes loses it. Then the thread that started both workers passes it on.
  */
 function inviteBy(ports) {
     return (invitations) => Promise.all(ports.map((port, helper) => new Promise((resolve) => {
@@ -53,7 +53,7 @@ async function join(module, invitation) {
     leader.close();
 }
 
-/** Does something, and reports where it fails: whom this works for ends this worker then. */
+/** Does some work, and reports a failure to the thread that started this worker, which then ends it. */
 async function attempt(work) {
     try {
         await work();
@@ -62,7 +62,7 @@ async function attempt(work) {
     }
 }
 
-/** Waits for the invitation of the worker that leads. */
+/** Waits for an invitation of the worker that leads. */
 function waitForInvitation({ module, port }) {
     leader = port;
     port.onmessage = ({ data }) => attempt(() => join(module, data));

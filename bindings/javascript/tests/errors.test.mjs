@@ -134,7 +134,7 @@ for (const [what, [cases, call]] of Object.entries(CALLS)) {
     });
 }
 
-test('memory that the engine refuses is OutOfMemory, and the next call is made', async () => {
+test('memory that the engine denies is OutOfMemory, and the next call works', async () => {
     const most = { memoryCost: MOST, timeCost: 1 };
     for (const running of [{ threads: 1 }, { worker: false }, { parallelism: 2 }]) {
         await rejects('OutOfMemory', () => argon2.hash('password', { ...most, ...running }), JSON.stringify(running));
@@ -143,7 +143,7 @@ test('memory that the engine refuses is OutOfMemory, and the next call is made',
     assert.equal(await argon2.verify(ENCODED, 'password'), true);
 });
 
-test('a memory.grow that is refused in place is OutOfMemory', async () => {
+test('in the thread of the caller a denied memory.grow is OutOfMemory', async () => {
     const { grow } = WebAssembly.Memory.prototype;
     WebAssembly.Memory.prototype.grow = () => {
         throw new RangeError('refused');
@@ -169,7 +169,7 @@ test('the errors are those of the library for C, with their numbers', () => {
     }
 });
 
-test('an aborted signal rejects by its reason, before a worker', async () => {
+test('a call whose signal was aborted before rejects with the reason, and starts no worker', async () => {
     const started = countWorkers();
     const reason = new Error('no more');
     await assert.rejects(argon2.hash('password', { signal: AbortSignal.abort(reason) }), (error) => error === reason);
@@ -182,7 +182,7 @@ test('an aborted signal rejects by its reason, before a worker', async () => {
     assert.equal(started(), 0);
 });
 
-test('inputs are overwritten where a call is stopped before it runs', async () => {
+test('the inputs of a call that is stopped before it runs are overwritten', async () => {
     const { ArrayBuffer: Buffers } = globalThis;
     const made = [];
     const password = 'a password';
@@ -220,7 +220,7 @@ const PROCESSES = [
     ['.. and so is a Node that gives no module without an import', ['--import', OLD], {},
         "Promise.any([hash, verify, needsRehash].map((call) => call('', ''))).catch(({ errors }) => errors.join())",
         Array(3).fill(`Unsupported: Node ${versions.node} is too old: this needs Node 20.19, 22.12 or 24`).join()],
-    ['.. and so is an engine without the addon that a call asks for', [], { PROVED_ARGON2_NATIVE: '0' },
+    ['an engine without the addon is Unsupported for a call with `native: true`', [], { PROVED_ARGON2_NATIVE: '0' },
         "hash('password', { native: true })", `Unsupported: There is no addon for ${platform} on ${arch}, `
         + "where WebAssembly computes without 'native': PROVED_ARGON2_NATIVE is 0"],
     ['where Node denies workers, the caller computes', [PERMISSION, `--allow-fs-read=${import.meta.dirname}/*`], {},

@@ -69,12 +69,13 @@ function hashInTurn(call) {
 /** Calls: how many, how long workers stay meanwhile, how many memories they may take, and what each does. */
 const KINDS = {
     'calls of one and four lanes and two sizes take one memory a worker at most': [CALLS, LONG, WORKERS, hashWith({})],
-    '.. and so do calls at the same time, by all workers': [CALLS / 10, LONG, WORKERS, hashTogether],
-    '.. and where workers end between calls': [CALLS / 10, 1, WORKERS, hashAndRest],
-    '.. and where workers die in a call': [CALLS / 5, LONG, WORKERS, hashOrDie],
-    'threads of the addon leave no memory': [CALLS, LONG, 0, hashWith({ native: true })],
-    '.. and ten times as many do not': [10 * CALLS, LONG, 0, hashWith({ native: true, memoryCost: 1024 })],
-    'calls in place take one memory, however many wait': [40, LONG, 1, hashInTurn],
+    'calls at the same time by all workers take one memory a worker at most': [CALLS / 10, LONG, WORKERS, hashTogether],
+    'calls between which workers end take one memory a worker at most': [CALLS / 10, 1, WORKERS, hashAndRest],
+    'calls in which workers are killed take one memory a worker at most': [CALLS / 5, LONG, WORKERS, hashOrDie],
+    'calls of the addon, one after another, keep one memory': [CALLS, LONG, 1, hashWith({ native: true })],
+    'ten times as many calls of the addon keep no more':
+        [10 * CALLS, LONG, 1, hashWith({ native: true, memoryCost: 1024 })],
+    'calls in the thread of the caller take one memory, however many wait': [40, LONG, 1, hashInTurn],
 };
 
 for (const [what, [calls, stay, memories, makeCall]] of Object.entries(KINDS)) {
@@ -96,3 +97,16 @@ for (const [what, [calls, stay, memories, makeCall]] of Object.entries(KINDS)) {
         assertFlat(above(), memories === 1 ? 1 : 0);
     });
 }
+
+test('the addon keeps a memory for each hash at the same time, and frees them after ten idle seconds', async () => {
+    const large = { memoryCost: 65536, timeCost: 1, native: true };
+    const bytes = large.memoryCost * 1024;
+    const before = above();
+    await Promise.all(Array.from({ length: 4 * WORKERS }, () => argon2.hash('password', large)));
+    const kept = above() - before;
+    assert.ok(kept > bytes / 2, `${inMib(kept)} were kept`);
+    assert.ok(kept <= WORKERS * bytes + BESIDES, `${inMib(kept)} were kept`);
+    await sleep(12000);
+    const left = above() - before;
+    assert.ok(left < bytes / 2, `${inMib(left)} were left`);
+});

@@ -22,20 +22,20 @@ function moved(value) {
 
 /** Views and buffers that had bytes, and have none any more. */
 const GONE = {
-    'a view of a buffer that was cut': () => cut(12, (buffer) => new Uint8Array(buffer, 8, 8)),
-    'a DataView of one': () => cut(12, (buffer) => new DataView(buffer, 8, 8)),
-    'a view of wider numbers of one': () => cut(8, (buffer) => new Float64Array(buffer, 8, 1)),
-    'a view of a buffer that was moved away': () => moved(Uint8Array.from(PASSWORD)),
-    'a DataView of one that was moved away': () => moved(new DataView(new ArrayBuffer(8))),
-    'a buffer that was moved away': () => moved(new ArrayBuffer(8)),
+    'a view that is out of the bounds of a shrunk buffer': () => cut(12, (buffer) => new Uint8Array(buffer, 8, 8)),
+    'a DataView of a shrunk buffer': () => cut(12, (buffer) => new DataView(buffer, 8, 8)),
+    'a Float64Array of a shrunk buffer': () => cut(8, (buffer) => new Float64Array(buffer, 8, 1)),
+    'a view of a transferred buffer': () => moved(Uint8Array.from(PASSWORD)),
+    'a DataView of a transferred buffer': () => moved(new DataView(new ArrayBuffer(8))),
+    'a transferred buffer': () => moved(new ArrayBuffer(8)),
 };
 
 /** Objects that say they are bytes. */
 const FORGED = {
-    'a tag': () => ({ [Symbol.toStringTag]: 'ArrayBuffer', length: 8, byteLength: 8 }),
-    'a tag of an array': () => ({ [Symbol.toStringTag]: 'Uint8Array', length: 8, byteLength: 8 }),
-    'a prototype': () => Object.create(Uint8Array.prototype),
-    'the prototype of buffers': () => Object.create(ArrayBuffer.prototype),
+    'an object with the tag of a buffer': () => ({ [Symbol.toStringTag]: 'ArrayBuffer', length: 8, byteLength: 8 }),
+    'an object with the tag of an array': () => ({ [Symbol.toStringTag]: 'Uint8Array', length: 8, byteLength: 8 }),
+    'an object with the prototype of arrays': () => Object.create(Uint8Array.prototype),
+    'an object with the prototype of buffers': () => Object.create(ArrayBuffer.prototype),
     'a proxy': () => new Proxy(Uint8Array.from(PASSWORD), {}),
     'an array': () => [...PASSWORD],
 };
@@ -52,7 +52,7 @@ for (const [what, make] of Object.entries({ ...GONE, ...FORGED })) {
     });
 }
 
-test('each kind of view has the bytes that it shows', async () => {
+test('each kind of view stands for the bytes that it shows', async () => {
     const buffer = new ArrayBuffer(24);
     new Uint8Array(buffer, 8).set(PASSWORD);
     const shared = new Uint8Array(new SharedArrayBuffer(8));
@@ -66,7 +66,7 @@ test('each kind of view has the bytes that it shows', async () => {
     }
 });
 
-test('what a view says of itself is not asked', async () => {
+test('properties that a view overrides are not read', async () => {
     const view = Uint8Array.from(PASSWORD);
     for (const name of ['buffer', 'byteLength', 'byteOffset', 'length']) {
         Object.defineProperty(view, name, { value: 0 });
@@ -74,7 +74,7 @@ test('what a view says of itself is not asked', async () => {
     assert.equal(await argon2.verify(ENCODED, view), true);
 });
 
-test('what is added to Object.prototype is no option', async () => {
+test('a property of Object.prototype is not an option', async () => {
     // (and no `signal`, by which Node's own streams are ended)
     const added = {
         memoryCost: 8, timeCost: 1, parallelism: 8, type: 0, version: 16, hashLength: 4, salt: SALT, limits: null,
@@ -112,13 +112,13 @@ test('an option is read once', async () => {
     assert.deepEqual(read, ['memoryCost', 'timeCost', 'salt', 'secret', 'raw']);
 });
 
-test('options without a prototype, or with undefined ones, are as those that are left out', async () => {
+test('an option that is undefined counts as missing, and options need no prototype', async () => {
     const missing = { secret: undefined, limits: undefined, timeCost: undefined };
     const bare = Object.assign(Object.create(null), CHEAP, missing);
     assert.equal(await argon2.hash('password', bare), ENCODED);
 });
 
-test('strings of node-argon2 that have their data are verified by it', async () => {
+test('a string of node-argon2 that contains its associated data is verified with it', async () => {
     // (made by libargon2 with the data "user 7", and written as node-argon2 does)
     const encoded = process.env.WITH_DATA;
     assert.match(encoded, /,data=dXNlciA3\$/);
@@ -133,7 +133,7 @@ test('strings of node-argon2 that have their data are verified by it', async () 
     assert.equal(await argon2.needsRehash(encoded), true);
 });
 
-test('.. and a part that is no base64, or is elsewhere, is DecodingFail', async () => {
+test('a string whose associated data is no base64, or is in another place, is DecodingFail', async () => {
     const encoded = process.env.WITH_DATA;
     const changes = ['dXNlc', 'dXNlciB', 'dXNlciA3=', 'dXNlciA3,data=dXNlciA3', '', 'dXNl iA3', '-_'];
     for (const change of changes) {
@@ -143,7 +143,7 @@ test('.. and a part that is no base64, or is elsewhere, is DecodingFail', async 
     }
 });
 
-test('a password is its UTF-8, and no other text has the same', async () => {
+test('a password that is a string is encoded in UTF-8, and different strings never become the same bytes', async () => {
     const same = { salt: new Uint8Array(8), memoryCost: 8, timeCost: 1, raw: true };
     const text = 'pässwörd \u{1f511}\0';
     assert.deepEqual(await argon2.hash(text, same), await argon2.hash(new TextEncoder().encode(text), same));
@@ -170,7 +170,7 @@ test('salts are 16 random bytes, new for each hash', async () => {
     }
 });
 
-test('what is left out are the library\'s own recommendations', async () => {
+test('the default settings are those of the library', async () => {
     const encoded = await argon2.hash('password');
     assert.match(encoded, /^\$argon2id\$v=19\$m=19456,t=2,p=1\$[A-Za-z0-9+/]{22}\$[A-Za-z0-9+/]{43}$/);
     assert.equal(await argon2.needsRehash(encoded), false);

@@ -21,7 +21,7 @@ async function requireFree(line) {
     assert.equal(await verify(await two[0], 'password', { line }), true);
 }
 
-test('so many compute, so many wait in their order, and others are rejected at once', limited, async () => {
+test('some calls compute, some wait in their order, and others are rejected at once', limited, async () => {
     const line = new Line({ concurrency: 2, waiting: 3 });
     const begun = [];
     const ends = [];
@@ -56,20 +56,20 @@ const peppered = new PepperedHasher([['2026', key]], SMALL);
 const encoded = (await peppered.hash('password')).encoded;
 const OUTCOMES = {
     'a call that is aborted while it computes': (line) => aborting((options) => hash('password', { ...options, line })),
-    '.. or verifies': (line) => aborting((options) =>
+    'a verification that is aborted while it computes': (line) => aborting((options) =>
         verify(old.replace('t=2', 't=4294967295'), 'password', { ...options, limits: null, line })),
-    '.. or was aborted before': (line) => hash('password', { line, signal: AbortSignal.abort() }),
+    'a call whose signal was aborted before': (line) => hash('password', { line, signal: AbortSignal.abort() }),
     'a call whose callback throws': (line) => hash('password', { line, onProgress: () => assert.fail('AbortError') }),
     'a call with an error': (line) => hash('password', { line, timeCost: 0 }),
-    'a string that is none': (line) => verify('x', 'password', { line }),
-    'another password': async (line) =>
+    'a string that is not an encoded hash': (line) => verify('x', 'password', { line }),
+    'a wrong password': async (line) =>
         assert.deepEqual(await verifyAndUpdate(old, 'Password', { ...SMALL, line }), MISMATCH),
     'a new hash that fails': async (line) =>
         assert.equal((await verifyAndUpdate(old, 'password', { timeCost: 0, line })).matches, true),
-    'a pepper': async (line) =>
+    'a call with a pepper': async (line) =>
         assert.deepEqual(await peppered.verifyAndUpdate('2026', encoded, 'Password', { line }), MISMATCH),
-    'a call of a line alone': (line) => line.run(() => assert.fail('thrown at once')),
-    '.. that is none': (line) => line.run(),
+    'a function that throws at once': (line) => line.run(() => assert.fail('thrown at once')),
+    'a value that is not a function': (line) => line.run(),
 };
 
 for (const [what, call] of Object.entries(OUTCOMES)) {
@@ -95,7 +95,7 @@ test('a call that is aborted while it waits leaves the line', limited, async () 
     await requireFree(line);
 });
 
-test('a password is verified and hashed anew in one place, by what was passed at first', async () => {
+test('verifyAndUpdate takes one place for both of its calls, and copies its inputs at first', async () => {
     const line = new Line({ concurrency: 1, waiting: 1 });
     const first = line.run(() => sleep(20));
     const [password, secret, associatedData] = ['password', 'pepper', 'user 7'].map((text) => Buffer.from(text));
@@ -114,7 +114,7 @@ test('a password is verified and hashed anew in one place, by what was passed at
     assert.equal(busy.length, 8 + 4);
 });
 
-test('by default as many compute as fit into processors and memory, and 16 times as many wait', () => {
+test('by default as many calls compute as fit into processors and memory, and 16 times as many wait', () => {
     const { availableParallelism, totalmem } = os;
     const { constrainedMemory } = process;
     const boundsOf = (gibibytes, constrained, options) => {
@@ -135,7 +135,7 @@ test('by default as many compute as fit into processors and memory, and 16 times
     }
 });
 
-test('bounds and lines of another kind are rejected', async () => {
+test('wrong options of a line, and lines of another type, are rejected', async () => {
     for (const [options, expected] of [
         [{ concurrency: 0 }, RangeError], [{ waiting: -1 }, RangeError], [{ waiting: 0.5 }, RangeError],
         [{ concurrency: '2' }, TypeError], [{ wait: 1 }, TypeError], [{ memoryCost: null }, TypeError], [5, TypeError],

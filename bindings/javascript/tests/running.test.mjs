@@ -30,7 +30,7 @@ test('a thread computes one hash after another', async () => {
     assert.ok(after.size < before.size + added.length + 3);
 });
 
-test('the addon computes, without a worker, and WebAssembly where it is asked for', async () => {
+test('by default the addon computes, without a worker, and with `native: false` WebAssembly does', async () => {
     const started = countWorkers();
     const tag = await argon2.hash('password', NATIVE);
     assert.deepEqual(await argon2.hash('password', { ...NATIVE, native: true }), tag);
@@ -39,7 +39,7 @@ test('the addon computes, without a worker, and WebAssembly where it is asked fo
     assert.equal(started(), 1);
 });
 
-test('.. and so it does by require', async () => {
+test('the addon also computes if the package is loaded by require', async () => {
     const required = createRequire(import.meta.url)('proved-argon2');
     const tag = await required.hash('password', { ...NATIVE, native: true });
     assert.deepEqual(tag, await argon2.hash('password', NATIVE));
@@ -64,7 +64,7 @@ test('a process ends in the middle of a hash', async () => {
     assert.equal(await endOf("setTimeout(() => { throw new Error('thrown on purpose'); });"), 1);
 });
 
-test('a worker of the program ends in the middle of a hash, and others have the addon then', async () => {
+test('when a worker of the program ends in the middle of a hash, the addon still works in other threads', async () => {
     for (let round = 0; round < 3; round++) {
         const program = `const { parentPort } = require('node:worker_threads');
             const onProgress = (done) => done === 2 && parentPort.postMessage(done);
@@ -82,8 +82,9 @@ test('a worker of the program ends in the middle of a hash, and others have the 
 
 const SMALL = { memoryCost: 1024, timeCost: 3, parallelism: 4, salt: new Uint8Array(16), raw: true, native: false };
 const RUNNINGS = {
-    'by one worker': { threads: 1 }, 'by four workers': { threads: 4 }, 'in place': { worker: false },
+    'by one worker': { threads: 1 }, 'by four workers': { threads: 4 },
     'by one thread': { native: true, threads: 1 }, 'by four threads': { native: true, threads: 4 },
+    'in the thread of the caller': { worker: false },
 };
 
 const hexOf = (bytes) => Buffer.from(bytes).toString('hex');
@@ -95,13 +96,13 @@ async function assertNothingHeld() {
 }
 
 for (const [name, running] of Object.entries(RUNNINGS)) {
-    test(`progress goes slice by slice to its end, ${name}`, async () => {
+    test(`progress is reported slice by slice to the end, ${name}`, async () => {
         const reports = [];
         await argon2.hash('password', { ...SMALL, ...running, onProgress: (...report) => reports.push(report) });
         assert.deepEqual(reports, Array.from({ length: 12 }, (_, i) => [i + 1, 12]));
     });
 
-    test(`what is told can stop a call, ${name}`, async () => {
+    test(`a progress callback that throws stops the call, ${name}`, async () => {
         const reason = new Error('enough');
         let reported = 0;
         const onProgress = () => {
@@ -116,7 +117,7 @@ for (const [name, running] of Object.entries(RUNNINGS)) {
         await assertNothingHeld();
     });
 
-    test(`a signal stops a hash in the middle; memory is overwritten, and the workers go on, ${name}`, async () => {
+    test(`a signal stops a hash, memory is overwritten, and the workers still work, ${name}`, async () => {
         await argon2.hash('password', { ...SMALL, ...running });
         const expected = hexOf(await argon2.hash('password', { ...SMALL, worker: false }));
         const started = countWorkers();
@@ -141,7 +142,7 @@ for (const [name, running] of Object.entries(RUNNINGS)) {
     });
 }
 
-test('a memory in use is seen, so that one that is overwritten is too', async () => {
+test('the tests see the blocks of a hash that computes', async () => {
     let held = 0;
     const onProgress = () => {
         held = Math.max(held, look().held);
@@ -151,7 +152,7 @@ test('a memory in use is seen, so that one that is overwritten is too', async ()
     await assertNothingHeld();
 });
 
-test('a long password is hashed in a worker, and a memory that a long salt has made large is not kept', async () => {
+test('a long password needs no memory in this thread, and a memory that a long salt enlarged is dropped', async () => {
     const before = look().bytes;
     await argon2.hash('x'.repeat(2 ** 21), SMALL);
     assert.equal(look().bytes, before);
@@ -176,7 +177,7 @@ test('a signal stops a verification too', { timeout: 60000 }, async () => {
     await assertNothingHeld();
 });
 
-test('a signal that comes later does nothing, and has no listener of the call', async () => {
+test('after a call its signal has no listener, and aborting it does nothing', async () => {
     const controller = new AbortController();
     await argon2.hash('password', { ...SMALL, signal: controller.signal });
     assert.deepEqual(getEventListeners(controller.signal, 'abort'), []);
@@ -191,7 +192,7 @@ const COMPUTING = {
 };
 
 for (const [what, [native, count, limit]] of Object.entries(COMPUTING)) {
-    test(`many calls at once are each right, and take no more ${what} than fit the processors`, async () => {
+    test(`many calls at the same time are right, and take no more ${what} than there are processors`, async () => {
         const before = native ? count() : 0;
         let most = 0;
         const onProgress = () => {
@@ -221,7 +222,7 @@ for (const [what, [native, count, limit]] of Object.entries(COMPUTING)) {
     });
 }
 
-test('a call that is stopped as its turn comes takes no other from the line', async () => {
+test('a call that is stopped as its turn comes does not take the turn of another', async () => {
     const { Places, Progress } = await import(new URL('line.js', import.meta.resolve('proved-argon2')));
     const places = new Places(() => 2);
     const controller = new AbortController();
@@ -249,7 +250,7 @@ test('a worker that fails is WorkerRefused, and the next call has another', asyn
     }
 });
 
-test('inputs are taken when the call is made, and stay as they are', async () => {
+test('inputs are copied when the call is made, and are not changed', async () => {
     const options = { ...SMALL, secret: Uint8Array.of(1, 2, 3), associatedData: Uint8Array.of(4) };
     const password = new TextEncoder().encode('password');
     const expected = await argon2.hash('password', options);
@@ -260,7 +261,7 @@ test('inputs are taken when the call is made, and stay as they are', async () =>
     assert.deepEqual(await call, expected);
 });
 
-test('a process ends while a worker waits for work', async () => {
+test('an idle worker does not keep a process alive', async () => {
     const program = `import { workers } from './watching.mjs';
         import { hash, verify } from 'proved-argon2';
         process.once('beforeExit', () => console.log(workers.length));
@@ -268,14 +269,14 @@ test('a process ends while a worker waits for work', async () => {
     assert.equal(await outputOf(['--input-type=module', '--eval', program]), 'true\n1\n');
 });
 
-test('a memory that a port loses goes another way', async () => {
+test('if a port loses a memory, it is passed on by the thread of the caller', async () => {
     const words = ['--import', './watching.mjs', '--test-reporter=tap',
         '--test-name-pattern=by a worker for each lane', 'vectors.test.mjs'];
     const variables = { NODE_TEST_CONTEXT: undefined, PROVED_ARGON2_NATIVE: '0', LOSES_MEMORIES: '1' };
     assert.match(await outputOf(words, variables), /^# pass 1$/m);
 });
 
-test('workers without work go', async () => {
+test('idle workers end', async () => {
     letStay(10);
     const alone = { ...SMALL, threads: 1 };
     await Promise.all(Array.from({ length: availableParallelism() }, () => argon2.hash('password', alone)));
@@ -286,7 +287,7 @@ test('workers without work go', async () => {
     await argon2.hash('password', SMALL);
 });
 
-test('a string is verified by 16 workers at most, and a password hashed by more', async () => {
+test('at most 16 workers verify a string, and more may hash a password', async () => {
     while (workers.length > 0) {
         await sleep(10);
     }

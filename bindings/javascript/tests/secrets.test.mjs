@@ -1,5 +1,5 @@
-// What is left of passwords and secrets in the memory of a process that passed them as bytes, and overwrote its own: it
-// prints each, changed by a mask, and then waits to be looked into.
+// Searches the memory of a process for passwords and secrets that it passed as bytes and then overwrote, and for tags
+// of encoded hashes. The process prints passwords and secrets, changed by a mask, and encoded hashes. Then it waits.
 import assert from 'node:assert/strict';
 import { spawn } from 'node:child_process';
 import { randomFillSync } from 'node:crypto';
@@ -53,6 +53,9 @@ function countIn(pid, secrets) {
 
 const unmask = (line) => Buffer.from(line, 'hex').map((byte) => byte ^ MASK);
 
+/** The tag of an encoded hash, whose characters stay in the process. */
+const tagOf = (encoded) => Buffer.from(encoded.split('$').at(-1), 'base64');
+
 /** What a process says until it is done, and then what is in its memory. */
 async function lookInto(words) {
     const child = spawn(process.execPath, words, { cwd: import.meta.dirname, stdio: ['pipe', 'pipe', 'inherit'] });
@@ -63,9 +66,11 @@ async function lookInto(words) {
         }
         lines.push(line);
     }
-    assert.equal(lines.length, 2 * ROUNDS);
-    const seen = countIn(child.pid, lines.map(unmask));
-    const masked = countIn(child.pid, lines.map((line) => Buffer.from(line.slice(0, 2 * KNOWN_BY))));
+    assert.equal(lines.length, 3 * ROUNDS);
+    const secrets = lines.map((line) => (line.startsWith('$') ? tagOf(line) : unmask(line)));
+    const seen = countIn(child.pid, secrets);
+    const printed = lines.filter((line) => !line.startsWith('$')).map((line) => line.slice(0, 2 * KNOWN_BY));
+    const masked = countIn(child.pid, printed.map((text) => Buffer.from(text)));
     child.kill();
     return { ...seen, masked: masked.found };
 }
@@ -82,6 +87,7 @@ async function useSecrets() {
         // (what is on the engine's heap is moved by its collector)
         objects.push(Array.from({ length: 20000 }, () => ({})));
         objects.splice(0, objects.length - 3);
+        console.log(await made);
         await argon2.verify(await made, password, running);
         password.fill(0);
         secret.fill(0);
@@ -93,7 +99,7 @@ async function useSecrets() {
 if (process.argv[2] === VICTIM) {
     await useSecrets();
 } else {
-    test('of passwords and secrets that are bytes, nothing is left in the process', async () => {
+    test('no password or secret that was passed as bytes is left, and no tag of an encoded hash', async () => {
         const { bytes, found, masked } = await lookInto([import.meta.filename, VICTIM]);
         assert.ok(bytes > 2 ** 20 && masked > 0, 'the memory was not seen');
         assert.equal(found, 0);

@@ -1,11 +1,12 @@
-// Logins at once through docs/examples/log_in.mjs: more of them than places. Each verdict has to be right, some have to
-// be told to try again, and no more memory be taken than the places have.
+// Logins at the same time through docs/examples/log_in.mjs. Each verdict has to be right. As many logins as the example
+// lets compute and wait are answered, others are told to try again, and memory is taken for those alone that compute.
 import assert from 'node:assert/strict';
 import { hash } from 'proved-argon2';
-import { logIn } from './log_in.mjs';
+import { logIn, statuses } from './log_in.mjs';
 
 const SECONDS = 3;
-const AT_ONCE = 8;
+const AT_ONCE = 48;
+const ANSWERED = 2 + 32;
 const MOST_KIB = 2 * 65536 + 65536;
 const secret = Buffer.from('pepper');
 
@@ -24,6 +25,9 @@ async function logsInOften(first, end) {
 }
 
 await logsInOften(0, Date.now() + 100);
+const burst = await Promise.all(Array.from({ length: AT_ONCE }, () => logIn('somebody', 'password', older, secret)));
+assert.equal(burst.filter(([verdict]) => verdict === true).length, ANSWERED);
+assert.equal(burst.filter(([verdict]) => statuses.get(verdict) === 503).length, AT_ONCE - ANSWERED);
 const end = Date.now() + SECONDS * 1000;
 const before = process.resourceUsage().maxRSS;
 await Promise.all(Array.from({ length: AT_ONCE }, (_, first) => logsInOften(first, end)));
@@ -44,6 +48,9 @@ for (let turn = 0; turn < 3; turn += 1) {
     leaves.abort();
     assert.deepEqual(await verdict, [null, older]);
 }
+// A user who does not exist gets the answer of a wrong password. (services.test.mjs looks at what it costs.)
+assert.deepEqual(await logIn('somebody', 'password', null, secret), [false, null]);
+assert.deepEqual([statuses.get(true), statuses.get(false)], [200, 401]);
 // Without random bytes nothing is hashed, and a right password still matches.
 globalThis.crypto.getRandomValues = () => { throw new Error('refused'); };
 assert.deepEqual(await logIn('somebody', 'password', older, secret), [true, older]);

@@ -34,7 +34,7 @@ test('a hash of other settings is renewed for the right password alone', async (
     assert.deepEqual(await called, right);
 });
 
-test('a new hash that fails makes no password wrong, and what verify rejects is rejected', async () => {
+test('if only the new hash fails, the password matches, and errors of the verification are rejected', async () => {
     const old = await argon2.hash('password', small);
     const failing = { ...small, timeCost: 0 };
     assert.deepEqual(await argon2.verifyAndUpdate(old, 'password', failing), right);
@@ -45,9 +45,10 @@ test('a new hash that fails makes no password wrong, and what verify rejects is 
     await assert.rejects(argon2.verifyAndUpdate(old, 'password', { ...small, signal }), argon2.AbortError);
 });
 
-test('hashes have the newest pepper, and others are renewed with it', async () => {
+test('new hashes have the newest pepper, and hashes of other peppers are renewed with it', async () => {
     const old = new PepperedHasher([['2025', bytes('old')]], small);
-    const both = new PepperedHasher(new Map([['2026', bytes('new')], ['2025', bytes('old')]]), small);
+    const peppers = new Map([['2026', bytes('new')], ['2025', bytes('old')]]);
+    const both = new PepperedHasher(peppers, { ...small, acceptUnpeppered: true });
     for (const [keyId, secret] of [['2025', bytes('old')], [null, undefined]]) {
         const stored = await argon2.hash('password', { ...small, secret });
         assert.deepEqual(await both.verifyAndUpdate(keyId, stored, 'Password'), wrong);
@@ -60,6 +61,68 @@ test('hashes have the newest pepper, and others are renewed with it', async () =
     assert.deepEqual([keyId, await old.verifyAndUpdate(keyId, encoded, 'password')], ['2025', right]);
     assert.deepEqual(await both.verifyAndUpdate('2026', encoded, 'password'), wrong);
     assert.deepEqual(await both.verifyAndUpdate(null, encoded, 'password'), wrong);
+});
+
+test('whoever writes to the store cannot choose a hash without a pepper', async () => {
+    const peppers = [['2026', bytes('new')]];
+    const chosen = await argon2.hash('open sesame', small);
+    const expected = { name: 'UnknownPepper', code: 258 };
+    for (const options of [small, { ...small, acceptUnpeppered: false }]) {
+        const hasher = new PepperedHasher(peppers, options);
+        await assert.rejects(hasher.verifyAndUpdate(null, chosen, 'open sesame'), expected);
+        await assert.rejects(hasher.verifyAndUpdate('', chosen, 'open sesame'), expected);
+        await assert.rejects(hasher.verifyAndUpdate(undefined, chosen, 'open sesame'), expected);
+        await assert.rejects(hasher.verifyAndUpdate('2024', chosen, 'open sesame'), expected);
+    }
+    const migrating = new PepperedHasher(peppers, { ...small, acceptUnpeppered: true });
+    assert.equal((await migrating.verifyAndUpdate(null, chosen, 'open sesame')).update.keyId, '2026');
+    await assert.rejects(migrating.verifyAndUpdate(undefined, chosen, 'open sesame'), expected);
+    assert.throws(() => new PepperedHasher(peppers, { acceptUnpeppered: 'yes' }), TypeError);
+    const call = { acceptUnpeppered: true };
+    await assert.rejects(migrating.verifyAndUpdate('2026', chosen, 'open sesame', call), TypeError);
+});
+
+test('calls with a pepper can be stopped', { timeout: 60000 }, async () => {
+    const hasher = new PepperedHasher([['2026', bytes('new')], ['2025', bytes('old')]], small);
+    const old = await argon2.hash('password', { ...small, secret: bytes('old') });
+    const endless = { memoryCost: 4096, timeCost: 2 ** 31, limits: null };
+    const costly = old.replace('t=1', 't=4294967295');
+    const calls = [
+        (options) => hasher.hash('password', options), (options) => hasher.verifyUnknown('password', options),
+        (options) => hasher.verifyAndUpdate('2025', costly, 'password', options),
+    ];
+    for (const call of calls) {
+        const controller = new AbortController();
+        const onProgress = () => controller.abort();
+        await assert.rejects(call({ ...endless, signal: controller.signal, onProgress }), argon2.AbortError);
+    }
+});
+
+test('a user who does not exist costs as much as one who does, and nobody logs in', async () => {
+    const reportsOf = async (call) => {
+        const reports = [];
+        const outcome = await call({ ...small, timeCost: 3, onProgress: (...report) => reports.push(report) });
+        return [outcome, reports];
+    };
+    const encoded = await argon2.hash('password', { ...small, timeCost: 3 });
+    const [, expected] = await reportsOf((options) => argon2.verify(encoded, 'Password', options));
+    assert.equal(expected.length, 12);
+    const hasher = new PepperedHasher([['2026', bytes('new')]]);
+    for (const password of ['password', '', bytes('Password')]) {
+        assert.deepEqual(await reportsOf((options) => argon2.verifyUnknown(password, options)), [false, expected]);
+        assert.deepEqual(await reportsOf((options) => hasher.verifyUnknown(password, options)), [false, expected]);
+    }
+    const limits = { memoryCost: 63 };
+    await assert.rejects(argon2.verifyUnknown('password', { ...small, limits }), argon2.TooCostly);
+    await assert.rejects(argon2.verifyUnknown('password', { ...small, timeCost: 0 }), argon2.TimeTooSmall);
+    await assert.rejects(argon2.verifyUnknown('password', { ...small, type: 5 }), argon2.IncorrectType);
+    const signal = AbortSignal.abort();
+    await assert.rejects(argon2.verifyUnknown('password', { ...small, signal }), argon2.AbortError);
+    await assert.rejects(argon2.verifyUnknown(undefined, small), TypeError);
+    const key = bytes('password');
+    const called = argon2.verifyUnknown(key, small);
+    key.fill(0);
+    assert.equal(await called, false);
 });
 
 test('a hash of the newest pepper is renewed where it has other settings', async () => {
@@ -81,14 +144,14 @@ test('each call has options of its own, and no salt', async () => {
     assert.deepEqual(await hasher.verifyAndUpdate('2026', hashes[0].encoded, 'password'), wrong);
 });
 
-test('what is no pepper is rejected, and keys are copied and not shown', async () => {
+test('wrong peppers are rejected, and keys are copied and not shown', async () => {
     const key = bytes('a key');
     const hasher = new PepperedHasher([['2026', key]], small);
     key.fill(0);
     const { encoded } = await hasher.hash('password');
     assert.equal(await argon2.verify(encoded, 'password', { secret: bytes('a key') }), true);
-    await assert.rejects(hasher.verifyAndUpdate('2024', encoded, 'password'), /RangeError: there is no pepper '2024'/);
-    await assert.rejects(hasher.verifyAndUpdate(undefined, encoded, 'password'), RangeError);
+    const message = "There is no pepper with the ID '2024'";
+    await assert.rejects(hasher.verifyAndUpdate('2024', encoded, 'password'), { name: 'UnknownPepper', message });
     await assert.rejects(hasher.verifyAndUpdate('2026', 'x', 'password'), argon2.DecodingFail);
     const peppers = [[], [['2026', bytes('')]], [[2026, key]], [['2026', bytes('a')], ['2026', bytes('b')]]];
     peppers.forEach((some) => assert.throws(() => new PepperedHasher(some), RangeError));
@@ -98,7 +161,7 @@ test('what is no pepper is rejected, and keys are copied and not shown', async (
     assert.deepEqual([inspect(hasher), JSON.stringify(hasher)].filter((text) => /a key|97/.test(text)), []);
 });
 
-test('a new hash that has no salt makes no password wrong', async () => {
+test('without random bytes a right password still matches, but is not hashed anew', async () => {
     const { getRandomValues } = globalThis.crypto;
     const old = await argon2.hash('password', { ...small, timeCost: 2 });
     globalThis.crypto.getRandomValues = () => {
@@ -133,7 +196,7 @@ test('the presets, limits and version are those of the module', async () => {
     assert.equal((await openMemory()).call('library_version'), +major * 1000000 + +minor * 1000 + +patch);
 });
 
-test('as much memory as there is time for, and then passes', async () => {
+test('tune chooses as much memory as the time allows, and then passes', async () => {
     const table = readFileSync(new URL('../../../bindings/tests/tunings.txt', `file://${process.env.HEADER}`), 'utf8');
     for (const row of table.match(/^\d.*/gm)) {
         const [milliseconds, most, power, ...expected] = row.split(' ').map(Number);
@@ -147,7 +210,7 @@ test('as much memory as there is time for, and then passes', async () => {
     }
 });
 
-test('settings that are found are measured here', async () => {
+test('tune measures hashes on this machine', async () => {
     const { loadavg } = os;
     os.loadavg = () => [1.5, 0, 0];
     try {

@@ -1,13 +1,14 @@
 // What the types let through, and what they do not: tsc --noEmit --strict. It is never run.
 import argon2, {
-    AbortError, Argon2Error, BusyError, Line, PepperedHasher, SaltTooShort, argon2id, defaultLimits, hash, needsRehash, presets, tune,
-    verify, verifyAndUpdate,
+    AbortError, Argon2Error, BusyError, Line, PepperedHasher, SaltTooShort, UnknownPepper, argon2id, defaultLimits,
+    hash, needsRehash, presets, tune, verify, verifyAndUpdate, verifyUnknown,
 } from 'proved-argon2';
 import type { HashOptions, Limits, Settings } from 'proved-argon2';
 import * as inline from 'proved-argon2/inline';
 
 export async function right(password: string, key: Uint8Array, signal: AbortSignal): Promise<boolean> {
-    const all: Settings = { type: argon2id, version: 0x13, memoryCost: 19456, timeCost: 2, parallelism: 1, hashLength: 24 };
+    const costs: Settings = { memoryCost: 19456, timeCost: 2, parallelism: 1 };
+    const all: Settings = { type: argon2id, version: 0x13, ...costs, hashLength: 24 };
     const settings: Settings = { ...presets.owasp1, ...all };
     const options: HashOptions = { ...settings, type: argon2id, secret: key, associatedData: key.buffer, signal };
     const encoded: string = await hash(password, { ...settings, onProgress: (done, all) => console.log(done / all) });
@@ -23,16 +24,20 @@ export async function right(password: string, key: Uint8Array, signal: AbortSign
     const hasher = new PepperedHasher([['2026', key]], { ...settings, limits, line });
     const stored: { keyId: string, encoded: string } = await hasher.hash(password, { associatedData: key });
     const peppered = await hasher.verifyAndUpdate(null, stored.encoded, password);
+    new PepperedHasher([['2026', key]], { acceptUnpeppered: true });
+    const unknown: false = await verifyUnknown(password, { ...settings, limits });
+    const nobody: false = await hasher.verifyUnknown(password) || unknown;
     const { parameters, milliseconds, load } = await tune(250, { memoryCost: 65536, signal });
-    console.log(length, matches, update?.length, peppered.update?.keyId, parameters.timeCost, milliseconds, load?.toFixed());
+    console.log(length, matches, update?.length, peppered.update?.keyId);
+    console.log(parameters.timeCost, milliseconds, load?.toFixed());
     try {
-        return verdict && renewed && await inline.verify(encoded, key, { limits: null }) && either !== tag;
+        return verdict && renewed && !nobody && await inline.verify(encoded, key, { limits: null }) && either !== tag;
     } catch (error) {
         if (error instanceof SaltTooShort || error instanceof Argon2Error) {
             const code: number = error.code;
             return error.name === 'TooCostly' && code === 69;
         }
-        if (error instanceof AbortError || error instanceof BusyError) {
+        if (error instanceof AbortError || error instanceof BusyError || error instanceof UnknownPepper) {
             return error.name === 'AbortError';
         }
         throw error;
@@ -62,6 +67,8 @@ export async function wrong(password: string): Promise<void> {
     await verify('', password, { limits: { memory: 5 } });
     // @ts-expect-error: an object does not keep the order of its IDs
     new PepperedHasher({ 2026: new Uint8Array(1) });
+    // @ts-expect-error: only a hasher accepts hashes without a pepper, and not one call
+    await new PepperedHasher([]).verifyAndUpdate(null, '', password, { acceptUnpeppered: true });
     // @ts-expect-error: a line is no number
     await hash(password, { line: 2 });
     // @ts-expect-error: presets cannot be changed

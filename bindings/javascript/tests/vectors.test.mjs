@@ -55,25 +55,25 @@ async function compareString({ line, settings, salt, inputs, expected }, running
 }
 
 const WAYS = {
-    'by one worker': { threads: 1 }, 'by a worker for each lane': {}, 'in place': { worker: false },
+    'by one worker': { threads: 1 }, 'by a worker for each lane': {}, 'in the thread of the caller': { worker: false },
 };
 
 for (const [way, running] of Object.entries(WAYS)) {
-    test(`the outside hashes, ${way}`, async () => {
+    test(`the hashes of other implementations, ${way}`, async () => {
         for (const one of hashesOf(`${VECTORS}/raw.txt`, 240)) {
             await compareRaw(one, running);
         }
     });
 }
 
-test('800 random hashes of libargon2, by 1 to 8 workers, and strings of some', async () => {
+test('800 random hashes of libargon2, computed by 1 to 8 workers, and the strings of some', async () => {
     for (const [i, one] of hashesOf(process.env.RANDOM_HASHES, 800).entries()) {
         const compare = i % 10 === 0 ? compareString : compareRaw;
         await compare(one, { threads: 1 + i % WORKERS, worker: i % 20 !== 0 });
     }
 });
 
-test('the outside strings', async () => {
+test('the strings of other implementations', async () => {
     const lines = linesOf(`${VECTORS}/texts.txt`);
     assert.ok(lines.length >= 147);
     for (const line of lines) {
