@@ -1,0 +1,17 @@
+// Package argon2 hashes and verifies passwords with Argon2 (RFC 9106). A C library computes the hashes, and its code is
+// proved to compute them correctly. The package contains this library: a program needs only cgo and a C compiler.
+//
+// A service makes one [Hasher], which limits how many hashes are computed at a time. Programs that have no such limit
+// to keep call [Hash], [Verify] and [VerifyAndUpdate]. [IDKey] and [Key] have the signatures of
+// golang.org/x/crypto/argon2.
+//
+// # Memory
+//
+// The package makes no copy of a password, a secret or associated data, except that [NewPeppers] copies its keys. The
+// library clears the memory of a hash before a call returns.
+//
+// # Threads
+//
+// A call of C occupies an operating-system thread until it returns, and the library starts a thread for each further
+// lane. [Hasher] says how many these are.
+package argon2

@@ -1,0 +1,75 @@
+package argon2
+
+import (
+	"errors"
+	"strings"
+
+	"vemkuorl.example/proved-argon2/argon2/internal/native"
+)
+
+// Error is the number of an error of the library. The constants below are values for [errors.Is]. A wrong password is
+// no error.
+type Error uint32
+
+// The errors of the library, with their reasons.
+const (
+	// errors, by .ci/pages/presets
+	ErrOutputTooShort   Error = 1   // the hash is shorter than 4 bytes
+	ErrOutputTooLong    Error = 2   // the hash is longer than 2^32 - 1 bytes
+	ErrPwdTooShort      Error = 3   // never returned
+	ErrPwdTooLong       Error = 4   // the password is longer than 2^32 - 1 bytes
+	ErrSaltTooShort     Error = 5   // the salt is shorter than 8 bytes
+	ErrSaltTooLong      Error = 6   // the salt is longer than 2^32 - 1 bytes
+	ErrAdTooShort       Error = 7   // never returned
+	ErrAdTooLong        Error = 8   // the associated data is longer than 2^32 - 1 bytes
+	ErrSecretTooShort   Error = 9   // never returned
+	ErrSecretTooLong    Error = 10  // the secret is longer than 2^32 - 1 bytes
+	ErrTimeTooSmall     Error = 11  // there is no pass
+	ErrTimeTooLarge     Error = 12  // never returned
+	ErrMemoryTooLittle  Error = 13  // there are fewer than 8 KiB a lane
+	ErrMemoryTooMuch    Error = 14  // never returned
+	ErrLanesTooFew      Error = 15  // there is no lane
+	ErrLanesTooMany     Error = 16  // there are more than 2^24 - 1 lanes
+	ErrIncorrectType    Error = 17  // no variant has this number
+	ErrIncorrectVersion Error = 18  // no version has this number
+	ErrDecodingFail     Error = 19  // the string decodes to no hash
+	ErrOutOfMemory      Error = 20  // memory could not be allocated, or the buffer of the options is too small
+	ErrWorkerRefused    Error = 21  // the thread pool of the options did not run its tasks
+	ErrTooCostly        Error = 69  // the encoded hash is above the limits
+	ErrNoRandomBytes    Error = 129 // the system had no random bytes for a salt
+	ErrOldProcessor     Error = 131 // the library has no build for this processor
+	// end
+)
+
+// Errors of this package.
+var (
+	// ErrBusy means that as many callers compute and wait as the [Hasher] allows: answer with HTTP status 503.
+	ErrBusy = errors.New("argon2: too many hashes are computed at a time")
+
+	// ErrUnknownPepper means that no pepper has the ID of a stored hash.
+	ErrUnknownPepper = errors.New("argon2: there is no pepper with this ID")
+
+	// ErrInvalidPeppers means that there is no pepper, an ID or a key is empty, or two peppers have the same ID.
+	ErrInvalidPeppers = errors.New("argon2: no pepper, an empty ID or key, or two peppers with the same ID")
+
+	// ErrTooSlow means that even the least settings for passwords take longer than [Tune] allows.
+	ErrTooSlow = errors.New("argon2: a hash with the least settings takes longer")
+)
+
+// Error returns the message of the error.
+func (e Error) Error() string {
+	message := native.Message(uint32(e))
+	return "argon2: " + strings.ToLower(message[:1]) + message[1:]
+}
+
+// errorOf returns the error of a number that the library returned. A string with a byte above 127 is no encoded hash,
+// like any other that cannot be decoded.
+func errorOf(number uint32) error {
+	switch number {
+	case native.OK:
+		return nil
+	case native.NotASCII:
+		return ErrDecodingFail
+	}
+	return Error(number)
+}

@@ -1,0 +1,111 @@
+package argon2
+
+import (
+	"context"
+	"fmt"
+)
+
+// Pepper is a secret key with an ID. The ID is stored beside each hash, which does not contain the key.
+type Pepper struct {
+	ID  string
+	Key []byte `json:"-"`
+}
+
+// Format prints the ID, and not the key. Package fmt calls it only for a value that it may read: the fields of a struct
+// have to be exported for that. So keep a Pepper in an unexported field behind a pointer, or fmt prints the key.
+func (p Pepper) Format(state fmt.State, _ rune) { fmt.Fprintf(state, "{ID:%q}", p.ID) }
+
+// Stored is what you store for a user: an encoded hash, and the ID of its pepper. The ID is empty if it has none.
+type Stored struct {
+	PepperID string
+	Encoded  string
+}
+
+// Peppers hash with the newest pepper, and verify with the one that the stored hash names. See [NewPeppers].
+type Peppers struct {
+	hasher            *Hasher
+	peppers           []Pepper
+	acceptsUnpeppered bool
+}
+
+// NewPeppers returns peppers, the newest first, which compute in the queue of a Hasher, with its settings and limits;
+// the secret of the settings has no effect. It copies the keys, so you can clear yours. It returns [ErrInvalidPeppers]
+// if there is no pepper, an ID or a key is empty, or two peppers have the same ID.
+//
+// To change the pepper, put a new one first and keep the old ones. [Peppers.VerifyAndUpdate] renews a hash at the
+// user's next login. Once no hash has the ID of an old pepper, leave that out.
+func NewPeppers(hasher *Hasher, peppers ...Pepper) (*Peppers, error) {
+	seen, own := map[string]bool{"": true}, make([]Pepper, len(peppers))
+	for i, pepper := range peppers {
+		if seen[pepper.ID] || len(pepper.Key) == 0 {
+			return nil, ErrInvalidPeppers
+		}
+		seen[pepper.ID] = true
+		own[i] = Pepper{pepper.ID, append([]byte(nil), pepper.Key...)}
+	}
+	if len(peppers) == 0 {
+		return nil, ErrInvalidPeppers
+	}
+	return &Peppers{hasher: hasher, peppers: own}, nil
+}
+
+// AcceptUnpeppered returns the same peppers, which also verify hashes without a pepper, whose ID is empty, and renew
+// them with the newest one. Use it only while you move such hashes: whoever can write to the store can add a hash that
+// needs no key.
+func (p *Peppers) AcceptUnpeppered() *Peppers { return &Peppers{p.hasher, p.peppers, true} }
+
+// Hash hashes a password with the newest pepper.
+func (p *Peppers) Hash(ctx context.Context, password []byte) (Stored, error) {
+	encoded, err := p.newest().Hash(ctx, password)
+	if err != nil {
+		return Stored{}, err
+	}
+	return Stored{p.peppers[0].ID, encoded}, nil
+}
+
+// VerifyAndUpdate verifies a password with the pepper of the stored hash. If the password matches, and the hash has
+// another pepper than the newest or [NeedsRehash], updated is what to store in its place; otherwise it is nil. If no
+// pepper has the ID, it returns [ErrUnknownPepper]: also if the ID is empty, unless you [Peppers.AcceptUnpeppered].
+func (p *Peppers) VerifyAndUpdate(ctx context.Context, stored Stored, password []byte) (
+	matches bool, updated *Stored, err error) {
+	old, err := p.settingsOf(stored.PepperID)
+	if err != nil {
+		return false, nil, err
+	}
+	newest := p.peppers[0].ID
+	matches, encoded, err := p.newest().verifyAndUpdate(ctx, stored.Encoded, password, old, stored.PepperID != newest)
+	if encoded != "" {
+		updated = &Stored{newest, encoded}
+	}
+	return matches, updated, err
+}
+
+// VerifyUnknown is [VerifyUnknown] with the settings of the Hasher.
+func (p *Peppers) VerifyUnknown(ctx context.Context, password []byte) (matches bool, err error) {
+	return p.newest().VerifyUnknown(ctx, password)
+}
+
+// Format prints the IDs, and no key.
+func (p Peppers) Format(state fmt.State, _ rune) { fmt.Fprintf(state, "argon2.Peppers%v", p.peppers) }
+
+// newest returns the Hasher with the newest pepper.
+func (p *Peppers) newest() *Hasher { return p.with(p.peppers[0].Key) }
+
+func (p *Peppers) with(key []byte) *Hasher {
+	settings := p.hasher.settings
+	settings.Secret = key
+	return &Hasher{p.hasher.queue, settings, p.hasher.limits}
+}
+
+// settingsOf returns the settings with the pepper of an ID.
+func (p *Peppers) settingsOf(id string) (Settings, error) {
+	if id == "" && p.acceptsUnpeppered {
+		return p.with(nil).settings, nil
+	}
+	for _, pepper := range p.peppers {
+		if pepper.ID == id {
+			return p.with(pepper.Key).settings, nil
+		}
+	}
+	return Settings{}, ErrUnknownPepper
+}

@@ -1,0 +1,81 @@
+// The program makes the calls that standard input names, over the library of codes.c. It prints what each call returned
+// and what the library saw, which test_go.py checks. A line of input is a call's name, whether a Hasher makes it, and
+// the numbers that the library returns.
+package main
+
+// #include <stdint.h>
+// void set_answers(uint32_t check, uint32_t then, uint32_t read, uint32_t memory, uint32_t kib_size);
+// const char *seen(void);
+import "C"
+
+import (
+	"bufio"
+	"context"
+	"fmt"
+	"os"
+	"strings"
+
+	"vemkuorl.example/proved-argon2/argon2"
+)
+
+const text = "$argon2id$x"
+
+var (
+	word = []byte("word")
+	// No two of these settings are equal, so that none can be passed in the place of another.
+	settings = argon2.Settings{
+		Variant: argon2.ID, Version: argon2.Version, Memory: 64, Time: 3, Lanes: 4, Threads: 3, SaltLength: 8, HashLength: 5,
+		Secret: []byte("key"), Data: []byte("data"),
+	}
+)
+
+func call(name string, isHasher bool) (value any, err error) {
+	ctx, hasher := context.Background(), argon2.NewHasher(settings, 1, 0)
+	switch {
+	case name == "hash_raw":
+		value, err = argon2.HashRaw(word, []byte("somesalt"), settings)
+		value = fmt.Sprintf("%s", value)
+	case name == "hash_encoded" && isHasher:
+		value, err = hasher.Hash(ctx, word)
+	case name == "hash_encoded":
+		value, err = argon2.Hash(word, settings)
+	case name == "verify_encoded_alone":
+		value, err = argon2.Verify(text, word)
+	case name == "verify_encoded_within":
+		value, err = hasher.Within(argon2.Limits{Memory: 10, Time: 11, Lanes: 12, Work: 13}).Verify(ctx, text, word)
+	case name == "verify_unknown" && isHasher:
+		value, err = hasher.VerifyUnknown(ctx, word)
+	case name == "verify_unknown":
+		value, err = argon2.VerifyUnknown(word, settings)
+	case name == "needs_rehash":
+		today := settings
+		today.SaltLength = 6 // as the library reports it
+		value, err = argon2.NeedsRehash(text, today)
+	}
+	return value, err
+}
+
+// printable replaces what a random salt may have.
+func printable(letter rune) rune {
+	if letter < ' ' || letter > '~' {
+		return '?'
+	}
+	return letter
+}
+
+func main() {
+	for lines := bufio.NewScanner(os.Stdin); lines.Scan(); {
+		var name string
+		var isHasher bool
+		var n [5]C.uint32_t
+		if _, err := fmt.Sscan(lines.Text(), &name, &isHasher, &n[0], &n[1], &n[2], &n[3], &n[4]); err != nil {
+			panic(err)
+		}
+		C.set_answers(n[0], n[1], n[2], n[3], n[4])
+		value, err := call(name, isHasher)
+		if number, ok := err.(argon2.Error); ok {
+			value = fmt.Sprintf("%v, error %d", value, number)
+		}
+		fmt.Printf("%v|%s\n", value, strings.Map(printable, strings.ToValidUTF8(C.GoString(C.seen()), "?")))
+	}
+}

@@ -1,0 +1,425 @@
+"""Tests of the module for Go: its own tests on each system, what it returns for each number of the library, the package
+that its users unpack, x/crypto's tests, and a service."""
+import os
+import pathlib
+import re
+import shutil
+import subprocess
+
+import pytest
+from running import CC, CODES, HEADER, MACHINE, NUMBERS, TOP, VERSION, built, needs, refuses, run, start
+
+MODULE, HERE, NATIVE = TOP / "bindings/go", TOP / "bindings/tests", "internal/native"
+NAME = re.search("^module (.*)$", (MODULE / "go.mod").read_text(), re.M)[1]
+PAGE = (TOP / "docs/GO.md").read_text()
+# Debian's source of x/crypto, and of what that imports.
+SOURCES = "/usr/share/gocode/src/golang.org/x"
+ARCH = {"x86_64": "amd64", "aarch64": "arm64"}[MACHINE]
+LINKED = "-ldflags", "-linkmode external -extldflags -static"
+# What x/crypto's tests call beside its public functions.
+OF_X_CRYPTO = """package argon2
+
+const (
+    argon2d = iota
+    argon2i
+    argon2id
+)
+
+var useSSE4 = true
+
+func deriveKey(v int, pwd, salt, secret, data []byte, time, memory uint32, threads uint8, length uint32) []byte {
+    s := Settings{Variant(v), Version, memory, time, uint32(threads), 0, 0, length, secret, data}
+    tag, err := HashRaw(pwd, salt, s)
+    if err != nil {
+        panic(err)
+    }
+    return tag
+}
+"""
+# Denies the threads of the library, which have a smaller stack than those of Go.
+DENYING = """#define _GNU_SOURCE
+#include <dlfcn.h>
+#include <errno.h>
+#include <pthread.h>
+#include <unistd.h>
+int pthread_create(pthread_t *thread, const pthread_attr_t *attributes, void *(*start)(void *), void *argument)
+{
+    size_t size = 0;
+    if (attributes != NULL && pthread_attr_getstacksize(attributes, &size) == 0 && size < 1 << 20) {
+        (void)!write(2, "denied\\n", 7);
+        return EAGAIN;
+    }
+    int (*create)(pthread_t *, const pthread_attr_t *, void *(*)(void *), void *) = dlsym(RTLD_NEXT, "pthread_create");
+    return create(thread, attributes, start, argument);
+}
+"""
+# Makes each call with a password that no other copy is of, and waits.
+SECRETIVE = """package main
+
+import (
+    "bufio"
+    "context"
+    "fmt"
+    "os"
+
+    argon2 "%s"
+)
+
+func main() {
+    password := make([]byte, 64)
+    for i := range password {
+        password[i] = byte(33 + i*7%%90)
+    }
+    ctx, cancel := context.WithCancel(context.Background())
+    defer cancel()
+    for lanes := uint32(1); lanes <= 4; lanes += 3 {
+        s := argon2.OWASP5()
+        s.Lanes, s.Secret = lanes, password
+        hasher := argon2.NewHasher(s, 1, 0)
+        encoded, err := hasher.Hash(ctx, password)
+        if err != nil {
+            panic(err)
+        }
+        s.Time = 1
+        matches, updated, err := hasher.With(s).VerifyAndUpdate(ctx, encoded, password)
+        right, _ := hasher.Verify(ctx, updated, password)
+        if _, err2 := hasher.VerifyUnknown(ctx, password); !matches || !right || err != nil || err2 != nil {
+            panic(err)
+        }
+        argon2.IDKey(password, password, 1, 64, 1, 32)
+        fmt.Fprintln(os.Stderr, fmt.Sprint(s, hasher))
+    }
+    fmt.Println(&password[0])
+    bufio.NewReader(os.Stdin).ReadString(10)
+    fmt.Println(password[0])
+}
+""" % NAME
+pytestmark = [needs("go"), pytest.mark.timeout(2400)]
+
+
+@pytest.fixture(scope="session")
+def env(tmp_path_factory):
+    """The variables with which Go builds here, without a network."""
+    folder = tmp_path_factory.mktemp("go")
+    return {"GOCACHE": folder / "cache", "GOPATH": folder / "path", "GOFLAGS": "-mod=mod", "GOPROXY": "off",
+            "GOSUMDB": "off", "GOTOOLCHAIN": "local", "CGO_ENABLED": 1}
+
+
+def copy_module(folder, archive=None):
+    """The module with the archives and the headers, beside the tables that its tests read."""
+    module = shutil.copytree(MODULE, folder / "bindings/go", ignore=shutil.ignore_patterns("*.a", "proved_argon2*.h"))
+    for name in ("tests", "vectors"):
+        (folder / "bindings" / name).symlink_to(TOP / "bindings" / name)
+    for header in (TOP / "bindings/c/include").iterdir():
+        shutil.copy(header, module / NATIVE)
+    archives = {f"linux_{ARCH}": archive or built() / MACHINE / "libproved_argon2.a"}
+    if archive is None:
+        archives["windows_amd64"] = TOP / "release/windows-x86_64/libproved_argon2.a"
+        archives["linux_arm64"] = built("aarch64") / "aarch64/libproved_argon2.a"
+    for name, file in archives.items():
+        shutil.copy(file, module / NATIVE / f"libproved_argon2_{name}.a")
+    return module
+
+
+@pytest.fixture(scope="session")
+def module(tmp_path_factory):
+    return copy_module(tmp_path_factory.mktemp("module"))
+
+
+def program(folder, module, *files, more=""):
+    """A module that requires ours."""
+    folder.mkdir(exist_ok=True)
+    for file in files:
+        shutil.copy(file, folder)
+    (folder / "go.mod").write_text(
+        f"module program\n\ngo 1.19\n\nrequire {NAME} v{VERSION}\n\nreplace {NAME} => {module}\n{more}")
+    return folder
+
+
+def test_the_sources_are_laid_out_and_each_exported_name_has_a_comment(module, env):
+    files = [*MODULE.glob("**/*.go"), *HERE.glob("**/*.go"), *(TOP / "docs/examples").glob("*.go")]
+    assert len(files) > 20 and run("gofmt", "-l", "-s", *files) == ""
+    lines = [line for file in files for line in file.read_text().splitlines()]
+    assert not [line for line in lines if len(line) > 120]
+    exported = re.compile(r"(.*\n)(?:func|type) (?:\(\w+ \*?\w+\) )?([A-Z]\w*)", re.M)
+    found = [pair for file in MODULE.glob("*.go") if "_test" not in file.name
+             for pair in exported.findall(file.read_text())]
+    assert len(found) > 40 and not [name for before, name in found if not before.startswith("// ")]
+    run("go", "vet", "./...", cwd=module, env=env)
+
+
+def test_cgo_and_unsafe_code_are_only_in_the_internal_package():
+    files = [file for file in MODULE.rglob("*.go") if re.search('"(C|unsafe)"', file.read_text())]
+    assert {file.name for file in files} == {"cgo.go", "cgo_go124.go", "hasher_test.go"}
+
+
+@pytest.mark.parametrize("words, more", [
+    ((), {}), (("-race",), {}), ((), {"GODEBUG": "cgocheck=2"}), ((), {"GODEBUG": "asyncpreemptoff=1", "GOGC": "1"})])
+def test_the_tests_of_the_module_pass(module, env, drawn, words, more):
+    said = run("go", "test", "-count=1", "-v", *words, "./...", cwd=module, env={**env, **drawn, **more})
+    assert len(re.findall("^--- PASS", said, re.M)) == len(re.findall("^=== RUN", said, re.M)) > 20
+
+
+@pytest.mark.parametrize("build", ["x86-64-v2", "none"])
+def test_the_processor_is_asked_for_a_build(module, env, build):
+    """Without one each call returns an error: the example prints that."""
+    done = start("go", "test", "-count=1", "-run", "^Example$", cwd=module, env={**env, "PROVED_ARGON2_CPU": build})
+    assert (done.returncode == 0) == (build != "none") and ("is too old" in done.stdout) == (build == "none"), done
+
+
+def test_without_cgo_or_a_library_the_build_says_why(module, env):
+    for more, why in (({"CGO_ENABLED": 0}, "argon2 needs cgo: set CGO_ENABLED=1"),
+                      ({"GOARCH": "riscv64"}, "argon2 has no library for this target: only for linux/amd64")):
+        refuses(1 if "go1.2" in run("go", "version") else 2, why, "go", "build", "./...", cwd=module,
+                env={**env, **more})
+
+
+def test_threads_that_are_denied_change_no_hash(module, env, drawn, tmp_path):
+    (tmp_path / "denying.c").write_text(DENYING)
+    run(CC, "-shared", "-fPIC", tmp_path / "denying.c", "-o", tmp_path / "denying.so", "-ldl")
+    run("go", "test", "-c", "-o", tmp_path / "tests", cwd=module, env=env)
+    done = start(tmp_path / "tests", "-test.count=1", cwd=module,
+                 env={**drawn, "LD_PRELOAD": tmp_path / "denying.so"})
+    assert done.returncode == 0 and "denied" in done.stderr, done.stdout
+
+
+# ---- each number of the library, over the stubs of codes.c
+
+# The calls of codes.txt that Go has, and whether a function of the package and a method of a Hasher make them.
+CALLS = {"hash_raw": [False], "hash_encoded": [False, True], "verify_encoded_alone": [False],
+         "verify_encoded_within": [True], "needs_rehash": [False]}
+VALUES = {"tag": "xxxxx", "text": 12 * "x", "true": "true", "false": "false"}
+
+
+@pytest.fixture(scope="session")
+def ask(env, tmp_path_factory):
+    """A function that makes calls, and returns what each returned and what the library saw."""
+    folder = tmp_path_factory.mktemp("codes")
+    run(CC, "-O1", "-I", TOP / "bindings/c/include", "-c", HERE / "codes.c", "-o", folder / "codes.o")
+    run("ar", "rcs", folder / "codes.a", folder / "codes.o")
+    made = program(folder / "program", copy_module(folder, folder / "codes.a"), HERE / "codes.go")
+    run("go", "build", "-o", folder / "answers", cwd=made, env=env)
+
+    def ask(calls):
+        lines = [" ".join(map(str, (name, str(is_hasher).lower(), *numbers))) for name, is_hasher, numbers in calls]
+        return [line.split("|", 9) for line in run(folder / "answers", input="\n".join(lines)).splitlines()]
+
+    return ask
+
+
+def outcome(codes, number):
+    """What codes.go prints of a call for which the library returned this number."""
+    if codes.values.get(number) in VALUES:
+        return VALUES[codes.values[number]]
+    error = HEADER["DECODING_FAIL"] if number == HEADER["NOT_ASCII"] else number
+    return f"{'' if codes.name.startswith('hash') else 'false'}, error {error}"
+
+
+@pytest.mark.parametrize("name, is_hasher", [(name, how) for name, hows in CALLS.items() for how in hows])
+def test_each_call_returns_for_each_number_what_the_table_says(ask, name, is_hasher):
+    """It passes its arguments in order, and computes in a buffer if a Hasher makes it."""
+    codes = CODES[name]
+    cases = [(place, number) for place in codes.places for number in NUMBERS]
+    said = ask((name, is_hasher, (number * (place == "check"), number * (place == "then"), 0, 0, 1024))
+               for place, number in cases)
+    for (place, number), (value, *seen) in zip(cases, said, strict=True):
+        computes = bool(codes.computing) and (place == "then" or number == 0)
+        is_short = computes and is_hasher and number == HEADER["OUT_OF_MEMORY"]
+        threads = 3 if codes.hashes or is_hasher else 16  # a function that verifies has no settings
+        assert value == outcome(codes, number), (place, number)
+        assert seen[:4] == [str(part) for part in (
+            threads * computes, 65536 * is_short if computes and is_hasher else -1, 0 if computes and is_hasher else -1,
+            int(is_short))], (place, number)
+        assert seen[6] == codes.judging
+        if computes:
+            words = codes.computing
+            if name == "verify_encoded_alone":  # the default limits of the stubs
+                words = words.replace("0 0 0 0", "7 8 9 10")
+            before, _, after = words.partition("somesalt" if name == "hash_encoded" else "\n")
+            assert seen[8].startswith(before) and (seen[8] == before or after), seen
+
+
+@pytest.mark.parametrize("is_hasher", [False, True])
+def test_a_login_of_an_unknown_user_computes_one_hash_with_as_many_threads_as_a_verification(ask, is_hasher):
+    numbers = [0, HEADER["OUT_OF_MEMORY"], HEADER["OLD_PROCESSOR"]]
+    said = ask(("verify_unknown", is_hasher, (0, number, 0, 0, 1024)) for number in numbers)
+    assert [(line[0], line[1], line[9]) for line in said] == [
+        (value, "3", "raw word  key data 2 19 64 3 4 5")
+        for value in ("false", *(f"false, error {number}" for number in numbers[1:]))]
+
+
+def test_a_denied_buffer_is_replaced_by_memory_of_the_call(ask):
+    """The call says first that the buffer is too small, then the buffer is denied, and then there is none."""
+    number = HEADER["OUT_OF_MEMORY"]
+    for name in ("hash_encoded", "verify_encoded_within", "verify_unknown"):
+        (line,) = ask([(name, True, (0, number, 0, number, 1024))])
+        assert line[0].endswith(f"error {number}") and line[2:3] + line[4:7] == ["-1", "1", "0", "0"], line
+
+
+# ---- programs
+
+def x_crypto(folder):
+    """Debian's source of x/crypto as modules, and the lines of go.mod that name them."""
+    lines = ""
+    for name in ("crypto", "sys"):
+        shutil.copytree(f"{SOURCES}/{name}", folder / name)
+        (folder / name / "go.mod").write_text(f"module golang.org/x/{name}\n")
+        lines += f"\nrequire golang.org/x/{name} v0.0.0\n\nreplace golang.org/x/{name} => {folder / name}\n"
+    return lines
+
+
+needs_x_crypto = pytest.mark.skipif(not os.path.exists(f"{SOURCES}/crypto"), reason="there is no source of x/crypto")
+
+
+@needs_x_crypto
+def test_the_tests_of_x_crypto_pass(env, tmp_path):
+    """Those of Debian's package, unchanged."""
+    module = copy_module(tmp_path)
+    for file in module.glob("*_test.go"):
+        file.unlink()
+    shutil.copy(f"{SOURCES}/crypto/argon2/argon2_test.go", module)
+    code = (module / "compat.go").read_text()
+    (module / "compat.go").write_text(re.sub(r"\bderiveKey\b", "derive", code))
+    (module / "of_x_crypto.go").write_text(OF_X_CRYPTO)
+    said = run("go", "test", "-count=1", "-v", ".", cwd=module, env=env)
+    assert {*re.findall(r"^--- PASS: (\w+)", said, re.M)} == {"TestArgon2", "TestVectors"}
+
+
+@needs_x_crypto
+def test_random_keys_are_those_of_x_crypto(module, env, tmp_path):
+    folder = program(tmp_path / "fuzz", module, HERE / "fuzz_test.go", more=x_crypto(tmp_path))
+    run("go", "vet", ".", cwd=folder, env=env)
+    assert "PASS" in run("go", "test", "-fuzz", ".", "-fuzztime", "10s", "-parallel", "2", cwd=folder, env=env)
+
+
+@pytest.mark.parametrize("words", [(), ("-race",)])
+def test_a_service_serves_more_logins_than_it_computes(module, env, tmp_path, words):
+    folder = program(tmp_path / "service", module, HERE / "service/service_test.go", TOP / "docs/examples/log_in.go")
+    (folder / "main.go").write_text("package main\n\nfunc main() {}\n")
+    run("go", "vet", ".", cwd=folder, env=env)
+    run("go", "test", "-count=1", *words, ".", cwd=folder, env=env)
+
+
+def test_no_copy_of_a_password_or_a_pepper_is_left(module, env, tmp_path):
+    """(the second half of it is looked for, since the heap of C overwrites the first bytes of what is freed)"""
+    folder = program(tmp_path / "secretive", module)
+    (folder / "main.go").write_text(SECRETIVE)
+    run("go", "build", "-o", tmp_path / "program", cwd=folder, env=env)
+    password = bytes(33 + at * 7 % 90 for at in range(64))
+    with subprocess.Popen([tmp_path / "program"], stdin=-1, stdout=-1, stderr=subprocess.DEVNULL) as process:
+        assert process.stdout.readline().startswith(b"0x")
+        maps, found = pathlib.Path(f"/proc/{process.pid}/maps").read_text(), 0
+        with open(f"/proc/{process.pid}/mem", "rb") as memory:
+            for begin, end in re.findall(r"^(\w+)-(\w+) rw", maps, re.M):
+                memory.seek(int(begin, 16))
+                found += memory.read(int(end, 16) - int(begin, 16)).count(password[32:])
+        process.communicate(b"\n")
+    assert (process.returncode, found) == (0, 1)
+
+
+def test_the_code_of_the_page_runs(module, env, tmp_path):
+    """Its first lines are a program; the other pieces are functions."""
+    first, *others = re.findall(r"^```go\n(.*?)^```", PAGE, re.M | re.S)
+    folder = program(tmp_path / "page", module)
+    (folder / "main.go").write_text(first)
+    (folder / "functions.go").write_text(
+        f'package main\n\nimport (\n    "context"\n\n    "{NAME}"\n)\n\n' + "\n".join(others))
+    run("go", "vet", ".", cwd=folder, env=env)
+    assert run("go", "run", ".", cwd=folder, env=env) == "true <nil>\nfalse <nil>\n"
+
+
+def test_the_page_names_each_exported_name():
+    code = "".join(file.read_text() for file in MODULE.glob("*.go") if "_test" not in file.name)
+    names = {name for name in re.findall(r"^func (?:\(\w+ \*\w+\) )?([A-Z]\w+)\((?!\) Settings)", code, re.M)}
+    assert len(names) > 15 and not [name for name in names if not re.search(rf"\b{name}\b", PAGE)]
+
+
+# ---- other systems
+
+def test_the_tests_pass_with_musl_in_a_static_program(module, env, drawn, tmp_path):
+    if not shutil.which("musl-gcc"):
+        pytest.skip("there is no musl-gcc")
+    run("go", "test", "-c", *LINKED, "-o", tmp_path / "tests", cwd=module, env={**env, "CC": "musl-gcc"})
+    assert "INTERP" not in run("readelf", "-lW", tmp_path / "tests")
+    run(tmp_path / "tests", cwd=module, env=drawn)
+
+
+@needs("aarch64-linux-gnu-gcc", "qemu-aarch64-static")
+def test_the_tests_pass_on_arm64(module, env, drawn, tmp_path):
+    """But those that measure, since qemu takes time and memory of its own."""
+    run("go", "test", "-c", *LINKED, "-o", tmp_path / "tests", cwd=module,
+        env={**env, "CC": "aarch64-linux-gnu-gcc", "GOARCH": "arm64"})
+    run("qemu-aarch64-static", tmp_path / "tests", "-test.run", "Raw|Texts|Example$|IDKey|Peppers|EveryError|Cancelled",
+        cwd=module, env=drawn)
+
+
+@needs("x86_64-w64-mingw32-gcc-posix", "wine")
+def test_the_tests_pass_on_windows(module, env, drawn, tmp_path):
+    run("go", "test", "-c", "-o", tmp_path / "tests.exe", cwd=module,
+        env={**env, "CC": "x86_64-w64-mingw32-gcc-posix", "GOOS": "windows"})
+    run("wine", tmp_path / "tests.exe", cwd=module, env={**drawn, "WINEDEBUG": "-all", "WINEPREFIX": tmp_path / "wine"})
+
+
+MAIN = f"""package main
+
+import (
+    "fmt"
+
+    "{NAME}"
+)
+
+func main() {{
+    fmt.Printf("%x", argon2.IDKey([]byte("password"), []byte("somesalt"), 2, 256, 1, 32))
+}}
+"""
+# (bindings/vectors/texts.txt has this tag in base64)
+TAG = "9dfeb910e80bad0311fee20f9c0e2b12c17987b4cac90c2ef54d5b3021c68bfe"
+IN_SYSTEM = """mount --rbind /dev "$1/dev" && mount -t proc proc "$1/proc"
+exec chroot "$1" env -i HOME=/root PATH=/usr/sbin:/usr/bin:/sbin:/bin bash -ec "$2"
+"""
+
+
+def test_the_tests_pass_on_debian_13(module, drawn, tmp_path):
+    """Its Go has #cgo noescape and nocallback, at which `go mod vendor` of an older Go stops. The cgo check is there an
+    experiment of the compiler."""
+    system = tmp_path / "system"
+    made = start("mmdebstrap", "--quiet", "--variant=minbase", "--include=golang-go,gcc,libc6-dev", "trixie", system,
+                 run("bash", "-c", ". bindings/tests/fetching.bash; mirror_of debian").strip()) if (
+        shutil.which("mmdebstrap") and os.geteuid() == 0) else None
+    if made is None or made.returncode:
+        pytest.skip("no mirror is reached, or there is no right to make a system")
+    shutil.copytree(module.parent, system / "bindings", symlinks=False)
+    shutil.copy(drawn["RANDOM_HASHES"], system / "random.txt")
+    (program(system / "program", "/bindings/go") / "main.go").write_text(MAIN)
+    script = f"""export GOPROXY=off GOTOOLCHAIN=local RANDOM_HASHES=/random.txt; cd /bindings/go
+        [[ ! $(gofmt -l .) ]]; go vet ./...; go test -count=1 -race ./...; GOEXPERIMENT=cgocheck2 go test -count=1 .
+        cd /program; go mod vendor; mv /bindings /other; [[ $(go run -mod=vendor .) == {TAG} ]]"""
+    run("unshare", "--mount", "--pid", "--fork", "bash", "-ec", IN_SYSTEM, "bash", system, script)
+
+
+# ---- the package
+
+@pytest.fixture(scope="session")
+def package(tmp_path_factory):
+    folder = tmp_path_factory.mktemp("package")
+    run("./package", "go", "--to", folder)
+    return folder / f"proved-argon2-go-{VERSION}.zip"
+
+
+@pytest.mark.parametrize("way", ["replace", "proxy"])
+def test_a_program_is_built_with_the_package(package, env, tmp_path, way):
+    """It is unpacked in place of the module, or it is in a folder that serves modules."""
+    run("unzip", "-q", package, "-d", tmp_path)
+    folder = program(tmp_path / "program", tmp_path / f"{NAME}@v{VERSION}")
+    (folder / "main.go").write_text(MAIN)
+    if way == "proxy":
+        served = tmp_path / "served" / NAME / "@v"
+        served.mkdir(parents=True)
+        shutil.copy(package, served / f"v{VERSION}.zip")
+        shutil.copy(tmp_path / f"{NAME}@v{VERSION}/go.mod", served / f"v{VERSION}.mod")
+        (served / f"v{VERSION}.info").write_text(f'{{"Version": "v{VERSION}"}}')
+        text = (folder / "go.mod").read_text()
+        (folder / "go.mod").write_text(text.partition("\nreplace")[0])
+        env = {**env, "GOPROXY": f"file://{tmp_path}/served", "GOPATH": tmp_path / "path",
+               "GOFLAGS": "-modcacherw -mod=mod"}
+    assert run("go", "run", ".", cwd=folder, env=env) == TAG
