@@ -1,75 +1,86 @@
-"""Logins at once through docs/examples/log_in.py: more of them than places."""
+"""Logins through docs/examples/log_in.py: more at the same time than it computes and lets wait."""
+import asyncio
 import logging
 import os
 import random
-import threading
 import time
 
 from log_in import hasher, log_in
 from proved_argon2 import PasswordHasher
 from proved_argon2.exceptions import HashingError
 
-SECONDS, THREADS, KIB = 3, 8, 65536
+SECONDS, CLIENTS, KIB, SLACK_KIB = 3, 100, 65536, 32768
+OLDER = PasswordHasher(time_cost=1, memory_cost=4096, parallelism=1, secret=os.environb[b"PEPPER"]).hash("password")
+UNREADABLE = OLDER.replace("argon2id", "argon3")
+seen = {True: 0, False: 0, None: 0}
 
 
 def most_memory():
-    """The most KiB that this process has had. (getrusage counts those of the process that began it.)"""
+    """Return the most KiB that this process has had. (getrusage would count those of its parent.)"""
     with open("/proc/self/status", encoding="ascii") as status:
         return int(next(line for line in status if line.startswith("VmHWM:")).split()[1])
 
 
-before = most_memory()
-older = PasswordHasher(time_cost=1, memory_cost=4096, parallelism=1, secret=os.environb[b"PEPPER"]).hash("password")
-seen, wrong = {True: 0, False: 0, None: 0}, []
-
-
-def stays():
-    return False
-
-
-def leaves():
-    return True
-
-
-def logs_in(seed, end):
+async def log_in_often(seed, end):
+    """Log in again and again, and check each verdict and what to store."""
     draw = random.Random(seed)
     while time.monotonic() < end:
-        password = draw.choice(("password", "Password"))
-        stored = draw.choice((older, older.replace("argon2id", "argon3")))
-        verdict, renewed = log_in("somebody", password, stored, stays)
+        password, stored = draw.choice(("password", "Password")), draw.choice((OLDER, UNREADABLE, None))
+        verdict, renewed = await log_in("somebody", password, stored)
         seen[verdict] += 1
-        allowed = (None,) if stored != older else (password == "password", None)
-        if verdict not in allowed or (renewed != stored) != bool(verdict) or (verdict and "t=3" not in renewed):
-            wrong.append((password, stored, verdict, renewed))
+        right = {OLDER: password == "password", UNREADABLE: None, None: False}[stored]
+        assert verdict in (right, None), (password, stored, verdict)
+        assert (renewed != stored) == bool(verdict) and (not verdict or "m=65536,t=3,p=4" in renewed), renewed
+        if verdict is None:
+            await asyncio.sleep(0.01)
 
 
-def refuse(hasher, password, progress):
-    raise HashingError("refused")
+async def serve_a_flood():
+    """The service computes two hashes at a time, and tells some clients to try again later."""
+    before, end = most_memory(), time.monotonic() + SECONDS
+    await asyncio.gather(*[log_in_often(seed, end) for seed in range(CLIENTS)])
+    assert all(seen.values()), seen
+    assert 0 < most_memory() - before < 2 * KIB + SLACK_KIB
 
 
-def deny(hasher, text):
-    raise MemoryError
+async def serve_a_burst():
+    """All clients of a burst are answered: those that are not computed at once wait."""
+    verdicts = await asyncio.gather(*[log_in("somebody", "password", OLDER) for _ in range(66)], log_in("x", "y", None))
+    assert [verdict for verdict, _ in verdicts] == [True] * 66 + [None], verdicts
+
+
+async def reject_other_inputs():
+    """A password is a string and not too long, and a user's name begins no line of the log."""
+    for password in ("\ud800", None, 5, ["password"], b"password", "a" * 1025):
+        assert await log_in("somebody", password, OLDER) == (False, OLDER), password
+    stored = hasher.hasher.hash("a" * 1024)
+    assert await log_in("x\nINFO:root:logged in: root", "a" * 1024, stored) == (True, stored)
+    assert await log_in("nobody", "password", None) == (False, None)
+
+
+async def lose_clients():
+    """Clients that leave free their places."""
+    for _ in range(3):
+        logins = [asyncio.ensure_future(log_in("somebody", "password", OLDER)) for _ in range(66)]
+        await asyncio.sleep(0.01)
+        for login in logins:
+            login.cancel()
+        assert not any(login.exception() for login in (await asyncio.wait(logins))[0] if not login.cancelled())
+    while hasher._pool._jobs:  # Those that were computed end after their slice.
+        await asyncio.sleep(0.01)
+    assert (await log_in("somebody", "password", OLDER))[0] is True
+
+
+async def fail_to_renew():
+    """The user is let in with the old hash if no new one can be computed."""
+    def deny(*_, **__):
+        raise HashingError("denied")
+
+    PasswordHasher.hash = deny
+    assert await log_in("somebody", "password", OLDER) == (True, OLDER)
+    assert await log_in("somebody", "Password", OLDER) == (False, OLDER)
 
 
 logging.basicConfig(level=logging.INFO)
-threads = [threading.Thread(target=logs_in, args=(seed, time.monotonic() + SECONDS)) for seed in range(THREADS)]
-for thread in threads:
-    thread.start()
-for thread in threads:
-    thread.join()
-grown = most_memory() - before
-assert not wrong, wrong[0]
-assert all(seen.values()), seen
-assert 0 < grown < 2 * KIB + 32768, grown
-# No password is too long or no string, no name begins a line of the log, no client that has left keeps a place.
-for password in ("\ud800", None, 5, ["password"], b"password", "a" * 1025):
-    assert log_in("somebody", password, hasher.hash("a" * 1025), stays)[0] is False, password
-assert log_in("x\nINFO:root:logged in: root", "a" * 1024, hasher.hash("a" * 1024), stays)[0]
-for _ in range(3):
-    assert log_in("somebody", "password", None, stays) == (None, None)
-    assert log_in("somebody", "password", older, leaves) == (None, older)
-PasswordHasher.hash = refuse
-assert log_in("somebody", "password", older, stays) == (True, older)
-assert log_in("somebody", "Password", older, stays) == (False, older)
-PasswordHasher.check_needs_rehash = deny
-assert log_in("somebody", "password", older, stays) == (True, older)
+for serve in (serve_a_flood, serve_a_burst, reject_other_inputs, lose_clients, fail_to_renew):
+    asyncio.run(serve())

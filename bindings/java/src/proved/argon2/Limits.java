@@ -1,0 +1,36 @@
+package proved.argon2;
+
+/**
+ * The most that a stored hash may cost that is verified.
+ *
+ * @param memory the memory in KiB
+ * @param passes the passes over the memory
+ * @param lanes the lanes
+ * @param work the memory in KiB times the passes, which the time is proportional to
+ */
+public record Limits(int memory, int passes, int lanes, long work) {
+    /** The default limits: 2 GiB, 10 passes, 16 lanes, and the work of 4 GiB in one pass. */
+    public static final Limits DEFAULT = new Limits(2097152, 10, 16, 4194304L);
+
+    /** No limits, for hashes that nobody else can write. */
+    public static final Limits NONE =
+        new Limits(Integer.MAX_VALUE, Integer.MAX_VALUE, Integer.MAX_VALUE, Long.MAX_VALUE);
+
+    /** {@return the default limits, each raised to that of these settings if that is more} */
+    public static Limits atLeast(Settings settings) {
+        return new Limits(
+            Math.max(DEFAULT.memory, settings.memory()), Math.max(DEFAULT.passes, settings.passes()),
+            Math.max(DEFAULT.lanes, settings.lanes()),
+            Math.max(DEFAULT.work, (long) settings.memory() * settings.passes()));
+    }
+
+    long[] numbers() {
+        long most = work == Long.MAX_VALUE ? -1 : Math.max(0, work);
+        return new long[] {number(memory), number(passes), number(lanes), most};
+    }
+
+    /** A limit of the library, whose numbers have no sign: the highest {@code int} is no limit. */
+    private static long number(int limit) {
+        return limit == Integer.MAX_VALUE ? 0xFFFFFFFFL : Math.max(0, limit);
+    }
+}

@@ -1,0 +1,99 @@
+package proved.argon2;
+
+import java.nio.CharBuffer;
+import java.util.HashMap;
+import java.util.Map;
+
+/**
+ * Hashes with the newest of several peppers, and verifies with the one whose ID is stored beside the hash.
+ *
+ * <p>Store the ID beside the encoded hash, which does not contain the key. To replace a key, put a new one first.
+ * Remove the old one once {@code verifyAndUpdate} has replaced all of its hashes.
+ *
+ * <p>A hash whose ID is null, so without a pepper, is rejected: otherwise whoever can write to the store could add a
+ * hash that needs no key. Use {@link #acceptUnpeppered} while a store still has such hashes.
+ */
+public final class Peppers {
+    private final String newest;
+    private final PasswordHasher unpeppered;
+    /** A hasher for each ID, and for null if hashes without a pepper are accepted. */
+    private final Map<String, PasswordHasher> hashers;
+
+    /**
+     * A secret key and its ID.
+     *
+     * @param id the ID, not null
+     * @param key the key, not empty
+     */
+    public record Pepper(String id, byte[] key) {}
+
+    /**
+     * What to store for a user.
+     *
+     * @param id the ID of the pepper
+     * @param hash the encoded hash
+     */
+    public record Stored(String id, String hash) {}
+
+    /** Peppers for a hasher, the newest first. Wrong ones throw {@link Argon2Exception#INVALID_PEPPERS}. */
+    public Peppers(PasswordHasher hasher, Pepper... peppers) {
+        this(peppers.length == 0 ? null : peppers[0].id, hasher.withoutPepper(), new HashMap<>());
+        for (Pepper pepper : peppers) {
+            PasswordHasher known = hashers.put(pepper.id, hasher.withPepper(pepper.key));
+            require(pepper.id != null && known == null, Argon2Exception.INVALID_PEPPERS);
+        }
+        require(newest != null, Argon2Exception.INVALID_PEPPERS);
+    }
+
+    private Peppers(String newest, PasswordHasher unpeppered, Map<String, PasswordHasher> hashers) {
+        this.newest = newest;
+        this.unpeppered = unpeppered;
+        this.hashers = hashers;
+    }
+
+    /** {@return the same peppers, which also verify and renew hashes whose ID is null} */
+    public Peppers acceptUnpeppered() {
+        Map<String, PasswordHasher> all = new HashMap<>(hashers);
+        all.put(null, unpeppered);
+        return new Peppers(newest, unpeppered, all);
+    }
+
+    /** {@return the hash of a password with the newest pepper} */
+    public Stored hash(char[] password) {
+        return PasswordHasher.encoded(CharBuffer.wrap(password), this::hash);
+    }
+
+    /** {@return the hash of a password with the newest pepper} */
+    public Stored hash(byte[] password) {
+        return new Stored(newest, hashers.get(newest).hash(password));
+    }
+
+    /** {@return whether the password is right, and what to store if the hash has an older pepper or other settings} */
+    public Verdict<Stored> verifyAndUpdate(String id, String stored, char[] password) {
+        return PasswordHasher.encoded(CharBuffer.wrap(password), bytes -> verifyAndUpdate(id, stored, bytes));
+    }
+
+    /** {@return whether the password is right, and what to store if the hash has an older pepper or other settings} */
+    public Verdict<Stored> verifyAndUpdate(String id, String stored, byte[] password) {
+        PasswordHasher hasher = hashers.get(id);
+        require(hasher != null, Argon2Exception.UNKNOWN_PEPPER);
+        Verdict<String> verdict = hasher.verifyAndUpdate(stored, password, hashers.get(newest));
+        return new Verdict<>(verdict.matches(), verdict.update().map(hash -> new Stored(newest, hash)));
+    }
+
+    /** {@return false, after the time of verifying a hash with the newest pepper} For a user who does not exist. */
+    public boolean verifyUnknown(char[] password) {
+        return hashers.get(newest).verifyUnknown(password);
+    }
+
+    /** {@return false, after the time of verifying a hash with the newest pepper} For a user who does not exist. */
+    public boolean verifyUnknown(byte[] password) {
+        return hashers.get(newest).verifyUnknown(password);
+    }
+
+    private static void require(boolean holds, int number) {
+        if (!holds) {
+            throw new Argon2Exception(number);
+        }
+    }
+}

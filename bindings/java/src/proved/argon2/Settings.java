@@ -1,0 +1,62 @@
+package proved.argon2;
+
+/**
+ * The settings of a hash. Settings that no hash can have are rejected with an {@link Argon2Exception}.
+ *
+ * @param variant the variant
+ * @param version the version
+ * @param memory the memory in KiB, at least 8 for each lane
+ * @param passes the passes over the memory
+ * @param lanes the lanes, which the hash depends on. A hash uses a thread for each lane if that is faster
+ * @param hashLength the length of the hash in bytes, at least 4
+ * @param saltLength the length of the salt in bytes, at least 8
+ */
+public record Settings(
+        Variant variant, Version version, int memory, int passes, int lanes, int hashLength, int saltLength) {
+    /** Checks the settings. */
+    public Settings {
+        int[] numbers = {variant.ordinal(), version.number, Math.max(0, memory), Math.max(0, passes),
+            Math.max(0, lanes), Math.max(0, hashLength), Math.max(0, saltLength)};
+        Native.require(Native.check(numbers));
+    }
+
+    // presets, by .ci/pages/presets
+    /** {@return OWASP's first recommendation: 46 MiB, 1 pass} */
+    public static Settings owasp1() { return preset(47104, 1); }
+    /** {@return OWASP's second recommendation: 19 MiB, 2 passes} */
+    public static Settings owasp2() { return preset(19456, 2); }
+    /** {@return OWASP's third recommendation: 12 MiB, 3 passes} */
+    public static Settings owasp3() { return preset(12288, 3); }
+    /** {@return OWASP's fourth recommendation: 9 MiB, 4 passes} */
+    public static Settings owasp4() { return preset(9216, 4); }
+    /** {@return OWASP's fifth recommendation: 7 MiB, 5 passes} */
+    public static Settings owasp5() { return preset(7168, 5); }
+    /** {@return RFC 9106's first recommendation (section 4): 2 GiB, 1 pass} */
+    public static Settings rfc9106() { return preset(2097152, 1); }
+    /** {@return RFC 9106's recommendation for little memory (section 4): 64 MiB, 3 passes} */
+    public static Settings rfc9106LowMem() { return preset(65536, 3); }
+    // end
+
+    /** {@return the same settings with other memory, in KiB} */
+    public Settings withMemory(int kib) {
+        return new Settings(variant, version, kib, passes, lanes, hashLength, saltLength);
+    }
+
+    /** {@return the same settings with other passes} */
+    public Settings withPasses(int count) {
+        return new Settings(variant, version, memory, count, lanes, hashLength, saltLength);
+    }
+
+    /** {@return the same settings with other lanes} */
+    public Settings withLanes(int count) {
+        return new Settings(variant, version, memory, passes, count, hashLength, saltLength);
+    }
+
+    int[] numbers() {
+        return new int[] {variant.ordinal(), version.number, memory, passes, lanes, hashLength, saltLength};
+    }
+
+    private static Settings preset(int memory, int passes) {
+        return new Settings(Variant.ARGON2ID, Version.VERSION_13, memory, passes, 1, 32, 16);
+    }
+}

@@ -1,0 +1,76 @@
+package proved.argon2;
+
+import static org.junit.jupiter.api.Assertions.assertEquals;
+import static org.junit.jupiter.api.Assertions.assertFalse;
+import static org.junit.jupiter.api.Assertions.assertTrue;
+
+import java.io.IOException;
+import java.nio.file.Files;
+import java.nio.file.Path;
+import java.util.concurrent.CompletableFuture;
+import org.junit.jupiter.api.AfterEach;
+import org.junit.jupiter.api.Tag;
+import org.junit.jupiter.api.Test;
+
+/** Where memory and threads are denied: while the file of that name is there, or {@code once}. */
+@Tag("denied")
+class DeniedTest {
+    private static final Path FOLDER = Path.of(System.getenv().getOrDefault("DENIED", "."));
+    private final PasswordHasher hasher =
+        new PasswordHasher(PasswordHasherTest.SMALL.withMemory(32 * 1024).withLanes(4));
+    private final HashQueue queue = new HashQueue(2, 4);
+
+    private static Path deny(String name) throws IOException {
+        return Files.createFile(FOLDER.resolve(name));
+    }
+
+    @AfterEach
+    void close() {
+        queue.close();
+    }
+
+    private long kept() {
+        return queue.run(() -> {
+            assertFalse(hasher.verifyUnknown(new byte[0]));
+            return ((HashQueue.Worker) Thread.currentThread()).kept[1];
+        });
+    }
+
+    @Test
+    void withoutABufferACallAllocatesItsOwnMemory() throws IOException {
+        Path denied = deny("once");
+        assertEquals(0, kept());
+        assertFalse(Files.exists(denied));
+        assertEquals(32 << 20, kept());
+    }
+
+    @Test
+    void withoutMemoryACallFailsAndItsPlaceIsFree() throws IOException {
+        String stored = hasher.hash(new byte[0]);
+        Path denied = deny("memory");
+        for (int call = 0; call < 7; call++) {
+            PasswordHasherTest.assertFails(
+                Argon2Exception.OUT_OF_MEMORY, () -> queue.run(() -> hasher.hash(new byte[0])));
+        }
+        PasswordHasherTest.assertFails(Argon2Exception.OUT_OF_MEMORY, () -> hasher.verify(stored, new byte[0]));
+        Files.delete(denied);
+        assertTrue(queue.run(() -> hasher.verify(stored, new byte[0])));
+    }
+
+    @Test
+    void withoutThreadsCallsWaitForThoseThatThereAre() throws IOException {
+        String stored = hasher.hash(new byte[0]);
+        Path denied = deny("threads");
+        PasswordHasherTest.assertFails(Argon2Exception.BUSY, () -> queue.submit(() -> ""));
+        assertTrue(hasher.verify(stored, new byte[0])); // one thread fills all lanes
+        Files.delete(denied);
+        assertTrue(queue.run(() -> hasher.verify(stored, new byte[0])));
+        deny("threads");
+        CompletableFuture<String> first = queue.submit(() -> PasswordHasherTest.ENDLESS.hash(new byte[0]));
+        CompletableFuture<Boolean> second = queue.submit(() -> hasher.verify(stored, new byte[0]));
+        assertFalse(second.isDone());
+        first.cancel(true);
+        assertTrue(second.join());
+        Files.delete(denied);
+    }
+}

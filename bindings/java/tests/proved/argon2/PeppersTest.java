@@ -1,0 +1,65 @@
+package proved.argon2;
+
+import static org.junit.jupiter.api.Assertions.assertEquals;
+import static org.junit.jupiter.api.Assertions.assertFalse;
+import static org.junit.jupiter.api.Assertions.assertTrue;
+
+import java.util.Optional;
+import org.junit.jupiter.api.Test;
+import proved.argon2.Peppers.Pepper;
+import proved.argon2.Peppers.Stored;
+
+class PeppersTest {
+    private static final char[] PASSWORD = "password".toCharArray();
+    private static final char[] WRONG = "Password".toCharArray();
+    private final PasswordHasher hasher = new PasswordHasher(PasswordHasherTest.SMALL);
+    private final Pepper older = new Pepper("2025", HashesTest.bytes("old key"));
+    private final Pepper newer = new Pepper("2026", HashesTest.bytes("new key"));
+    private final Peppers peppers = new Peppers(hasher, newer, older);
+
+    @Test
+    void aHashHasTheNewestPepper() {
+        Stored stored = peppers.hash(PASSWORD);
+        assertEquals("2026", stored.id());
+        assertTrue(hasher.withPepper(newer.key()).verify(stored.hash(), PASSWORD));
+        assertFalse(hasher.verify(stored.hash(), PASSWORD));
+        assertEquals(new Verdict<>(true, Optional.empty()),
+            peppers.verifyAndUpdate("2026", stored.hash(), PASSWORD));
+        assertFalse(peppers.verifyUnknown(PASSWORD));
+    }
+
+    @Test
+    void anOlderPepperIsReplaced() {
+        Stored stored = new Peppers(hasher, older).hash(PASSWORD);
+        Verdict<Stored> verdict = peppers.verifyAndUpdate(stored.id(), stored.hash(), PASSWORD);
+        assertTrue(verdict.matches() && verdict.update().orElseThrow().id().equals("2026"));
+        assertTrue(peppers.verifyAndUpdate("2026", verdict.update().get().hash(), PASSWORD).matches());
+        assertEquals(new Verdict<>(false, Optional.empty()),
+            peppers.verifyAndUpdate(stored.id(), stored.hash(), WRONG));
+        assertFalse(peppers.verifyAndUpdate("2026", stored.hash(), PASSWORD).matches());
+    }
+
+    @Test
+    void anIdWithoutAKeyIsAnError() {
+        String bare = hasher.hash(PASSWORD);
+        for (String id : new String[] {"2024", "", null}) {
+            PasswordHasherTest.assertFails(Argon2Exception.UNKNOWN_PEPPER,
+                () -> peppers.verifyAndUpdate(id, bare, PASSWORD));
+        }
+        Verdict<Stored> verdict = peppers.acceptUnpeppered().verifyAndUpdate(null, bare, PASSWORD);
+        assertTrue(verdict.matches() && verdict.update().orElseThrow().id().equals("2026"));
+        assertFalse(peppers.acceptUnpeppered().verifyAndUpdate(null, bare, WRONG).matches());
+        PasswordHasherTest.assertFails(Argon2Exception.UNKNOWN_PEPPER,
+            () -> peppers.acceptUnpeppered().verifyAndUpdate("2024", bare, PASSWORD));
+    }
+
+    @Test
+    void wrongPeppersAreRejected() {
+        for (Pepper[] wrong : new Pepper[][] {{}, {newer, newer}, {newer, new Pepper("a", new byte[0])},
+            {new Pepper(null, newer.key())}}) {
+            PasswordHasherTest.assertFails(Argon2Exception.INVALID_PEPPERS, () -> new Peppers(hasher, wrong));
+        }
+        PasswordHasherTest.assertFails(Argon2Exception.INVALID_PEPPERS, () -> hasher.withPepper(new byte[0]));
+        assertFalse(newer.toString().contains("key]"));
+    }
+}

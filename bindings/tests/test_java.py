@@ -1,0 +1,246 @@
+"""The jar for Java: its own tests in Java 17, 21 and 25, its pages for programmers, and what it needs to load."""
+import re
+import shutil
+import zipfile
+from pathlib import Path
+
+import pytest
+from running import CC, CODES, MACHINE, NUMBERS, TOP, built, first_lines, needs, run, start
+
+JAVA, TESTS = TOP / "bindings/java", TOP / "bindings/tests"
+LIBRARIES = [f"/usr/share/java/{name}.jar" for name in ("junit-platform-console-standalone", "bcprov")]
+LINT = "-Xlint:all,-path", "-Werror"
+NEWER = "trixie"  # Debian's release with Java 21 and 25
+pytestmark = [needs("javac"), pytest.mark.timeout(2400)]
+# Native calls of CodesTest, beside codes.c.
+CODES_OF_JAVA = """#include <jni.h>
+#include "proved_argon2.h"
+void set_answers(uint32_t check, uint32_t then, uint32_t read, uint32_t memory, uint32_t kib);
+const char *seen(void);
+static uint32_t answer;
+JNIEXPORT void JNICALL Java_proved_argon2_CodesTest_set(JNIEnv *env, jclass class, jint check, jint then, jint read);
+JNIEXPORT void JNICALL Java_proved_argon2_CodesTest_set(JNIEnv *env, jclass class, jint check, jint then, jint read)
+{
+    if (env != NULL && class != NULL) set_answers((uint32_t)check, (uint32_t)then, (uint32_t)read, 0, 1024);
+    answer = (uint32_t)then;
+}
+JNIEXPORT jstring JNICALL Java_proved_argon2_CodesTest_seen(JNIEnv *env, jclass class);
+JNIEXPORT jstring JNICALL Java_proved_argon2_CodesTest_seen(JNIEnv *env, jclass class)
+{
+    return class == NULL ? NULL : (*env)->NewStringUTF(env, seen());
+}
+uint32_t proved_argon2_password_verify_unknown(const proved_argon2_options *options,
+    const proved_argon2_settings *settings, const void *password, size_t length, const uint8_t *pepper, size_t len)
+{
+    return options != NULL && settings != NULL && password != NULL && pepper != NULL && length + len == 7 ? answer : 0;
+}
+"""
+# Denies what the files in a folder say: `threads`, `memory` (of 16 MiB or more), or that memory `once`.
+DENYING = """#define _GNU_SOURCE
+#include <dlfcn.h>
+#include <errno.h>
+#include <pthread.h>
+#include <stdio.h>
+#include <stdlib.h>
+#include <sys/mman.h>
+#include <unistd.h>
+static int has(const char *name, int (*is_there)(const char *))
+{
+    char path[4096];
+    snprintf(path, sizeof path, "%s/%s", getenv("DENIED"), name);
+    return is_there(path) == 0;
+}
+static int look(const char *path)
+{
+    return access(path, F_OK);
+}
+void *mmap(void *at, size_t length, int rights, int flags, int file, off_t offset)
+{
+    __typeof__(mmap) *const own = (__typeof__(mmap) *)dlsym(RTLD_NEXT, "mmap");
+    if (length < 16 << 20 || rights == PROT_NONE || !(has("memory", look) || has("once", unlink)))
+        return own(at, length, rights, flags, file, offset);
+    errno = ENOMEM;
+    return MAP_FAILED;
+}
+int pthread_create(pthread_t *thread, const pthread_attr_t *with, void *(*call)(void *), void *arg)
+{
+    __typeof__(pthread_create) *const own = (__typeof__(pthread_create) *)dlsym(RTLD_NEXT, "pthread_create");
+    return has("threads", look) ? EAGAIN : own(thread, with, call, arg);
+}
+"""
+# A copy of Spring's interface, and the adapter of the page.
+SPRING = """interface PasswordEncoder {
+    String encode(CharSequence rawPassword);
+    boolean matches(CharSequence rawPassword, String encodedPassword);
+    default boolean upgradeEncoding(String encodedPassword) { return false; }
+}
+%s
+class Program {
+    public static void main(String[] arguments) {
+        PasswordEncoder encoder = new Argon2Encoder();
+        String stored = encoder.encode("password");
+        boolean isOld = encoder.upgradeEncoding(stored.replace("t=2", "t=1"));
+        boolean isRight = encoder.matches("password", stored), isWrong = encoder.matches("Password", stored);
+        System.out.println(isRight + " " + isWrong + " " + isOld);
+    }
+}
+"""
+# Runs Java in another system, which sees some folders: SYSTEM FOLDERS.. -- WORD..
+ELSEWHERE = """system=$1 && shift
+while [[ $1 != -- ]]; do mkdir -p "$system$1" && mount --bind "$1" "$system$1" && shift; done
+mount --rbind /dev "$system/dev" && mount -t proc proc "$system/proc"
+exec chroot "$system" env -C "$PWD" "${@:2}"
+"""
+
+
+@pytest.fixture(scope="module")
+def jar(tmp_path_factory):
+    """With the library for this machine alone. (The compiler has no warning about the package.)"""
+    file = tmp_path_factory.mktemp("jar") / "proved-argon2.jar"
+    run(JAVA / "pack", file, built() / MACHINE, env={"SOURCE_DATE_EPOCH": 1700000000})
+    return file
+
+
+@pytest.fixture(scope="module")
+def classes(jar):
+    """The classes of the tests, which each Java runs."""
+    folder = jar.parent / "classes"
+    run("javac", "--release", "17", *LINT, "-cp", path_of(jar), "-d", folder, *JAVA.rglob("tests/**/*.java"))
+    return folder
+
+
+def path_of(*files):
+    return ":".join(map(str, [*files, *LIBRARIES]))
+
+
+def words_of(jar, classes, drawn, *words):
+    """The words of JUnit. (The collector does not run, and so copies no password, while it is tested who clears it.)"""
+    temporary = jar.parent / "temporary"
+    temporary.mkdir(exist_ok=True)
+    values = {"vectors": TOP / "bindings/vectors", "tables": TESTS, "random": drawn["RANDOM_HASHES"],
+              "java.io.tmpdir": temporary}
+    return ["-Xcheck:jni", "-XX:+UseSerialGC", "-Xmx128m", "-Xmn64m",
+            *(f"-D{name}={value}" for name, value in values.items()), "-cp", path_of(jar, classes),
+            "org.junit.platform.console.ConsoleLauncher", "--disable-banner", "--scan-classpath", classes, *words]
+
+
+def passes(count, *words, **named):
+    """A run of JUnit, in which so many tests pass. -Xcheck:jni finds nothing."""
+    said = run(*words, **named)
+    assert f"{count} tests successful" in said and not re.search("WARNING in native|FATAL ERROR", said), said
+
+
+USUAL = "--exclude-tag", "codes", "--exclude-tag", "denied"
+
+
+def test_its_own_tests_pass_in_java_17(jar, classes, drawn):
+    passes(67, "java", *words_of(jar, classes, drawn, *USUAL))
+
+
+@pytest.fixture(scope="module")
+def system(tmp_path_factory):
+    """Another system, with Java 21 and 25."""
+    folder, packages = tmp_path_factory.mktemp(NEWER), "openjdk-21-jre-headless,openjdk-25-jre-headless"
+    script = 'source "$0" && mmdebstrap --quiet --variant=apt "$@" "$(mirror_of debian)"'
+    if start("bash", "-c", script, TESTS / "fetching.bash", f"--include={packages}", NEWER, folder / "root").returncode:
+        pytest.skip("no mirror is reached, or there is no right to make a system")
+    return folder / "root"
+
+
+@needs("mmdebstrap")
+@pytest.mark.parametrize("version", [21, 25])
+def test_its_own_tests_pass_in_newer_java(jar, classes, drawn, system, version):
+    folders = TOP, jar.parent, drawn["RANDOM_HASHES"].parent, "/usr/share/java", "/usr/share/maven-repo"
+    java = f"/usr/lib/jvm/java-{version}-openjdk-amd64/bin/java"
+    passes(67, "unshare", "--mount", "--propagation", "private", "bash", "-euc", ELSEWHERE, "bash", system, *folders,
+           "--", java, *words_of(jar, classes, drawn, *USUAL))
+
+
+def test_each_public_member_is_documented(tmp_path):
+    """(one of a few words needs no tag for each argument)"""
+    done = start("javadoc", "-quiet", "-Xdoclint:all", "-d", tmp_path, *JAVA.rglob("src/**/*.java"))
+    found = [line for line in done.stderr.splitlines() if re.search("(warning|error): ", line)]
+    assert done.returncode == 0 and not [line for line in found if not re.search("warning: no @(param|return)", line)]
+
+
+def test_each_number_is_a_value_or_its_error(jar, classes, drawn, tmp_path):
+    (tmp_path / "own.c").write_text(CODES_OF_JAVA)
+    include = [f"-I{folder}" for folder in headers()]
+    run(CC, "-shared", "-fPIC", "-Wall", "-Wextra", "-Werror", *include, "-I", TOP / "bindings/c/include",
+        TESTS / "codes.c", tmp_path / "own.c", JAVA / "native/proved_argon2_java.c", "-o", tmp_path / "codes.so")
+    named = {"proved.argon2.library": tmp_path / "codes.so", "numbers": " ".join(map(str, NUMBERS))}
+    for name in ("hash_encoded", "verify_encoded_within", "needs_rehash"):
+        named[f"codes.{name}"] = " ".join(f"{number}={value}" for number, value in CODES[name].values.items())
+        named[f"passed.{name}"] = CODES[name].computing
+    passes(6, "java", *(f"-D{name}={value}" for name, value in named.items()),
+           *words_of(jar, classes, drawn, "--include-tag", "codes"))
+
+
+def headers():
+    """The folders of JNI's headers."""
+    include = Path(shutil.which("javac")).resolve().parents[1] / "include"
+    return include, include / "linux"
+
+
+def test_denied_memory_and_threads(jar, classes, drawn, tmp_path):
+    (tmp_path / "denying.c").write_text(DENYING)
+    run(CC, "-shared", "-fPIC", "-Wall", "-Wextra", "-Werror", tmp_path / "denying.c", "-o", tmp_path / "denying.so")
+    passes(3, "java", *words_of(jar, classes, drawn, "--include-tag", "denied"),
+           env={"LD_PRELOAD": tmp_path / "denying.so", "DENIED": tmp_path})
+
+
+def code_of(page, at):
+    """A piece of Java on the page."""
+    return re.findall(r"^```java\n(.*?)^```", (TOP / "docs" / page).read_text(), re.M | re.S)[at]
+
+
+def test_the_code_of_the_page_runs_as_a_module(jar, tmp_path):
+    (tmp_path / "module-info.java").write_text("module login { requires proved.argon2; }")
+    (tmp_path / "first").mkdir()
+    (tmp_path / "first/First.java").write_text(
+        "package first;\nimport java.util.Optional;\nimport proved.argon2.*;\nclass First {\n"
+        f"static {code_of('JAVA.md', 1)}public static void main(String[] none) {{\n{first_lines('JAVA.md', 4)}"
+        "HashQueue queue = new HashQueue(1, 0);\n"
+        "matches &= logIn(queue, hasher, stored, password).matches();\n"
+        "System.out.println(matches && !logIn(queue, hasher, null, password).matches()); }}")
+    run("javac", *LINT, "-p", jar, "-d", tmp_path / "made", *tmp_path.rglob("*.java"))
+    assert run("java", "-p", f"{jar}:{tmp_path}/made", "-m", "login/first.First") == "true\n"
+
+
+def test_an_encoder_for_spring_is_one_line(jar, tmp_path):
+    (tmp_path / "Program.java").write_text("import proved.argon2.PasswordHasher;\n" + SPRING % code_of("JAVA.md", -1))
+    run("javac", *LINT, "-cp", jar, "-d", tmp_path, tmp_path / "Program.java")
+    assert run("java", "-cp", f"{jar}:{tmp_path}", "Program") == "true false true\n"
+
+
+def test_the_service(jar, tmp_path):
+    """Under more logins at once than it has places for, by clients of whom some leave."""
+    run("javac", *LINT, "-cp", jar, "-d", tmp_path, TOP / "docs/examples/LogIn.java", TESTS / "service/Service.java")
+    done = start("java", "-Xmx64m", "-cp", f"{jar}:{tmp_path}", "Service", env={"PEPPER": "pepper"}, timeout=300)
+    assert done.returncode == 0, done.stderr[-9000:]
+    assert "logged in: root" in done.stderr and not re.search("^logged in: root", done.stderr, re.M)
+
+
+@needs("musl-gcc")
+def test_musl_loads_the_library_of_the_jar(jar, tmp_path):
+    """With nothing else of Java."""
+    with zipfile.ZipFile(jar) as packed:
+        packed.extract(f"proved/argon2/native/linux-{MACHINE}.so", tmp_path)
+    (tmp_path / "loads.c").write_text(
+        '#include <dlfcn.h>\nint main(int argc, char **argv)\n{\n    void *own = dlopen(argv[argc - 1], RTLD_NOW);'
+        '\n    return own == 0 || dlsym(own, "Java_proved_argon2_Native_hash") == 0;\n}\n')
+    run("musl-gcc", tmp_path / "loads.c", "-o", tmp_path / "loads")
+    run(tmp_path / "loads", *tmp_path.rglob("*.so"))
+
+
+def test_the_library_can_be_named_and_another_is_an_error(jar, tmp_path):
+    program = tmp_path / "Program.java"
+    program.write_text("class Program { public static void main(String[] none) {\n"
+                       "System.out.println(new proved.argon2.PasswordHasher().verifyUnknown(new byte[0])); } }")
+    with zipfile.ZipFile(jar) as packed:
+        packed.extract(f"proved/argon2/native/linux-{MACHINE}.so", tmp_path)
+    named, = tmp_path.rglob("*.so")
+    assert run("java", f"-Dproved.argon2.library={named}", "-cp", jar, program) == "false\n"
+    for wrong in ("-Dproved.argon2.library=/nowhere.so", "-Dos.arch=sparc", "-Djava.io.tmpdir=/nowhere"):
+        done = start("java", wrong, "-cp", jar, program)
+        assert done.returncode == 1 and "UnsatisfiedLinkError" in done.stderr, done.stderr
