@@ -1,5 +1,5 @@
-# The shell's part around argon2_tool, for the script `argon2` and the installed `proved-argon2`, which read this file.
-# They set these and then call `main "$@"`:
+# What the script `argon2` of the repository and the installed `proved-argon2` do around the program argon2_tool. Both
+# read this file, set the following variables and then call `main "$@"`:
 #
 #     name        what the user calls it
 #     version     the version

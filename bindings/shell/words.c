@@ -1,5 +1,6 @@
-/* The commands of docs/SHELL.md over the library for C, for processors for which the toolchain links no program:
- * argon2_tool. Tags and verdicts are the library's; the code here is tested, not proved. */
+/* argon2_tool: the commands of docs/SHELL.md over the library for C. This is the program that is installed on every
+ * machine. The proved program of the same name in crates/ prints the same; tests compare the two. Tags and verdicts are
+ * the library's; the code here is tested, not proved. */
 #define _GNU_SOURCE
 #include <errno.h>
 #include <proved_argon2.h>
@@ -46,6 +47,7 @@ static int end(enum status status, const char *line)
 
 static int refuse(uint32_t code)
 {
+    if (code == PROVED_ARGON2_NOT_ASCII) code = PROVED_ARGON2_DECODING_FAIL; /* such a string is no encoded hash */
     const enum status status = code == PROVED_ARGON2_TOO_COSTLY ? TOO_COSTLY : REFUSED;
     end(status, proved_argon2_message(code));
     if (code == PROVED_ARGON2_DECODING_FAIL)
@@ -97,15 +99,43 @@ static const char *fault_of(char kind, const char *word, uint32_t *number)
     }
 }
 
-/* Finds the command and takes its settings. A usage error is told as argon2_tool tells it. */
+/* How many bytes a character has in UTF-8 (RFC 3629, section 4), or 0 if none begins here. The first byte decides
+ * the length, and bounds the second byte. */
+static size_t utf8_length(const unsigned char *text)
+{
+    static const struct {
+        unsigned char first, last, least, most, length;
+    } kinds[] = {{0x01, 0x7f, 0, 0, 1}, {0xc2, 0xdf, 0x80, 0xbf, 2}, {0xe0, 0xe0, 0xa0, 0xbf, 3},
+        {0xe1, 0xec, 0x80, 0xbf, 3}, {0xed, 0xed, 0x80, 0x9f, 3}, {0xee, 0xef, 0x80, 0xbf, 3},
+        {0xf0, 0xf0, 0x90, 0xbf, 4}, {0xf1, 0xf3, 0x80, 0xbf, 4}, {0xf4, 0xf4, 0x80, 0x8f, 4}};
+    size_t kind = 0, length = 2;
+    while (kind < sizeof kinds / sizeof *kinds && (text[0] < kinds[kind].first || text[0] > kinds[kind].last))
+        kind++;
+    if (kind == sizeof kinds / sizeof *kinds) return 0;
+    if (kinds[kind].length == 1) return 1;
+    if (text[1] < kinds[kind].least || text[1] > kinds[kind].most) return 0;
+    while (length < kinds[kind].length && (text[length] & 0xc0) == 0x80)
+        length++;
+    return length == kinds[kind].length ? length : 0;
+}
+
+static int is_utf8(const char *word)
+{
+    const unsigned char *text = (const unsigned char *)word;
+    while (*text != 0) {
+        const size_t length = utf8_length(text);
+        if (length == 0) return 0;
+        text += length;
+    }
+    return 1;
+}
+
+/* Finds the command and reads its settings. It reports usage errors in the same words as the proved program. */
 static int is_command(int count, char **word)
 {
-    proved_argon2_stored stored;
     with.threads = UINT32_MAX; /* as many as there are lanes, or as the library has for an encoded hash */
-    /* (the library tells bytes that are not UTF-8 from those that are no encoded hash) */
     for (int i = 0; i < count; i++)
-        if (proved_argon2_read(word[i], strlen(word[i]), &stored) == PROVED_ARGON2_NOT_UTF8)
-            return fputs("usage\nan argument is not UTF-8\n", stderr), 0;
+        if (!is_utf8(word[i])) return fputs("usage\nan argument is not UTF-8\n", stderr), 0;
     if (count == 0) return fputs("usage\nthere is no command; see --help\n", stderr), 0;
     while (command->name != NULL && strcmp(command->name, word[0]) != 0)
         command++;

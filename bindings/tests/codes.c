@@ -9,10 +9,11 @@
 #include <string.h>
 
 #define PIECE(name) const uint8_t *name, size_t name##_len
+#define PWD const void *pwd, size_t pwd_len
 #define SHOWN(name) (int)name##_len, (const char *)name
 #define SETTINGS "%u %u %u %u %u %u"
 #define HASHING "%.*s %.*s %.*s %.*s " SETTINGS
-#define INPUTS PIECE(pwd), PIECE(salt), PIECE(secret), PIECE(ad), const proved_argon2_settings *settings
+#define INPUTS PWD, PIECE(salt), PIECE(secret), PIECE(ad), const proved_argon2_settings *settings
 #define EACH(settings) \
     (settings)->variant, (settings)->version, (settings)->mem_cost, (settings)->time_cost, (settings)->lanes, \
         (settings)->hash_length
@@ -60,7 +61,7 @@ const char *seen(void)
 static void take(const proved_argon2_options *with)
 {
     const int has_pool = with->run != NULL || with->pool != NULL;
-    progress_result = with->tell == NULL ? -1 : with->tell(with->arg, 1, 12);
+    progress_result = with->progress == NULL ? -1 : with->progress(with->arg, 1, 12);
     threads = with->size != sizeof *with || has_pool ? UINT32_MAX - 1 : with->threads;
     memory_len = with->memory != NULL && (uintptr_t)with->memory % 8 == 0 ? (int64_t)with->memory_len
         : with->memory != NULL || with->memory_len != 0                   ? INT64_MIN
@@ -103,7 +104,7 @@ uint32_t proved_argon2_verify_raw_with(const proved_argon2_options *with, INPUTS
 }
 
 uint32_t proved_argon2_verify_encoded_with(
-    const proved_argon2_options *with, const char *text, size_t text_len, PIECE(pwd), PIECE(secret), PIECE(ad))
+    const proved_argon2_options *with, const char *text, size_t text_len, PWD, PIECE(secret), PIECE(ad))
 {
     static const proved_argon2_limits none = {0, 0, 0, 0};
     const proved_argon2_limits *const limits = with->limits == NULL ? &none : with->limits;

@@ -52,7 +52,8 @@ each_call = pytest.mark.parametrize("name", CALLS)
 
 
 def said_of(number):
-    return f"N{number % 1000:03}"
+    """The message for a number: the stub's, which the package has for all strings that are no encoded hash."""
+    return f"N{(HEADER['DECODING_FAIL'] if number == HEADER['NOT_ASCII'] else number) % 1000:03}"
 
 
 def set_answers(check=0, then=0, read=0, memory=0, kib=1024):
@@ -138,7 +139,7 @@ def test_a_hasher_and_the_calls_before_it_give_the_same():
 
 @pytest.mark.parametrize("call, value", READERS)
 def test_a_string_has_settings_for_ok_alone(call, value):
-    invalid = {HEADER["DECODING_FAIL"]: errors.InvalidHashError, HEADER["NOT_UTF8"]: errors.InvalidHashError,
+    invalid = {HEADER["DECODING_FAIL"]: errors.InvalidHashError, HEADER["NOT_ASCII"]: errors.InvalidHashError,
                HEADER["OUT_OF_MEMORY"]: MemoryError}
     gives("read", call, {**invalid, 0: value}, errors.Argon2Error)
 
@@ -146,18 +147,18 @@ def test_a_string_has_settings_for_ok_alone(call, value):
 def test_the_numbers_are_the_header_s():
     assert [Type.D.value, Type.I.value, Type.ID.value] == [HEADER[name] for name in ("D", "I", "ID")]
     assert (ARGON2_VERSION, error_to_str(5)) == (HEADER["VERSION_13"], said_of(5))
-    for name in ("OK", "DECODING_FAIL", "OUT_OF_MEMORY", "MISMATCH", "NOT_UTF8", "UNKNOWN_NUMBER", "TOO_COSTLY"):
+    for name in ("OK", "DECODING_FAIL", "OUT_OF_MEMORY", "MISMATCH", "NOT_ASCII", "UNKNOWN_NUMBER", "TOO_COSTLY"):
         assert getattr(_library, name) == HEADER[name], name
 
 
 @pytest.mark.parametrize("keep_memory", [False, True])
 def test_a_hasher_passes_what_it_is_given_in_its_place(keep_memory):
-    limits, length = Limits(10, 11, 12, 13), 0 if keep_memory else -1
+    limits, length = Limits(100, 11, 12, 193), 0 if keep_memory else -1
     hasher = PasswordHasher(3, 64, 4, 5, 8, "utf-8", Type.I, limits=limits, keep_memory=keep_memory)
     hasher.hash("word", salt=b"somesalt")
     assert (seen().computing, seen().memory_len) == ("encoded word somesalt   1 19 64 3 4 5", length)
     hasher.verify(TEXT, "word")
-    assert (seen().computing, seen().memory_len) == (f"text {TEXT} word   10 11 12 13", length)
+    assert (seen().computing, seen().memory_len) == (f"text {TEXT} word   100 11 12 193", length)
     for settings, limits in (((1, 1, 1), "7 8 9 10"), ((9, 8, 1), "8 9 9 72"), ((8, 7, 10), "7 8 10 56")):
         PasswordHasher(*settings).verify(TEXT, "word")
         assert seen().computing == f"text {TEXT} word   {limits}"

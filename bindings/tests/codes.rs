@@ -1,5 +1,6 @@
-//! Makes the calls of the crate for Rust that standard input names, over the library of codes.c, and says what each
-//! gave and what the library saw: test_rust.py judges that. A line is a call's name, how it is made, and the answers.
+//! Makes the calls that standard input names, over the library of codes.c. Prints what each call returned and what the
+//! library saw, which test_rust.py checks. A line of input is a call's name, how it is made, and what the library
+//! returns.
 
 use argon2::*;
 use std::ffi::CStr;
@@ -13,7 +14,7 @@ extern "C" {
     fn seen() -> *const c_char;
 }
 
-/// Settings of which no two are the same, and no piece is another one's.
+/// Settings of which no two are equal, so that none can be passed in the place of another.
 const CONFIG: Config<'_> = Config {
     ad: b"data",
     hash_length: 5,
@@ -33,7 +34,7 @@ const HASH: &[u8] = b"hash";
 const KEY: &[u8] = b"key";
 const DATA: &[u8] = b"data";
 
-/// What a call gives that allocates its own memory, one over a memory, or one of a run.
+/// What a call returns that allocates its own memory, that computes in a buffer, or that runs by a `Run`.
 fn call(name: &str, how: &str, memory: &mut Memory) -> Box<dyn Debug> {
     match (name, how) {
         ("hash_raw", "alone") => Box::new(hash_raw(WORD, SALT, &CONFIG)),
@@ -48,6 +49,8 @@ fn call(name: &str, how: &str, memory: &mut Memory) -> Box<dyn Debug> {
         ("verify_encoded", "over") => Box::new(verify_encoded_in(memory, TEXT, WORD, KEY, DATA)),
         ("verify_encoded_within", "alone") => Box::new(verify_encoded_within(TEXT, WORD, KEY, DATA, &LIMITS)),
         ("verify_encoded_within", "over") => Box::new(verify_encoded_within_in(memory, TEXT, WORD, KEY, DATA, &LIMITS)),
+        ("verify_unknown", "alone") => Box::new(verify_unknown(WORD, &CONFIG)),
+        ("verify_unknown", "over") => Box::new(Run::new().over(memory).verify_unknown(WORD, &CONFIG)),
         ("needs_rehash", _) => Box::new(needs_rehash(TEXT, &CONFIG)),
         ("read", _) => Box::new(read(TEXT)),
         ("encoded_len", _) => Box::new(encoded_len(Variant::Argon2d, 64, 3, 4, 9, 5)),
@@ -65,13 +68,13 @@ fn call(name: &str, how: &str, memory: &mut Memory) -> Box<dyn Debug> {
     }
 }
 
-/// A run that tells nobody, or somebody who lets it go on, stops it, or panics.
+/// A run without a progress callback, or with one that lets the call go on, stops it, or panics.
 fn run<'a>(how: &str, memory: &'a mut Memory) -> Run<'a> {
     match how {
         "run" => Run::new(),
-        "tells" => Run::new().telling(|done, all| if (done, all) == (1, 12) { Continue(()) } else { Break(()) }),
-        "stops" => Run::new().telling(|_, _| Break(())).over(memory),
-        _ => Run::new().over(memory).telling(|_, _| panic!("on")),
+        "tells" => Run::new().with_progress(|done, all| if (done, all) == (1, 12) { Continue(()) } else { Break(()) }),
+        "stops" => Run::new().with_progress(|_, _| Break(())).over(memory),
+        _ => Run::new().over(memory).with_progress(|_, _| panic!("on")),
     }
 }
 

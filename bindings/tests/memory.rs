@@ -1,32 +1,55 @@
-//! The memory that the crate for Rust keeps from call to call, over the library, and what calls leave of a password.
-//! The linker gives this program the library's call for a memory (`--wrap`), which it counts. When one is asked for and
-//! given back, codes.rs tests.
+//! The buffers that the crate for Rust keeps from call to call, what calls leave of a password, and the buffers of a
+//! `Line`. The linker gives this program the library's call that allocates a buffer (`--wrap`), which it counts and can
+//! deny, and the system's call that starts a thread, which it can deny. codes.rs tests when a call allocates a buffer.
 
 use argon2::{
     hash_encoded, hash_encoded_in, hash_raw, hash_raw_in, verify_encoded_in, verify_encoded_within_in, verify_raw,
-    verify_raw_in, Config, Error, Limits, Memory, ThreadMode, Unverified,
+    verify_raw_in, Config, Error, Limits, Line, Memory, ThreadMode, Unverified,
 };
-use std::fs::File;
+use std::fs::{read_to_string, File};
 use std::io::Read;
-use std::sync::atomic::{AtomicUsize, Ordering::SeqCst};
+use std::sync::atomic::{AtomicBool, AtomicUsize, Ordering::SeqCst};
+use std::thread;
+use std::time::{Duration, Instant};
 
-/// The requests for memory, and where the last one is.
+/// How many buffers were allocated, where the last one is, and whether the next ones are denied.
 static ALLOCATIONS: AtomicUsize = AtomicUsize::new(0);
 static PLACE: AtomicUsize = AtomicUsize::new(0);
+static IS_DENIED: AtomicBool = AtomicBool::new(false);
+const OUT_OF_MEMORY: u32 = 20;
+
+/// Whether threads are denied, and the error number of that.
+static ARE_THREADS_DENIED: AtomicBool = AtomicBool::new(false);
+const EAGAIN: i32 = 11;
 
 extern "C" {
+    fn __real_pthread_create(thread: usize, attributes: usize, start: usize, argument: usize) -> i32;
     fn __real_proved_argon2_memory_new(settings: usize, memory: &mut usize, size: &mut usize) -> u32;
+    fn fork() -> i32;
+    fn waitpid(child: i32, status: &mut i32, options: i32) -> i32;
+    fn _exit(status: i32) -> !;
 }
 
 #[no_mangle]
 unsafe extern "C" fn __wrap_proved_argon2_memory_new(settings: usize, memory: &mut usize, size: &mut usize) -> u32 {
     ALLOCATIONS.fetch_add(1, SeqCst);
+    if IS_DENIED.load(SeqCst) {
+        return OUT_OF_MEMORY;
+    }
     let number = __real_proved_argon2_memory_new(settings, memory, size);
     PLACE.store(*memory, SeqCst);
     number
 }
 
-/// The bytes that a memory keeps, which is the last one.
+#[no_mangle]
+unsafe extern "C" fn __wrap_pthread_create(thread: usize, attributes: usize, start: usize, argument: usize) -> i32 {
+    if ARE_THREADS_DENIED.load(SeqCst) {
+        return EAGAIN;
+    }
+    __real_pthread_create(thread, attributes, start, argument)
+}
+
+/// The bytes of the buffer that was allocated last, which is this one.
 fn bytes(memory: &mut Memory) -> &mut [u8] {
     unsafe { std::slice::from_raw_parts_mut(PLACE.load(SeqCst) as *mut u8, memory.size()) }
 }
@@ -39,20 +62,20 @@ const PWD: &[u8] = b"password";
 const SALT: &[u8] = b"somesalt";
 const MODES: [ThreadMode; 3] = [ThreadMode::Sequential, ThreadMode::Parallel, ThreadMode::AtMost(3)];
 
-/// Argon2id in so many KiB, by so many lanes in one pass.
+/// Argon2id with this memory in KiB, this many lanes and one pass.
 fn settings(mem_cost: u32, lanes: u32, thread_mode: ThreadMode) -> Config<'static> {
     Config { mem_cost, lanes, time_cost: 1, thread_mode, ..Config::default() }
 }
 
-/// A memory that one call in so many KiB has grown.
+/// A buffer that has grown in a call with this memory in KiB.
 fn grown(mem_cost: u32) -> Memory {
     let mut memory = Memory::new();
     hash_raw_in(&mut memory, PWD, SALT, &settings(mem_cost, 1, MODES[0])).unwrap();
     memory
 }
 
-/// Each call has to answer over a memory as the one without does. `holds` is told of it before and after each.
-fn all_answer(config: Config<'_>, memory: &mut Memory, mut holds: impl FnMut(&mut Memory, bool)) {
+/// Each call in a buffer has to return what the call without one returns. `check` is called before and after each.
+fn all_answer(config: Config<'_>, memory: &mut Memory, mut check: impl FnMut(&mut Memory, bool)) {
     let (tag, text) = (hash_raw(PWD, SALT, &config).unwrap(), hash_encoded(PWD, SALT, &config).unwrap());
     let limits = Limits::default();
     let calls: [&dyn Fn(&mut Memory) -> bool; 5] = [
@@ -63,14 +86,14 @@ fn all_answer(config: Config<'_>, memory: &mut Memory, mut holds: impl FnMut(&mu
         &|memory| verify_encoded_within_in(memory, &text, PWD, &[], &[], &limits) == Ok(true),
     ];
     for call in calls {
-        holds(memory, false);
+        check(memory, false);
         assert!(call(memory), "{config:?}");
-        holds(memory, true);
+        check(memory, true);
     }
 }
 
-/// What a call used is clear when it returns, whatever stood there, and what it did not use is as it was. A memory that
-/// is large enough serves any thread, and no other one is asked for.
+/// A call clears what it used of a buffer, whatever was there, and leaves the rest unchanged. A buffer that is large
+/// enough serves any thread, and no other one is allocated.
 fn calls_clear_what_they_used() {
     let mut memory = grown(5000);
     for (mem_cost, lanes, mode) in [(256, 1, MODES[0]), (4096, 4, MODES[1]), (1003, 4, MODES[2]), (5000, 1, MODES[0])] {
@@ -90,8 +113,8 @@ fn calls_clear_what_they_used() {
     }
 }
 
-/// What is rejected asks for no memory and leaves it as it is.
-fn errors_leave_it() {
+/// A call that rejects its settings allocates nothing and leaves the buffer unchanged.
+fn errors_leave_the_buffer_unchanged() {
     let (mut memory, large) = (grown(100), settings(1 << 20, 1, ThreadMode::Parallel));
     bytes(&mut memory).fill(0xa5);
     let before = allocations();
@@ -107,8 +130,8 @@ fn errors_leave_it() {
     assert!(bytes(&mut memory).iter().all(|byte| *byte == 0xa5));
 }
 
-/// How often some bytes stand in what this process may write to.
-fn places_of(word: &[u8]) -> usize {
+/// How often the memory that this process may write to contains these bytes.
+fn occurrences_of(word: &[u8]) -> usize {
     let mut maps = String::with_capacity(1 << 20); // so that nothing is mapped or unmapped meanwhile
     File::open("/proc/self/maps").and_then(|mut file| file.read_to_string(&mut maps)).unwrap();
     let places = maps.lines().filter(|line| line.contains(" rw")).map(|line| {
@@ -120,10 +143,11 @@ fn places_of(word: &[u8]) -> usize {
     places.sum()
 }
 
-/// No call leaves a copy of a password anywhere. (Of what is freed the system's heap overwrites the first bytes.)
+/// No call leaves a copy of a password in memory. (The system's heap overwrites the first bytes of what is freed, so
+/// the last half of the password is searched.)
 fn no_copy_of_a_password_is_left() {
     let pwd: Vec<u8> = (0..64).map(|index: u16| (33 + index * 7 % 90) as u8).collect();
-    let mut memory = Memory::new();
+    let (mut memory, line) = (Memory::new(), Line::new(1, 0));
     for mode in MODES {
         let config = settings(1024, 4, mode);
         let text = hash_encoded(&pwd, SALT, &config).unwrap();
@@ -131,12 +155,125 @@ fn no_copy_of_a_password_is_left() {
         assert_eq!(verify_raw(&pwd, SALT, &tag, &config), Ok(true));
         assert_eq!(argon2::verify_password(&text, &pwd), Ok(true));
         assert!(argon2::verify_and_update(&text, &pwd, &Config::owasp5()).unwrap().1.is_some());
-        assert_eq!(places_of(&pwd[32..]), 1);
+        assert!(line.wait().unwrap().run().verify_and_update(&text, &pwd, &Config::owasp5()).unwrap().1.is_some());
+        assert_eq!(line.wait().unwrap().run().verify_unknown(&pwd, &config), Ok(false));
+        assert_eq!(occurrences_of(&pwd[32..]), 1);
     }
+}
+
+/// Computes a hash of 19 MiB in a place of the line.
+fn hash_in(line: &Line) {
+    let tag = line.wait().unwrap().run().hash_raw(PWD, SALT, &Config::default());
+    assert_eq!(tag, hash_raw(PWD, SALT, &Config::default()));
+}
+
+/// The memory that this process uses, in bytes.
+fn resident() -> usize {
+    let status = read_to_string("/proc/self/status").unwrap();
+    let line = status.lines().find(|line| line.starts_with("VmRSS:")).unwrap();
+    line.split_whitespace().nth(1).unwrap().parse::<usize>().unwrap() << 10
+}
+
+/// A buffer of a line is cleared after each hash, serves the next one, and is freed once it is idle for ten seconds.
+fn a_line_keeps_a_cleared_buffer_for_ten_seconds() {
+    let (line, before, used) = (Line::new(2, 0), allocations(), resident());
+    let size = 19 << 20;
+    hash_in(&line);
+    let begun = Instant::now();
+    assert_eq!(allocations(), before + 1);
+    let buffer = unsafe { std::slice::from_raw_parts(PLACE.load(SeqCst) as *const u8, size) };
+    assert!(buffer.iter().all(|byte| *byte == 0));
+    assert!(resident() >= used + size * 9 / 10);
+    hash_in(&line);
+    assert_eq!(allocations(), before + 1);
+    while resident() >= used + size / 2 {
+        assert!(begun.elapsed() < Duration::from_secs(60));
+        thread::sleep(Duration::from_millis(100));
+    }
+    assert!(begun.elapsed() >= Duration::from_secs(10), "{:?}", begun.elapsed());
+    hash_in(&line);
+    assert_eq!(allocations(), before + 2);
+}
+
+/// If its buffer is denied, a call of a place allocates its own memory, and the next call wants a buffer again.
+fn a_place_whose_buffer_is_denied_computes_without_one() {
+    let (line, before) = (Line::new(1, 0), allocations());
+    IS_DENIED.store(true, SeqCst);
+    hash_in(&line);
+    hash_in(&line);
+    IS_DENIED.store(false, SeqCst);
+    hash_in(&line);
+    assert_eq!(allocations(), before + 3);
+    hash_in(&line);
+    assert_eq!(allocations(), before + 3);
+    let rejected = Config { time_cost: 0, ..Config::default() };
+    assert_eq!(line.wait().unwrap().run().hash_raw(PWD, SALT, &rejected), Err(Error::TimeTooSmall));
+}
+
+/// A line that cannot start the thread which frees idle buffers keeps none.
+fn a_line_without_a_thread_keeps_no_buffer() {
+    let (line, before) = (Line::new(1, 0), allocations());
+    ARE_THREADS_DENIED.store(true, SeqCst);
+    hash_in(&line);
+    hash_in(&line);
+    assert_eq!(allocations(), before + 2);
+    ARE_THREADS_DENIED.store(false, SeqCst);
+    hash_in(&line);
+    hash_in(&line);
+    assert_eq!(allocations(), before + 3);
+}
+
+/// Whether a forked child ends well.
+fn ends_well_in_a_child(work: impl FnOnce()) -> bool {
+    let mut status = -1;
+    unsafe {
+        let child = fork();
+        if child == 0 {
+            work();
+            _exit(0);
+        }
+        assert!(child > 0 && waitpid(child, &mut status, 0) == child);
+    }
+    status == 0
+}
+
+/// In a forked child all places are free, though the parent holds one and others wait, and it uses no buffer of the
+/// parent, not even in a place that it inherits.
+fn a_forked_child_has_all_places_and_no_buffer() {
+    let line = Line::new(2, 1);
+    let (held, mut inherited) = (line.wait().unwrap(), line.wait().unwrap());
+    inherited.run().hash_raw(PWD, SALT, &Config::default()).unwrap();
+    let waiting = thread::spawn({
+        let line = line.clone();
+        move || hash_in(&line)
+    });
+    while format!("{line:?}").contains("queue: []") {
+        thread::yield_now(); // until the other thread waits
+    }
+    let kept = Line::new(1, 0);
+    hash_in(&kept);
+    let before = allocations();
+    assert!(ends_well_in_a_child(move || {
+        hash_in(&kept);
+        assert_eq!(allocations(), before + 1);
+        inherited.run().hash_raw(PWD, SALT, &Config::default()).unwrap();
+        assert_eq!(allocations(), before + 2);
+        drop(inherited);
+        let places = [line.wait().unwrap(), line.wait().unwrap()];
+        drop(places);
+        hash_in(&line);
+        assert_eq!(allocations(), before + 3);
+    }));
+    drop(held);
+    waiting.join().unwrap();
 }
 
 fn main() {
     calls_clear_what_they_used();
-    errors_leave_it();
+    errors_leave_the_buffer_unchanged();
     no_copy_of_a_password_is_left();
+    a_place_whose_buffer_is_denied_computes_without_one();
+    a_line_without_a_thread_keeps_no_buffer();
+    a_forked_child_has_all_places_and_no_buffer();
+    a_line_keeps_a_cleared_buffer_for_ten_seconds();
 }

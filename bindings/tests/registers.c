@@ -1,13 +1,13 @@
 /* What a call of the library leaves in the vector registers. Python loads this beside the library and has the call made
  * here, since its interpreter would take the registers before it looks. */
-#include "../../crates/argon2_c/c/registers.h"
+#include "../c/tests/registers.h"
 
 #include <stddef.h>
 #include <string.h>
 
 #define PIECE 8 /* bytes */
 
-typedef uint32_t verify_encoded(const char *text, size_t text_len, const uint8_t *pwd, size_t pwd_len,
+typedef uint32_t verify_encoded(const char *text, size_t text_len, const void *pwd, size_t pwd_len,
     const uint8_t *secret, size_t secret_len, const uint8_t *ad, size_t ad_len);
 
 static int pieces_of(const uint8_t *tag, size_t tag_len)
@@ -21,7 +21,7 @@ static int pieces_of(const uint8_t *tag, size_t tag_len)
 
 /* How many pieces of a tag are left behind a call that verifies it. */
 int pieces_left(
-    verify_encoded *call, const char *text, const uint8_t *pwd, size_t pwd_len, const uint8_t *tag, size_t tag_len)
+    verify_encoded *call, const char *text, const void *pwd, size_t pwd_len, const uint8_t *tag, size_t tag_len)
 {
     call(text, strlen(text), pwd, pwd_len, NULL, 0, NULL, 0);
     NOTE_ALL();

@@ -7,6 +7,7 @@ import shlex
 import shutil
 import subprocess
 import sys
+from concurrent.futures import ThreadPoolExecutor
 
 import pytest
 
@@ -28,7 +29,7 @@ directory = "/usr/share/cargo/registry"
 # The numbers of the library's header by their names. Then all of them, those that stand beside them, and some that no
 # call returns.
 HEADER = {name: int(number, 0) for name, number in re.findall(
-    r"^ *PROVED_ARGON2_(\w+) = (\w+)", (TOP / "crates/argon2_c/include/proved_argon2.h").read_text(), re.M)}
+    r"^ *PROVED_ARGON2_(\w+) = (\w+)", (TOP / "bindings/c/include/proved_argon2.h").read_text(), re.M)}
 NUMBERS = sorted({*range(23), 255, 256, 999, 0x7FFFFFFF, 0x80000000, 0xFFFFFFFF,
                   *(at for number in HEADER.values() if number > 22 for at in range(number - 1, number + 2))})
 
@@ -88,7 +89,39 @@ def fetch(call, *words):
 @functools.lru_cache(None)
 def built(part=MACHINE):
     """The folder that has a part, linked, as it is proved and built here or in release/."""
-    return pathlib.Path(run("build/ready", part, timeout=4800).strip())
+    return pathlib.Path(run("build/prepare", part, timeout=4800).strip())
+
+
+def ahead(request, name, work, at_once=None):
+    """A fixture's: begins some work for each value that a parameter has in the chosen tests of its module, and gives
+    what waits for what comes of a value, and begins what no chosen test has."""
+    specs = [item.callspec for item in request.session.items
+             if item.module is request.module and hasattr(item, "callspec")]
+    values = dict.fromkeys(spec.params[name] for spec in specs if name in spec.params)
+    with ThreadPoolExecutor(at_once or len(os.sched_getaffinity(0))) as pool:
+        begun = {value: pool.submit(work, value) for value in values}
+        yield lambda value: (begun.get(value) or pool.submit(work, value)).result()
+        pool.shutdown(cancel_futures=True)
+
+
+def rows(path):
+    """The lines of a table, but for comments, as lists of what stands between ` | `."""
+    lines = path.read_text(encoding="utf-8").splitlines()
+    return [[part.strip() for part in f"{line} ".split(" | ")] for line in lines if line and line[0] != "#"]
+
+
+def build_preloaded(source, folder):
+    """Builds a library to be preloaded, and gives its path. What it calls is bound at once, since what binds it later
+    saves the program's registers on the stack."""
+    made = pathlib.Path(folder, source.name).with_suffix(".so")
+    flags = "-std=gnu11 -O1 -Wall -Wextra -Werror -D_GNU_SOURCE -shared -fPIC -nostdlib -Wl,-z,now".split()
+    run("gcc", *flags, source, "-o", made)
+    return made
+
+
+def in_namespace(script, *words):
+    """The words that run bash where what it mounts is seen by it alone."""
+    return ["unshare", "--mount", "--propagation", "private", "bash", "-euc", script, "bash", *words]
 
 
 def exports(file):

@@ -28,8 +28,8 @@ foreach ($olds as $old) {
 
 
 def test_the_lines_for_c_run(installed, tmp_path):
-    assert first_lines("C.md") in (TOP / "crates/argon2_c/c/quick_start.c").read_text()
-    run(CC, "crates/argon2_c/c/quick_start.c", "-o", tmp_path / "quick_start", *flags_of(installed))
+    assert first_lines("C.md", 15) in (TOP / "bindings/c/tests/quick_start.c").read_text()
+    run(CC, "bindings/c/tests/quick_start.c", "-o", tmp_path / "quick_start", *flags_of(installed))
     run(tmp_path / "quick_start", env={"LD_LIBRARY_PATH": installed / "lib"})
 
 
@@ -44,6 +44,32 @@ def test_the_lines_for_rust_run(built, cargo, tmp_path):
 def test_the_lines_for_python_run(installed):
     run("python3", "-B", "-c", first_lines("PYTHON.md"),
         env={"PYTHONPATH": TOP / "bindings/python/src", "LD_LIBRARY_PATH": installed / "lib"})
+
+
+# What follows the code of the page for Python: its coroutines return what the page says.
+AFTER_THE_PAGE = """
+import asyncio
+
+async def serve():
+    assert await log_in("ada", password) is True and await log_in("ada", "wrong") is False
+    assert await log_in("nobody", password) is False
+    assert await log_in_with_pepper(key_id, stored, password) == (True, None)
+    answers = await asyncio.gather(*[log_in("ada", password) for _ in range(69)], return_exceptions=True)
+    assert answers[:68] == [True] * 68 and type(answers[68]).__name__ == "BusyError"
+    assert (await tune_while_serving()).memory_cost <= 65536
+
+assert (is_match, key_id) == (True, "2026") and 0 < tuning.milliseconds <= 250
+asyncio.run(serve())
+"""
+
+
+def test_all_code_of_the_page_for_python_runs(installed):
+    pieces = re.findall(r"^```python\n(.*?)^```", (TOP / "docs/PYTHON.md").read_text(), re.M | re.S)
+    assert len(pieces) == 5
+    # On a busy machine no settings may take at most 250 ms.
+    code = "".join([*pieces, AFTER_THE_PAGE]).replace("(250, ", "(25000, ").replace("<= 250", "<= 25000")
+    run("python3", "-B", "-c", code, env={
+        "PYTHONPATH": TOP / "bindings/python/src", "LD_LIBRARY_PATH": installed / "lib"})
 
 
 def test_the_row_of_python_works_where_python_takes_no_packages_outside_of_an_environment(tmp_path):
@@ -78,7 +104,7 @@ def serves(*words, **named):
 
 
 def test_the_service_in_c(built, tmp_path):
-    run(CC, "-std=gnu11", "-Wall", "-Wextra", "-Werror", "-O1", "-I", "crates/argon2_c/include", "-I", EXAMPLES,
+    run(CC, "-std=gnu11", "-Wall", "-Wextra", "-Werror", "-O1", "-I", "bindings/c/include", "-I", EXAMPLES,
         SERVICE / "service.c", built / MACHINE / "libproved_argon2.a", "-pthread", "-o", tmp_path / "service")
     serves(tmp_path / "service")
 
@@ -99,10 +125,10 @@ def test_the_service_in_python(installed):
 
 # ---- the manual pages and the help
 
-HEADERS = [(TOP / f"crates/argon2_c/include/proved_argon2{name}.h").read_text()
+HEADERS = [(TOP / f"bindings/c/include/proved_argon2{name}.h").read_text()
            for name in ("", "_password", "_jobs", "_threads")]
 HELP = (TOP / "bindings/shell/help.txt").read_text()
-MAN, INCLUDED = TOP / "bindings/man", sorted((TOP / "crates/argon2_c/include").glob("*.h"))
+MAN, INCLUDED = TOP / "bindings/man", sorted((TOP / "bindings/c/include").glob("*.h"))
 PAGES = {1: (MAN / "proved-argon2.1.in").read_text(),
          3: run("awk", "-f", MAN / "headers.awk", *INCLUDED, MAN / "proved_argon2.3.in")}
 

@@ -7,8 +7,8 @@ import pytest
 from running import BUILDS, CC, MACHINE, PROVED, TOP, VERSION, flags_of, needs, refuses, run, start
 
 LIBRARY = "libproved_argon2.so"
-EXAMPLE = TOP / "crates/argon2_c/c/example.c"
-HEADERS = sorted((TOP / "crates/argon2_c/include").glob("*.h"))
+EXAMPLE = TOP / "bindings/c/tests/example.c"
+HEADERS = sorted((TOP / "bindings/c/include").glob("*.h"))
 # The functions of the headers: a line of its own begins each.
 CALLS = sorted(re.findall(
     r"^(?:void |uint32_t |uint64_t |const char \*|proved_argon2_(?:settings|limits) )(proved_argon2_[a-z0-9_]*)\(",
@@ -20,9 +20,9 @@ INSTALLED = {
     "lib/pkgconfig": "proved_argon2.pc",
     "lib/proved-libargon2": "bin/argon2 include/argon2.h libargon2.a libargon2.so libargon2.so.1",
     "lib/proved-libargon2/pkgconfig": "libargon2.pc",
-    "libexec/proved-argon2": " ".join(("commands.sh help.txt", *(f"{build}/argon2_tool" for build in PROVED))),
+    "libexec/proved-argon2": f"commands.sh help.txt {MACHINE}/argon2_tool",
     "share/bash-completion/completions": "proved-argon2",
-    "share/doc/proved-argon2": "LICENSE NOTICE README.md SECURITY.md",
+    "share/doc/proved-argon2": "LICENSE NOTICE proved-argon2.spdx README.md SECURITY.md",
     "share/doc/proved-argon2/docs": "C.md CLAIMS.md LIBARGON2.md SHELL.md USE.md",
     "share/man": "man1/proved-argon2.1 man3/proved_argon2.3",
     "share/proved-argon2": "installed uninstall",
@@ -102,11 +102,10 @@ def test_the_shared_object_exports_what_the_headers_declare_and_is_bound_at_once
 
 
 def test_registers_of_256_and_512_bits_are_in_the_builds_for_their_processors_alone(built, installed):
-    programs = installed / "libexec/proved-argon2"
     for file, expected in (
-        *((file, set() if build == "x86-64-v2" else {"ymm"}) for build in PROVED
-          for file in (built / build / "libargon2_c.a", programs / build / "argon2_tool")),
+        *((built / build / "libargon2_c.a", set() if build == "x86-64-v2" else {"ymm"}) for build in PROVED),
         (installed / f"lib/{LIBRARY}.1", {"ymm", "zmm"}), (installed / "lib/libproved_argon2.a", {"ymm", "zmm"}),
+        (installed / f"libexec/proved-argon2/{MACHINE}/argon2_tool", {"ymm", "zmm"}),
     ):
         assert {*re.findall(r"%([yz]mm)\d", run("objdump", "-d", file))} == expected, file
 

@@ -8,9 +8,9 @@ import tarfile
 from pathlib import Path
 
 import pytest
-from running import CC, TOP, first_lines, has_node, needs, run, start
+from running import CC, MACHINE, TOP, first_lines, has_node, needs, run, start
 
-HEADERS, SOURCES = TOP / "crates/argon2_c/include", TOP / "bindings/javascript"
+HEADERS, SOURCES = TOP / "bindings/c/include", TOP / "bindings/javascript"
 NODE_API = Path("/usr/include/node/node_api.h")
 pytestmark = [has_node(), pytest.mark.timeout(2400)]
 # Those of what both engines do, and those of the package alone.
@@ -80,7 +80,7 @@ def test_it_has_the_files_that_npm_would_pack(site, tmp_path):
 def test_it_asks_for_nothing_and_has_the_licence(site):
     """It depends on nothing, and runs nothing when it is installed."""
     folder = site / "node_modules/proved-argon2"
-    for name in ("LICENSE", "NOTICE"):
+    for name in ("LICENSE", "NOTICE", "proved-argon2.spdx"):
         assert (folder / name).read_bytes() == (TOP / name).read_bytes()
     assert not ASKS & json.loads((folder / "package.json").read_text()).keys()
 
@@ -89,6 +89,17 @@ def test_it_asks_for_nothing_and_has_the_licence(site):
 def test_the_addon_declares_what_node_does():
     run(CC, "-std=c11", "-D_GNU_SOURCE=", "-Wall", "-Werror", "-fsyntax-only", "-I", HEADERS, "-include", NODE_API,
         SOURCES / "addon/addon.c")
+
+
+@pytest.mark.parametrize("sanitizer", ["thread", "address,undefined"])
+def test_the_addon_goes_on_where_threads_and_memory_are_denied(built, tmp_path, sanitizer):
+    """Runs queue for the threads that there are. A kept buffer is zero, and goes after some idle time."""
+    program = tmp_path / "program"
+    run(CC, "-std=c11", "-O1", f"-fsanitize={sanitizer}", "-fno-sanitize-recover=all", "-Wall", "-Wextra", "-Werror",
+        "-g", "-DKEPT_SECONDS=1", "-I", HEADERS, "-I", SOURCES / "addon", "bindings/tests/addon_pool.c",
+        built / MACHINE / "libproved_argon2.a", "-pthread", "-o", program,
+        *(f"-Wl,--wrap={name}" for name in ("pthread_create", "proved_argon2_memory_new")))
+    assert run(program).count("passed: ") == 11
 
 
 BARE = """import { hash } from 'proved-argon2';

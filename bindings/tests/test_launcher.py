@@ -57,7 +57,7 @@ class Tree:
                 made = folder / source.relative_to(TOP)
                 made.mkdir(parents=True)
                 (made / "file").write_text("text\n")
-        write_program(folder / "build/proved", STAND_IN)
+        write_program(folder / "build/prove", STAND_IN)
         write_program(folder / "bin/rt", "#!/bin/sh\n")
 
     def builds(self, count):
@@ -141,7 +141,7 @@ def clone(built, tmp_path_factory):
         shutil.copytree(built / name, folder / "release" / name, symlinks=True,
                         ignore=shutil.ignore_patterns("*.said", "*.sources"))
     sums = run("sh", "-c", "find . -type f -printf '%P\\n' | xargs sha256sum", cwd=folder / "release")
-    (folder / "release/MANIFEST").write_text(run(folder / "build/released", "--sources") + sums)
+    (folder / "release/MANIFEST").write_text(run(folder / "build/check_release", "--sources") + sums)
     run(folder / "argon2", *CHEAP)
     return folder
 
@@ -159,8 +159,8 @@ def test_a_warm_call_takes_at_most_100_milliseconds_more_than_the_program(clone)
 
 
 def test_without_the_toolchain_what_is_not_proved_is_linked_anew_and_what_is_proved_is_proved(clone):
-    write_program(clone / "build/proved", '#!/bin/sh\necho "it asks for $*" >&2\nexit 1\n')
-    with open(clone / "bindings/c/driver.h", "a") as opened:
+    write_program(clone / "build/prove", '#!/bin/sh\necho "it asks for $*" >&2\nexit 1\n')
+    with open(clone / "bindings/c/src/driver.h", "a") as opened:
         opened.write("/* another comment */\n")
     run(clone / "install", "/usr", env={"DESTDIR": clone / "installed"})
     assert (clone / "installed/usr/lib/libproved_argon2.a").stat().st_size > 0

@@ -10,10 +10,10 @@ import shutil
 import pytest
 from running import TOP, built, exports, fetch, run, start
 
-HERE, FACE, BUILT = TOP / "bindings/libargon2", TOP / "crates/argon2_c", built("x86_64") / "x86_64"
+HERE, FACE, BUILT = TOP / "bindings/libargon2", TOP / "bindings/c", built("x86_64") / "x86_64"
 TESTS, THEIRS, ARCHIVE = HERE / "tests", "/usr/lib/x86_64-linux-gnu/libargon2.so.1", BUILT / "libproved_argon2.a"
 SEED, CALLS, SANITIZED = int(os.environ.get("SEED", secrets.randbits(32))), 25000, 5000
-CC = *"gcc -std=gnu11 -O1 -Wall -Wextra -Werror -I".split(), HERE, "-I", FACE / "include", "-I", TOP / "bindings/c"
+CC = *"gcc -std=gnu11 -O1 -Wall -Wextra -Werror -I".split(), HERE, "-I", FACE / "include", "-I", TOP / "bindings/c/src"
 FUZZ, SANITIZE = ("/usr/bin/python3", "-B", TESTS / "fuzz.py"), "-g -fsanitize=address,undefined -fno-sanitize-recover"
 HEADERS = "gcc -std=c99 -x c", "g++ -std=c++98 -x c++", "clang -std=c17 -x c -Weverything"
 KINDS = "threads", "memory"
@@ -43,10 +43,10 @@ def work(tmp_path_factory):
     shutil.copytree(BUILT, folder / "lib")
     (folder / "lib/libargon2.so").symlink_to("libargon2.so.1")
     link = "-L", folder / "lib", "-largon2"
-    wrapped = re.findall(r"__wrap_(\w+)\(.*;", (FACE / "c/system.h").read_text(encoding="utf-8"))
+    wrapped = re.findall(r"__wrap_(\w+)\(.*;", (FACE / "tests/system.h").read_text(encoding="utf-8"))
     for name, *words in (
         ("starved", TESTS / "starved.c", *link, "-ldl"),
-        ("secrets", "-I", FACE / "c", TESTS / "secrets.c", ARCHIVE, *link, "-pthread", "-Wl,-z,lazy",
+        ("secrets", "-I", FACE / "tests", TESTS / "secrets.c", ARCHIVE, *link, "-pthread", "-Wl,-z,lazy",
          *(f"-Wl,--wrap={name}" for name in wrapped)),
     ):
         run(*CC, *words, "-o", folder / name)

@@ -8,7 +8,7 @@ from running import TOP, VERSION, built, needs, project, refuses, run, start
 
 BINDINGS, TESTS, MADE = TOP / 'bindings', TOP / 'bindings/tests', built() / 'x86_64'
 ARCHIVE, SHARED = MADE / 'libproved_argon2.a', MADE / f'libproved_argon2.so.{VERSION}'
-CC = *'musl-gcc -std=c11 -D_GNU_SOURCE -O2 -Wall -Wextra -Werror -I'.split(), TOP / 'crates/argon2_c/include'
+CC = *'musl-gcc -std=c11 -D_GNU_SOURCE -O2 -Wall -Wextra -Werror -I'.split(), TOP / 'bindings/c/include'
 ENCODED = '$argon2id$v=19$m=256,t=2,p=2$c29tZXNhbHQ$bQk8UB/VmZZF4Oo79iDXuL5/0ttZwg2f/5U52iv1cDc'
 TAG = '6d093c501fd5999645e0ea3bf620d7b8be7fd2db59c20d9fff9539da2bf57037'
 # A program of Rust's own core over the calls, of which nothing is another C library's.
@@ -116,7 +116,8 @@ def test_crate_passes_its_tests(cargo, tmp_path):
 def test_crate_clears_what_it_keeps(cargo, tmp_path):
     """(from call to call, by one thread and by several: the program ends well if all of its checks hold)"""
     folder = project(tmp_path / 'keeping', (TESTS / 'memory.rs').read_text(encoding='utf-8'))
-    with_std(cargo, folder, tmp_path, ['link-arg=-Wl,--wrap=proved_argon2_memory_new'], 'run', '--quiet')
+    with_std(cargo, folder, tmp_path,
+             ['link-arg=-Wl,--wrap=proved_argon2_memory_new,--wrap=pthread_create'], 'run', '--quiet')
 
 
 @needs('cargo')

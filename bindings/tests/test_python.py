@@ -1,4 +1,4 @@
-"""The package for Python, installed by pip: its own tests, those of argon2-cffi, and where it finds the library."""
+"""The package for Python, installed by pip: its own tests, those of argon2-cffi, and how it finds the library."""
 import re
 import shutil
 import sys
@@ -15,7 +15,8 @@ PYTEST = PYTHON, "-B", "-m", "pytest", "-q"
 HASHES = """from proved_argon2 import PasswordHasher
 hasher = PasswordHasher(time_cost=1, memory_cost=64, parallelism=1)
 assert hasher.verify(hasher.hash("password"), "password") is True"""
-# How many pieces of a tag a call that verifies leaves, how many are found that were filled in, and where.
+# Prints how many pieces of a tag a verification leaves in registers, how many are found after they were put there, and
+# in which registers the search looks.
 REGISTERS = """import ctypes, sys
 from proved_argon2 import _library
 from proved_argon2.low_level import Type, hash_secret, hash_secret_raw
@@ -37,17 +38,17 @@ by_pip = pytest.mark.skipif(not has("pip", "venv", "ensurepip", "hatchling"), re
 
 @pytest.fixture(scope="module")
 def package(tmp_path_factory):
-    """The folder, with the licence."""
+    """Return a copy of the package's folder, with the licences."""
     folder = tmp_path_factory.mktemp("package") / "package"
     shutil.copytree(PACKAGE, folder, ignore=shutil.ignore_patterns("__pycache__"))
-    for name in ("LICENSE", "NOTICE"):
+    for name in ("LICENSE", "NOTICE", "proved-argon2.spdx"):
         shutil.copy(TOP / name, folder)
     return folder
 
 
 @pytest.fixture(scope="module")
 def site(package, tmp_path_factory):
-    """Where pip installs the folder without a network, or its modules where there is no pip."""
+    """Return a folder into which pip has installed the package, or without pip one with a copy of its modules."""
     folder = tmp_path_factory.mktemp("site")
     if by_pip.args[0]:
         shutil.copytree(PACKAGE / "src", folder, dirs_exist_ok=True)
@@ -59,13 +60,13 @@ def site(package, tmp_path_factory):
 
 @pytest.fixture(scope="module")
 def with_library(installed, site):
-    """The variables for a program that uses the package."""
+    """Return the environment variables for a program that uses the package."""
     return {"PYTHONPATH": site, "PROVED_ARGON2_LIBRARY": installed / "lib" / SONAME, "PYTHONDONTWRITEBYTECODE": 1}
 
 
 @pytest.mark.timeout(2400)
-def test_its_own_tests_pass(with_library, drawn, tmp_path):
-    """Those of pwdlib are skipped where it cannot be had."""
+def test_the_package_s_own_tests_pass(with_library, drawn, tmp_path):
+    """The tests with pwdlib are skipped if Debian's package cannot be fetched."""
     fetch("fetch_package", "python3-pwdlib", tmp_path)
     path = f"{with_library['PYTHONPATH']}:{tmp_path}/usr/lib/python3/dist-packages"
     print(run(*PYTEST, "-W", "error", PACKAGE / "tests", env={**with_library, **drawn, "PYTHONPATH": path}))
@@ -77,20 +78,20 @@ def compile_shared(source, made, *words):
     return made
 
 
-def test_each_number_that_the_library_answers(with_library, tmp_path):
-    library = compile_shared("codes.c", tmp_path / "codes.so", "-I", "crates/argon2_c/include")
+def test_each_number_that_the_library_can_return(with_library, tmp_path):
+    library = compile_shared("codes.c", tmp_path / "codes.so", "-I", "bindings/c/include")
     run(*PYTEST, "-W", "error", HERE / "codes.py", env={**with_library, "PROVED_ARGON2_LIBRARY": library})
 
 
-def test_a_call_leaves_no_tag_in_the_vector_registers(with_library, tmp_path):
-    """Two pieces are found where one register is filled in."""
+def test_a_verification_leaves_no_tag_in_the_vector_registers(with_library, tmp_path):
+    """After a register was filled with the tag, the search finds both pieces."""
     looker = compile_shared("registers.c", tmp_path / "registers.so")
     assert re.match(r"0 2 \w", run(PYTHON, "-c", REGISTERS, looker, env=with_library))
 
 
 @pytest.mark.skipif(not has("hypothesis"), reason="there is no hypothesis")
-def test_the_tests_of_argon2_cffi_pass_but_for_those_that_are_named(with_library, tmp_path):
-    """Unchanged, of the newest source that Debian has. argon2_cffi.py names each that fails."""
+def test_the_tests_of_argon2_cffi_pass_except_for_listed_ones(with_library, tmp_path):
+    """The tests are unchanged, from Debian's newest source. argon2_cffi.py lists those that fail, with the reasons."""
     if not fetch("fetch_source", "python-argon2", tmp_path):
         pytest.skip("their source cannot be had")
     path = f"{HERE}:{with_library['PYTHONPATH']}"
@@ -101,8 +102,8 @@ def test_the_tests_of_argon2_cffi_pass_but_for_those_that_are_named(with_library
 
 @by_pip
 @pytest.mark.parametrize("found", ['"glibc 2.31"', "None"])
-def test_pip_names_the_c_library_that_is_needed_and_installs_nothing(tmp_path, found):
-    """With an older one than ./install takes, or with musl."""
+def test_pip_installs_nothing_without_the_needed_c_library_and_says_so(tmp_path, found):
+    """The C library is older than ./install accepts, or musl."""
     oldest = re.search(r"^oldest_libc=(.*)", (TOP / "install").read_text(), re.M)[1]
     (tmp_path / "sitecustomize.py").write_text(f"import os\nos.confstr = lambda _: {found}\n")
     done = start(PYTHON, *PIP, "--target", tmp_path / "site", PACKAGE, env={"PYTHONPATH": tmp_path})
@@ -111,9 +112,9 @@ def test_pip_names_the_c_library_that_is_needed_and_installs_nothing(tmp_path, f
 
 
 @by_pip
-def test_the_folder_can_be_edited_and_the_library_beside_this_python_is_taken(installed, package, tmp_path):
-    """In an environment of its own: a change of the folder is seen. ./install "$VIRTUAL_ENV" puts the library there,
-    which is taken unless the loader finds one elsewhere."""
+def test_an_editable_installation_uses_the_library_beside_python(installed, package, tmp_path):
+    """A change of the folder has an effect. The library is where ./install "$VIRTUAL_ENV" puts it, and is used unless
+    the system's loader finds another one."""
     edited, python = tmp_path / "edited", tmp_path / "environment/bin/python"
     shutil.copytree(package, edited)
     run(PYTHON, "-m", "venv", "--system-site-packages", tmp_path / "environment")
@@ -128,32 +129,32 @@ print(profiles.mark, _library._library._name)""")
 
 
 def pack(folder, kind, to, **variables):
-    """Packs a folder by hatchling."""
+    """Pack a folder with hatchling. Return the file."""
     run(PYTHON, "-B", "-m", "hatchling", "build", "-t", kind, "-d", to, cwd=folder, env=variables)
     (made,) = to.glob("*.whl" if kind == "wheel" else "*.tar.gz")
     return made
 
 
 @by_pip
-def test_a_wheel_and_an_archive_tell_of_the_package(package, tmp_path):
-    """With the licence of the repository, and the address that Debian's packages have."""
+def test_a_wheel_and_a_source_archive_have_metadata_and_licences(package, tmp_path):
+    """The licences are those of the repository, and the address is that of Debian's packages."""
     wheel = zipfile.ZipFile(pack(package, "wheel", tmp_path))
     archive = tarfile.open(pack(package, "sdist", tmp_path)).getnames()
     (metadata,) = [wheel.read(name).decode() for name in wheel.namelist() if name.endswith("METADATA")]
     address = re.search(r"^ -- (.*@.*>)  ", (TOP / "debian/changelog").read_text(), re.M)[1]
     assert {
-        "Name: proved-argon2", f"Author-email: {address}", "License: (MIT OR Apache-2.0) AND LicenseRef-none-named",
+        "Name: proved-argon2", f"Author-email: {address}", "License: MIT OR Apache-2.0",
         "License-File: LICENSE", "Requires-Python: >=3.8",
     } <= {*metadata.split("\n\n")[0].splitlines()}
     assert metadata.endswith((PACKAGE / "README.md").read_text())
-    for name in ("LICENSE", "NOTICE"):
+    for name in ("LICENSE", "NOTICE", "proved-argon2.spdx"):
         (kept,) = [wheel.read(file) for file in wheel.namelist() if file.endswith(f"dist-info/licenses/{name}")]
         assert kept == (TOP / name).read_bytes() and [file for file in archive if file.endswith(f"/{name}")]
 
 
 @by_pip
-def test_the_library_is_compiled_as_c_on_a_machine_that_there_is_none_for(package, tmp_path):
-    """Of the library as C, which is in an archive of the sources."""
+def test_pip_compiles_the_library_as_c_on_other_machines(package, tmp_path):
+    """The source archive contains the library as C."""
     folder = tmp_path / "package"
     shutil.copytree(package, folder)
     shutil.copytree(built_part("portable") / "portable", folder / "c")
@@ -165,13 +166,12 @@ def test_the_library_is_compiled_as_c_on_a_machine_that_there_is_none_for(packag
 
 
 @needs("mypy")
-def test_the_types_hold(tmp_path):
-    """Those of the package's own, and a program's that uses them wrongly do not."""
+def test_mypy_accepts_the_package_and_rejects_a_wrong_call(tmp_path):
     (tmp_path / "wrong.py").write_text('from proved_argon2 import PasswordHasher\nPasswordHasher().verify(1, "x")\n')
     words = "mypy", "--strict", "--cache-dir", tmp_path / "types"
     run(*words, PACKAGE / "src")
     assert start(*words, tmp_path / "wrong.py", env={"MYPYPATH": PACKAGE / "src"}).returncode == 1
 
 
-def test_the_library_is_found_where_the_loader_looks(installed, site):
+def test_the_system_s_loader_finds_the_library(installed, site):
     run(PYTHON, "-c", HASHES, env={"PYTHONPATH": site, "LD_LIBRARY_PATH": installed / "lib"})

@@ -1,5 +1,5 @@
-"""The crate for Rust: its own tests, those of the crates that it replaces, its public items, which are those of
-bindings/rust/surface.txt, and where it finds the library."""
+"""Tests of the crate for Rust: its own tests, those of the crates that it replaces, its public items (listed in
+bindings/rust/surface.txt), the code of its page, and where its build script finds the library."""
 import os
 import pathlib
 import re
@@ -15,7 +15,7 @@ CRATE, HERE = TOP / "bindings/rust", TOP / "bindings/tests"
 REGISTRY = pathlib.Path("/usr/share/cargo/registry")
 PAGE = (TOP / "docs/RUST.md").read_text()
 ITEM = re.compile(r'<a href="(enum|fn|struct|trait|type|constant|macro)\.[^"]*">([^<]*)</a>')
-# A part of an item, as rustdoc marks it. Those of traits have more in their class.
+# A part of an item, as rustdoc marks it. Parts of traits have more words in their class.
 PART = re.compile(r'id="(method|variant|structfield|associatedconstant)\.(\w+)" class="([^"]*)"')
 pytestmark = [needs("cargo"), pytest.mark.timeout(2400)]
 RUN = "cargo", "run", "--offline", "--quiet"
@@ -27,26 +27,39 @@ fn main() {
     assert_eq!(argon2::Error::deserialize(name), Ok(argon2::Error::LanesTooMany));
 }
 """
-# The page's lines of a run, with what they name: a right password, one that is stopped, and a costly text.
-TELLS = """use argon2::{Config, Error, Limits, Memory, Run, Unverified};
+# A program of the functions on the page, which makes each login with a right and a wrong password.
+OF_PAGE = """use argon2::{Config, Error as Argon2Error, Line, Peppers, Run, Unverified};
+use std::error::Error;
 use std::ops::ControlFlow;
 use std::sync::atomic::{AtomicBool, Ordering::Relaxed};
 
-fn verify(text: &str, stop: &AtomicBool) -> Result<bool, Unverified> {
-    let (pwd, secret, ad, limits) = (b"password", &[], &[], Limits::default());
 %s
-    verdict
+fn save(key_id: &str, stored: &str) {
+    assert!(key_id == "2026" && argon2::verify_encoded_ext(stored, b"password", b"new key", &[]).unwrap());
 }
 
-fn main() {
-    let text = argon2::hash_encoded(b"password", b"somesalt", &Config::owasp5()).unwrap();
-    assert_eq!(verify(&text, &AtomicBool::new(false)), Ok(true));
-    assert_eq!(verify(&text, &AtomicBool::new(true)), Err(Unverified::Refused(Error::Stopped)));
-    assert_eq!(verify(&text.replace("t=5", "t=1000"), &AtomicBool::new(true)), Err(Unverified::TooCostly));
+fn of_old_key() -> String {
+    argon2::hash_password_with(b"password", &Config { secret: b"old key", ..Config::default() }).unwrap()
+}
+
+#[tokio::main]
+async fn main() {
+    let (line, older) = (Line::new(1, 1), argon2::hash_password_with(b"password", &Config::owasp5()).unwrap());
+    assert!(matches!(log_in(&line, Some(&older), b"password").unwrap(), (true, Some(_))));
+    assert!(matches!(log_in(&line, Some(&older), b"Password").unwrap(), (false, None)));
+    assert!(matches!(log_in(&line, None, b"password").unwrap(), (false, None)));
+    assert!(verify(&line, older.clone(), b"password".to_vec()).await.unwrap());
+    assert!(!verify(&line, older.clone(), b"Password".to_vec()).await.unwrap());
+    assert_eq!(log_in_with_pepper(&mut Run::new(), Some("2025"), &of_old_key(), b"password"), Ok(true));
+    let unknown = Err(Unverified::Refused(Argon2Error::UnknownPepper));
+    assert_eq!(log_in_with_pepper(&mut Run::new(), None, &older, b"password"), unknown);
+    assert_eq!(verify_unless_stopped(&older, b"password", &AtomicBool::new(false)), Ok(true));
+    let stopped = Err(Unverified::Refused(Argon2Error::Stopped));
+    assert_eq!(verify_unless_stopped(&older, b"password", &AtomicBool::new(true)), stopped);
 }
 """
-# A program of rust-argon2, by the name of that crate. With an argument it asks for more memory than it may have, which
-# leaves the system's error number as it was.
+# A program that was written for rust-argon2, with the name of that crate. If it has an argument, it also asks for more
+# memory than it may have, which must not change the system's error number.
 PROGRAM = """extern crate argon2;
 use argon2::{Config, ThreadMode, Variant, Version};
 
@@ -86,25 +99,26 @@ fn main() -> Result<(), Box<dyn std::error::Error>> {
 
 
 def with_crate(*features):
-    """The line of a manifest that takes the crate."""
+    """The line of a manifest that names the crate as a dependency."""
     return f'argon2 = {{ package = "proved-argon2", path = "{CRATE}", features = {[*features]} }}\n'
 
 
 @pytest.fixture(scope="module")
 def cargo(built, cargo):
-    """The variables for a program whose crate finds the library by the one that names its folder."""
+    """The environment of cargo, in which PROVED_ARGON2_LIB_DIR names the folder of the library."""
     return {**cargo, "PROVED_ARGON2_LIB_DIR": built / MACHINE, "PKG_CONFIG_PATH": None}
 
 
-def test_its_own_tests_pass(cargo, drawn):
+def test_the_tests_of_the_crate_pass(cargo, drawn):
     assert "test result: ok. " in run("cargo", "test", "--offline", "--no-fail-fast", cwd=CRATE, env={**cargo, **drawn})
 
 
 @pytest.fixture(scope="module")
 def ask(cargo, tmp_path_factory):
-    """What codes.rs says of calls: each is a name, how it is made, and the numbers that are answered."""
+    """A function that makes calls over the library of codes.c, and returns what codes.rs prints. A call is its name,
+    how it is made, and the numbers that the library returns."""
     folder = tmp_path_factory.mktemp("codes")
-    run(CC, "-Wall", "-Wextra", "-Werror", "-O1", "-I", TOP / "crates/argon2_c/include", "-c", HERE / "codes.c",
+    run(CC, "-Wall", "-Wextra", "-Werror", "-O1", "-I", TOP / "bindings/c/include", "-c", HERE / "codes.c",
         "-o", folder / "codes.o")
     run("ar", "rcs", folder / "libproved_argon2.a", folder / "codes.o")
     program = project(folder / "answers", (HERE / "codes.rs").read_text())
@@ -118,28 +132,32 @@ def ask(cargo, tmp_path_factory):
     return ask
 
 
-# The values of codes.txt as Rust shows them, and the errors by their numbers.
+# The values of codes.txt as Rust prints them, and the errors by their numbers.
 SHOWN = {"tag": "Ok([120, 120, 120, 120, 120])", "text": f'Ok("{12 * "x"}")', "true": "Ok(true)", "false": "Ok(false)",
          "costly": "Err(TooCostly)", "stored": "Ok(Stored { hash_length: 5, lanes: 4, mem_cost: 64, salt_length: 6, "
                                                "time_cost: 3, variant: Argon2id, version: Version13 })"}
 ERRORS = {number: name.title().replace("_", "") for name, number in HEADER.items()
           if number in (*range(1, 64), 129, 130, 131) and re.fullmatch("[A-Z_]{3,}", name)}
+# (a string with a byte above 127 is no encoded hash, as any other that cannot be decoded)
+ERRORS[HEADER["NOT_ASCII"]] = ERRORS[HEADER["DECODING_FAIL"]]
 MOST = 0xFFFFFFFF
-# How calls are made, and what who is told answers.
+# How calls are made, and what their progress callback returns.
 HOW = {"alone": -1, "over": -1, "run": -1, "tells": 0, "stops": 1, "panics": 1}
 
 
 def outcome(codes, number):
-    """What a call gives for a number."""
+    """What a call returns if the library returns this number."""
     value, error = codes.values.get(number), ERRORS.get(number)
-    if value or not error:
-        return SHOWN[value] if value else f"the library returned {number}, which is no error"
+    if value:
+        return SHOWN[value]
+    error = error or f"Unknown({number})"
     return f"Err(Refused({error}))" if "within" in codes.name else f"Err({error})"
 
 
 def expected(codes, how, place, number):
-    """What is said of a call over a new memory, or over none: its value, and the bytes that the memory has; how many
-    threads, bytes of memory and what answer the library saw; its memories, and what it was passed."""
+    """What codes.rs prints of a call in a new buffer, or in none: its value; the size of the buffer; how many threads,
+    how large a buffer and which answer of the callback the library saw; how many buffers were allocated; and what the
+    library was passed."""
     computes = place == "then" and bool(codes.computing)
     is_over = computes and how in ("over", "stops", "panics")
     size = 65536 if is_over and number == HEADER["OUT_OF_MEMORY"] else 0
@@ -152,9 +170,9 @@ def expected(codes, how, place, number):
 
 
 @pytest.mark.parametrize("name", CODES)
-def test_a_call_gives_for_each_number_what_the_table_says(ask, name):
-    """It passes what it is given in its place, is made once more over a memory that it was told is too small, and
-    leaves none where it had none. Who is told is told once, and stops it."""
+def test_each_call_returns_for_each_number_what_the_table_says(ask, name):
+    """It passes its arguments in order. If the library says that the buffer is too small, the call is made again in a
+    larger one. The progress callback is called once, and can stop the call."""
     codes = CODES[name]
     cases = [(how, place, number) for how in (HOW if codes.computing else ["alone"])
              for place in codes.places for number in (NUMBERS if place == "then" or not codes.hashes else NUMBERS[1:])]
@@ -164,9 +182,9 @@ def test_a_call_gives_for_each_number_what_the_table_says(ask, name):
 
 
 @pytest.mark.parametrize("name", [name for name, codes in CODES.items() if codes.computing])
-def test_a_memory_is_kept_and_given_back(ask, name):
-    """It is asked for where a call needs more, once the older one is given back whole. Where it is refused there is
-    none, and the next call asks anew."""
+def test_a_buffer_is_reused_and_replaced_by_a_larger_one(ask, name):
+    """The old buffer is freed before the larger one is allocated. If that is denied there is none, and the next call
+    allocates one."""
     answers = {"then": HEADER["OUT_OF_MEMORY"]}
     said = ask([*((name, "over", {**answers, "memory": refused, "kib": kib}) for _, kib, refused, _ in MEMORIES),
                 ("new_memory", "", {}), ("limits", "", {})])
@@ -176,42 +194,55 @@ def test_a_memory_is_kept_and_given_back(ask, name):
     assert {line[0] for line in found[:-2]} == {outcome(CODES[name], HEADER["OUT_OF_MEMORY"])}
 
 
-def test_other_calls_pass_what_they_are_given_in_its_place(ask):
+def test_other_calls_pass_their_arguments_in_order(ask):
     length, limits = ask([("encoded_len", "", {}), ("limits", "", {})])
     assert length.startswith("12|") and length.endswith("|length 0 19 64 3 4 5 9|")
     assert limits.startswith("Limits { mem_cost: 7, time_cost: 8, lanes: 9, work: 10 }|")
 
 
-# The crates of a program, which are Debian's, and flags of the compiler. Of the first the linker wraps the call for a
-# memory; the next is a service over RustCrypto's argon2, of which the manifest alone names another package.
+@pytest.mark.parametrize("how", ["alone", "over"])
+def test_a_login_of_an_unknown_user_computes_one_hash_with_the_settings_and_never_matches(ask, how):
+    """With as many threads as lanes, as a verification has, although the settings say that three hash."""
+    numbers = [0, HEADER["OUT_OF_MEMORY"], HEADER["OLD_PROCESSOR"]]
+    said = ask(("verify_unknown", how, {"then": number}) for number in numbers)
+    found = [(line.split("|")[0], line.split("|")[2], line.split("|")[-1]) for line in said]
+    assert found == [(verdict, "4", "raw word  key data 2 19 64 3 4 5") for verdict in (
+        "Ok(false)", "Err(OutOfMemory)", "Err(OldProcessor)")]
+
+
+# The crates of a program, which are Debian's, and flags of the compiler. For the first the linker wraps the calls that
+# allocate a buffer and start a thread. The next is a service for RustCrypto's argon2: only its manifest names another
+# package.
+TOKIO = 'tokio = { version = "1", features = ["rt-multi-thread", "macros", "time"] }'
 PROGRAMS = {
-    "memory": (with_crate(), "-Clink-arg=-Wl,--wrap=proved_argon2_memory_new"),
+    "memory": (with_crate(), "-Clink-arg=-Wl,--wrap=proved_argon2_memory_new,--wrap=pthread_create"),
     "traits": (with_crate("password-hash"), ""),
     "serde": (with_crate("serde") + 'serde = "1"', ""),
-    "page": (with_crate(), ""),
-    "tokio": (with_crate() + 'tokio = { version = "1", features = ["rt-multi-thread", "macros", "time"] }', ""),
+    "page": (with_crate() + TOKIO, ""),
+    "tokio": (with_crate() + TOKIO, ""),
 }
 
 
 def needs_crate(name):
-    """Skips a test where a crate of Debian is not there."""
+    """Skips a test if a crate of Debian is not installed."""
     if not [*REGISTRY.glob(f"{name}-[0-9]*")]:
         pytest.skip(f"there is no librust-{name}-dev")
 
 
 @pytest.mark.parametrize("name", PROGRAMS)
-def test_a_program_ends_well(cargo, tmp_path, name):
-    if name == "tokio":
-        needs_crate(name)
+def test_a_program_succeeds(cargo, tmp_path, name):
     crates, flags = PROGRAMS[name]
-    page = [TELLS % lines for lines in re.findall(r"^```rust\n(.*?)^```", PAGE, re.M | re.S) if "Run::new" in lines]
-    main = {"serde": SERDE, "page": page[0]}.get(name) or (HERE / f"{name}.rs").read_text()
+    if TOKIO in crates:
+        needs_crate("tokio")
+    functions = re.findall(r"^```rust\n(.*?)^```", PAGE, re.M | re.S)[1:]
+    assert len(functions) == 4
+    main = {"serde": SERDE, "page": OF_PAGE % "\n".join(functions)}.get(name) or (HERE / f"{name}.rs").read_text()
     folder = project(tmp_path / f"of_{name}", main, crates)
     run(*RUN, cwd=folder, env={**cargo, "RUSTFLAGS": f"{os.environ.get('RUSTFLAGS', '')} {flags}"})
 
 
-def test_a_program_over_the_traits_of_0_6_ends_well(cargo, tmp_path):
-    """By crates of Debian's next release alone: those of this one are too old for them."""
+def test_a_program_with_the_traits_of_password_hash_0_6_succeeds(cargo, tmp_path):
+    """It needs crates of Debian's next release: those of this one are too old."""
     names = "password-hash", "phc", "base64ct", "ctutils", "cmov", "getrandom", "cfg-if", "libc"
     are_fetched = all(fetch("fetch_package", f"librust-{name}-dev", tmp_path) for name in names)
     texts = [file.read_text() for file in tmp_path.glob("usr/share/cargo/registry/*/Cargo.toml")]
@@ -227,7 +258,7 @@ def test_a_program_over_the_traits_of_0_6_ends_well(cargo, tmp_path):
 
 
 def test_the_tests_of_rust_argon2_pass(cargo, tmp_path):
-    """Of Debian's package, unchanged."""
+    """Those of Debian's package, unchanged."""
     needs_crate("rust-argon2")
     folder = project(tmp_path / "theirs", "", f'{with_crate("crossbeam-utils")}hex = "0.4"', "lib.rs",
                      '[features]\ndefault = ["crossbeam-utils"]\ncrossbeam-utils = []\n')
@@ -239,10 +270,10 @@ def test_the_tests_of_rust_argon2_pass(cargo, tmp_path):
 
 
 def test_the_page_has_the_arguments_of_the_calls():
-    """In their order. Those over a memory share a row: each takes it first, and then what the call without `_in` does,
-    with a secret."""
+    """In order. The calls in a buffer share a row: each takes the buffer first, and then the arguments of the call
+    without `_in`, with a secret."""
     same = {"text": "encoded", "mem": "mem_cost", "time": "time_cost", "lanes": "parallelism"}
-    code = "".join(file.read_text() for file in CRATE.glob("src/*.rs") if file.name != "face.rs")
+    code = "".join(file.read_text() for file in CRATE.glob("src/*.rs") if file.name != "ffi.rs")
     calls = re.findall(r"^pub fn (\w+)(?:<'\w+>)?\(([^)]*)\)", code, re.M)
     taken = {name: re.findall(r"(\w+):", arguments) for name, arguments in calls}
     rows = re.findall(r"^\| `(\w+)\(([^).]*)\)` \|", PAGE, re.M)
@@ -250,7 +281,7 @@ def test_the_page_has_the_arguments_of_the_calls():
     (shared,) = re.findall(r"^\| (`\w+_in\(&mut memory, \.\.\)`.*?) \|", PAGE, re.M)
     for name in re.findall(r"(\w+)_in\b", shared):
         documented[f"{name}_in"] = ["memory", *documented.get(f"{name}_ext", documented[name])]
-    assert documented == taken and len(taken) == 19
+    assert documented == taken and len(taken) == 20
 
 
 def test_the_manifest_says_what_the_page_does_and_has_the_address_of_debian_s_packages():
@@ -258,19 +289,19 @@ def test_the_manifest_says_what_the_page_does_and_has_the_address_of_debian_s_pa
     (oldest,) = re.findall(r"is for Rust ([\d.]*) and later", PAGE)
     address = re.search(r"^ -- (.*@.*>)  ", (TOP / "debian/changelog").read_text(), re.M)[1]
     assert {f'rust-version = "{oldest}"', f'authors = ["{address}"]', "crossbeam-utils = []",
-            'license = "(MIT OR Apache-2.0) AND LicenseRef-none-named"'} <= {*lines}
+            'license = "MIT OR Apache-2.0"'} <= {*lines}
 
 
-def test_unsafe_code_stands_in_one_module_and_each_block_is_explained():
+def test_unsafe_code_is_only_in_the_module_ffi_and_each_block_is_explained():
     files = [*CRATE.glob("src/**/*.rs"), *CRATE.glob("tests/*.rs"), CRATE / "build.rs"]
-    face = [CRATE / "src/face.rs", *CRATE.glob("src/face/*.rs")]
-    assert {file for file in files if "unsafe" in file.read_text()} <= {*face, CRATE / "src/lib.rs"}
-    lines = "".join(file.read_text() for file in face).splitlines()
+    calls_of_c = [CRATE / "src/ffi.rs", *CRATE.glob("src/ffi/*.rs")]
+    assert {file for file in files if "unsafe" in file.read_text()} <= {*calls_of_c, CRATE / "src/lib.rs"}
+    lines = "".join(file.read_text() for file in calls_of_c).splitlines()
     blocks = [at for at, line in enumerate(lines) if "unsafe {" in line]
     assert blocks and all("SAFETY:" in "".join(lines[at - 2:at]) for at in blocks)
 
 
-def test_clippy_and_rustdoc_find_nothing(cargo):
+def test_clippy_and_rustdoc_report_nothing(cargo):
     if start("cargo", "clippy", "--version").returncode:
         pytest.skip("there is no clippy")
     (CRATE / "src/lib.rs").touch()
@@ -280,13 +311,13 @@ def test_clippy_and_rustdoc_find_nothing(cargo):
 
 
 def listed(kind, names):
-    """A line, or a few."""
+    """A line of surface.txt, wrapped."""
     return textwrap.fill(f"{kind}: {' '.join(names)}", 120, subsequent_indent=" " * 4)
 
 
 def surface_in(folder):
-    """The public items of each kind, and the parts that each item has, but presets: newer versions of rustdoc show
-    those of an alias too."""
+    """The public items of each kind, and the parts of each item. Presets are left out: newer versions of rustdoc also
+    show those of an alias."""
     items, parts = {}, {"Config, method": set()}
     for kind, name in ITEM.findall((folder / "all.html").read_text()):
         items.setdefault(kind, []).append(name)
@@ -308,8 +339,8 @@ def test_the_public_items_are_those_of_the_list(built, cargo, tmp_path):
     assert "\n".join([*found, ""]) == (CRATE / "surface.txt").read_text()
 
 
-def test_the_oldest_rust_is_that_of_debian_12_which_compiles_all_features(built, cargo, tmp_path):
-    """In CI, which is Debian 12."""
+def test_the_rust_of_debian_12_is_the_oldest_and_compiles_all_features(built, cargo, tmp_path):
+    """It runs in CI, which is Debian 12."""
     compiler = pathlib.Path("/usr/bin/rustc")
     if not compiler.exists() or "bookworm" not in pathlib.Path("/etc/os-release").read_text():
         pytest.skip("there is no rustc of Debian 12")
@@ -319,7 +350,7 @@ def test_the_oldest_rust_is_that_of_debian_12_which_compiles_all_features(built,
         **cargo, "CARGO_TARGET_DIR": tmp_path, "RUSTC": compiler})
 
 
-# ---- a program that depends on a copy of the crate, which has no repository around it
+# ---- a program that depends on a copy of the crate outside of a repository
 
 
 @pytest.fixture(scope="module")
@@ -331,18 +362,18 @@ def program(tmp_path_factory):
     return project(folder / "program", PROGRAM, 'argon2 = { package = "proved-argon2", path = "../copy" }')
 
 
-def test_the_crate_alone_passes_its_own_tests(cargo, program):
+def test_a_copy_of_the_crate_passes_its_own_tests(cargo, program):
     run("cargo", "test", "--offline", "--quiet", cwd=program.parent / "copy", env=cargo)
 
 
-def test_settings_are_refused_first_and_then_memory_is(cargo, program):
+def test_settings_are_checked_before_memory_is_allocated(cargo, program):
     """With 1 GB of memory and a hash of 4 GiB."""
     run(*RUN, cwd=program, env=cargo)
     made = cargo["CARGO_TARGET_DIR"] / "debug/program"
     run(made, "long", preexec_fn=lambda: resource.setrlimit(resource.RLIMIT_AS, (1 << 30, 1 << 30)))
 
 
-def test_the_library_is_where_pkg_config_says(built, cargo, program, tmp_path):
+def test_the_build_script_finds_the_library_by_pkg_config(built, cargo, program, tmp_path):
     (tmp_path / "proved_argon2.pc").write_text(
         f"libdir={built / MACHINE}\nName: proved_argon2\nDescription: x\nVersion: 1\n")
     run(*RUN, cwd=program, env={**cargo, "PROVED_ARGON2_LIB_DIR": None, "PKG_CONFIG_PATH": tmp_path})
@@ -351,7 +382,7 @@ def test_the_library_is_where_pkg_config_says(built, cargo, program, tmp_path):
 @pytest.mark.parametrize("folder, why", [
     (None, "run ./install"), ("/nowhere", "PROVED_ARGON2_LIB_DIR is /nowhere, which has no libproved_argon2.a"),
 ])
-def test_it_says_where_there_is_no_library(cargo, program, folder, why):
+def test_the_build_script_says_why_it_finds_no_library(cargo, program, folder, why):
     refuses(101, why, *RUN, cwd=program,
             env={**cargo, "PROVED_ARGON2_LIB_DIR": folder, "PKG_CONFIG_LIBDIR": "/nowhere"})
 
@@ -364,14 +395,16 @@ NAMES = "TARGET", *(f"CARGO_CFG_TARGET_{name}" for name in ("ARCH", "OS", "ENV",
 
 
 class Repository:
-    """One with the build script of this crate, a build and a release, which is of the sources where that is said."""
+    """A repository with the build script of this crate, a build and a release, which `is_current` or of other
+    sources."""
 
     def __init__(self, folder, is_current):
         self.folder, self.released = folder, folder / "release/x86_64"
         for name in ("bindings/rust", "bindings/out/x86_64", "release/x86_64", "build"):
             (folder / name).mkdir(parents=True)
-        (folder / "build/released").write_text(f"#!/bin/sh\necho it is of other sources >&2\nexit {not is_current:d}\n")
-        (folder / "build/released").chmod(0o755)
+        (folder / "build/check_release").write_text(
+            f"#!/bin/sh\necho it is of other sources >&2\nexit {not is_current:d}\n")
+        (folder / "build/check_release").chmod(0o755)
         for name in ("bindings/out/x86_64", "release/x86_64"):
             (folder / name / "libproved_argon2.a").touch()
         run("rustc", CRATE / "build.rs", "-o", folder / "script", env={"CARGO_MANIFEST_DIR": folder / "bindings/rust"})
@@ -390,7 +423,7 @@ class Repository:
         refuses(1, why, self.folder / "script", env=self.variables(target, **named))
 
     def has_sources(self):
-        """The library as C."""
+        """Adds the library as C."""
         shutil.copytree(built_part("portable") / "portable", self.folder / "release/portable")
 
 
@@ -416,13 +449,13 @@ i686-unknown-linux-gnu x86 linux gnu 32
 aarch64_be-unknown-linux-gnu aarch64 linux gnu 64 big
 riscv64gc-unknown-linux-gnu riscv64 linux gnu 64
 x86_64-pc-windows-gnu x86_64 windows gnu 64""".splitlines())
-def test_it_stops_for_a_target_that_nothing_is_built_for(current, target):
+def test_the_build_script_stops_for_a_target_without_a_library(current, target):
     name = target.split()[0]
     what = "libproved_argon2.a" if target == WINDOWS or "riscv64" in name else "archive"
     current.refuses(f"there is no {what} for {name}", target)
 
 
-def test_it_takes_what_release_has_for_the_target_where_it_is_of_the_sources(tmp_path, other):
+def test_the_build_script_uses_release_only_if_it_is_of_these_sources(tmp_path, other):
     repository = Repository(tmp_path / "current", True)
     for env in ("gnu", "musl"):
         repository.links(TARGET.replace("gnu", env), repository.released)
@@ -434,8 +467,8 @@ def test_it_takes_what_release_has_for_the_target_where_it_is_of_the_sources(tmp
 
 
 @needs("aarch64-linux-gnu-gcc")
-def test_it_compiles_the_library_as_c_for_a_target_that_has_no_archive(tmp_path, other):
-    """By the compiler that is named."""
+def test_the_build_script_compiles_the_library_as_c_for_a_target_without_an_archive(tmp_path, other):
+    """With the compiler that CC names."""
     repository, made = Repository(tmp_path / "current", True), tmp_path / "made"
     made.mkdir()
     for one in (repository, other):
@@ -449,7 +482,7 @@ def test_it_compiles_the_library_as_c_for_a_target_that_has_no_archive(tmp_path,
     other.refuses("it is of other sources", old)
 
 
-def test_it_takes_no_installation_for_another_machine(built, other, tmp_path):
+def test_the_build_script_uses_no_installation_for_another_machine(built, other, tmp_path):
     shutil.rmtree(other.folder / "release")
     (tmp_path / "proved_argon2.pc").write_text(f"libdir={built / MACHINE}\nName: x\nDescription: x\nVersion: 1\n")
     target = "aarch64-unknown-linux-gnu"

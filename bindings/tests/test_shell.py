@@ -29,7 +29,7 @@ from commands import (  # noqa: F401
     piped,
     verifies,
 )
-from running import PROVED, VERSION
+from running import MACHINE, VERSION
 
 SHELL = ROOT / "bindings/shell"
 TUNINGS = [line.split() for line in (ROOT / "bindings/tests/tunings.txt").read_text().splitlines() if line[0] != "#"]
@@ -81,19 +81,17 @@ def test_a_full_output_has_status_4(words):
 
 
 @pytest.fixture
-def for_newer_glibc(tmp_path):
+def for_newer_glibc(built, tmp_path):
     """The command of copies of the script and the tool, which ask for a version of glibc that there is not."""
     libexec = tmp_path / "libexec/proved-argon2"
     (tmp_path / "bin").mkdir()
     script = tmp_path / "bin/proved-argon2"
     script.write_text((SHELL / "proved-argon2").read_text().replace("@VERSION@", VERSION))
-    with open(TOOL, "rb") as tool:
-        code = tool.read()
-    assert code.count(b"GLIBC_2.34\0") == 1
-    for cpu in PROVED:
-        (libexec / cpu).mkdir(parents=True)
-        (libexec / cpu / "argon2_tool").write_bytes(code.replace(b"GLIBC_2.34\0", b"GLIBC_9.34\0"))
-        (libexec / cpu / "argon2_tool").chmod(0o755)
+    code = (built / MACHINE / "argon2_tool").read_bytes()
+    assert b"\0GLIBC_2.34\0" in code
+    (libexec / MACHINE).mkdir(parents=True)
+    (libexec / MACHINE / "argon2_tool").write_bytes(code.replace(b"GLIBC_2.34\0", b"GLIBC_9.34\0"))
+    (libexec / MACHINE / "argon2_tool").chmod(0o755)
     for name in ("commands.sh", "help.txt"):
         shutil.copy(SHELL / name, libexec / name)
     return ["sh", script]

@@ -21,7 +21,7 @@ pytestmark = needs("node", "wasm2wat")
 @pytest.fixture(scope="module")
 def modules():
     """The folder with both, as they are built here."""
-    run("build/all", "wasm32", timeout=4800)
+    run("build/make", "wasm32", timeout=4800)
     return TOP / "bindings/out/wasm32"
 
 

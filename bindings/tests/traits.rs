@@ -1,5 +1,5 @@
-//! A service over RustCrypto's `argon2` 0.5, of which no line is another: only the manifest names another package. Its
-//! strings are those of libargon2. What differs is in the function `differs`.
+//! A service that was written for RustCrypto's `argon2` 0.5. Only its manifest names another package. Its encoded
+//! hashes are those of libargon2. The function `differs` has what differs from RustCrypto's crate.
 #![allow(clippy::clone_on_copy)] // RustCrypto's are not `Copy`
 
 use argon2::{
@@ -59,7 +59,7 @@ fn rejects_what_is_wrong() {
     }
 }
 
-/// The rows of the page's table.
+/// What docs/RUST.md lists as different.
 fn differs() {
     let costly = Argon2::from(Params::new(8, 1000, 1, None).unwrap());
     let stored = costly.hash_password(b"password", &SaltString::generate(&mut OsRng)).unwrap().to_string();

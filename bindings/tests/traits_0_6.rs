@@ -1,5 +1,5 @@
-//! A service over RustCrypto's `argon2` 0.6, of which only the lines with a `Config` are others. Its strings are
-//! those of libargon2.
+//! A service that was written for RustCrypto's `argon2` 0.6. Only the lines with a `Config` are different. Its encoded
+//! hashes are those of libargon2.
 
 use argon2::{
     password_hash::{Error, Result},

@@ -1,0 +1,337 @@
+"""Makes the packages, here and elsewhere as somebody else, and looks into each. From each alone, without the kit and
+this repository, the first lines of the pages run (debian/tests), and once it is removed nothing is left. Fresh systems
+of other years install, and change to libargon2's place and back."""
+
+import os
+import re
+import shutil
+import tempfile
+from pathlib import Path
+
+import pytest
+from machines import machines
+from running import CRATES_OF_DEBIAN, TOP, VERSION, first_lines, in_namespace, needs, project, run, start
+
+PROJECT = dict(re.findall(r'^(\w+): (.+)$', (TOP / 'PROJECT').read_text(encoding='utf-8'), re.M))
+DEBS = {  # what each asks for, and the page that it has beside those of all
+    'libproved-argon2-1': ('libc6 (>= 2.34)', ''), 'proved-argon2': ('libc6 (>= 2.34)', 'docs/SHELL.md'),
+    'libproved-argon2-dev': (f'libproved-argon2-1 (= {VERSION}-1)', 'docs/C.md'),
+    'proved-libargon2-1': ('libc6 (>= 2.34)', 'docs/LIBARGON2.md'),
+    'proved-libargon2-dev': (f'proved-libargon2-1 (= {VERSION}-1), libc6-dev', 'docs/LIBARGON2.md'),
+}
+ASKS = {f'{name}_{VERSION}-1_{of}.deb': what for name, what in DEBS.items() for of in ('amd64', 'arm64')}
+ASKS[f'python3-proved-argon2_{VERSION}-1_all.deb'] = (
+    f'python3:any, libproved-argon2-1 (= {VERSION}-1)', 'docs/PYTHON.md')
+# What a package tells dpkg or has it run as root, beside the files `control` and `md5sums`: the lines, or the script
+# that dh_python3 makes of this text of Debian's.
+TOLD = {
+    'libproved-argon2-1': {'shlibs': f'libproved_argon2 1 libproved-argon2-1 (>= {VERSION})'},
+    'proved-libargon2-1': {'shlibs': 'libargon2 1 libargon2-1 (>= 0~20171227)'},
+    'python3-proved-argon2': {name: Path(f'/usr/share/debhelper/autoscripts/{name}-{text}')
+                              for name, text in (('postinst', 'py3compile'), ('prerm', 'py3clean'))}}
+SYMBOLS = re.compile(r'(libproved_argon2|libargon2)\.so\.1 [\w-]+ #MINVER#\n(\* Build-Depends-Package: [\w-]+\n)?'
+                     r'( \w+@\w+ [\d.~]+\n)+')
+WHEELS = [f'proved_argon2-{VERSION}-py3-none-manylinux_2_34_{of}.whl'
+          for of in ('x86_64.musllinux_1_2_x86_64', 'aarch64')]
+TARBALLS = [f'proved-argon2-{VERSION}-{machine}.tar.gz' for machine in machines()]
+CRATE, NPM, JAR = (f'proved-argon2-{VERSION}.{end}' for end in ('crate', 'tgz', 'jar'))
+GO = f'proved-argon2-go-{VERSION}.zip'
+NAMES = [*ASKS, *WHEELS, *TARBALLS, CRATE, NPM, GO, JAR]
+PAPERS = {CRATE: f'proved-argon2-{VERSION}', NPM: 'package', GO: f'*/*/argon2@v{VERSION}', JAR: 'META-INF',
+          **dict.fromkeys(WHEELS, '*.dist-info/licenses'),
+          **dict.fromkeys(TARBALLS, 'usr/local/share/doc/proved-argon2')}
+ZIPS = '.whl', '.zip', '.jar'
+LISTS = {'.deb': ['dpkg-deb', '-c'], **dict.fromkeys(ZIPS, ['zipinfo'])}
+UNPACKS = {'.deb': 'dpkg-deb -x {} {}', **dict.fromkeys(ZIPS, 'unzip -q {} -d {}')}
+ENTRY = re.compile(r'^([-dl])([-rwxst]{9}) +(\S+) .*? (?:\./)?([^ ]+?)(?: -> .*)?$', re.M)
+PROGRAMS = re.compile(r'(^|/)(bin/(proved-)?argon2|argon2_tool|share/proved-argon2/uninstall)$')
+OF_ALL = ['README.md', 'SECURITY.md', 'docs/CLAIMS.md', 'docs/USE.md']
+pytestmark = [pytest.mark.timeout(2400),
+              pytest.mark.skipif(os.geteuid() != 0, reason='that takes root, and namespaces')]
+
+
+def read(file):
+    return Path(file).read_text(encoding='utf-8')
+
+
+def copy_tree(folder):
+    """What a user has of the repository, without what was built."""
+    return shutil.copytree(TOP, folder, symlinks=True, ignore=shutil.ignore_patterns('out', 'target', '.git'))
+
+
+@pytest.fixture(scope='session')
+def packages(tmp_path_factory):
+    folder = tmp_path_factory.mktemp('packages')
+    run('bash', '-c', f'umask 0 && ./package --to {folder} && cd {folder} && sha256sum --quiet -c SHA256SUMS')
+    assert {file.name for file in folder.iterdir()} == {*NAMES, 'SHA256SUMS'} and len(NAMES) == 19
+    return folder
+
+
+@pytest.fixture(scope='session')
+def unpacked(packages, tmp_path_factory):
+    """A folder for each package, by its name, with what it has."""
+    folder = tmp_path_factory.mktemp('unpacked')
+    for name in NAMES:
+        (folder / name).mkdir()
+        run(*UNPACKS.get(Path(name).suffix, 'tar -xf {} -C {}').format(packages / name, folder / name).split())
+    return folder
+
+
+# ---- what is made
+
+@pytest.fixture
+def there():
+    """A folder that others reach, as they do not those of pytest."""
+    with tempfile.TemporaryDirectory() as folder:
+        yield Path(folder)
+
+
+def test_elsewhere_by_somebody_else_they_are_the_same_bytes(packages, there):
+    """In another folder, by another user with another umask, clock, zone and language, and one processor."""
+    tree, home = copy_tree(there / 'tree'), there / 'home'
+    run('bash', '-c', f'install -d -m 777 {home} && chmod -R a+rX {there}')
+    late = ['faketime', '-f', '+40d'] if shutil.which('faketime') else []
+    run('bash', '-c', 'umask 077 && cd / && "$@"', 'bash', 'taskset', '-c', '0', 'setpriv', '--reuid=65534',
+        '--regid=65534', '--clear-groups', 'env', f'HOME={home}', f'TMPDIR={home}', 'TZ=Asia/Tokyo',
+        'LC_ALL=C.UTF-8', *late, tree / 'package', '--to', home / 'made')
+    assert read(home / 'made/SHA256SUMS') == read(packages / 'SHA256SUMS')
+
+
+@needs('lintian')
+def test_lintian_finds_nothing(packages):
+    run('lintian', '--allow-root', '--pedantic', '--fail-on', 'error,warning,info,pedantic',
+        *(packages / name for name in ASKS))
+
+
+# ---- what is in them
+
+@pytest.mark.parametrize('name', NAMES)
+def test_all_is_of_root_and_has_its_mode(packages, name):
+    """No archive has an entry for a folder that is not ours, which would change that of the system."""
+    found = ENTRY.findall(run(*LISTS.get(Path(name).suffix, ['tar', '-tvf']), packages / name))
+    wrong = [(mode, owner, path) for kind, mode, owner, path in found if owner not in ('root/root', '0/0', '2.0')
+             or mode != ('rwxrwxrwx' if kind == 'l' else
+                         'rwxr-xr-x' if kind == 'd' or PROGRAMS.search(path) else 'rw-r--r--')
+             or name[-4:] != '.deb' and (path.startswith(('/', '..')) or kind == 'd' and 'proved-argon2' not in path)]
+    assert len(found) > 10 and not wrong
+
+
+@pytest.mark.parametrize('machine', machines())
+@pytest.mark.parametrize('file, count', [
+    ('libproved_argon2.a', 4), (f'libproved_argon2.so.{VERSION}', 3), ('libargon2.a', 2), ('libargon2.so.1', 2),
+    ('argon2', 1), ('proved_argon2.node', 1)])
+def test_what_is_released_is_packed_to_the_byte(unpacked, machine, file, count):
+    content = (TOP / 'release' / machine / file).read_bytes()
+    assert count == sum(path.read_bytes() == content for path in unpacked.rglob('*')
+                        if path.is_file() and not path.is_symlink() and path.stat().st_size == len(content))
+
+
+def words(text):
+    """The words of both licences, without how they are set: what stands behind the titles."""
+    return [word for line in re.split(r'(?m)^(?:=== MIT|License: MIT$)', text, 1)[1].splitlines()[1:]
+            if not re.match('===|License:', line) for word in re.split('[ .]+', line) if word]
+
+
+@pytest.mark.parametrize('name', NAMES)
+def test_each_has_both_licences_and_the_pages_of_its_users(unpacked, name):
+    papers, = (unpacked / name).glob(PAPERS.get(name, 'usr/share/doc/*'))
+    if name in ASKS:
+        assert words(read(papers / 'copyright')) == words(read(TOP / 'LICENSE'))
+    else:
+        assert read(papers / 'LICENSE') == read(TOP / 'LICENSE')
+    for page in ('NOTICE', 'proved-argon2.spdx'):
+        assert read(papers / page) == read(TOP / page)
+    own = ASKS[name][1].split() if name in ASKS else ['docs/C.md', 'docs/LIBARGON2.md', 'docs/SHELL.md']
+    for page in [] if name in (CRATE, NPM, GO, JAR, *WHEELS) else [*OF_ALL, *own]:
+        kept, ours = (re.sub(r'\]\([^)]*\)', ']', read(at / page)) for at in (papers, TOP))
+        assert kept == ours, page
+    pages = [page for form in ('*.md', 'METADATA') for page in (unpacked / name).rglob(form)]
+    assert pages and not [f'{page}: {link}' for page in pages for link in re.findall(
+        r'\]\(([^]):# ]+)[)#]', read(page)) if not (page.parent / link).exists()]
+
+
+@pytest.mark.parametrize('name', ASKS)
+def test_the_copyright_names_one_licence_for_all_files(unpacked, name):
+    parts = re.findall(r'^Files: ((?:.+\n)+)', read(next((unpacked / name).glob('usr/share/doc/*/copyright'))), re.M)
+    assert [part.split('\n')[0] for part in parts] == ['*']
+    assert 'Martijn Rijkeboer' in parts[0] and 'License: MIT or Apache-2.0\n' in parts[0]
+
+
+@pytest.mark.parametrize('name', ASKS)
+def test_a_package_for_debian_asks_for_what_it_needs_alone(packages, unpacked, name):
+    fields = run('dpkg-deb', '-f', packages / name, 'Architecture', 'Maintainer', 'Homepage', 'Depends',
+                 'Recommends', 'Suggests')
+    assert sorted(fields.splitlines()) == [
+        f'Architecture: {name[:-4].rpartition("_")[2]}', f'Depends: {ASKS[name][0]}', f'Homepage: {PROJECT["Address"]}',
+        f'Maintainer: {PROJECT["Publisher"]} <{PROJECT["Contact"]}>']
+    needed = start('find', unpacked / name / 'usr', '-type', 'f', '-exec', 'readelf', '-VW', '{}', '+').stdout
+    newest = max(([*map(int, found.split('.'))] for found in re.findall(r'GLIBC_([\d.]+)', needed)), default=0)
+    assert newest == ([2, 34] if 'libc6 (' in ASKS[name][0] else 0)
+
+
+def lines_of(text):
+    """Without comments and empty lines."""
+    return [line.strip() for line in text.splitlines() if line.strip() and not line.startswith('#')]
+
+
+@pytest.mark.parametrize('name', ASKS)
+def test_a_package_for_debian_tells_dpkg_and_runs_as_root_nothing_else(packages, tmp_path, name):
+    package = name.partition('_')[0]
+    run('dpkg-deb', '--control', packages / name, tmp_path)
+    told = {file.name: read(file) for file in tmp_path.iterdir() if file.name not in {'control', 'md5sums'}}
+    expected = {file: what if isinstance(what, str) else f"set -e\n{read(what).replace('#PACKAGE#', package)}"
+                for file, what in TOLD.get(package, {}).items()}
+    if 'shlibs' in expected:
+        assert SYMBOLS.fullmatch(told.pop('symbols'))
+        assert lines_of(told.pop('triggers')) == ['activate-noawait ldconfig']
+    assert {file: lines_of(text) for file, text in told.items()} == {
+        file: lines_of(text.replace('#ARGS#', '')) for file, text in expected.items()}
+
+
+# ---- where neither the kit nor the repository can be seen
+
+# Over a copy of this system that is gone afterwards.
+ALONE = '''
+mount -t tmpfs none "$1" && mkdir "$1"/{new,work,all,hidden} && all=$1/all
+mount -t overlay overlay -o "lowerdir=/,upperdir=$1/new,workdir=$1/work" "$all"
+cp -r "$2" "$all/packages"
+for hidden in /opt/rattle "$3"; do [[ ! -d $hidden ]] || mount --bind "$1/hidden" "$all$hidden"; done
+mount --rbind /dev "$all/dev" && mount -t proc proc "$all/proc"
+exec chroot "$all" env -i HOME=/root PATH=/usr/local/bin:/usr/sbin:/usr/bin:/sbin:/bin bash -Eeuo pipefail -c "$4"'''
+# Nothing may be there in the end that was not, and nothing be gone, but for what the system notes for itself.
+BEFORE = '''
+trap 'echo "status $?: $BASH_COMMAND" >&2' ERR
+cd /packages; scratch=$(mktemp -d)
+[[ ! -e /opt/rattle/bin && ! $(command -v rt) && $(ldconfig -p) != *proved_argon2* ]]
+installed_of() { dpkg-query -W -f '${Package}\\n' "$@" 2>/dev/null || true; }
+all_files() {
+    { find / -maxdepth 1; find /etc /home /opt /root /srv /usr /var -xdev -ignore_readdir_race; } \\
+        | grep -vE '^/(root/\\.c|var/(log|cache)/|var/lib/dpkg/.*-old$)' | sort
+}
+all_files >/tmp/before
+leaves_nothing() { diff /tmp/before <(all_files); }
+'''
+NEEDS = {'crate': ['cargo'], 'go': ['go', 'unzip'], 'javascript': ['npm', 'node'], 'java': ['java'],
+         'libargon2': ['php', '/usr/sbin/cryptsetup']}
+FROM = {
+    'tarball': '''tar -C / -xzf *-x86_64.tar.gz; ldconfig
+        debian/tests/command; debian/tests/library; /usr/local/share/proved-argon2/uninstall; leaves_nothing''',
+    'debian': '''dpkg -i lib*_amd64.deb proved-argon2_*_amd64.deb *_all.deb
+        [[ -z $(dpkg --verify libproved-argon2-1 libproved-argon2-dev proved-argon2 python3-proved-argon2) ]]
+        debian/tests/command; debian/tests/library; debian/tests/python
+        dpkg -i --force-confnew lib*_amd64.deb proved-argon2_*_amd64.deb *_all.deb; debian/tests/command
+        installed_of '*proved-argon2*' | xargs dpkg --purge; [[ -z $(installed_of '*proved-argon2*') ]]
+        leaves_nothing''',
+    'wheel': '''/usr/bin/python3 -m venv "$scratch/venv"; in=$scratch/venv/bin
+        find "$scratch/venv" | sort >"$scratch/before"
+        "$in/pip" install --no-index --no-compile --disable-pip-version-check *_x86_64.whl
+        export PYTHON=$in/python PYTHONDONTWRITEBYTECODE=1
+        debian/tests/python; PROVED_ARGON2_CPU=x86-64-v2 debian/tests/python; "$in/pip" uninstall -y proved-argon2
+        diff "$scratch/before" <(find "$scratch/venv" | sort)''',
+    'crate': '''tar -xzf *.crate; cd rust; cargo run --offline --quiet
+        cargo run --offline --quiet --features optional
+        PROVED_ARGON2_CPU=x86-64-v2 cargo run --offline --quiet
+        rm ../proved-argon2-*/lib/x86_64/libproved_argon2.a; cargo clean -q
+        if cargo run --offline --quiet 2>said; then exit 1; fi; grep 'the crate is not whole' said''',
+    'go': '''unzip -q ./*.zip; cd go; export GOFLAGS=-mod=mod GOPROXY=off HOME=$scratch
+        [[ $(go run .) == $'true <nil>\\nfalse <nil>' && $(PROVED_ARGON2_CPU=x86-64-v2 go run .) == true* ]]
+        rm ../*/*/argon2@*/internal/native/*_linux_amd64.a
+        if go run . 2>said; then exit 1; fi; grep 'libproved_argon2_linux_amd64.a' said''',
+    'javascript': '''cd "$scratch"; npm=(--offline --no-audit --no-fund --cache "$scratch/cache")
+        npm install "${npm[@]}" /packages/*.tgz; [[ $(ls node_modules) == proved-argon2 ]]
+        awk '/^```/ { fences++; next } fences == 1' /packages/docs/JAVASCRIPT.md >first.mjs
+        [[ $(node first.mjs) == $'true\\nfalse' ]]
+        node --input-type=module --eval "await (await import('proved-argon2')).hash('password', { native: true });"
+        npm uninstall "${npm[@]}" proved-argon2; [[ ! -e node_modules/proved-argon2 ]]''',
+    'java': '''cd "$scratch"
+        { echo 'import proved.argon2.*; class First { public static void main(String[] none) {'
+        awk '/^```/ { fences++; next } fences == 1' /packages/docs/JAVA.md
+        echo 'System.out.println(matches); } }'; } >First.java
+        [[ $(java -cp /packages/*.jar First.java) == true ]]; rm -r /tmp/hsperfdata_*; leaves_nothing''',
+    'libargon2': '''debian/tests/libargon2 libargon2-1; dpkg -i proved-libargon2-*_amd64.deb
+        [[ -z $(dpkg --verify proved-libargon2-1 proved-libargon2-dev) && -z $(dpkg --audit) ]]; apt-get check -qq
+        if dpkg-query -W -f '${Status}\\n' libargon2-1 libargon2-dev 2>/dev/null | grep ' installed'; then exit 1; fi
+        debian/tests/libargon2 proved-libargon2-1
+        apt-get install -qq -y -o APT::Sandbox::User=root ./theirs/*.deb; [[ -z $(installed_of '*proved-libargon2*') ]]
+        debian/tests/libargon2 libargon2-1; leaves_nothing''',
+}
+
+
+@pytest.fixture(scope='session')
+def with_pages(packages, tmp_path_factory):
+    """The packages, with what their tests read and, for the way back, Debian's own libargon2."""
+    folder = shutil.copytree(packages, tmp_path_factory.mktemp('pages') / 'packages')
+    for name in ('docs', 'debian', 'bindings/c/tests'):
+        shutil.copytree(TOP / name, folder / name)
+    for name in ('go', 'rust/.cargo', 'theirs'):
+        (folder / name).mkdir(parents=True)
+    (folder / 'rust/.cargo/config.toml').write_text(CRATES_OF_DEBIAN)
+    project(folder / 'rust', f'fn main() -> Result<(), Box<dyn std::error::Error>> {{{first_lines("RUST.md")}Ok(()) }}',
+            f'argon2 = {{ package = "proved-argon2", path = "../proved-argon2-{VERSION}" }}',
+            more='[features]\noptional = ["argon2/serde", "argon2/password-hash"]\n')
+    module = re.search('^module (.*)$', read(TOP / 'bindings/go/go.mod'), re.M)[1]
+    (folder / 'go/main.go').write_text(re.search(r'^```go\n(.*?)^```', read(TOP / 'docs/GO.md'), re.M | re.S)[1])
+    (folder / 'go/go.mod').write_text(
+        f'module program\ngo 1.19\nrequire {module} v{VERSION}\nreplace {module} => ../{module}@v{VERSION}\n')
+    start('apt-get', '-qq', '-o', 'APT::Sandbox::User=root', 'download', 'libargon2-1', 'libargon2-dev',
+          cwd=folder / 'theirs')
+    return folder
+
+
+@pytest.mark.parametrize('name', [pytest.param(name, marks=needs(*NEEDS.get(name, []))) for name in FROM])
+def test_from_the_package_alone(with_pages, tmp_path, name):
+    if name == 'libargon2' and not any((with_pages / 'theirs').iterdir()):
+        pytest.skip('there is no package of Debian for the way back')
+    run(*in_namespace(ALONE, tmp_path, with_pages, TOP, BEFORE + FROM[name]))
+
+
+# ---- fresh systems
+
+THERE = '''mount --rbind /dev "$1/dev" && mount -t proc proc "$1/proc"
+exec chroot "$1" env -i PATH=/usr/local/bin:/usr/sbin:/usr/bin:/sbin:/bin bash -Eeuo pipefail -c "$2"'''
+# Installs packages, or takes them back to Debian's; PHP then calls the library of PACKAGE, and OTHERS are there:
+# `swaps 'PACKAGES' PACKAGE OTHER..`. The development files stay with either library, and ours take their place if both
+# files are named.
+SWAPS = '''export DEBIAN_FRONTEND=noninteractive; cd /packages
+trap 'echo "status $?: $BASH_COMMAND" >&2' ERR
+installs() { apt-get install -qq -y "$@" >/dev/null; }
+swaps() {
+    installs $1
+    [[ $(php -r 'echo json_encode(password_verify("pw", password_hash("pw", PASSWORD_ARGON2ID)));') == true ]]
+    [[ $(dpkg -S "/usr/lib/$(uname -m)-linux-gnu/libargon2.so.1") == "$2"* ]]
+    for package in php-cli "${@:2}"; do
+        [[ $(dpkg-query -W -f '${Status}' "$package") == *' installed' ]]
+    done
+    [[ -z $(dpkg --audit) ]] && apt-get check -qq
+}
+ours=./proved-libargon2-1_*_amd64.deb development=./proved-libargon2-dev_*_amd64.deb
+'''
+THERE_AND_BACK = '''apt-get update -qq; swaps php-cli libargon2-1; swaps "$ours" proved-libargon2-1
+swaps libargon2-1 libargon2-1; swaps libargon2-dev libargon2-1 libargon2-dev
+swaps "$ours" proved-libargon2-1 libargon2-dev; swaps libargon2-1 libargon2-1 libargon2-dev
+if installs $development 2>/dev/null; then exit 1; fi
+swaps "$ours $development" proved-libargon2-1 proved-libargon2-dev
+swaps 'libargon2-1 libargon2-dev' libargon2-1 libargon2-dev; [[ -z $(dpkg-query -W 'proved-*' 2>/dev/null) ]]'''
+UPGRADE = '''swaps "$ours" proved-libargon2-1 libargon2-dev; former=$(dpkg-query -W -f '${Version}' libargon2-dev)
+sed -i s/bookworm/trixie/ /etc/apt/sources.list; apt-get update -qq; apt-get full-upgrade -qq -y >/dev/null
+grep -qx VERSION_CODENAME=trixie /etc/os-release; swaps php-cli proved-libargon2-1 libargon2-dev
+[[ $(dpkg-query -W -f '${Version}' libargon2-dev) != "$former" ]]; swaps libargon2-1 libargon2-1 libargon2-dev'''
+INSTALLS = '/tree/install; proved-argon2 --version; /tree/install --remove'
+# What is done in a system, by its release.
+FRESH = {'bookworm': [INSTALLS, SWAPS, THERE_AND_BACK, UPGRADE, INSTALLS, THERE_AND_BACK],
+         'noble': [INSTALLS, SWAPS, THERE_AND_BACK]}
+
+
+@needs('mmdebstrap')
+@pytest.mark.parametrize('release', FRESH)
+def test_a_fresh_system(packages, tmp_path, release):
+    """(Ubuntu's mirror is beside that of Debian, which has no keys of it.)"""
+    system, of, sources = tmp_path / 'system', *(
+        ('ubuntu', 'deb [trusted=yes] {} noble main') if release == 'noble' else ('debian', '{}'))
+    mirror = run('bash', '-c', f'. bindings/tests/fetching.bash; mirror_of {of}').strip()
+    made = start('mmdebstrap', '--quiet', '--variant=minbase', '--include=apt', release, system, sources.format(mirror))
+    if made.returncode:
+        pytest.skip(f'{release} cannot be had: {made.stderr.splitlines()[-1:]}')
+    copy_tree(system / 'tree')
+    shutil.copytree(packages, system / 'packages')
+    run(*in_namespace(THERE, system, '\n'.join(FRESH[release])))
