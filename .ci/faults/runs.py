@@ -15,7 +15,8 @@ from pathlib import Path
 from typing import NamedTuple
 
 from argon2.low_level import Type, hash_secret
-from shared import TOP, build_preloaded
+from running import build_preloaded
+from shared import TOP
 from toolchain import is_current
 
 PASSWORD = b'password'
@@ -30,7 +31,7 @@ SEED = os.environ.get('SEED') or str(random.randrange(1 << 32))
 # What is built here, and copies that a build beside these tests does not replace.
 FOLDER = tempfile.TemporaryDirectory()
 os.chmod(FOLDER.name, 0o711)  # (for users who are not root)
-FAULTS = build_preloaded('faults/faults', FOLDER.name)
+FAULTS = str(build_preloaded(TOP / '.ci/faults/faults.c', FOLDER.name))
 
 
 @functools.cache

@@ -14,10 +14,11 @@ from pathlib import Path
 
 import pytest
 from runs import PASSWORD, SEED, SLICES, VALUE, VARIANTS, VERSIONS, Hash, copy_of, run
+from shared import TOP
 
 # Where argon2_vectors is asked for `all` modes, it makes Rattle's calls in so many, and then that of one thread.
 MODES = 7
-DRAWS, DRAWS_OF_MODES = 24, 4
+DRAWS, DRAWS_COUNTED, DRAWS_OF_MODES = 24, 6, 4
 ABOUT = Path('/proc/meminfo').read_text(encoding='utf-8')
 MOST_MEMORY = min(512 << 10, int(re.search(r'^MemAvailable: +(\d+) kB$', ABOUT, re.M)[1]) // 4)
 MOST_COUNTED, MOST_OF_MODES = 24 << 10, 6 << 10  # KiB
@@ -46,7 +47,7 @@ def drawn(number, most_memory, most_lanes=MOST_LANES):
 
 
 HASHES = [drawn(number, MOST_MEMORY) for number in range(DRAWS)]
-COUNTED = [*(one for one in HASHES if one.memory * one.passes <= MOST_COUNTED), *LARGE]
+COUNTED = [*(drawn(number, MOST_COUNTED) for number in range(DRAWS_COUNTED)), *LARGE]
 OF_MODES = [drawn(number, MOST_OF_MODES, MOST_FOR_A_TEXT) for number in range(DRAWS_OF_MODES)]
 
 
@@ -109,3 +110,12 @@ def test_blocks_in_each_mode(settings):
     lines = f'hash_raw {inputs}\nhash_encoded {inputs}\nverify_raw {inputs} {tag}\n'
     expected = f'{tag}\n{text}\ntrue\n', 3 * (MODES + 1) * blocks(settings)
     assert compressed_by('argon2_vectors', input_bytes=lines.encode()) == expected
+
+
+def test_calls_by_value_start_their_threads():
+    """The six calls of argon2_scheduled fill four lanes in three passes. Five start a thread for each lane of each
+    slice. The sixth, on a job, fills one lane of each slice in the caller's thread. The theorem about these calls does
+    not say that they start any thread."""
+    came = run([copy_of('argon2_scheduled')])
+    assert came.end(0, (TOP / 'crates/argon2_scheduled/stdout').read_text(encoding='utf-8')) == VALUE
+    assert came.met['start'] == 3 * SLICES * (5 * 4 + 3)

@@ -1,7 +1,23 @@
-"""What build/current.sh says of files that are, and are not, what they were made of."""
+"""What build/current.sh says of files that are, and are not, what they were made of; and that the text of a tracked
+file becomes no command, option or path of scripts that read it."""
+
+import re
+import shutil
 
 import pytest
-from shared import run
+from shared import TOP, run
+
+# The files that scripts read words of, by the function of build/current.sh that does so, and what nobody may put there.
+READ_BY = {'names_packages': 'release/MANIFEST', 'read_version': 'VERSION', 'read_address': 'PROJECT',
+           'find_machine x86_64': 'build/machines.txt'}
+PLANTED = [
+    ('names_packages', '^(# packages .*)', r'\1 -oDPkg::Post-Invoke::=id'), ('names_packages', ' gcc=', ' bash='),
+    ('names_packages', '^(# packages) bookworm', r'\1 --no-check-gpg'), ('names_packages', ' wabt=.*', r''),
+    ('names_packages', '(wabt=.*)', r'\1-'), ('names_packages', '^(# packages .*)', r'\1\n\1 /tmp/other.deb'),
+    ('read_version', r'\n', r'\nid\n'), ('read_version', '^1', '1,-rpath,/tmp,1'), ('read_version', '^', '$(id)'),
+    ('read_address', r'\Z', 'Address: Libs: -lother\n'), ('read_address', '(https://.*)', r'\1|e;id'),
+    ('find_machine x86_64', r'x86_64-unknown-linux-gnu -', 'x86_64-unknown-linux-gnu /tmp/'),
+    ('find_machine x86_64', 'x86-64-v4$', '-delete'), ('find_machine x86_64', ' x86-64:', ' $(id):')]
 
 
 @pytest.mark.parametrize('file, text, status', [('made', 'built', 0), ('crates/one/src/lib.rt', '2', 1),
@@ -14,3 +30,39 @@ def test_a_note_is_of_the_sources_and_the_file(tmp_path, file, text, status):
     assert run('sh', '-c', f'{functions} line_of one && note_built one "$line" $root/made').returncode == 0
     (tmp_path / file).write_text(text, encoding='utf-8')
     assert run('sh', '-c', f'{functions} is_built one $root/made').returncode == status
+
+
+def copy_with(folder, name, change=lambda text: text):
+    (folder / name).parent.mkdir(parents=True, exist_ok=True)
+    (folder / name).write_text(change((TOP / name).read_text(encoding='utf-8')), encoding='utf-8')
+
+
+@pytest.mark.parametrize('function, pattern, other', PLANTED)
+def test_words_that_are_none_are_rejected_by_name(tmp_path, function, pattern, other):
+    name, script = READ_BY[function], f'root={tmp_path}; . build/current.sh; {function} || {{ echo "$why"; exit 1; }}'
+    copy_with(tmp_path, name)
+    assert run('sh', '-c', script).returncode == 0
+    copy_with(tmp_path, name, lambda text: re.sub(pattern, other, text, count=1, flags=re.M))
+    assert (tmp_path / name).read_text(encoding='utf-8') != (TOP / name).read_text(encoding='utf-8')
+    came = run('sh', '-c', script)
+    assert came.returncode == 1 and name in came.stdout
+
+
+def test_a_folder_that_the_manifest_names_is_no_option_of_find(tmp_path):
+    """`find -delete` would empty release/."""
+    shutil.copytree(TOP / 'build', tmp_path / 'build')
+    summed = run('sh', '-c', f'root={tmp_path}; . build/current.sh; sum_files -delete || echo "$why"')
+    assert 'names an option of find' in summed.stdout
+    copy_with(tmp_path, 'release/MANIFEST', lambda text: f'{text}# sources -delete \n{0:064}  -delete/x\n')
+    came = run(tmp_path / 'build/check_release')
+    assert came.returncode == 2 and '-delete, which is no plain name' in came.stdout
+    assert (tmp_path / 'release/MANIFEST').exists()
+
+
+def test_a_link_of_a_page_is_no_command_of_sed(tmp_path):
+    (tmp_path / 'page.md').write_text(f'touch {tmp_path}/ran # [a](a|b|e;i) [b](other/page.md#c)\n', encoding='utf-8')
+    came = run('bash', '-euc', f'root={tmp_path} address=https://a.example; . bindings/packages/pages.bash; cd $root;'
+               'ship_pages made page.md')
+    assert came.returncode == 0 and not (tmp_path / 'ran').exists()
+    shipped = (tmp_path / 'made/page.md').read_text(encoding='utf-8')
+    assert shipped.endswith('# [a](a|b|e;i) [b](https://a.example/other/page.md#c)\n')

@@ -6,7 +6,7 @@ from itertools import chain
 
 from machine import RETURN, Machine, add, computed, each, half_known, jump_if, known, left, parts, register, right
 from rfc9106 import MASK, rotated
-from terms import Fault, picked, variable
+from terms import BITS, Fault, picked, variable
 
 REGISTER = re.compile(r'([xw])(\d+)|v(\d+)\.(?:2d|4s|2s|16b)|([xw]zr)')
 PLACE = re.compile(r'\[(x\d+|sp)(?:, #(-?\d+))?\](!?)')
@@ -68,17 +68,29 @@ def readers(words):
     return [*plain, lambda machine: SHIFTS[shift](last(machine), int(count.removeprefix('#')))]
 
 
-def halves(words):
-    return words[0] & LOW, words[0] >> 32
+def halves_multiplied(one, other):
+    return tuple(x * y & MASK for x, y in zip((one & LOW, one >> 32), (other & LOW, other >> 32)))
 
 
-# What instructions make of their operands; behind those for vectors stands how each operand is divided.
+def inserted(words, shifted, count):
+    """sri, which keeps the bits that it does not write."""
+    return tuple(left(right(kept, BITS - count), BITS - count) | right(word, count)
+                 for kept, word in zip(words, shifted))
+
+
+# What instructions make of their operands; those of ONTO also read the register that they write. Behind the names of
+# those for vectors stands how each operand is divided.
 VECTOR = {
     'add 2d 2d 2d': each(add), 'eor 16b 16b 16b': each(lambda x, y: x ^ y), 'shl 2d 2d': each(left),
     'mov 16b 16b': tuple,
     'xtn 2s 2d': lambda words: picked(words, (0, 2), 32), 'rev64 4s 4s': lambda words: picked(words, (1, 0, 3, 2), 32),
-    'umull 2d 2s 2s': lambda one, other: tuple(x * y & MASK for x, y in zip(halves(one), halves(other))),
+    'uzp1 4s 4s 4s': lambda one, other: picked((*one, *other), (0, 2, 4, 6), 32),
+    'umull 2d 2s 2s': lambda one, other: halves_multiplied(one[0], other[0]),
     'ext 16b 16b 16b': lambda low, high, count: picked((*low, *high), tuple(range(count, count + 16)), 8)}
+ONTO = {
+    'sri 2d 2d': inserted, 'usra 2d 2d': lambda words, shifted, count: each(add)(words, each(right)(shifted, count)),
+    'umlal 2d 2s 2s': lambda words, one, other: each(add)(words, halves_multiplied(one[0], other[0])),
+    'umlal2 2d 4s 4s': lambda words, one, other: each(add)(words, halves_multiplied(one[1], other[1]))}
 GENERAL = {'add': add, 'sub': lambda x, y: x - y & MASK, 'eor': lambda x, y: x ^ y, 'mov': lambda x: x, **SHIFTS}
 
 
@@ -124,9 +136,9 @@ def call(to):
     return step
 
 
-def jump_if_zero(source, to):
-    """Leaves the flags as they are."""
-    return lambda machine: None if known(source(machine), 'it branches on data') else to(machine)
+def jump_if_zero(is_zero, source, to):
+    """Jumps if a word is zero, or else if it is not. It leaves the flags as they are."""
+    return lambda machine: to(machine) if (known(source(machine), 'it branches on data') == 0) == is_zero else None
 
 
 def in_part(read, write, number, shift):
@@ -134,14 +146,6 @@ def in_part(read, write, number, shift):
     def step(machine):
         word = known(read(machine), 'it writes a part of data')
         write(machine, word & ~(0xffff << shift) | number(machine) << shift)
-    return step
-
-
-def added(read, write, source, count):
-    """usra, which shifts and adds."""
-    def step(machine):
-        by = count(machine)
-        write(machine, tuple(add(x, right(y, by)) for x, y in zip(read(machine), source(machine))))
     return step
 
 
@@ -160,14 +164,12 @@ def control(mnemonic, words):
             return jump_if(CONDITIONS.get(condition), sources[0]) if condition else sources[0]
         case 'bl', 1:
             return call(sources[0])
-        case 'cbz', 2:
-            return jump_if_zero(*sources)
+        case ('cbz' | 'cbnz'), 2:
+            return jump_if_zero(name == 'cbz', *sources)
         case 'cmp', 2:
             return lambda machine: machine.compare(*(source(machine) for source in sources))
         case 'cinv', 3:
             return inverted_if(CONDITIONS.get(words[2]), sources[1], operand(words[0])[1])
-        case 'usra', 3:
-            return added(*operand(words[0]), *sources[1:])
         case 'movk', (2 | 3):
             return in_part(*operand(words[0]), sources[1], int(words[2].removeprefix('lsl #')) if words[2:] else 0)
     raise Fault(f'the instruction {mnemonic} of {len(words)} operands is not known')
@@ -183,7 +185,10 @@ def decode(text):
     if re.fullmatch('(ld|st)(p|u?r)', mnemonic) and words:
         return moved(mnemonic, words)
     divided = [word.partition('.')[2] for word in words if word.startswith('v')]
-    function = VECTOR.get(' '.join((mnemonic, *divided))) if divided else GENERAL.get(mnemonic)
+    form = ' '.join((mnemonic, *divided))
+    if form in ONTO:
+        return computed(ONTO[form], readers(words), operand(words[0])[1])
+    function = VECTOR.get(form) if divided else GENERAL.get(mnemonic)
     is_shifted = any(word.partition(' ')[0] in SHIFTS for word in (mnemonic, *words))  # (by a number, all 64 bits)
     is_known = divided or not is_shifted or '#' in words[-1] and not any(word.startswith('w') for word in words)
     if function and len(words) > 1 and is_known:

@@ -1,5 +1,8 @@
 """Linked code for a machine and its constants, as binutils link and disassemble it. A loader and a linker go by other
-parts of a file than they do, and have to come to the same."""
+parts of a file than they do, and have to come to the same.
+
+LLVM made the code, so it is not LLVM that disassembles it: a fault in its tables could hide itself. Objects are linked
+first, so that nothing here has to resolve relocations."""
 
 import re
 import shutil
@@ -9,10 +12,11 @@ from itertools import pairwise
 from pathlib import Path
 
 import arm64
+import mapped
 import pytest
 import x86
 from machine import WORD
-from terms import Fault
+from terms import MASK, Fault
 
 X86, ARM64, OBJECT = 62, 183, 1  # (numbers of ELF)
 # For each machine how the names of binutils begin, what objdump has to be told, and what runs and reads instructions.
@@ -20,25 +24,29 @@ KINDS = {X86: ('', ('-M', 'intel'), x86.X86, x86.decode), ARM64: ('aarch64-linux
 WINDOWS = 'x86_64-w64-mingw32-', *KINDS[X86][1:]
 # Where memset is in what is linked here of objects, which have no C library; its names elsewhere (build/link).
 OUTSIDE, CLEARS = 16, ('memset', 'memset@plt', 'proved_driver_memset', 'proved_sysv_memset')
-LINKS = ('ld', '-zseparate-code', '--entry=0', '--unresolved-symbols=ignore-all', f'--defsym=memset={OUTSIDE}',
-         '--whole-archive')
+LINKS = ('ld', '--emit-relocs', '-zseparate-code', '--entry=0', '--unresolved-symbols=ignore-all',
+         f'--defsym=memset={OUTSIDE}', '--whole-archive')
 # (a linker for Windows leaves nothing unresolved, and gcc knows what it needs)
 LINKS_FOR_WINDOWS = 'gcc-posix', '-shared', '-nostartfiles', '-Wl,--entry=0', '-Wl,--whole-archive'
 LABEL = re.compile(r'([0-9a-f]+) <(.*)>:')
 LINE = re.compile(r' *([0-9a-f]+):\t([0-9a-f ]+?) *\t(.*?)(?:\s*(?:# |//).*)?')
-# A section, and a segment that is loaded; and what makes code writable, while it is loaded or at any time.
-SECTION = re.compile(r' *\d+ \S+ +([0-9a-f]+)  ([0-9a-f]+)  [0-9a-f]+  ([0-9a-f]+)  2\*\*\d+(.*, CODE)?.*')
-SEGMENT = re.compile(r' +LOAD off +(\w+) vaddr (\w+) .*\n +filesz (\w+) memsz (\w+) flags (...)')
-WRITABLE = re.compile(r'^ +(TEXTREL .*|FLAGS +0x\w*[4-7c-f]|.*flags rwx)$', re.M)
-# What a system maps at least, and where a section of a DLL may begin in its file.
-PAGE, SECTOR = 1 << 12, 1 << 9
+# What a linker for Windows writes into objects: distances anywhere, and addresses in constants.
+RELOCATIONS = re.compile(r'^RELOCATION RECORDS FOR \[(.*)\]:\n.*\n((?:[0-9a-f]+ .*\n)*)', re.M)
+RELOCATION = re.compile(r'^[0-9a-f]+ (\S+) +(\S+?)(?:[+-]0x[0-9a-f]+)?$', re.M)
+DISTANCE = 'IMAGE_REL_AMD64_REL32'
+PLACED = re.compile(r'^ *([0-9a-f]+):\t([0-9a-f ]+?) *\t(.*?)\t+([0-9a-f]+): IMAGE_REL', re.M)
+ADDRESSES = {'.rdata': ['IMAGE_REL_AMD64_ADDR64'],
+             **dict.fromkeys(('.pdata', '.idata'), ['IMAGE_REL_AMD64_ADDR32NB'])}
 TARGET = re.compile(r'([0-9a-f]+) <.*')  # (of a jump)
 JUMP = re.compile(r'(?:[\w.]+ +)*(?:call|j\w+|loop\w*|xbegin|bl?(?:\.\w+)?|[ct]bn?z)\s(?:.*\s)?(0x[0-9a-f]+)')
+# The instructions that each relocation of ARM64 may change, of which it writes an operand alone.
+RELOCATED = {275: 'adrp', 277: 'add', 282: 'b', 283: 'bl', 286: 'ldr', 299: 'ldr'}
+DISTANCE_SIZE = 4  # (in bytes)
 # What multiplies numbers of 32 bits in vectors: no other instruction makes blocks as fast.
 MULTIPLIES = re.compile(r'v?pmulu?dq |vpmullq |vpmadd52|[us]m(?:ul|la|ls)l2?\tv\d+\.2d')
 
 
-def need(program):
+def require(program):
     if not shutil.which(program):
         pytest.skip(f'there is no {program}')
     return program
@@ -61,56 +69,76 @@ class Code:
         is_windows = path.parent.name.startswith('windows')
         prefix, self.words, self.kind, self.decode = \
             WINDOWS if is_windows else KINDS[int.from_bytes(header[18:20], 'little')]
-        self.objdump = need(f'{prefix}objdump')
+        self.objdump, self.relocations = require(f'{prefix}objdump'), {}
         if content[:2] == b'MZ' or content[:4] == b'\x7fELF' and content[16] != OBJECT:
             self.read(path)
         else:
-            if content[:4] != b'\x7fELF':
-                check_archive(path, f'{prefix}ar')
+            check_object(path, prefix) if content[:4] == b'\x7fELF' else check_archive(path, prefix)
             with tempfile.NamedTemporaryFile(suffix='.linked') as linked:
                 tool, *words = LINKS_FOR_WINDOWS if is_windows else LINKS
                 run(prefix + tool, '-o', linked.name, *words, path, *['-Wl,--no-whole-archive'] * is_windows)
                 self.read(Path(linked.name))
+                if not is_windows:
+                    self.relocations = mapped.relocations(linked.name)
+                    self.changed = {at + index for at in self.relocations for index in range(DISTANCE_SIZE)}
 
     def read(self, path):
-        self.read_at, self.content, self.names, self.bodies, body, sections = {}, path.read_bytes(), {}, {}, {}, []
-        for line in run(self.objdump, '-h', '-d', '-z', '-w', *self.words, path).splitlines():
+        self.read_at, self.content, self.names, self.bodies, body, label = {}, path.read_bytes(), {}, {}, {}, None
+        for line in run(self.objdump, '-d', '-z', '-w', *self.words, path).split('\n'):
             if found := LINE.fullmatch(line):
-                if (begin := int(found[1], 16)) in self.read_at:
-                    raise Fault(f'it has two instructions at {begin:#x}')
+                begin = int(found[1], 16)
+                if begin in self.read_at or label not in {None, begin}:
+                    raise Fault(f'it has two instructions, or a name of another one, at {begin:#x}')
+                label = None
                 self.read_at[begin] = found[2]
                 body[begin] = TARGET.sub(r'0x\1', found[3]), len(found[2].replace(' ', '')) // 2
             elif found := LABEL.fullmatch(line):
-                begin = int(found[1], 16)
-                self.names[begin], body = found[2], self.bodies.setdefault(begin, {})
-            elif found := SECTION.match(line):
-                sections.append((*(int(digits, 16) for digits in found.groups()[:3]), found[4]))
-        self.code, self.data = of_dll(sections) if self.content[:2] == b'MZ' else of_segments(
-            run(self.objdump, '-p', path))
+                label = int(found[1], 16)
+                self.names[label], body = found[2], self.bodies.setdefault(label, {})
+        self.code, self.data, self.called, self.changed = \
+            mapped.of_dll(self.content) if self.content[:2] == b'MZ' else mapped.of_segments(path)
         self.instructions = {at: instruction for body in self.bodies.values() for at, instruction in body.items()}
         self.clears = {OUTSIDE, *(begin for begin, name in self.names.items() if name in CLEARS)}
 
     def validate(self):
-        """What objdump has read is the code that is mapped, and all of it; and each jump leads to an instruction: none
-        is hidden in another."""
+        """What objdump has read is the code that is mapped, and all of it. Jumps, the loader and other programs lead to
+        instructions that were read: none is hidden in another."""
         rest = bytearray(self.content)
         for address, text in self.read_at.items():
             own = b''.join(bytes.fromhex(unit)[::-1] for unit in text.split())
-            at, last = place(self.code, address), place(self.code, address + len(own) - 1)
+            at, last = (mapped.place(self.code, end) for end in (address, address + len(own) - 1))
             if at is None or last != at + len(own) - 1 or self.content[at:last + 1] != own:
                 raise Fault('the code that is read is not what is mapped')
             rest[at:last + 1] = bytes(len(own))
         if any(rest[at:at + size].strip(b'\0') for size, _, at in self.code):
             raise Fault('it maps code that is not read')
         jumps = (JUMP.fullmatch(text) for text, _ in self.instructions.values())
-        astray = {int(found[1], 16) for found in jumps if found} - {*self.instructions, 0, OUTSIDE}
+        astray = {*self.called, *(int(found[1], 16) for found in jumps if found)} - {*self.instructions, 0, OUTSIDE}
         if astray:
-            raise Fault(f'it jumps to {", ".join(map(hex, sorted(astray)))}, where no instruction begins')
+            raise Fault(f'it jumps to or calls {", ".join(map(hex, sorted(astray)))}, where no instruction begins')
+
+    def misplaced(self, begin):
+        """The instructions of a function in which a linker writes other bytes than the distance that they show: another
+        link would make other instructions of them."""
+        return [text for at, (text, size) in self.bodies[begin].items() for place in range(at, at + size)
+                if place in self.relocations and not self.is_distance(place, at + size, text)]
+
+    def is_distance(self, place, end, text):
+        if self.kind is arm64.Arm64:
+            return text.partition('\t')[0] == RELOCATED.get(self.relocations[place])
+        first = self.place(place)
+        distance = int.from_bytes(self.content[first:first + DISTANCE_SIZE], 'little', signed=True)
+        shown = f'[rip+{distance & MASK:#x}]', f' {end + distance:#x}'
+        return place + DISTANCE_SIZE in {end, end - 1} and any(word in text for word in shown)
 
     def calls(self, begin):
-        """How many instructions call a function."""
+        """How many instructions call a function. A jump behind the end of another function is no call: ld puts one in
+        front of the code that works around a fault of the Cortex-A53 (843419), and which no other instruction enters
+        at its begin."""
         call = re.compile(rf'(?:call|jmp|bl?)\s+{begin:#x}')
-        return sum(bool(call.fullmatch(text)) for text, _ in self.instructions.values())
+        texts = [text for text, _ in self.instructions.values()]
+        return sum(bool(call.fullmatch(text)) and (before, text[:2]) != ('ret', 'b\t')
+                   for before, text in pairwise(['', *texts]))
 
     def multiplications(self):
         """The instructions with which blocks can be made."""
@@ -129,44 +157,58 @@ class Code:
 
     def place(self, address):
         """Where in the file an address is."""
-        return place(self.code + self.data, address)
+        return mapped.place(self.code + self.data, address)
 
     def constant(self, address):
         places = [self.place(address + index) for index in range(WORD)]
         if None in places:
             raise Fault(f'it reads at {address:#x}')
+        if self.changed & {*range(address, address + WORD)}:
+            raise Fault(f'a loader writes to the constant at {address:#x}')
         return int.from_bytes(self.content[places[0]:places[0] + WORD], 'little')
 
 
-def place(mapped, address):
-    """Where in the file an address is, of ranges by size, address and place."""
-    return next((at + address - begin for size, begin, at in mapped if 0 <= address - begin < size), None)
-
-
-def of_dll(sections):
-    """What is mapped of code, and of all else."""
-    if any(at % SECTOR for _, begin, at, _ in sections if begin):
-        raise Fault('a section begins where none can')
-    return ([section[:3] for section in sections if section[1] and bool(section[3]) == is_code]
-            for is_code in (True, False))
-
-
-def of_segments(said):
-    """What is mapped of code, and of constants: neither can be written."""
-    segments = [(*(int(digits, 16) for digits in found[:4]), found[4]) for found in SEGMENT.findall(said)]
-    if any(one + size > other // PAGE * PAGE for (_, one, _, size, _), (_, other, *_) in pairwise(segments)):
-        raise Fault('a segment is mapped over another')
-    if WRITABLE.search(said):
-        raise Fault('its code can be written')
-    return ([(size, begin, at) for at, begin, size, _, flags in segments if flags == kind] for kind in ('r-x', 'r--'))
-
-
-def check_archive(path, ar):
+def check_archive(path, prefix):
     """It has to be what `ar` makes of the members that it has by their names: a linker goes by a table of symbols."""
+    ar, content = f'{prefix}ar', path.read_bytes()
     with tempfile.TemporaryDirectory() as folder:
         run(ar, 'x', f'--output={folder}', path)
-        run(ar, 'rcsD', f'{folder}/made', *(f'{folder}/{name}' for name in run(ar, 't', path).splitlines()))
-        if Path(folder, 'made').read_bytes() != path.read_bytes():
+        members = [Path(folder, name) for name in run(ar, 't', path).splitlines()]
+        run(ar, 'rcsD', f'{folder}/made', *members)
+        if Path(folder, 'made').read_bytes() != content:
             raise Fault('it is not the archive that its members make')
-    if b'.gnu.lto_' in path.read_bytes():
+        for member in members:
+            check_object(member, prefix)
+    if b'.gnu.lto_' in content:
         raise Fault('it has code that a linker compiles anew')
+
+
+def check_object(path, prefix):
+    """Whatever a linker puts around an object, its code is the one that is read here."""
+    if path.read_bytes()[:4] == b'\x7fELF':
+        return mapped.check_object(path)
+    said = run(f'{prefix}objdump', '-r', '-t', path)
+    own = {'.text', '.rdata', *mapped.OUTSIDE} if re.search(mapped.CHECKED, said, re.M) else None
+    for section, block in RELOCATIONS.findall(said):
+        for kind, symbol in RELOCATION.findall(block):
+            if kind not in {DISTANCE, *ADDRESSES.get(section.partition('$')[0], ())} or own and symbol not in own:
+                raise Fault(f'a linker writes more than a distance into its code, of {symbol}')
+    said = run(f'{prefix}objdump', '-d', '-r', '-z', '-w', *WINDOWS[1], path)
+    placed = PLACED.findall(said)
+    if len(placed) != said.count('IMAGE_REL'):
+        raise Fault('a linker writes twice into an instruction')
+    for at, own, text, place in placed:
+        end = int(at, 16) + len(own.split())
+        if not re.search(r'\[rip|^(call|j)', text) or int(place, 16) + DISTANCE_SIZE not in {end, end - 1}:
+            raise Fault(f'a linker writes into {text}')
+    return None
+
+
+def check_imports(path):
+    """An import library for Windows has no code but a jump for each function, to where a loader writes its address."""
+    prefix, words, *_ = WINDOWS
+    check_archive(path, prefix)
+    found = filter(None, map(LINE.fullmatch, run(require(f'{prefix}objdump'), '-d', '-z', '-w', *words,
+                                                 path).split('\n')))
+    if others := {instruction[3] for instruction in found} - {'jmp    QWORD PTR [rip+0x0]', 'nop'}:
+        raise Fault(f'it has other code than jumps: {", ".join(sorted(others))}')

@@ -88,7 +88,8 @@ class Machine:
         """What memset does."""
         if not isinstance(size, int) or size % WORD or byte != 0:
             raise Fault('it fills memory with other than words of zero')
-        self.store(address, [0] * (size // WORD))
+        # (which are looked for first, since a wrong size may be more words than there is memory for)
+        self.store(address, [0] * len(self.places(address, size // WORD, WORD)))
 
     def clear_words(self):
         """A call of memset, which may leave in the other registers what it likes."""

@@ -1,7 +1,7 @@
 """Attacks what test_machine_code.py judges by: of both functions of each build a bit of every byte of the constants,
 and bits of drawn instructions until `DRAWN` are others of the same length. Each change has to be found, or else to
-compute the same, for drawn numbers too; and each forgery of forged.py has to be, which runs another compression than
-tools print. What is drawn is by SEED of the environment, or else by one that is printed.
+compute the same, for drawn numbers too. Each forgery of forged.py has to be found. What is drawn is by SEED of the
+environment, or else by one that is printed.
 """
 
 import copy
@@ -11,9 +11,12 @@ import random
 import re
 import tempfile
 from pathlib import Path
+from types import SimpleNamespace
 
+import arm64
 import forged
 import pytest
+import x86
 from machines import machines
 from shared import TOP
 from terms import BITS, Fault, forget
@@ -24,17 +27,38 @@ RELEASE, SEED = TOP / 'release', os.environ.get('SEED') or random.randrange(1 <<
 FILES = 'x86_64/libproved_argon2.a', 'aarch64/libproved_argon2.a', 'wasm32/proved_argon2.wasm'
 # This module has the same instructions, but for the numbers of the functions that are called.
 SAME = 'wasm32/proved_argon2_shared.wasm'
-DRAWN, UNTIL_FORGOTTEN = 300, 100
+DRAWN, UNTIL_FORGOTTEN, SHARED, WINDOWS = 300, 100, 'x86_64/libproved_argon2.so.1.0.0', 'windows-x86_64'
 # The instructions that have constants of the definitions in them, and in which bytes.
 WIDE = (re.compile('movabs .*'), 2, 10), (re.compile(r'movk\t.*|mov\tx\d+, #0x[0-9a-f]{3,}'), 0, 4), \
     (re.compile(r'i64\.const -?\d{11,}'), 1, 11)
+OBJECT = f'{machines()["x86_64"].proved[-1]}/libargon2_c.a'
 # Each forgery is made of a file, and is found by what is said of it.
 FORGERIES = (
     ('x86_64/libproved_argon2.so.1.0.0', forged.lead_sections_to_a_copy, 'the code that is read is not what is mapped'),
     ('x86_64/libproved_argon2.a', forged.hide_a_member, 'it is not the archive that its members make'),
     ('x86_64/argon2', forged.redirect_a_call, 'fill_words .* instructions call it'),
-    (f'{machines()["x86_64"].proved[-1]}/libargon2_c.a', forged.add_a_decoy, 'something else multiplies as they do'),
-    ('wasm32/proved_argon2.wasm', forged.call_a_copy, 'fill_words .* instructions call it'))
+    (OBJECT, forged.add_a_decoy, 'something else multiplies as they do'),
+    ('wasm32/proved_argon2.wasm', forged.call_a_copy, 'fill_words .* instructions call it'),
+    *((SHARED, *row) for row in [
+        (forged.let_the_stack_be_executed, 'its stack can be executed'),
+        (forged.lack_a_stack, 'its stack can be executed'),
+        (forged.add_code_that_is_not_read, 'a segment can be executed and not read'),
+        (forged.add_code_behind_the_end, 'it maps code that is not read'),
+        (forged.let_code_be_relocated, 'its dynamic table has DT_TEXTREL'),
+        (forged.relocate_code, 'its loader writes to .* which is not writable'),
+        (forged.have_another_dynamic_table, 'its dynamic table is not where a loader finds it'),
+        (forged.lead_into_an_instruction, 'calls .* where no instruction begins')]),
+    ('x86-64-v3/argon2_tool', forged.begin_in_front_of_the_code, 'calls .* where no instruction begins'),
+    (FILES[0], forged.relocate_by_the_size_of_a_symbol, 'a linker writes more than a distance'),
+    (OBJECT, forged.relocate_an_instruction, 'a linker writes into '),
+    (OBJECT, forged.refer_to_another_symbol, 'more than a distance into its code, of memsex'),
+    (f'{WINDOWS}/proved_argon2.dll', forged.relocate_code_of_a_dll, 'its loader writes to .* which is code'),
+    (f'{WINDOWS}/proved_argon2.dll', forged.relocate_a_constant_of_a_dll, 'a loader writes to the constant'),
+    (f'{WINDOWS}/proved_argon2.dll', forged.let_code_of_a_dll_be_written, 'its code can be written'),
+    (f'{WINDOWS}/proved_argon2.dll', forged.begin_a_dll_in_an_instruction, 'where no instruction begins'),
+    (f'{WINDOWS}/libproved_argon2.dll.a', forged.add_code_to_an_import, 'it has other code than jumps: ret'),
+    (FILES[2], forged.show_an_instruction_by_a_name, 'it has two instructions at'),
+    (FILES[2], forged.end_a_line_in_a_name, 'it has a control character in a name'))
 
 
 def read_with(code, bits):
@@ -167,3 +191,16 @@ def test_each_forgery_is_found(tmp_path, name, forge, expected):
     forge(RELEASE / name, made)
     faults = faults_of(made)
     assert re.search(expected, '\n'.join(faults)), faults
+
+
+@pytest.mark.parametrize('decode, known, other', [
+    (x86.decode, 'vpmovzxbq zmm1,xmm1', 'vpmovzxbq ymm1,xmm1'),
+    (arm64.decode, 'usra\tv1.2d, v1.2d, #24', 'usra\tv1.4s, v1.4s, #24'),
+    (arm64.decode, 'sri\tv1.2d, v1.2d, #24', 'sri\tv1.4s, v1.4s, #24'),
+    (arm64.decode, 'umlal2\tv1.2d, v1.4s, v1.4s', 'umlal2\tv1.4s, v1.8h, v1.8h')])
+def test_another_form_is_rejected(decode, known, other):
+    """An instruction for words of 64 bits has forms for fewer words, or narrower ones, which compute something else."""
+    machine = SimpleNamespace(registers={'mm1': (1,) * 8, 'd1': 1, 'h1': 1})
+    decode(known)(machine)
+    with pytest.raises(Fault):
+        decode(other)(machine)

@@ -10,7 +10,7 @@ import sys
 
 import pytest
 from machines import machines
-from shared import TOP, has_processor, said
+from shared import TOP, has_processor, output_of
 
 MACHINE, ARCHIVE, OTHER = machines()['x86_64'], 'libargon2_c.a', TOP / 'out/rattle'
 THEIRS = '/usr/lib/x86_64-linux-gnu/libargon2.so.1'
@@ -22,28 +22,28 @@ DRAWN, SEED = 4 * 10_000, os.environ.get('SEED') or str(random.randrange(1 << 32
 def libraries(built):
     """The folders with the libraries as each compiler makes them."""
     for processor in MACHINE.proved:
-        said('env', 'BACKEND=rattle', 'build/proved', f'{processor}/{ARCHIVE}')
+        output_of('env', 'BACKEND=rattle', 'build/prove', f'{processor}/{ARCHIVE}')
         assert 'backend=rattle' in (OTHER / processor / f'{ARCHIVE}.said').read_text(encoding='utf-8')
     # (a kernel takes its place in what LLVM made)
     for kernel in MACHINE.builds[len(MACHINE.proved):]:
         shutil.copytree(built / kernel, OTHER / kernel, dirs_exist_ok=True)
-    said('build/link', MACHINE.name, OTHER, OTHER)
+    output_of('build/link', MACHINE.name, OTHER, OTHER)
     return {'LLVM': built / MACHINE.name, 'the other': OTHER / MACHINE.name}
 
 
-@pytest.fixture(params=MACHINE.proved)
+@pytest.fixture(params=MACHINE.builds)
 def python(request):
-    """Python, which calls the library by a build."""
+    """Python, which calls the library by a build. That for AVX-512 is the same in both libraries."""
     if not has_processor(request.param):
         pytest.skip(f'the processor is older than {request.param}')
     return ['env', f'PROVED_ARGON2_CPU={request.param}', 'PYTHONPATH=bindings/python/src', sys.executable, '-B']
 
 
 def test_drawn_calls_are_answered_as_by_libargon2(libraries, python):
-    said(*python, 'bindings/libargon2/tests/fuzz.py', SEED, DRAWN, THEIRS,
-         *(folder / 'libargon2.so.1' for folder in libraries.values()))
+    output_of(*python, 'bindings/libargon2/tests/fuzz.py', SEED, DRAWN, THEIRS,
+              *(folder / 'libargon2.so.1' for folder in libraries.values()))
 
 
 def test_the_other_gives_the_vectors(libraries, python):
-    said('env', f'PROVED_ARGON2_LIBRARY={libraries["the other"]}/libproved_argon2.so', *python, '-m', 'pytest', '-q',
-         'bindings/python/tests/test_vectors.py')
+    output_of('env', f'PROVED_ARGON2_LIBRARY={libraries["the other"]}/libproved_argon2.so', *python, '-m', 'pytest',
+              '-q', 'bindings/python/tests/test_vectors.py')

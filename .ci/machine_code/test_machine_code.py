@@ -16,8 +16,7 @@ from shared import TOP
 from validated import faults_of
 
 LISTED = re.findall(r'^[0-9a-f]{64}  (\S+)$', (TOP / 'release/MANIFEST').read_text(encoding='utf-8'), re.M)
-# (that with two endings names a DLL)
-FILES = [name for name in LISTED if not re.search(r'\.[ch]$|\.dll\.a$', name)]
+FILES = [name for name in LISTED if not re.search(r'\.[ch]$', name)]
 
 
 def test_the_definitions():

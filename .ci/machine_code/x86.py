@@ -60,6 +60,8 @@ class X86(Machine):
 
 def vector(name, size, keeps_rest):
     def write(machine, words):
+        if len(words) != size:
+            raise Fault(f'it makes {len(words)} words for {size} of {name}')
         machine.registers[name] = (*words, *(machine.registers[name][size:] if keeps_rest else (0,) * (WIDEST - size)))
     return (lambda machine: machine.registers[name][:size]), write
 
@@ -130,6 +132,13 @@ def by_fours(words, order):
     return tuple(words[at + place] for at in range(0, len(words), 4) for place in four_of(order))
 
 
+def permuted(first, second):
+    """vpermq has two forms: vector and number move words within each four, and places and vector move all words."""
+    if isinstance(second, int):
+        return by_fours(first, second)
+    return picked(second, places(first, BITS, len(second)), BITS)
+
+
 def by_pairs(one, other, order):
     """Two pairs of one vector's words, and two of another's."""
     if len(one) < WIDEST:
@@ -160,7 +169,8 @@ FROM = {
     'movq': lambda word: ((word[0] if isinstance(word, tuple) else word), 0),
     'vinserti128': lambda words, other, upper: (*words[:2], *other) if upper else (*other, *words[2:]),
     'vextracti128': lambda words, upper: words[2:] if upper else words[:2],
-    'vpermq': by_fours, 'vshufi64x2': by_pairs,
+    'vpermq': permuted, 'vshufi64x2': by_pairs,
+    'vpmovzxbq': lambda words: tuple(words[0] >> at & 0xff for at in range(0, BITS, 8)),
     'vprorq': each(lambda word, count: rotated(word, count % BITS)),
     'vprolq': each(lambda word, count: rotated(word, -count % BITS)),
     'vpermd': lambda order, words: picked(words, places(order, 32, 2 * len(words)), 32)}

@@ -95,12 +95,13 @@ class Report:
         return any(map(is_put_there, self.errors_of(place)))
 
     def goals_left(self, place):
-        """The goals of a function that are left unproved and why, and those whose proof only names what is gone."""
+        """The goals of a function that are left unproved and why, and those whose proof only names what is gone. For a
+        gone name in a `use` the checker names no goal."""
         left, named = dict.fromkeys(self.unproved.get(place, []), 'it is not proved'), {}
         for goals in SEARCHED.findall(self.verdicts.get(place, '')):
             left.update(dict.fromkeys(re.findall(r'`([^`]+)`', goals), 'search did not prove it'))
-        matches = [re.match(r'`([^`]+)`: (.*)', error[2]) for error in self.errors_of(place) if not is_put_there(error)]
-        for goal, why in (match.groups() for match in matches if match):
+        for _, _, said in (error for error in self.errors_of(place) if not is_put_there(error)):
+            goal, why = re.fullmatch(r'(?:`([^`]+)`: )?(.*)', said, re.S).groups('use')
             (named if NAMES.search(why[:400]) else left).setdefault(goal, why)
         return left, {goal: why for goal, why in named.items() if goal not in left}
 

@@ -8,7 +8,7 @@ import textwrap
 from pathlib import Path
 
 sys.path.insert(0, str(Path(__file__).resolve().parents[1]))
-from shared import TOP, lines, rows, run, said  # noqa: E402, F401
+from shared import TOP, lines, output_of, rows, run  # noqa: E402, F401
 from parts import filled, marked  # noqa: E402
 
 os.environ['PATH'] += ':/opt/rattle/bin'
@@ -16,7 +16,7 @@ os.environ['PATH'] += ':/opt/rattle/bin'
 FIRST, HOW_TO_CHANGE, PROMISES, REPORTS = 'README.md', 'CONTRIBUTING.md', 'docs/promises.txt', 'docs/reports.txt'
 
 
-def need(is_well, fault):
+def require(is_well, fault):
     """Ends at something that cannot be written as it is."""
     if not is_well:
         sys.exit(f'.ci/pages/write: {fault}')
@@ -33,7 +33,7 @@ def write(file, text):
 def fill(file, name, part, by):
     """Writes the lines between the marks `NAME, by .ci/pages/BY` and `end` of a file."""
     text, script = read(file), f'.ci/pages/{by}'
-    need(marked(text, name, script), f'{file} has no part {name}, by {script}')
+    require(marked(text, name, script), f'{file} has no part {name}, by {script}')
     write(file, filled(text, name, script, '\n'.join(part)))
 
 
@@ -62,7 +62,7 @@ def wrapped(text, indent=''):
 
 
 class Copy:
-    """A copy of the repository, with what is not ignored and what build/all has left; git knows its files as they are
+    """A copy of the repository, with what is not ignored and what build/make has left; git knows its files as they are
     here."""
 
     def __init__(self, folder):
@@ -75,7 +75,7 @@ class Copy:
         (self.top / 'bindings/out').symlink_to(TOP / 'bindings/out')
 
     def run(self, *words):
-        return said(*words, cwd=self.top)
+        return output_of(*words, cwd=self.top)
 
     def change(self, file, old, new):
         """Puts a text in the place of what fits a pattern, or makes a file."""

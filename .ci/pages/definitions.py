@@ -3,7 +3,7 @@ the root calls of Rattle, those for C without the steps of a hash and with them,
 
 A clause rests on the files of the names that it has, and a file on those from which it imports. It ends at an import
 that is not understood, or of a name that is not defined there, and where the root calls rest on others than the files
-of the folders Standard. That a definition changed is seen by verdicts.txt, a contract by what is quoted or its hash.
+of the folders Standard. That a definition changed is seen by pinned.txt, a contract by what is quoted or its hash.
 """
 
 import functools
@@ -11,7 +11,7 @@ import hashlib
 import re
 from collections import defaultdict
 
-from common import TOP, fill, link, need, quoted, read, row, wrapped
+from common import TOP, fill, link, quoted, read, require, row, wrapped
 from shared.sources import Sources, crates
 
 PAGE = 'docs/DEFINITIONS.md'
@@ -34,7 +34,7 @@ VIEW = re.compile(r'^impl(?:<[^>]*>)? Model for (\w+)[^{]*\{\n.*?^\}', re.M | re
 
 @functools.cache
 def definitions_of(file):
-    need(file.is_file(), f'{file} is no file')
+    require(file.is_file(), f'{file} is no file')
     return re.findall(DEFINED, read(file), re.M)
 
 
@@ -42,14 +42,14 @@ def definitions_of(file):
 def imports_of(text):
     """Our definitions that a text imports: by a name there the file that defines it."""
     found, files = IMPORT.findall(text), {}
-    need(len(found) == len(re.findall(BEGIN, text, re.M)), f'an import is not understood: {text[:300]}')
+    require(len(found) == len(re.findall(BEGIN, text, re.M)), f'an import is not understood: {text[:300]}')
     for module, names in found:
         if not re.match(rf'Rattle\.(?:{"|".join(crates())})\.(?!.*\b(?:TheConstants|declared)\b)', module):
             continue
-        need(names, f'{module}: a whole module')
+        require(names, f'{module}: a whole module')
         file = TOP.joinpath('crates', *module.split('.')[1:]).with_suffix('.antt')
         for name, _, other in (part.strip().partition(' as ') for part in names.split(',') if part.strip()):
-            need(name in definitions_of(file), f'{module}.{name} is no definition')
+            require(name in definitions_of(file), f'{module}.{name} is no definition')
             files[other or name] = file
     return files
 
@@ -85,7 +85,7 @@ class Door:
     def __init__(self, calls):
         self.calls = calls
         self.own = set().union(*(reached_from(clauses_of(call), call.module.text) for call in calls))
-        need(self.own, f'no clause of {[call.name for call in calls]} is found')
+        require(self.own, f'no clause of {[call.name for call in calls]} is found')
         texts = [*map(contract_of, calls), *(' '.join(OF_A_TYPE.findall(read(file))) for file in self.own)]
         self.views = views_of({*re.findall(r'\w+', '\n'.join(texts))})
         self.files = self.own.union(*(reached_from(text, CODE[path]) for path, text in self.views.values()))
@@ -140,8 +140,8 @@ def check(root):
     standard = {*TOP.glob('crates/*/specs/Standard/*.antt')}
     bare = [f'{name} in {file}' for file in standard for name in BARE.findall(read(file))]
     others = standard ^ root.own
-    need(not others, f'files below the root calls in no folder Standard, or there and below none: {others}')
-    need(not bare, f'definitions without a comment: {bare}')
+    require(not others, f'files below the root calls in no folder Standard, or there and below none: {others}')
+    require(not bare, f'definitions without a comment: {bare}')
 
 
 def write_all():

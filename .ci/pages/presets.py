@@ -7,7 +7,7 @@ import itertools
 import re
 import textwrap
 
-from common import TOP, files, fill, lines, need, read, write
+from common import TOP, files, fill, lines, read, require, write
 from machines import flags_of_builds, machines
 
 TABLE = TOP / '.ci/pages/presets.txt'
@@ -23,13 +23,16 @@ TYPES = {
     'const proved_argon2_limits *': ('*const Limits', 'null()', 'ctypes.POINTER(NumberLimits)'),
     'const proved_argon2_settings *': ('*const Settings', 'null()', 'ctypes.POINTER(Settings)'),
     'proved_argon2_run *': ('*const c_void', 'null()', 'ctypes.c_void_p'),
-    'proved_argon2_tell *': ('Option<extern "C" fn(*mut c_void, u64, u64) -> c_int>', 'None', '_Tell'),
+    'proved_argon2_progress *': ('Option<extern "C" fn(*mut c_void, u64, u64) -> c_int>', 'None', '_Progress'),
 }
+# The errors from 64 on that Go's calls return.
+OTHERS_OF_GO = 'too_costly', 'no_random_bytes', 'old_processor'
 # What may stand for the value of a mark, of some by the mark; and between two words.
 VALUE, BLANK = r'\d(?:[\d_,]*\d)?(?: [KMG]iB)?', r'\s+(?:(?:///|//|#|\*|--) )?'
 OF_MARK = {'.': r'[^\d().]{1,40}', 'v': r'\d+\.\d+\.\d+', **dict.fromkeys('ngh', r'[\d_]+'), 'logic': r'\w+',
            **dict.fromkeys(('memory', 'work'), r'\d+ [KMG]iB'), 'Name': '[^\n"]*?', 'Publisher': '[^\n"<]*?',
-           'Contact': r'[^\s"<]+@[\w.-]+\w', 'Address': 'https://[^\\s"`]*', 'kits': r'rattle-kit-[\w\s`-]*\w'}
+           'Contact': r'[^\s"<]+@[\w.-]+\w', 'Address': 'https://[^\\s"`]*', 'path': r'[\w.-]+/[\w.-]+',
+           'kits': r'rattle-kit-[\w\s`-]*\w'}
 
 
 def one_line(text):
@@ -41,10 +44,17 @@ def presets():
     """What each mark stands for, by a preset."""
     text = one_line(read('crates/argon2_standard/src/config.rt'))
     found = [preset.groupdict() for preset in PRESET.finditer(text)]
-    need(len(found) == text.count('pub fn') - text.count('&self)'), 'a preset of config.rt has another form')
+    require(len(found) == text.count('pub fn') - text.count('&self)'), 'a preset of config.rt has another form')
     return [{**preset, 'Name': re.sub(r'_(\w)', lambda letter: letter[1].upper(), preset['name']),
-             'mib': str(int(preset['m']) // 1024), 'memory': memory_of(preset['m']),
-             'passes': f'{preset["t"]} pass' + 'es' * (preset['t'] != '1')} for preset in found]
+             'GoName': go_name(preset['name']), 'mib': str(int(preset['m']) // 1024),
+             'memory': memory_of(preset['m']), 'passes': f'{preset["t"]} pass' + 'es' * (preset['t'] != '1')}
+            for preset in found]
+
+
+def go_name(name):
+    """A name as Go writes it: its first word is an abbreviation."""
+    first, *others = name.split('_')
+    return first.upper() + ''.join(map(str.title, others))
 
 
 def memory_of(kib):
@@ -71,25 +81,26 @@ def project():
     found, version = dict(re.findall(r'^(\w+): (.+)$', read('PROJECT'), re.M)), read('VERSION').strip()
     major, minor, patch = map(int, version.split('.'))
     number = major * 1_000_000 + minor * 1000 + patch
-    need(minor < 1000 and patch < 1000, f'VERSION is {version}, which has no number')
-    need(found.keys() == {'Name', 'Publisher', 'Contact', 'Address'}, f'PROJECT has {[*found]}')
+    require(minor < 1000 and patch < 1000, f'VERSION is {version}, which has no number')
+    require(found.keys() == {'Name', 'Publisher', 'Contact', 'Address'}, f'PROJECT has {[*found]}')
     return {'name': 'project', **found, 'first': f'{major}', 'v': version, 'n': f'{number}', 'g': f'{number:_}',
-            'h': f'{number + 1:_}'}
+            'h': f'{number + 1:_}', 'path': found['Address'].partition('://')[2]}
 
 
 def options():
     """The same by a field of the options for C."""
-    header = read('crates/argon2_c/include/proved_argon2_threads.h')
+    header = read('bindings/c/include/proved_argon2_threads.h')
     inside = re.search(r'struct proved_argon2_options \{\n(.*?)^\}', header, re.S | re.M)[1]
     return [{'name': name, 'declared': declared, **dict(zip(('rust', 'zero', 'python'), TYPES[kind.strip()]))}
             for declared, kind, name in OPTION.findall(inside)]
 
 
-def builds():
-    """The same by all builds of which one is chosen at run time, and by each, the oldest first."""
+def builds(machine):
+    """The same by all builds for a machine, of which one is chosen at run time, and by each, the oldest first."""
     each = [{'name': build, 'word': build.replace('-', '_'), 'WORD': build.replace('-', '_').upper(),
-             'FLAGS': ', '.join(flags).upper(), 'flags': ' '.join(flags)} for build, flags in flags_of_builds().items()]
-    programs = [put_in(build, '<name>: <flags>') for build in each if build['name'] in machines()['x86_64'].proved]
+             'FLAGS': ', '.join(flags).upper(), 'flags': ' '.join(flags)}
+            for build, flags in flags_of_builds().items() if build in machine.builds]
+    programs = [put_in(build, '<name>: <flags>') for build in each if build['name'] in machine.proved]
     macro = ' \\\n'.join(put_in(build, '    each(<WORD>, <word>, __VA_ARGS__)') for build in each)
     return [{'name': 'all', 'oldest': each[0]['name'], 'programs': '\n'.join(programs), 'macro': macro}], each
 
@@ -104,12 +115,19 @@ def errors():
                'words': words, 'pad': ' ' * (wide - len(number + snake[name]) + 1)}
 
 
+def errors_for_go(every):
+    """The same by an error that Go's calls return, in columns."""
+    found = [error for error in every if int(error['n']) < 64 or error['name'] in OTHERS_OF_GO]
+    wide = max(len(error['Name']) for error in found)
+    return [{**error, 'padded': error['Name'].ljust(wide), 'gap': ' ' * (3 - len(error['n']))} for error in found]
+
+
 def lists():
     """Each list by the name that places call it."""
     (original, *recommended), every = presets(), [*errors()]
     most = re.search(r'MAX_WORKERS: u32 = (\d+);', read('crates/argon2/src/stored.rt'))
     kits = [line.split(' logic ') for line in read('build/kits.txt').splitlines()]
-    need(len({logic for _, logic in kits}) == 1, 'build/kits.txt has kits of several logics')
+    require(len({logic for _, logic in kits}) == 1, 'build/kits.txt has kits of several logics')
     targets = re.findall('# (.*, by (?:qemu|wine))$', ''.join(map(read, files('bindings/c/targets/*'))), re.M)
     return {
         'presets': [original, *recommended],
@@ -118,10 +136,12 @@ def lists():
         'others': [preset for preset in recommended if preset['name'] != 'owasp1'],  # (which share its promise)
         **{f'errors {first}-{end}': [error for error in every if first <= int(error['n']) < end]
            for first, end in itertools.combinations((0, 64, 128, 256), 2)},
+        'errors for Go': errors_for_go(every),
         'default limits': [default_limits()],
         'most threads of a string': [{'name': 'most', 'n': most[1]}],
         'options': options(),
-        **dict(zip(('builds', 'each build'), builds())),
+        **dict(zip(('builds', 'each build'), builds(machines()['x86_64']))),
+        **dict(zip(('ARM64', 'each build for ARM64'), builds(machines()['aarch64']))),
         'project': [project()],
         'targets': [{'name': name} for name in targets],
         'kits': [{'name': 'kits', 'kits': '` and `'.join(kit for kit, _ in kits), 'logic': kits[0][1]}],
@@ -155,15 +175,15 @@ def with_values(text, form, values):
 
 def write_place(file, what, items, mark, form):
     """Writes the items of a list to a place, or sees that it has them."""
-    need(items and len({put_in(item, form) for item in items}) == len(items), f'{file}, {what}: two have one text')
+    require(items and len({put_in(item, form) for item in items}) == len(items), f'{file}, {what}: two have one text')
     text = read(file)
     if mark == '=':
         text, count = with_values(text, form, items[0])
-        need(count, f'{file}, {what}: nothing is as {form}')
+        require(count, f'{file}, {what}: nothing is as {form}')
         write(file, text)
     elif mark == '-':
         lost = [item['name'] for item in items if one_line(put_in(item, form)).strip() not in one_line(text)]
-        need(not lost, f'{file}, {what}: it lacks {lost}, each as {form}')
+        require(not lost, f'{file}, {what}: it lacks {lost}, each as {form}')
     elif mark == '+':
         has = re.search('^old: .*', form, re.M)[0]
         lost = [item for item in items if put_in(item, has) not in text]

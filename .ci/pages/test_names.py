@@ -18,7 +18,7 @@ from pathlib import Path
 import pytest
 from common import HOW_TO_CHANGE, PROMISES, TOP, files, read, run
 
-WORDS = 22_000
+WORDS = 30_000
 ENDINGS = {'.rt', '.antt', '.md', '.txt', '.py', '.rs', '.c', '.h', '.sh', '.edit', '.svg', '.toml', '.in'}
 FILES = files()
 # The pages, and lists whose words are those of pages, by hand.
@@ -62,7 +62,7 @@ WORDS_OF_SOURCES = {*re.findall(r'\w+', '\n'.join([SOURCES, *PATHS]))}
 def avoided():
     table = read(HOW_TO_CHANGE).partition('\n## Words\n')[2].partition('\n## ')[0]
     forms = ', '.join(SAID_OTHERWISE.findall(table)).split(', ')
-    assert len(forms) > 10
+    assert len(forms) > 3
     return re.compile(rf'\b(?:{"|".join(forms)})s?\b'.replace(' ', r'\s+'), re.I)
 
 
@@ -139,8 +139,8 @@ def test_what_a_page_names_is_there(page):
     '[it](USE.md), and\n(USE.md)', 'run `.ci/pages/nothing`', 'run .ci/nothing', 'a row of `nothing.txt`',
     'it is `crates/argon2/src/nothing.rt`', 'the folder `argon2_text/specs/Nothing`', '    .ci/pages/write --nothing',
     '    ./argon2 nothing', '    proved-argon2 prove', '    cat docs/NOTHING.md', 'a `hash_of_nothing`',
-    'a `Config::nothing_of`', '[`blake2b`](crates/argon2/src/hashing.rt)', 'the Refusals of a call',
-    'it spells\na value',
+    'a `Config::nothing_of`', '[`blake2b`](crates/argon2/src/hashing.rt)', 'the Shortages of a call',
+    'a stored\ntext',
     *['    rt nothing NAME'] * bool(shutil.which('rt'))])
 def test_a_wrong_text_is_found(text):
     assert [*faults_of('README.md', text)]

@@ -5,6 +5,7 @@ import shutil
 from pathlib import Path
 
 import pytest
+import vectors
 from common import FIRST, PROMISES, REPORTS, TOP, Copy, files, read, rows
 from shared.sources import Sources, edits
 
@@ -14,6 +15,13 @@ WAY = re.compile(r'<!-- (.*) -->\n<text x="(\d+)\.5" y="\d+" class="head">')
 LAYER = re.compile(r'<!-- (.*) -->\n<g transform=.*><text x="8" y="14" class="own">.*\n(.*)</g>')
 PROMISED = {'argon2_blocks', 'argon2_standard', 'argon2_memory', 'argon2_fill', 'argon2_text', 'argon2',
             'argon2_commands', 'argon2_tool', 'argon2_c'}
+
+# Forms that a reader would not expect, as the page of decisions names them.
+FORMS = (
+    '`Memory::wipe` and `prepare_memory` write blocks too', 'computes the hash once for both lines',
+    'does not read its input behind the byte', '`run` is in `argon2_commands`', '`./argon2` writes lines of its own',
+    '`encode_slice`', '`itoa`', '`arrayvec`', '`hex` also decodes', '`anyhow`',
+    'Tests deny memory in calls with four lanes', 'A test of the gate fills three passes')
 
 
 def test_what_is_written_is_current(tmp_path):
@@ -25,6 +33,11 @@ def test_pieces_of_rattle_are_in_the_examples(page):
     examples = ''.join(map(read, files('crates/argon2_examples/src/*.rt', 'crates/argon2_examples/specs/*.antt')))
     pieces = [piece for _, piece in BLOCK.findall(read(page))]
     assert pieces and not [piece for piece in pieces if piece not in examples]
+
+
+def test_decisions_name_each_unexpected_form():
+    page = ' '.join(read('docs/DECISIONS.md').split())
+    assert [form for form in FORMS if form not in page] == []
 
 
 def test_first_calls_are_those_of_each_languages_page():
@@ -55,12 +68,13 @@ def test_each_layer_of_the_picture_is_shown():
     ways = {int(x) - 27: begun.split() for begun, x in WAY.findall(picture)}
     layers = [(shown.split(), re.findall(r'#(\w+)" x="(\d+)"', words)) for shown, words in LAYER.findall(picture)]
     assert len(ways) == picture.count('"head"') and len(layers) == picture.count('"own"') > 10
-    assert sum(len(words) for _, words in layers) == 86
+    assert sum(len(words) for _, words in layers) == 92
     for shown, words in layers:
         calls, said = [path for path in shown if '::' in path], {word for word, _ in words}
         assert there.issuperset(shown) and all(f'<g id="{word}">' in picture for word in said)
         assert bool(calls) == ('proved' in said) and (calls != shown or said.isdisjoint({'checked', 'tested'}))
         assert 'checked' not in said or '.ci/machine_code/test_machine_code.py' in shown
+        assert ('model' in said) == ('argon2_c::any_order_of_steps' in calls)
         assert (said == {'trusted'}) == (shown == ['docs/CLAIMS.md'])
         assert all(any(call.startswith((*ways[int(x)], 'argon2::parts::')) for call in calls)
                    for word, x in words if word == 'proved')
@@ -82,8 +96,8 @@ def test_each_public_call_has_a_promise_and_what_shows_it():
     assert len(promises) == len(lines) and not calls - promises.keys() and not promises.keys() - calls - derived
     shared = {promise[3:] for promise in promises.values() if promise.startswith('as ')}
     assert shared and not [path for path in shared if promises.get(path, 'as ').startswith('as ')]
-    asked = {line.split(' ')[0] for line in read('crates/argon2_vectors/stdin').splitlines()}
-    programs = {path.name for path in TOP.glob('crates/argon2_c/c/*.c')}
+    asked = {question.split(' ')[0] for question, _ in vectors.questions()}
+    programs = {path.name for path in TOP.glob('bindings/c/tests/*.c')}
     shown = {name for _, _, *names in lines for name in ' '.join(names).split()}
     assert shown and not shown - {*sources.tests, *asked, *programs}
 
@@ -94,7 +108,7 @@ def test_each_open_promise_has_its_tests():
 
 
 def test_callers_are_told_to_clear_what_the_proved_calls_write():
-    jobs = read('crates/argon2_c/include/proved_argon2_jobs.h')
+    jobs = read('bindings/c/include/proved_argon2_jobs.h')
     written = {*re.findall(r'(?<!const )(?:proved_argon2_\w+|uint8_t) \*(job|blocks|tag)\b', jobs)}
     stated, = re.findall(r'^\| C, the proved calls made directly \|.* \| (.*) \|$', read('SECURITY.md'), re.M)
     assert len(written) == 3 and all(word in stated for word in ('also', *written))
@@ -104,12 +118,13 @@ def test_callers_are_told_to_clear_what_the_proved_calls_write():
 
 def test_the_table_for_c_has_each_call_and_the_definitions_that_its_clause_names():
     """`none` stands where no proved call is. What several calls give together is in the clauses of one theorem. The
-    headers have each parameter, but of the message, which is a buffer of C."""
-    headers, code = (''.join(map(read, files(f'crates/argon2_c/{part}'))) for part in ('include/*.h', 'src/*.rt'))
+    headers have each parameter."""
+    headers, code = (''.join(map(read, files(pattern)))
+                     for pattern in ('bindings/c/include/*.h', 'crates/argon2_c/src/*.rt'))
     declared = {*re.findall(r'^(?!typedef| \*).*\bproved_argon2_(\w+)\(', headers, re.M)}
     clauses = dict(re.findall(r'^pub (?:extern "C" )?fn (?:proved_argon2_)?(\w+)(\(.*?)^\{', code, re.M | re.S))
     parameters = dict(re.findall(r'\bproved_argon2_(\w+)\(([^)]*)\)', headers))
-    for name in declared & clauses.keys() - {'message'}:
+    for name in declared & clauses.keys():
         assert {*re.findall(r'(\w+): ', clauses[name].partition('->')[0])} <= {*re.findall(r'\w+', parameters[name])}
     table, told = re.findall(r'^\| (.*[`*\]].*?) \| .* \| (none|\[.*) \|.*\|$', read('docs/C.md'), re.M), set()
     for calls, cited in table:

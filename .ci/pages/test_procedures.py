@@ -17,22 +17,29 @@ PRESET = '''    /// An example's settings: Argon2id, 64 MiB, 2 passes.
 ROW = 'Config::example\tConfig { ad: [], hash_length: 32, lanes: 1, mem_cost: 65536, secret: [], thread_mode: ' \
       'Sequential, time_cost: 2, variant: Argon2id, version: Version13 } true\n'
 CONFIG, ROWS = 'crates/argon2_standard/src/config.rt', 'crates/argon2_vectors/rows.txt'
-HEADER, ERRORS = 'crates/argon2_c/include/proved_argon2', 'crates/argon2_c/errors.txt'
+NUMBERS, RESULTS = 'bindings/c/tests/numbers.c', 'bindings/c/tests/results.c'
+HEADER, ERRORS = 'bindings/c/include/proved_argon2', 'crates/argon2_c/errors.txt'
 CHANGED = ('CHANGELOG.md', '\nUnreleased', '\nWhat is new.\n\nUnreleased')
 # The edits of each procedure: a file, a pattern that also fits after such a change (of a new file none), and a text.
 PROCEDURES = {
     'a preset, before the others': [
         (CONFIG, "    /// OWASP's first", PRESET + "    /// OWASP's first"),
-        (ROWS, '\nConfig::owasp1\t', f'\n{ROW}Config::owasp1\t'), CHANGED],
+        (ROWS, '\nConfig::owasp1\t', f'\n{ROW}Config::owasp1\t'),
+        (NUMBERS, r'\{proved_argon2_owasp1', '{proved_argon2_example(), 64, 2, "an example"},\n        '
+         '{proved_argon2_owasp1'), CHANGED],
     'an error of the calls for C': [
         (ERRORS, '\n128 [|]', '\n127 | NoReason | There is no reason | no call has a reason\n128 |'),
         ('crates/argon2_c/src/errors.rt', '    WrongBlocks,\n', '    WrongBlocks,\n\n    /// There is no reason.\n'
-         '    NoReason,\n'), CHANGED],
+         '    NoReason,\n'),
+        (NUMBERS, r'\{PROVED_ARGON2_NULL_POINTER', '{PROVED_ARGON2_NO_REASON, 127, "There is no reason"},\n    '
+         '{PROVED_ARGON2_NULL_POINTER'), CHANGED],
     'an option of the calls for C': [
         (f'{HEADER}_threads.h', '(?=} proved_argon2_options;)', '    /* the flags */\n    uint32_t flags;\n'),
         (f'{HEADER}_threads.h', r'}(?=\n\n/\* proved_argon2_hash_raw with options)', ', 0}')],
     'a default limit': [('crates/argon2/src/limits.rt', r'[\d_]+,\s+time_cost: \d+,\s+lanes: \d+',
-                         '1_048_576,\n            time_cost: 14,\n            lanes: 32')],
+                         '1_048_576,\n            time_cost: 14,\n            lanes: 32'),
+                        (RESULTS, r'mem_cost == \d+ && limits.time_cost == \d+ && limits.lanes == \d+',
+                         'mem_cost == 1048576 && limits.time_cost == 14 && limits.lanes == 32')],
     'a border of the settings': [
         ('crates/argon2_standard/specs/Standard/SettingsTable.antt', r'min_salt_length = \d+', 'min_salt_length = 9'),
         ('crates/argon2_blocks/src/common.rt', r'MIN_SALT_LENGTH: u32 = \d+', 'MIN_SALT_LENGTH: u32 = 9'),
@@ -43,8 +50,8 @@ PROCEDURES = {
          '#[test]\nfn one_is_one() {\n    assert!(1 == 1);\n}\n\n#[test]\nfn encode_string')],
     'a test in Python': [
         ('.ci/pages/test_example.py', None, '"""Whether one is one."""\n\n\ndef test_one():\n    assert True\n'),
-        ('.ci/CMakeLists.txt', r'judge\(.ci/gate/test_closing.py EARLY\)',
-         'judge(.ci/gate/test_closing.py EARLY)\njudge(.ci/pages/test_example.py QUICK)')],
+        ('.ci/CMakeLists.txt', r'judge\(.ci/gate/test_run.py EARLY\)',
+         'judge(.ci/gate/test_run.py EARLY)\njudge(.ci/pages/test_example.py QUICK)')],
     'a page': [('docs/EXAMPLE.md', None, '# An example\n\n[Using it](USE.md) has more.\n'),
                (FIRST, '- How do I change it[?] ', '- What is an example? [An example](docs/EXAMPLE.md)\n'
                 '- How do I change it? ')],
@@ -52,7 +59,7 @@ PROCEDURES = {
                                 ('build/machines.txt', '[+] x86-64-v2 ', '+ x86-64-v1 ssse3\n+ x86-64-v2 ')],
 }
 STEPS = ('.ci/pages/write',
-         'gcc -I crates/argon2_c/include -fsyntax-only crates/argon2_c/c/results.c bindings/c/proved_argon2_builds.c',
+         f'gcc -I bindings/c/include -fsyntax-only {RESULTS} {NUMBERS} bindings/c/src/proved_argon2_builds.c',
          '.ci/quick --documents')
 
 

@@ -11,8 +11,8 @@ import time
 
 import pytest
 from machines import machines
-from running import VERSION
-from shared import TOP, has_processor, in_namespace, run, said
+from running import VERSION, in_namespace
+from shared import TOP, has_processor, output_of, run
 from test_packages import copy_tree
 
 pytestmark = pytest.mark.timeout(5400)
@@ -25,6 +25,9 @@ TAG = '7b69c92d7c3889aad1281dbc8baefc12cc37c80f1c75e33ef2c2d40c28ebc573'  # liba
 NOTICE = 'proved and built elsewhere, from exactly these sources'
 HIDES = '[[ ! -d /opt/rattle ]] || mount -t tmpfs none /opt/rattle; ! PATH=$PATH:/opt/rattle/bin command -v rt; "$@"'
 CPUINFO = 'mount --bind "$1" /proc/cpuinfo; shift; exec "$@"'
+# What nobody sees: signs of the direction of text, fillers, variation selectors, blanks, controls.
+UNSEEN = ('\u202e\xad\u034f\u115f\u17b4\u180b\u2065\u2800\u3164\ufe00\ufe0f\uffa0\x0b\x85\u2003'
+          '\U0001bca0\U000e0100\U000e01ef\U000e0fff\ue000')
 OLD, NEW = 'cx16 lahf_lm popcnt pni sse4_1 sse4_2 ssse3'.split(), 'avx avx2 bmi1 bmi2 f16c fma abm movbe'.split()
 
 
@@ -33,7 +36,7 @@ OLD, NEW = 'cx16 lahf_lm popcnt pni sse4_1 sse4_2 ssse3'.split(), 'avx avx2 bmi1
 @pytest.fixture(scope='session')
 def compared():
     """What is forged, and what is run, is what was built here."""
-    said('build/release')
+    output_of('build/release')
 
 
 def test_release_is_what_is_built_here_and_has_each_machine_and_build(compared):
@@ -71,24 +74,26 @@ def on_processor(launcher, flags, tmp_path, *before):
 
 @needs_root
 def test_launchers_take_the_build_for_the_processor(copy, tmp_path):
-    """At once, and say once whence it is. A stand-in of the newer one says so, with the user's tunables or ours; the
-    older runs where one thing lacks."""
+    """At once, and say once where it comes from. In a clone the older build runs where one feature is missing, and the
+    installed program chooses its build itself. Neither runs on a processor that is too old. Stand-ins of both say which
+    tunables they are passed, the user's or ours."""
     began, prefix, newer = time.monotonic(), tmp_path / 'chosen', 'the newer one glibc.malloc.'
+    launchers = prefix / 'bin/proved-argon2', copy / 'argon2'
+    stand_in = '#!/bin/sh\necho the newer one "$GLIBC_TUNABLES"\n'
     first, second = (in_copy(copy, './argon2', *WORDS, input='password').stdout for _ in range(2))
     assert time.monotonic() - began < 4 and f'{TAG}\n' in first and second.startswith(f'{TAG}\n')
     assert NOTICE in first and NOTICE not in second and NOTICE in in_copy(copy, './install', prefix).stdout
-    for file in (prefix / 'libexec/proved-argon2' / TOOL, copy / 'release' / TOOL):
-        file.write_text('#!/bin/sh\necho the newer one "$GLIBC_TUNABLES"\n', encoding='utf-8')
+    (copy / 'release' / TOOL).write_text(stand_in, encoding='utf-8')
     take_sum(copy, TOOL)
-    for launcher in (prefix / 'bin/proved-argon2', copy / 'argon2'):
-        assert TAG in on_processor(launcher, OLD, tmp_path).stdout
+    for launcher, flag in ((launcher, flag) for launcher in launchers for flag in OLD + NEW):
+        came = on_processor(launcher, [word for word in OLD + NEW if word != flag], tmp_path)
+        assert ('older than x86-64-v2' in came.stdout and came.returncode == 70) == (flag in OLD), flag
+        assert (TAG in came.stdout) == (flag in NEW), flag
+    (prefix / f'libexec/proved-argon2/{os.uname().machine}/argon2_tool').write_text(stand_in, encoding='utf-8')
+    for launcher in launchers:
         assert on_processor(launcher, OLD + NEW, tmp_path).stdout.endswith(f'{newer}hugetlb=1\n')
         own = ['env', 'GLIBC_TUNABLES=glibc.malloc.check=0']
         assert f'{newer}check=0\n' in on_processor(launcher, OLD + NEW, tmp_path, *own).stdout
-        for flag in OLD + NEW:
-            came = on_processor(launcher, [word for word in OLD + NEW if word != flag], tmp_path)
-            assert ('older than x86-64-v2' in came.stdout and came.returncode == 70) == (flag in OLD), flag
-            assert (TAG in came.stdout) == (flag in NEW), flag
     assert in_copy(copy, './install', '--remove', prefix).returncode == 0 and not prefix.exists()
 
 
@@ -125,7 +130,9 @@ def add_a_file(copy):
 
 def track_unseen(copy):
     (copy / 'docs/link').symlink_to('figures')
-    (copy / 'docs/page.md').write_text('\u202e\n', encoding='utf-8')
+    for number, sign in enumerate(UNSEEN):
+        (copy / f'docs/page{number}.md').write_text(f'{sign}\n', encoding='utf-8')
+    (copy / 'docs/a -delete').write_text('', encoding='utf-8')
     (copy / 'build/.gitattributes').write_text('*.sh -diff\n', encoding='utf-8')
     for name in ('build/__pycache__/machines.pyc', 'bindings/out/x86_64/made'):
         (copy / name).parent.mkdir(parents=True, exist_ok=True)
@@ -142,14 +149,17 @@ FORGERIES = {
     'another byte in each file': (forge(*FILES, is_listed=True), [COMPARE],
                                   [f'FAILED: release/{name} is what' for name in FILES]),
     'another list': (edit(LIST, '^# version .*', '# version 9.9.9'), [COMPARE], [f'FAILED: {LIST} is that']),
-    'another compiler, which no package has': (
-        edit(LIST, '^# packages .*', '# packages no-release gcc-1=0'), [COMPARE],
-        ['FAILED: what is linked here is by the tools']),
+    'a version of a compiler that no mirror has': (
+        edit(LIST, r'gcc-12=\S+', 'gcc-12=12.9'), [COMPARE], ['FAILED: the tools of release/MANIFEST link it']),
+    'an option of apt-get': (
+        edit(LIST, '^(# packages .*)', r'\1 -oDPkg::Post-Invoke::=id'), [CLEAN],
+        ['build/clean: release/MANIFEST: "# packages" has other words than build/current.sh allows']),
     'another toolchain': (edit(LIST, '^# kit .*', '# kit another'), [COMPARE], ['FAILED: its toolchain is']),
     'a file that the list does not name': (add_a_file, [COMPARE], ['FAILED: release/ has what it names']),
     'the same before anything is built': (add_a_file, [CLEAN], [f'build/clean: {LIST} does not name']),
     'what git may not track': (track_unseen, [CLEAN], [
-        'a link: docs/link', 'invisible characters: docs/page.md', 'no source: build/.gitattributes',
+        'a link: docs/link', *(f'invisible characters: docs/page{number}.md' for number in range(len(UNSEEN))),
+        'an odd name: docs/a -delete', 'no source: build/.gitattributes',
         'binary: build/current.sh', 'no source: build/__pycache__/machines.pyc', 'no source: bindings/out/x86_64']),
     'another program': (forge(TOOL), [INSTALL, PACKAGE, HASH], [f'release/{TOOL} {CHANGED}']),
     'another library': (forge(ARCHIVE), [INSTALL, PACKAGE], [f'release/{ARCHIVE} {CHANGED}']),
@@ -161,26 +171,46 @@ FORGERIES = {
     'a list that lacks a file': (edit(LIST, f'^.*  {SHARED}\n', ''), [INSTALL, PACKAGE],
                                  [f'{LIST} does not name {SHARED}']),
 }
-assert len(FORGERIES) == 13
+assert len(FORGERIES) == 14
 
 
 @needs_root
 @pytest.mark.parametrize('name', FORGERIES)
 def test_a_forgery_is_found(copy, tmp_path, request, name):
     """Where it is compared with what is built, which is current, since marks are content."""
-    plant, commands, expected = FORGERIES[name]
+    (plant, commands, expected), made = FORGERIES[name], tmp_path / 'made/there'
     assert commands and expected
     if COMPARE in commands:
         request.getfixturevalue('compared')
         shutil.copytree(TOP / 'bindings/out', copy / 'bindings/out', symlinks=True)
     plant(copy)
     for command in commands:
-        words = WORDS if command == HASH else [tmp_path / 'made/there'] * (command in (INSTALL, PACKAGE))
+        words = {HASH: WORDS, PACKAGE: ['--to', made], INSTALL: [made]}.get(command, [])
         ran = run(copy / command, cwd=copy) if command == COMPARE else in_copy(copy, command, *words)
         assert ran.returncode == (70 if command == HASH else 1)
         assert not [line for line in expected if line not in ran.stdout], ran.stdout
         assert command != HASH or ran.stdout.count('\n') == 1
     assert not (tmp_path / 'made').exists()
+
+
+# Stand-ins for other versions here than the list names, and for a root with the listed ones, which links what release/
+# has.
+STAND_INS = {
+    'dpkg-query': '/usr/bin/dpkg-query "$@" | sed "s/wabt=[^ ]*/wabt=0/"', 'debootstrap': 'mkdir -p "$4"',
+    'chroot': '[ "${2##*/}" != link ] || { mkdir -p "$1/linked" && cp -R "release/$3" "$1/linked"; }'}
+
+
+@needs_root
+def test_what_only_the_listed_versions_link_is_named(compared, copy, tmp_path):
+    """So a compiler that somebody replaced there is seen."""
+    shutil.copytree(TOP / 'bindings/out', copy / 'bindings/out', symlinks=True)
+    forge('x86_64/argon2', is_listed=True)(copy)
+    for name, text in STAND_INS.items():
+        (tmp_path / name).write_text(f'#!/bin/sh\n{text}\n', encoding='utf-8')
+        (tmp_path / name).chmod(0o755)
+    ran = run('env', f'PATH={tmp_path}:{os.environ["PATH"]}', copy / COMPARE, cwd=copy)
+    assert re.findall('the tools here link another (.*)', ran.stdout) == ['release/x86_64/argon2']
+    assert ran.returncode == 3
 
 
 @pytest.mark.parametrize('machine, text', [

@@ -15,13 +15,13 @@ import sys
 import pytest
 from machines import machines
 from running import CRATES_OF_DEBIAN, exports, first_lines
-from shared import TOP, ready, run, said
+from shared import TOP, output_of, ready, run
 
 sys.path.insert(0, str(TOP / '.ci/machine_code'))
 from linked import Code  # noqa: E402
 
 SEED, WARNINGS = os.environ.get('SEED', str(secrets.randbits(32))), ('-O2', '-Wall', '-Wextra', '-Werror')
-ARCHIVE, DLL, INCLUDE = 'libproved_argon2.a', 'proved_argon2.dll', TOP / 'crates/argon2_c/include'
+ARCHIVE, DLL, INCLUDE = 'libproved_argon2.a', 'proved_argon2.dll', TOP / 'bindings/c/include'
 # ARM64
 CC, QEMU, ROOT = 'aarch64-linux-gnu-gcc', 'qemu-aarch64-static', TOP / 'out/aarch64/root'
 FUZZ = TOP / 'bindings/libargon2/tests/fuzz.py'
@@ -48,7 +48,7 @@ def arm(*command, **variables):
 
 
 def compile_for_arm(source, program, *words):
-    said(CC, '-std=gnu11', '-O1', '-I', INCLUDE, source, *words, '-o', program)
+    output_of(CC, '-std=gnu11', '-O1', '-I', INCLUDE, source, *words, '-o', program)
 
 
 @pytest.fixture(scope='module')
@@ -66,7 +66,7 @@ def on_arm():
 @pytest.fixture(scope='module')
 def packages(on_arm, tmp_path_factory):
     folder = tmp_path_factory.mktemp('packages')
-    said(*named(MACHINES='aarch64'), './package', folder)
+    output_of(*named(MACHINES='aarch64'), './package', '--to', folder)
     return folder
 
 
@@ -75,8 +75,8 @@ def python(packages):
     """Debian's Python, with the wheel as pip there installs it."""
     site = packages / 'site'
     command = arm(ROOT / 'usr/bin/python3', PYTHONDONTWRITEBYTECODE=1, PYTHONPATH=site)
-    said(*command, '-m', 'pip', 'install', '--no-index', '--no-deps', '--no-compile', '--disable-pip-version-check',
-         '--quiet', '--target', site, *packages.glob('proved_argon2-*_aarch64.whl'))
+    output_of(*command, '-m', 'pip', 'install', '--no-index', '--no-deps', '--no-compile',
+              '--disable-pip-version-check', '--quiet', '--target', site, *packages.glob('proved_argon2-*_aarch64.whl'))
     return command
 
 
@@ -103,7 +103,7 @@ def wine(tmp_path):
 
 def is_tool(*command):
     """Whether it hashes, and verifies."""
-    text = said(*command, *'new argon2id 19 1 64 2 16 par'.split(), input='password').rstrip('\n')
+    text = output_of(*command, *'new argon2id 19 1 64 2 16 par'.split(), input='password').rstrip('\n')
     answers = [run(*command, 'check', text, input=word).stdout for word in ('password', 'passwort')]
     return answers == ['true\n', 'false\n']
 
@@ -117,12 +117,12 @@ def write_program(file, *command):
 @pytest.mark.timeout(2400)
 def test_commands_over_pipes_on_arm(on_arm, tmp_path):
     tool = write_program(tmp_path / 'argon2_tool', 'exec', *arm(on_arm / 'argon2_tool'), '"$@"')
-    said(*named(OVER=tool), '/usr/bin/python3', '-B', '-m', 'pytest', '-q', '.ci/faults/test_program.py')
+    output_of(*named(OVER=tool), '/usr/bin/python3', '-B', '-m', 'pytest', '-q', '.ci/faults/test_program.py')
 
 
 def test_launcher_takes_the_programs_for_arm(on_arm, tmp_path):
     """(where `uname` names that machine)"""
-    said(*named(MACHINE='aarch64', DESTDIR=tmp_path), './install', '/usr')
+    output_of(*named(MACHINE='aarch64', DESTDIR=tmp_path), './install', '/usr')
     write_program(tmp_path / 'uname', 'echo', 'aarch64')
     tool = tmp_path / 'usr/libexec/proved-argon2/aarch64/argon2_tool'
     write_program(tool, 'exec', *arm(on_arm / 'argon2_tool'), '"$@"')
@@ -130,7 +130,7 @@ def test_launcher_takes_the_programs_for_arm(on_arm, tmp_path):
 
 
 def test_what_is_compiled_as_c_is_installed(tmp_path):
-    said(*named(MACHINE='portable', DESTDIR=tmp_path), './install', '/usr')
+    output_of(*named(MACHINE='portable', DESTDIR=tmp_path), './install', '/usr')
     assert is_tool(tmp_path / 'usr/bin/proved-argon2')
 
 
@@ -140,15 +140,15 @@ def test_libargon2_on_arm_has_its_names_and_returns_the_same(on_arm):
     """In drawn calls of its whole interface."""
     libraries = ROOT / 'usr/lib/aarch64-linux-gnu/libargon2.so.1', on_arm / 'libargon2.so.1'
     assert exports(libraries[0]) == exports(libraries[1]) and len(exports(libraries[0])) == 22
-    assert '[libargon2.so.1]' in said('readelf', '-dW', libraries[1])
-    said(*arm(ROOT / 'usr/bin/python3', '-B', FUZZ, SEED, 500, *libraries))
+    assert '[libargon2.so.1]' in output_of('readelf', '-dW', libraries[1])
+    output_of(*arm(ROOT / 'usr/bin/python3', '-B', FUZZ, SEED, 500, *libraries))
 
 
 @pytest.mark.parametrize('words', ['somesalt -e', 'somesalt -id -t 2 -k 256 -p 4 -l 24 -r'])
 def test_command_on_arm_prints_the_same(on_arm, words):
     """Debian's command over either library, and ours."""
     theirs, ours = ([folder / 'argon2', *words.split()] for folder in (ROOT / 'usr/bin', on_arm))
-    expected, *others = (said(*command, input='password')
+    expected, *others = (output_of(*command, input='password')
                          for command in (arm(*theirs), arm(*theirs, LD_LIBRARY_PATH=on_arm), arm(*ours)))
     assert expected and others == [expected] * 2
 
@@ -157,13 +157,13 @@ def test_addon_hashes_on_arm(on_arm, tmp_path):
     """With as much of Node as a hash takes."""
     compile_for_arm(TOP / 'bindings/tests/addon.c', tmp_path / 'addon', '-I', TOP / 'bindings/javascript/addon',
                     '-rdynamic')
-    assert said(*arm(tmp_path / 'addon', on_arm / 'proved_argon2.node')).strip() == f'0 0 8 {TAG}'
+    assert output_of(*arm(tmp_path / 'addon', on_arm / 'proved_argon2.node')).strip() == f'0 0 8 {TAG}'
 
 
 # ---- packages
 
 def test_first_lines_of_python_run_on_arm(python):
-    said(*python, '-c', first_lines('PYTHON.md'))
+    output_of(*python, '-c', first_lines('PYTHON.md'))
 
 
 def test_packages_of_debian_for_arm(packages, tmp_path):
@@ -171,16 +171,16 @@ def test_packages_of_debian_for_arm(packages, tmp_path):
     there, program = tmp_path / 'there', tmp_path / 'quick_start'
     libraries, state = there / 'usr/lib/aarch64-linux-gnu', there / 'var/lib/dpkg'
     files = [*packages.glob('*_arm64.deb')]
-    said('mkdir', '-p', state / 'info', state / 'updates')
-    said('touch', state / 'status', state / 'available')
+    output_of('mkdir', '-p', state / 'info', state / 'updates')
+    output_of('touch', state / 'status', state / 'available')
     dpkg = 'dpkg', f'--root={there}', f'--log={there}.log', *(f'--force-{of}' for of in ('depends', 'architecture'))
-    said(*dpkg, '--install', *files)
-    compile_for_arm(TOP / 'crates/argon2_c/c/quick_start.c', program, '-I', there / 'usr/include', '-L', libraries,
+    output_of(*dpkg, '--install', *files)
+    compile_for_arm(TOP / 'bindings/c/tests/quick_start.c', program, '-I', there / 'usr/include', '-L', libraries,
                     '-lproved_argon2')
-    said(*arm(program, LD_LIBRARY_PATH=libraries))
-    hashed = said(*arm(ROOT / 'usr/bin/argon2', 'somesalt', '-e', LD_LIBRARY_PATH=libraries), input='password')
+    output_of(*arm(program, LD_LIBRARY_PATH=libraries))
+    hashed = output_of(*arm(ROOT / 'usr/bin/argon2', 'somesalt', '-e', LD_LIBRARY_PATH=libraries), input='password')
     assert hashed.startswith('$argon2i$v=19$')
-    said(*dpkg, '--purge', *(f'{file.name.partition("_")[0]}:arm64' for file in files))
+    output_of(*dpkg, '--purge', *(f'{file.name.partition("_")[0]}:arm64' for file in files))
     assert len(files) == 5 and not [path for path in there.rglob('*') if path.is_file() and state not in path.parents]
 
 
@@ -194,7 +194,7 @@ def passes_its_tests(target, made, folder, linker, runner, flags=''):
     how = {'PATH': f'/usr/bin:{os.environ["PATH"]}', 'RUST_BACKTRACE': '0', 'CARGO_TARGET_DIR': folder / 'target',
            f'{of}_LINKER': linker, f'{of}_RUNNER': ' '.join(map(str, runner)), f'{of}_RUSTFLAGS': flags,
            'PROVED_ARGON2_LIB_DIR': made, 'CARGO_HOME': folder / 'cargo', 'CARGO_PROFILE_DEV_DEBUG': '0'}
-    shown = said(*named(**how), 'cargo', 'test', '--offline', '--target', target, '--no-fail-fast', cwd=crate)
+    shown = output_of(*named(**how), 'cargo', 'test', '--offline', '--target', target, '--no-fail-fast', cwd=crate)
     expected = sum(len(re.findall(r'^ *#\[test\]', path.read_text(encoding='utf-8'), re.M))
                    for part in ('src', 'tests') for path in (crate / part).rglob('*.rs'))
     assert sum(map(int, re.findall(r'^test result: ok\. (\d+) passed; 0 failed', shown, re.M))) == expected > 0
@@ -215,26 +215,34 @@ def test_crate_passes_its_tests_on_arm(on_arm, tmp_path):
 # The code and the constants of all builds, with what assembler and linker put between them for Windows.
 LAID_OUT = """SECTIONS {{
     code {code:#x} : {{ {each} }}
-    constants {constants:#x} : {{ INPUT_SECTION_FLAGS (SHF_ALLOC & !SHF_EXECINSTR) *(*) }}
+    constants {constants:#x} : {{ {kept} }}
     /DISCARD/ : {{ *(*) }}
 }}"""
 EACH = 'FILL(0xcccccccc) INPUT_SECTION_FLAGS (SHF_EXECINSTR) *{}.o(*) FILL(0x90909090) . = ALIGN(16);\n'
+KEPT = '. = ALIGN({}); INPUT_SECTION_FLAGS (SHF_ALLOC & !SHF_EXECINSTR) *{}.o(*)\n'
+
+
+def alignment_of(file):
+    """That of the constants of an object, which are one section for Windows."""
+    return max(map(int, re.findall(r'\] \.(?:ro)?data\S* .* (\d+)$', output_of('readelf', '-SW', file), re.M)))
 
 
 def others(made, folder, code):
     """What a file for Windows has otherwise than the objects of the library for Linux have it, which are linked here
     to be where it has them: in code, or in constants."""
     objects = [folder / f'proved_argon2_{build}.o' for build in BUILDS]
-    said('ar', 'x', '--output', folder, made / 'x86_64' / ARCHIVE)
+    output_of('ar', 'x', '--output', folder, made / 'x86_64' / ARCHIVE)
     for file in objects:  # (of equal constants a linker would make one)
-        said('objcopy', '--set-section-flags', '.rodata*=alloc,readonly,data', file)
+        output_of('objcopy', '--set-section-flags', '.rodata*=alloc,readonly,data', file)
     begins = {'code': code.code[0][1], 'constants': code.data[0][1]}
-    (folder / 'script').write_text(LAID_OUT.format(each=''.join(map(EACH.format, BUILDS)), **begins), encoding='utf-8')
+    (folder / 'script').write_text(LAID_OUT.format(
+        each=''.join(map(EACH.format, BUILDS)),
+        kept=''.join(map(KEPT.format, map(alignment_of, objects), BUILDS)), **begins), encoding='utf-8')
     outside = [f'--defsym=proved_driver_{name.removeprefix("proved_sysv_")}={at}' for at, name in code.names.items()
                if name.startswith('proved_sysv_')]
-    said('ld', '-T', folder / 'script', *outside, *objects, '-o', folder / 'linked')
+    output_of('ld', '-T', folder / 'script', *outside, *objects, '-o', folder / 'linked')
     for name, begin in begins.items():
-        said('objcopy', '-O', 'binary', '-j', name, folder / 'linked', folder / name)
+        output_of('objcopy', '-O', 'binary', '-j', name, folder / 'linked', folder / name)
     linked = {name: (folder / name).read_bytes() for name in begins}
     kernels = [at - begins['code'] for at, name in code.names.items() if name.endswith('::fill_words')]
     assert linked['constants'] and len(kernels) == len(BUILDS) and max(kernels) < len(linked['code'])
@@ -254,9 +262,10 @@ def test_machine_code_is_that_for_linux_and_spares_the_stack(made, tmp_path, nam
 
 
 def test_dll_has_the_calls_of_the_headers_alone_needs_the_system_alone_and_can_be_anywhere(made):
-    of_dll = said(f'{TOOLS}objdump', '-p', made / WINDOWS / DLL)
+    of_dll = output_of(f'{TOOLS}objdump', '-p', made / WINDOWS / DLL)
     calls = re.findall(r'\[ *\d+\] (?:\+base\[ *\d+\] +[0-9a-f]+ )?(proved_\w+)$', of_dll, re.M)
-    linux = re.findall(r' T (\w+)', said('nm', '-D', '--defined-only', *made.glob('x86_64/libproved_argon2.so.?.*')))
+    linux = re.findall(r' T (\w+)', output_of('nm', '-D', '--defined-only',
+                                              *made.glob('x86_64/libproved_argon2.so.?.*')))
     assert {*calls} == {*linux} != set()
     assert {*re.findall(r'DLL Name: (\S+)', of_dll)} == {'ADVAPI32.dll', 'KERNEL32.dll', 'msvcrt.dll'}
     assert {'HIGH_ENTROPY_VA', 'DYNAMIC_BASE', 'NX_COMPAT'} <= {*of_dll.split()}
@@ -280,5 +289,5 @@ def test_compiles_for(target, tmp_path):
     files = sorted((ready('portable') / 'portable').glob('*.c'))
     assert len(files) == 8
     for file in files:
-        said('clang', f'--target={target}', '-nostdlibinc', '-isystem', tmp_path, *WARNINGS, '-c', file, '-o',
-             '/dev/null')
+        output_of('clang', f'--target={target}', '-nostdlibinc', '-isystem', tmp_path, *WARNINGS, '-c', file, '-o',
+                  '/dev/null')

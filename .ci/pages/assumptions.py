@@ -1,5 +1,5 @@
-"""What pages claim of the sources and of the toolchain: what depends on secrets (.ci/secrets/depends.txt), what the
-prover takes without proof, and the hash of each group of files of verdicts.txt.
+"""What pages claim of the sources and of the toolchain: what depends on secrets (bindings/c/tests/secrets/depends.txt),
+what the prover takes without proof, and the hash of each group of files of pinned.txt.
 
 No test finds that those files accept one password more than the proved calls do, so each change of them has to be seen.
 """
@@ -11,12 +11,12 @@ import shutil
 import textwrap
 from pathlib import Path
 
-from common import REPORTS, TOP, files, fill, need, quoted, read, row, rows, run, write
+from common import REPORTS, TOP, files, fill, quoted, read, require, row, rows, run, write
 from machines import machines
 from shared.sources import crates
 from toolchain import is_current
 
-CLAIMS, VERDICTS = 'docs/CLAIMS.md', '.ci/pages/verdicts.txt'
+CLAIMS, PINNED = 'docs/CLAIMS.md', '.ci/pages/pinned.txt'
 # The parts of the logic, whose axioms are named; and what makes machine code of what is proved.
 PARTS = 'antt/lib', 'antt/port/mathlib', 'antt/port/seplogic', 'logic'
 COMPILERS = {'bin/rattle': 'the prover, with its back ends',
@@ -65,7 +65,7 @@ def lines_of(crate, built, report):
     none = [name for name, which in reached if which.startswith('none')]
     if crate == WITHOUT_AXIOMS:
         taken = [*(word for word in verdict if re.match('axioms=[^0]', word)), *some, *sorted(called - OF_THE_COMPILER)]
-        need(not taken, f'{built} takes functions of C as they are: {taken}')
+        require(not taken, f'{built} takes functions of C as they are: {taken}')
     loaded = {*re.findall(r'^statements (\w+):', report, re.M)} - {*crates()}
     ends = ' '.join(word for word in verdict if not word.startswith('functions='))
     return [f'- its proof ends with: `{ends}`', f"- the toolchain's crates loaded: {quoted(sorted(loaded))}",
@@ -82,7 +82,7 @@ def declared(path, top):
 
 def write_reports(top):
     """docs/reports.txt. Where one is not built its list stays as it is."""
-    fill(REPORTS, 'the toolchain', lines_of_the_toolchain(top), 'claims')
+    fill(REPORTS, 'the toolchain', lines_of_the_toolchain(top), 'assumptions')
     reports = {name: report_of(*which) for name, which in BUILT.items()}
     lacking = [name for name, report in reports.items() if not report]
     if lacking:
@@ -90,21 +90,21 @@ def write_reports(top):
     taken = re.findall(r'^ +(\S+) +reached$', reports[PROGRAM], re.M)
     lists = (line for name, which in BUILT.items() for line in (f'{name}:', '', *lines_of(*which, reports[name]), ''))
     fill(REPORTS, 'the reports', [*lists, 'The contracts of the functions of C of the programs:', '',
-                                  *(declared(path, top) for path in taken)], 'claims')
+                                  *(declared(path, top) for path in taken)], 'assumptions')
 
 
 def with_hash(patterns, reason, *_):
-    """A row of verdicts.txt with the hash of its files, in sorted order, with their names."""
+    """A row of pinned.txt with the hash of its files, in sorted order, with their names."""
     found = files(*patterns.split())
-    need(found, f'{VERDICTS}: no file is of {patterns}')
+    require(found, f'{PINNED}: no file is of {patterns}')
     sums = (f'{hashlib.sha256((TOP / file).read_bytes()).hexdigest()}  {file}\n' for file in found)
     return ' | '.join([patterns, reason, hashlib.sha256(''.join(sums).encode()).hexdigest()])
 
 
 def write_all():
-    depends = [row(call, words) for _, call, words in rows(TOP / '.ci/secrets/depends.txt')]
-    fill(CLAIMS, 'secrets', ['| Call | What depends on these |', '|---|---|', *depends], 'claims')
+    depends = [row(call, words) for _, call, words in rows(TOP / 'bindings/c/tests/secrets/depends.txt')]
+    fill(CLAIMS, 'secrets', ['| Call | What depends on these |', '|---|---|', *depends], 'assumptions')
     if shutil.which('rt'):
         write_reports(Path(shutil.which('rt')).resolve().parent.parent)
-    heads = [line for line in read(VERDICTS).splitlines() if line[0] == '#']
-    write(VERDICTS, '\n'.join([*heads, *(with_hash(*cells) for cells in rows(TOP / VERDICTS)), '']))
+    heads = [line for line in read(PINNED).splitlines() if line[0] == '#']
+    write(PINNED, '\n'.join([*heads, *(with_hash(*cells) for cells in rows(TOP / PINNED)), '']))
