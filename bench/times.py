@@ -1,5 +1,6 @@
 #!/usr/bin/env python3
-"""Times whole hashes of our library beside its peers, by turns in one process, but Node: bench/times.py FOLDER SECONDS
+"""Times whole hashes of our library beside its peers, by turns in one process, but for Node, Go and Java:
+bench/times.py FOLDER SECONDS
 
 Each round runs every implementation, so that a slow moment of the machine falls on all of them. Each tag is compared
 before it is timed. FOLDER is what bench/run builds. A case runs SECONDS for each of its threads, since times differ
@@ -45,8 +46,8 @@ def timed(call, *arguments):
 
 def ours(library, cost, memory=0, length=0):
     """By the call with options, which Rust and Python make too."""
-    options, settings = 'NIPNPPPPP', struct.pack('6I', ARGON2ID, VERSION, *cost[:3], len(TAG))
-    packed = struct.pack(options, struct.calcsize(options), cost[3], memory, length, 0, 0, 0, 0, 0)
+    options, settings = 'NIPNPPPPPP', struct.pack('6I', ARGON2ID, VERSION, *cost[:3], len(TAG))
+    packed = struct.pack(options, struct.calcsize(options), cost[3], memory, length, 0, 0, 0, 0, 0, 0)
     nothing = None, c_size_t(0)
     return timed(library.proved_argon2_hash_raw_with, packed, PASSWORD, c_size_t(8), SALT, c_size_t(16), *nothing,
                  *nothing, settings, TAG, c_size_t(len(TAG)))
@@ -63,8 +64,25 @@ def reusing(library, cost):
 
 
 def node(way, module, cost):
-    """In a process of its own, which has the time."""
-    words = 'node', Path(__file__).with_name('node.mjs'), module, way, *map(str, cost)
+    return in_process('node', Path(__file__).with_name('node.mjs'), module, way, *map(str, cost))
+
+
+def go(way, program, cost):
+    """Its functions have as many threads as lanes."""
+    *cost, lanes, threads = cost
+    return lanes == threads and in_process(program, way, *map(str, cost), str(lanes))
+
+
+def java(way, jar, cost):
+    """Ours has a thread for each lane, and Bouncy Castle one."""
+    threads = cost[2] if way == 'ours' else 1
+    path = f'{jar}:{jar.parent}/java:/usr/share/java/bcprov.jar'
+    return cost[3] == threads and in_process('java', '-Xmx2g', '-cp', path, 'proved.argon2.Hashes', way,
+                                             *map(str, cost))
+
+
+def in_process(*words):
+    """A program that hashes for each line, and prints the tag and the milliseconds."""
     kept.append(process := subprocess.Popen(words, stdin=subprocess.PIPE, stdout=subprocess.PIPE, text=True))
 
     def run():
@@ -117,7 +135,9 @@ PEERS = (
     Peer('v3', 'this library, AVX2', 'v3.so', ours),
     Peer('v2', 'this library, no AVX2', 'v2.so', ours),
     Peer('node', 'this library, Node', 'package/src/index.js', partial(node, 'native')),
+    Peer('go', 'this library, Go', 'go/peers', partial(go, 'ours')),
     Peer('wasm', 'this library, Node, WebAssembly', 'package/src/index.js', partial(node, 'wasm')),
+    Peer('java', 'this library, Java', 'java.jar', partial(java, 'ours')),
     Peer('reusing', 'this library, reusable buffer', 'reusing.so', reusing),
     Peer('libsodium', 'libsodium', 'libsodium.so.23', libsodium),
     Peer('reference-native', 'C reference, native', 'reference-native.so', upstream),
@@ -125,14 +145,16 @@ PEERS = (
     Peer('libargon2', 'libargon2', 'libargon2.so.1', upstream),
     Peer('rust-argon2', 'rust-argon2 3.0.0', 'crates.so', partial(crate, 'rust_argon2')),
     Peer('rustcrypto', 'RustCrypto argon2', 'crates.so', partial(crate, 'rustcrypto')),
+    Peer('x-crypto', 'x/crypto, Go', 'go/peers', partial(go, 'theirs')),
+    Peer('bouncy-castle', 'Bouncy Castle', 'java.jar', partial(java, 'theirs')),
     Peer('openssl', 'OpenSSL', 'newer/usr/lib/x86_64-linux-gnu/libcrypto.so.3', openssl))
 
 
 def load(folder, name):
-    """A library, or a module for Node; None, where it is not there. Ours chooses its build at its first call, here that
-    which its file is named by."""
+    """A library, a module for Node, a program of Go, or a jar; None, where it is not there. Ours chooses its build at
+    its first call, here that which its file is named by."""
     path = Path(folder, name).absolute()
-    if path.suffix == '.js':
+    if path.suffix in ('.js', '.jar', ''):
         return path if path.exists() else None
     try:
         library = ctypes.CDLL(name if name.startswith('lib') else str(path))
@@ -159,8 +181,8 @@ def prepare(loaded, cost):
 
 
 def measure(loaded, cost, seconds):
-    """Rounds in an order of their own. Of two hashes the second counts: the first has to find memory behind some
-    implementations, and not behind others, and wakes its threads."""
+    """Times rounds, each in a new random order. Each implementation hashes twice in a round, and the second hash
+    counts: the first one depends on what ran before, since some implementations give memory back to the system."""
     hashes = prepare(loaded, cost)
     spent, end = {name: [] for name in hashes}, time.perf_counter() + seconds * cost[3]
     # (the first round is a cold one)
@@ -176,15 +198,25 @@ def column(kind, cost):
     return '{} ({}, {}, {}) x {}'.format(kind, *cost)
 
 
-def main(folder, seconds):
-    loaded = {peer: library for peer in PEERS if (library := load(folder, peer.library))}
-    as_it_was, columns = re.search(r'\[(.*)\]', SWITCH.read_text())[1], {}
+def load_all(folder):
+    """The libraries that are there, by their implementations."""
+    return {peer: library for peer in PEERS if (library := load(folder, peer.library))}
+
+
+def kinds():
+    """Each kind of kernel, which the kernel is meanwhile. In the end it is what it was."""
+    as_it_was = re.search(r'\[(.*)\]', SWITCH.read_text())[1]
     try:
-        for kind, cost in itertools.product(KINDS, COSTS):
+        for kind in KINDS:
             SWITCH.write_text(kind)
-            columns[column(kind, cost)] = measure(loaded, cost, float(seconds))
+            yield kind
     finally:
         SWITCH.write_text(as_it_was)
+
+
+def main(folder, seconds):
+    loaded = load_all(folder)
+    columns = {column(kind, cost): measure(loaded, cost, float(seconds)) for kind in kinds() for cost in COSTS}
     print('case', *columns, sep='\t')
     for name in dict.fromkeys(itertools.chain(*columns.values())):
         print(name, *(times.get(name, '–') for times in columns.values()), sep='\t')

@@ -1,0 +1,77 @@
+#!/usr/bin/env python3
+"""Measures how many hashes per second callers get that hash at the same time, and how long each of them waits, for our
+library and its peers: bench/throughput.py FOLDER SECONDS
+
+Each caller is a thread, which ctypes lets run beside the others while it hashes. FOLDER is what bench/run builds. Each
+implementation runs for SECONDS in each of ROUNDS, which have a new random order. For each case and implementation this
+prints a line: the case, the name, hashes per second, and the median and the 99th percentile of milliseconds.
+"""
+import os
+import random
+import statistics
+import sys
+import time
+from concurrent.futures import ThreadPoolExecutor
+from itertools import chain
+from threading import Barrier
+
+from times import kept, kinds, load_all, prepare
+
+# owasp2 and rfc9106_low_mem: KiB, passes, lanes, and the threads that fill them.
+SETTINGS = (19456, 2, 1, 1), (65536, 3, 1, 1)
+CALLERS = sorted({1, 2, 4, 2 * os.cpu_count()})
+# What is compared: our one-shot calls and those over a kept buffer, and the peers that a service in C would use.
+NAMES = 'v4', 'reusing', 'libsodium', 'reference-native', 'libargon2'
+ROUNDS, PERCENT = 2, 99
+
+
+def case(kind, cost, callers):
+    return f'{kind} ({cost[0]}, {cost[1]}, {cost[2]}) by {callers}'
+
+
+def call_together(runs, seconds):
+    """Has each caller hash for some seconds after a hash that does not count, and returns the milliseconds of each of
+    its hashes."""
+    start = Barrier(len(runs))
+
+    def call(run):
+        run()
+        start.wait()
+        spent, end = [], time.perf_counter() + seconds
+        while time.perf_counter() < end:
+            spent.append(run())
+        return spent
+    with ThreadPoolExecutor(len(runs)) as pool:
+        return [*pool.map(call, runs)]
+
+
+def measure(loaded, cost, callers, seconds):
+    """All milliseconds of each implementation, a list for each caller of each round."""
+    spent = {peer: [] for peer in loaded}
+    for _ in range(ROUNDS):
+        for peer in random.sample([*loaded], len(loaded)):
+            kept.clear()
+            spent[peer] += call_together([peer.call(loaded[peer], cost) for _ in range(callers)], seconds)
+    return spent
+
+
+def summed_up(spent):
+    """Hashes per second, the median and the percentile. A caller's last hash ends after its time: so each caller counts
+    by the time that it took."""
+    rate = sum(len(times) / sum(times) * 1000 for times in spent) / ROUNDS
+    every = sorted(chain.from_iterable(spent))
+    return f'{rate:.4g} {statistics.median(every):.3g} {every[len(every) * PERCENT // 100]:.3g}'
+
+
+def main(folder, seconds):
+    loaded = {peer: library for peer, library in load_all(folder).items() if peer.name in NAMES}
+    for kind in kinds():
+        for cost in SETTINGS:
+            prepare(loaded, cost)  # (which compares their tags)
+            for callers in CALLERS:
+                for peer, spent in measure(loaded, cost, callers, float(seconds)).items():
+                    print('load', case(kind, cost, callers), peer.name, summed_up(spent), sep='\t')
+
+
+if __name__ == '__main__':
+    main(*sys.argv[1:])
