@@ -1,19 +1,79 @@
 /*
- * A login of a service, which docs/USE.md describes. The file that includes this one has the array `pepper`, a key from
- * a secret store.
+ * The logins of a service, as docs/USE.md describes them. The file that includes this one has the array `pepper`, a key
+ * from a secret store.
  */
-#include "proved_argon2_threads.h"
+#include "proved_argon2.h"
 
+#include <pthread.h>
 #include <semaphore.h>
+#include <stdbool.h>
 #include <stdint.h>
 #include <stdio.h>
 #include <string.h>
 
-#define LONGEST 1024 /* bytes of a password */
+enum {
+    LONGEST = 1024, /* the longest password, in bytes */
+    PLACES = 2,     /* logins that compute at a time */
+    WAITING = 64    /* logins that wait for a place */
+};
 
+/* What to answer: let the user in; reject with HTTP status 401; twice "try again later", with 503. */
 enum verdict { MATCHES, DIFFERS, BUSY, ERROR };
 
-/* One line of the log. A name can neither begin another line nor fill the disk. */
+/* A reusable buffer for one hash at a time. It spares the time in which the system maps, clears and unmaps memory. */
+struct buffer {
+    void *memory;
+    size_t length;
+};
+
+struct logins {
+    sem_t room, places; /* how many more logins may be here, and how many places are free */
+    pthread_mutex_t lock;
+    struct buffer free[PLACES]; /* the buffers of the free places */
+    size_t count;
+};
+
+/* Call it once, after the service has forked. A place whose buffer is denied computes without one. */
+static bool begin_logins(struct logins *logins)
+{
+    const proved_argon2_settings new_settings = proved_argon2_owasp2();
+    logins->count = 0;
+    while (logins->count < PLACES) {
+        struct buffer *const buffer = &logins->free[logins->count++];
+        if (proved_argon2_memory_new(&new_settings, &buffer->memory, &buffer->length) != PROVED_ARGON2_OK) {
+            buffer->memory = NULL;
+            buffer->length = 0;
+        }
+    }
+    return pthread_mutex_init(&logins->lock, NULL) == 0 && sem_init(&logins->room, 0, PLACES + WAITING) == 0
+        && sem_init(&logins->places, 0, PLACES) == 0;
+}
+
+/* Waits for a place, and takes its buffer. Returns false at once if too many logins wait. */
+static bool enter(struct logins *logins, struct buffer *buffer)
+{
+    if (sem_trywait(&logins->room) != 0) {
+        return false;
+    }
+    while (sem_wait(&logins->places) != 0) {
+        /* a signal has interrupted it */
+    }
+    pthread_mutex_lock(&logins->lock);
+    *buffer = logins->free[--logins->count];
+    pthread_mutex_unlock(&logins->lock);
+    return true;
+}
+
+static void leave(struct logins *logins, struct buffer buffer)
+{
+    pthread_mutex_lock(&logins->lock);
+    logins->free[logins->count++] = buffer;
+    pthread_mutex_unlock(&logins->lock);
+    sem_post(&logins->places);
+    sem_post(&logins->room);
+}
+
+/* Writes one line to the log. A name can neither begin another line nor fill the disk. */
 static void note(const char *event, const char *user)
 {
     char name[65] = "";
@@ -23,37 +83,63 @@ static void note(const char *event, const char *user)
     fprintf(stderr, "%s: %s\n", event, name);
 }
 
-/*
- * Writes what to store from now on over `stored`, which has room for PROVED_ARGON2_TEXT_SIZE bytes. `has_left(client)`
- * returns 1 if the client has left.
- */
-static enum verdict log_in(
-    sem_t *slots, const char *user, const char *password, char *stored, proved_argon2_tell *has_left, void *client)
+/* Whether a stored hash can be verified in the buffer. One with larger settings gets memory of its own. */
+static bool fits(struct buffer buffer, const char *stored)
 {
-    const size_t length = strlen(password);
+    proved_argon2_stored read;
+    return proved_argon2_read(stored, strlen(stored), &read) == PROVED_ARGON2_OK
+        && proved_argon2_memory_len(&read.settings) <= buffer.length;
+}
+
+/* Verifies a password, and writes the new hash over `stored` if the old one has other settings than new hashes. */
+static uint32_t verify(
+    proved_argon2_options options, const char *user, const void *password, size_t length, char *stored)
+{
+    if (stored == NULL) {
+        return proved_argon2_password_verify_unknown(
+            &options, options.new_settings, password, length, pepper, sizeof pepper);
+    }
+    const uint32_t code = proved_argon2_password_verify_with(&options, stored, password, length, pepper, sizeof pepper);
+    if (code != PROVED_ARGON2_NEEDS_REHASH) {
+        return code;
+    }
+    options.progress = NULL; /* the password matches, whether or not the client is still there */
+    if (proved_argon2_password_hash_with(
+            &options, options.new_settings, stored, password, length, pepper, sizeof pepper)
+        != PROVED_ARGON2_OK) {
+        note("not hashed again", user);
+    }
+    return PROVED_ARGON2_OK;
+}
+
+/*
+ * Logs in a user with a password of `length` bytes, any of which may be zero. `stored` is the user's encoded hash, with
+ * room for PROVED_ARGON2_TEXT_SIZE bytes, or NULL if there is no such user. `has_left(client)` returns 1 if the client
+ * has left.
+ */
+static enum verdict log_in(struct logins *logins, const char *user, const void *password, size_t length, char *stored,
+    proved_argon2_progress *has_left, void *client)
+{
+    const proved_argon2_settings new_settings = proved_argon2_owasp2();
+    const proved_argon2_limits limits = proved_argon2_default_limits();
+    proved_argon2_options options = {.size = sizeof options, .limits = &limits, .new_settings = &new_settings};
+    struct buffer buffer;
     if (length > LONGEST) {
         note("too long a password", user);
         return DIFFERS;
     }
-    if (sem_trywait(slots) != 0) {
+    if (!enter(logins, &buffer)) {
         note("busy", user);
         return BUSY;
     }
-    const proved_argon2_settings today = proved_argon2_owasp2();
-    const proved_argon2_limits limits = proved_argon2_default_limits();
-    proved_argon2_options options = {.size = sizeof options, .limits = &limits, .today = &today};
-    options.tell = has_left;
+    options.progress = has_left;
     options.arg = client;
-    uint32_t code = proved_argon2_password_verify_with(&options, stored, password, length, pepper, sizeof pepper);
-    options.tell = NULL;
-    if (code == PROVED_ARGON2_NEEDS_REHASH) {
-        code = PROVED_ARGON2_OK; /* whether or not it can be hashed again */
-        if (proved_argon2_password_hash_with(&options, &today, stored, password, length, pepper, sizeof pepper)
-            != PROVED_ARGON2_OK) {
-            note("not hashed again", user);
-        }
+    if (buffer.memory != NULL && (stored == NULL || fits(buffer, stored))) {
+        options.memory = buffer.memory;
+        options.memory_len = buffer.length;
     }
-    sem_post(slots);
+    const uint32_t code = verify(options, user, password, length, stored);
+    leave(logins, buffer);
     note(code == PROVED_ARGON2_OK ? "logged in" : proved_argon2_message(code), user);
     return code == PROVED_ARGON2_OK ? MATCHES : code == PROVED_ARGON2_MISMATCH ? DIFFERS : ERROR;
 }

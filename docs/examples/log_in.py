@@ -1,42 +1,34 @@
-"""A login of a service, which docs/USE.md describes. PEPPER, in the environment, is a key from a secret store."""
+"""A login in a service for asyncio, which docs/USE.md describes. The environment variable PEPPER is a secret key."""
 import logging
 import os
-import threading
 
-from proved_argon2 import PasswordHasher
+from proved_argon2 import AsyncPasswordHasher, PasswordHasher
 
 LONGEST = 1024  # characters of a password
-slots = threading.BoundedSemaphore(2)
-hasher = PasswordHasher(secret=os.environb[b"PEPPER"])
-
-
-class ClientLeft(Exception):
-    """Nobody waits for the result of a call."""
+# Two logins are computed at a time, and 64 more wait. All others raise BusyError at once.
+hasher = AsyncPasswordHasher(PasswordHasher(secret=os.environb[b"PEPPER"]), concurrency=2, waiting=64)
 
 
 def is_password(given):
-    """Whether it is a string, not too long, that UTF-8 can encode."""
+    """Return whether this is a string, not too long, that UTF-8 can encode."""
     return isinstance(given, str) and len(given) <= LONGEST and given == given.encode(errors="ignore").decode()
 
 
-def log_in(user, password, stored, has_left):
-    """Whether the password matches, or None if the user has to try again later; and what to store from now on."""
-    def stop_if_left(done, all):
-        if has_left():
-            raise ClientLeft
+async def log_in(user, password, stored):
+    """Return whether to let the user in, or None for the HTTP status 503; and what to store from now on.
 
+    `stored` is None if there is no such user. Cancel the task if the client leaves.
+    """
     if not is_password(password):
         logging.info("no password: %r", user)
         return False, stored
-    if not slots.acquire(blocking=False):
-        logging.warning("busy: %r", user)
-        return None, stored
     try:
-        is_match, update = hasher.verify_and_update(stored, password, progress=stop_if_left)
-        logging.info("logged in: %r" if is_match else "wrong password: %r", user)
-        return is_match, update or stored
+        if stored is None:
+            is_match, update = await hasher.verify_unknown(password), None
+        else:
+            is_match, update = await hasher.verify_and_update(stored, password)
     except Exception as error:
         logging.error("error: %r: %r", user, error)
         return None, stored
-    finally:
-        slots.release()
+    logging.info("logged in: %r" if is_match else "wrong password: %r", user)
+    return is_match, update or stored

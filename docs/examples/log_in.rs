@@ -1,39 +1,63 @@
-// A login of a service, which docs/USE.md describes. The file that includes this one has `PEPPER`, a key from a secret
-// store, and the slots: `argon2::Line::new(2, 0)`, where none wait.
+// The logins of a service, as docs/USE.md describes them. The file that includes this one has `PEPPER`, a key from a
+// secret store, and the line: `argon2::Line::new(2, 64)`, in which two logins compute at a time and 64 wait.
 
 use std::ops::ControlFlow;
 
-/// Bytes of a password.
+/// The longest password, in bytes.
 const LONGEST: usize = 1024;
 
-/// Whether the password matches, and what to store from now on; or nothing, if the user has to try again later.
+/// What a login comes to.
+#[derive(Debug, PartialEq)]
+enum Login {
+    /// Let the user in. If there is a new encoded hash, store it in place of the old one.
+    Accepted(Option<String>),
+
+    /// The user or the password is wrong: answer with HTTP status 401.
+    Rejected,
+
+    /// Nothing was verified: answer "try again later", with HTTP status 503.
+    TryLater,
+}
+
+/// Logs in a user. `stored` is the user's encoded hash, or `None` if there is no such user. `has_left` says whether the
+/// client has left.
 fn log_in(
-    slots: &argon2::Line,
+    line: &argon2::Line,
     user: &str,
     password: &[u8],
-    stored: &str,
+    stored: Option<&str>,
     has_left: impl Fn() -> bool,
-) -> Option<(bool, String)> {
+) -> Login {
     if password.len() > LONGEST {
         eprintln!("too long a password: {user:?}");
-        return Some((false, stored.to_owned()));
+        return Login::Rejected;
     }
-    let slot = slots.wait();
-    if slot.is_err() {
-        eprintln!("busy: {user:?}");
-        return None;
-    }
+    let mut place = match line.wait() {
+        Ok(place) => place,
+        Err(busy) => {
+            eprintln!("{busy}: {user:?}");
+            return Login::TryLater;
+        }
+    };
     let today = argon2::Config { secret: PEPPER, ..argon2::Config::default() };
-    let mut run =
-        argon2::Run::new().telling(|_, _| if has_left() { ControlFlow::Break(()) } else { ControlFlow::Continue(()) });
-    match run.verify_and_update(stored, password, &today) {
-        Ok((is_match, update)) => {
-            eprintln!("{}: {user:?}", if is_match { "logged in" } else { "wrong password" });
-            Some((is_match, update.unwrap_or_else(|| stored.to_owned())))
+    let stop_if_left = |_, _| if has_left() { ControlFlow::Break(()) } else { ControlFlow::Continue(()) };
+    let mut run = place.run().with_progress(stop_if_left);
+    let verdict = match stored {
+        Some(stored) => run.verify_and_update(stored, password, &today),
+        None => run.verify_unknown(password, &today).map(|_| (false, None)).map_err(Into::into),
+    };
+    match verdict {
+        Ok((true, update)) => {
+            eprintln!("logged in: {user:?}");
+            Login::Accepted(update)
+        }
+        Ok((false, _)) => {
+            eprintln!("wrong user or password: {user:?}");
+            Login::Rejected
         }
         Err(error) => {
             eprintln!("error: {user:?}: {error}");
-            None
+            Login::TryLater
         }
     }
 }
