@@ -184,10 +184,6 @@ def write_place(file, what, items, mark, form):
     elif mark == '-':
         lost = [item['name'] for item in items if one_line(put_in(item, form)).strip() not in one_line(text)]
         require(not lost, f'{file}, {what}: it lacks {lost}, each as {form}')
-    elif mark == '+':
-        has = re.search('^old: .*', form, re.M)[0]
-        lost = [item for item in items if put_in(item, has) not in text]
-        write(file, '\n'.join([text, *(put_in(item, form + '\n') for item in lost)]))
     else:
         fill(file, mark, [part_of(form, items)], 'presets')
 

@@ -40,7 +40,7 @@ PROCEDURES = {
                          '1_048_576,\n            time_cost: 14,\n            lanes: 32'),
                         (RESULTS, r'mem_cost == \d+ && limits.time_cost == \d+ && limits.lanes == \d+',
                          'mem_cost == 1048576 && limits.time_cost == 14 && limits.lanes == 32')],
-    'a border of the settings': [
+    'a limit on a setting': [
         ('crates/argon2_standard/specs/Standard/SettingsTable.antt', r'min_salt_length = \d+', 'min_salt_length = 9'),
         ('crates/argon2_blocks/src/common.rt', r'MIN_SALT_LENGTH: u32 = \d+', 'MIN_SALT_LENGTH: u32 = 9'),
         (f'{HEADER}.h', r'MIN_SALT_LENGTH UINT32_C\(\d+', 'MIN_SALT_LENGTH UINT32_C(9'),

@@ -32,6 +32,7 @@ TRIED_ALONE, MUTANTS = 'must-fail', 'mutants.txt'
 STATEMENTS = 'specs/Statements.antt'
 REFUSED, PROVED = 'refused', 'proved'
 PAIR = re.compile(r'(?:^file: (.+)\n)?^old: (.+)\nnew: ?(.*)$', re.M)
+EDIT = re.compile(rf'(?=file: )(?:{PAIR.pattern}|^goal: .+|\n)+', re.M)
 
 
 def crates():
@@ -141,34 +142,46 @@ class Sources:
 
 class Edit:
     """A mutant: its crate, its pairs of texts, the goals that it names where it has to be rejected, and the functions
-    in whose spans the texts stand. `function` is that of the last pair."""
+    in whose spans the texts stand. `function` is that of the last pair. `fault` says why it cannot be tried."""
 
     def __init__(self, crate, block, sources):
         first, _, self.text = block.partition('\n')
-        verdict, _, self.name = first.partition(' ')
-        self.crate, self.is_equal = crate, verdict == PROVED
-        is_edit = re.fullmatch(rf'(?=file: )(?:{PAIR.pattern}|^goal: .+|\n)+', self.text, re.M)
-        found = PAIR.findall(self.text) if is_edit else []
-        files = accumulate((path for path, *_ in found), lambda last, path: path or last)
-        self.pairs = [(TOP / 'crates' / crate / file, *texts) for file, (_, *texts) in zip(files, found)]
-        self.goals, self.functions = re.findall(r'^goal: (.+)$', self.text, re.M), []
+        self.verdict, _, self.name = first.partition(' ')
+        self.crate, self.is_equal = crate, self.verdict == PROVED
+        self.goals = re.findall(r'^goal: (.+)$', self.text, re.M)
         self.is_of_theorem = any(goal.startswith('proofs/') for goal in self.goals)
-        faults, texts = [] if is_edit else [f'it is no edit: {self.text}'], {}
-        if (crate,) not in sources.modules:
-            faults.append('crates.txt lacks its crate')
-        if verdict not in (REFUSED, PROVED):
-            faults.append(f'it is neither {REFUSED} nor {PROVED}, but {verdict}')
-        for file, old, new in self.pairs:
-            now = texts.get(file) or (file.read_text(encoding='utf-8') if file.exists() else '')
-            texts[file] = now.replace(old, new)
-            if now.count(old) != 1:
-                faults.append(f'its text stands {now.count(old)} times in {file.relative_to(TOP)}: {old.strip()}')
-                continue
-            line = now[:now.index(old)].count('\n') + 1
+        self.pairs, self.edited, self.functions = self.parse(), {}, []
+        counts = [self.apply(*pair, sources) for pair in self.pairs]
+        self.function = self.functions[-1] if self.functions else None
+        self.fault = next(self.faults(counts, sources), None)
+
+    def parse(self):
+        """Each pair of texts, behind the file in which the second replaces the first; none if this is no edit."""
+        found = PAIR.findall(self.text) if EDIT.fullmatch(self.text) else []
+        files = accumulate((path for path, *_ in found), lambda last, path: path or last)
+        return [(TOP / 'crates' / self.crate / file, *texts) for file, (_, *texts) in zip(files, found)]
+
+    def apply(self, file, old, new, sources):
+        """Edits the text of a file, notes in which function, and returns how many times the old text stood there."""
+        before = self.edited.get(file) or (file.read_text(encoding='utf-8') if file.exists() else '')
+        self.edited[file], count = before.replace(old, new), before.count(old)
+        if count == 1:
+            line = before[:before.index(old)].count('\n') + 1
             around = (f for f in sources.functions if f.module.file == file and f.first <= line <= f.last)
             self.functions.append(next(around, None))
-        self.fault = next(iter(faults), None) or next(filter(None, map(self.lost_promise, texts, texts.values())), None)
-        self.function = self.functions[-1] if self.functions else None
+        return count
+
+    def faults(self, counts, sources):
+        if not self.pairs:
+            yield f'it is no edit: {self.text}'
+        if (self.crate,) not in sources.modules:
+            yield 'crates.txt lacks its crate'
+        if self.verdict not in (REFUSED, PROVED):
+            yield f'it is neither {REFUSED} nor {PROVED}, but {self.verdict}'
+        for (file, old, _), count in zip(self.pairs, counts):
+            if count != 1:
+                yield f'its text stands {count} times in {file.relative_to(TOP)}: {old.strip()}'
+        yield from filter(None, map(self.lost_promise, self.edited, self.edited.values()))
 
     def lost_promise(self, file, text):
         """A clause or ghost item that stands in a file and not in its edited text: a mutant promises what the original
