@@ -201,8 +201,9 @@ new_salt() {
     [ "${#salt}" = 32 ] || fail 4 'there are no random bytes'
 }
 
-# Passes standard input on, and says on standard error where it ends with a newline, which `echo` adds. This shell is
-# told where it is empty, and where it cannot be read to its end, so that no hash of nothing or of a part is printed.
+# Passes standard input on, and warns on standard error if it ends with a newline, which `echo` adds. If it is empty, or
+# cannot be read to its end, a word with `!` is printed on descriptor 5, so that nobody keeps a hash of nothing or of a
+# part. No output of the tool contains `!`.
 watch_input() {
     { pass_on 3>&1 | tell_of_end; } 4>&1
 }
@@ -210,13 +211,13 @@ watch_input() {
 # Passes standard input to the descriptors 3 and 4, as much as the tool reads. A status of 1 is that of a failed read; a
 # signal ends `head` and `tee` where the tool reads no more.
 pass_on() {
-    { head -c "$most_read" 2>/dev/null || [ $? != 1 ] || { add 'the input cannot be read' && kill -USR1 $$; }; } \
+    { head -c "$most_read" 2>/dev/null || [ $? != 1 ] || { add 'the input cannot be read' && echo '!unread' >&5; }; } \
         | tee /dev/fd/3 >&4 2>/dev/null
 }
 
 tell_of_end() {
     case $(tail -c 1 | od -An -tx1) in
-    '') kill -USR2 $$ ;;
+    '') echo '!empty' >&5 ;;
     ' 0a') add 'the password ends with a newline, as echo adds one: use printf' ;;
     esac
 }
@@ -230,23 +231,22 @@ new_text() {
     # The settings are arguments, to be split.
     # shellcheck disable=SC2086
     [ $# != 0 ] || set -- $owasp_settings
-    is_empty=
     if [ -t 0 ]; then
         judge new "$@" "$salt"
         ask 'Password: '
         password=$answer
         ask 'Password again: '
         [ "$password" = "$answer" ] || fail 1 'the two passwords are not the same'
-        [ -n "$password" ] || is_empty=yes
+        [ -n "$password" ] || fail 2 'the password is empty'
         lines=$(printf '%s' "$password" | "$program" new "$@" "$salt") || exit
     else
         [ -e /dev/fd/0 ] || fail 4 'there is no input'
-        trap 'exit 4' USR1
-        trap 'is_empty=yes' USR2
-        lines=$(watch_input | "$program" new "$@" "$salt") || exit
-        trap - USR1 USR2
+        lines=$({ watch_input | "$program" new "$@" "$salt" 5>&-; } 5>&1) || exit
     fi
-    [ -z "$is_empty" ] || fail 2 'the password is empty'
+    case $lines in
+    *'!unread'*) exit 4 ;;
+    *'!empty'*) fail 2 'the password is empty' ;;
+    esac
     printf '%s\n' "${lines#*"$newline"}" || exit 4
 }
 
