@@ -94,137 +94,151 @@ const REFUSED_IN_PAGE = `
     for (const call of tried) names.push(await call().then(String, (error) => error.name));
     return names;`;
 
-function tests(isIsolated) {
-    let browser;
-    let restarts = 1;
+/** A page in a browser, which is started anew, once, if it ends by itself. */
+class Page {
+    #restarts = 1;
 
-    async function open() {
-        browser = await new Browser().open(PAGE, { isIsolated });
-        await browser.until(MEASURED);
+    constructor(isIsolated) {
+        this.isIsolated = isIsolated;
     }
 
-    before(open);
-    after(() => browser.close());
+    async open() {
+        this.browser = await new Browser().open(PAGE, { isIsolated: this.isIsolated });
+        await this.browser.until(MEASURED);
+    }
 
-    /** A test of the page. A browser that ends by itself is started anew, once. */
-    const pageTest = (what, call) => test(`${isIsolated ? 'isolated' : 'not isolated'}: ${what}`, async (context) => {
+    async run(call, context) {
         try {
-            await call();
+            await call(this.browser, this.isIsolated);
         } catch (error) {
-            if (!(error instanceof BrowserEnded) || restarts === 0) {
+            if (!(error instanceof BrowserEnded) || this.#restarts === 0) {
                 throw error;
             }
-            restarts -= 1;
+            this.#restarts -= 1;
             context.diagnostic(error.message);
-            await browser.close();
-            await open();
-            await call();
+            await this.browser.close();
+            await this.open();
+            await call(this.browser, this.isIsolated);
         }
-    });
-
-    async function compare(hashes, threads) {
-        const { wrong, isIsolated: found } = await browser.resultOf(computedInPage(hashes, threads));
-        assert.deepEqual(wrong, []);
-        assert.equal(found, isIsolated);
     }
-
-    pageTest('300 calls of several kinds take one memory a worker at most, and an idle browser none', async () => {
-        const start = browser.memoryInUse();
-        let most = 0;
-        for (let call = 0; call < CALLS; call += AT_ONCE) {
-            await browser.resultOf(mixedCalls(call, call + AT_ONCE));
-            most = Math.max(most, browser.memoryInUse() - start);
-        }
-        const limit = WORKERS * MEMORIES[1] * 1024 + BESIDES;
-        assert.ok(most <= limit, `${most / MIB} MiB above the start, and ${limit / MIB} MiB is the limit`);
-        for (let tries = IDLE.tries; tries > 0 && browser.memoryInUse() - start > BESIDES; tries--) {
-            await sleep(IDLE.pause);
-        }
-        assert.ok(browser.memoryInUse() - start <= BESIDES, `${(browser.memoryInUse() - start) / MIB} MiB stay`);
-    });
-
-    pageTest('the outside hashes', () => compare(hashesOf(`${VECTORS}/raw.txt`, 240), WORKERS));
-
-    pageTest('800 random hashes of libargon2, by 1 to 8 workers', async () => {
-        const hashes = hashesOf(RANDOM_HASHES, 800);
-        for (let threads = 1; threads <= WORKERS; threads++) {
-            await compare(hashes.filter((_, i) => i % WORKERS === threads - 1), threads);
-        }
-    });
-
-    pageTest('errors have their names', async () => {
-        assert.deepEqual(await browser.resultOf(REFUSED_IN_PAGE),
-            [...Array(3).fill('OutOfMemory'), 'TimeTooSmall', 'TooCostly', 'AbortError', 'true', 'BusyError']);
-    });
-
-    pageTest('a visitor hashes and verifies', async () => {
-        await set(browser, 'password', 'pässwörd');
-        await set(browser, 'memory', '12');
-        await set(browser, 'lanes', '3');
-        assert.match(await submit(browser, 'hashing'), /^Hashed in /);
-        const encoded = await browser.evaluate(`document.getElementById('encoded').value`);
-        assert.match(encoded, /^\$argon2id\$v=19\$m=4096,t=2,p=3\$/);
-        assert.equal(await argon2.verify(encoded, 'pässwörd'), true);
-        assert.equal(await browser.evaluate(`${of('hashing', 'progress')}.value`), 1);
-        assert.equal(await browser.evaluate(`document.getElementById('made').value`), encoded);
-        assert.match(await submit(browser, 'verifying'), /^The password is right /);
-        await set(browser, 'guess', 'password');
-        assert.match(await submit(browser, 'verifying'), /^The password is wrong /);
-        await set(browser, 'encoded', encoded.slice(1));
-        assert.match(await submit(browser, 'verifying'), /^This is no encoded hash of Argon2/);
-        await set(browser, 'encoded', encoded.replace('m=4096', 'm=4294967295'));
-        assert.match(await submit(browser, 'verifying'), /^This encoded hash is above a limit of the page: /);
-        await set(browser, 'passes', argon2.defaultLimits.timeCost + 1);
-        assert.match(await submit(browser, 'hashing'), /^Hashed in .* It is above the limits for verifying\.$/);
-        assert.match(await submit(browser, 'verifying'), /: 2 GiB, 10 passes, 16 lanes, 4 GiB filled in all passes/);
-        await set(browser, 'encoded', ' ');
-        assert.equal(await submit(browser, 'verifying'), 'Enter an encoded hash first.');
-    });
-
-    pageTest('what is shown is told to whoever hears the page', async () => {
-        await set(browser, 'memory', '14');
-        await set(browser, 'passes', '1');
-        const shown = await browser.evaluate(`[...document.querySelectorAll('[type=range]')].map((element) =>
-            element.getAttribute('aria-valuetext')).join()`);
-        assert.equal(shown, '16 MiB,1 pass,3 lanes');
-        const named = await browser.evaluate(`[...document.querySelectorAll('input, textarea, select, progress')].map(
-            (element) => element.labels?.[0]?.firstChild.textContent.trim() || element.getAttribute('aria-label'))
-            .join('; ')`);
-        assert.equal(named.split('; ').filter(Boolean).length, 10, named);
-        assert.equal(new Set(named.split('; ')).size, 10, named);
-        await browser.evaluate(`document.getElementById('copy').click()`);
-        await browser.until(`document.getElementById('copied').textContent !== ''`);
-        assert.match(await browser.evaluate(`document.getElementById('copied').textContent`), /^(Copied|Selected)\./);
-    });
-
-    pageTest('a visitor cancels, and the page is alive meanwhile', async () => {
-        await set(browser, 'memory', '17');
-        await set(browser, 'passes', '20');
-        await press(browser, 'hashing', '[type=submit]');
-        await browser.until(`${of('hashing', 'progress')}.value > 0`);
-        await set(browser, 'passes', '1');
-        assert.equal(await browser.evaluate(`document.getElementById('passes-shown').value`), '1 pass');
-        await browser.evaluate(`${of('hashing', '.cancel')}.focus()`);
-        await press(browser, 'hashing', '.cancel');
-        assert.match(await textOf(browser, 'hashing'), /^(Stopping|Cancelled)/);
-        assert.equal(await statusOf(browser, 'hashing'), 'Cancelled. The memory is overwritten.');
-        assert.equal(await browser.evaluate(`document.activeElement === ${of('hashing', '[type=submit]')}`), true);
-        assert.equal(await browser.evaluate(`${of('hashing', '[role=status]')}.className`), 'quiet');
-        await set(browser, 'memory', '10');
-        assert.match(await submit(browser, 'hashing'), /^Hashed in /);
-    });
-
-    pageTest('the page fits on a screen and on a phone', async () => {
-        await set(browser, 'memory', '14');
-        await submit(browser, 'hashing');
-        await set(browser, 'encoded', '$argon2id$');
-        await submit(browser, 'verifying');
-        for (const width of WIDTHS) {
-            await browser.evaluate(`frame.width = ${width}`);
-            assert.deepEqual(await browser.evaluate(TOO_WIDE), [], `${width} pixels`);
-        }
-    });
 }
+
+async function compare(browser, isIsolated, hashes, threads) {
+    const { wrong, isIsolated: found } = await browser.resultOf(computedInPage(hashes, threads));
+    assert.deepEqual(wrong, []);
+    assert.equal(found, isIsolated);
+}
+
+async function takesLittleMemory(browser) {
+    const start = browser.memoryInUse();
+    let most = 0;
+    for (let call = 0; call < CALLS; call += AT_ONCE) {
+        await browser.resultOf(mixedCalls(call, call + AT_ONCE));
+        most = Math.max(most, browser.memoryInUse() - start);
+    }
+    const limit = WORKERS * MEMORIES[1] * 1024 + BESIDES;
+    assert.ok(most <= limit, `${most / MIB} MiB above the start, and ${limit / MIB} MiB is the limit`);
+    for (let tries = IDLE.tries; tries > 0 && browser.memoryInUse() - start > BESIDES; tries--) {
+        await sleep(IDLE.pause);
+    }
+    assert.ok(browser.memoryInUse() - start <= BESIDES, `${(browser.memoryInUse() - start) / MIB} MiB stay`);
+}
+
+async function outsideHashes(browser, isIsolated) {
+    await compare(browser, isIsolated, hashesOf(`${VECTORS}/raw.txt`, 240), WORKERS);
+}
+
+async function randomHashes(browser, isIsolated) {
+    const hashes = hashesOf(RANDOM_HASHES, 800);
+    for (let threads = 1; threads <= WORKERS; threads++) {
+        await compare(browser, isIsolated, hashes.filter((_, i) => i % WORKERS === threads - 1), threads);
+    }
+}
+
+async function namedErrors(browser) {
+    assert.deepEqual(await browser.resultOf(REFUSED_IN_PAGE),
+        [...Array(3).fill('OutOfMemory'), 'TimeTooSmall', 'TooCostly', 'AbortError', 'true', 'BusyError']);
+}
+
+async function visitorHashes(browser) {
+    await set(browser, 'password', 'pässwörd');
+    await set(browser, 'memory', '12');
+    await set(browser, 'lanes', '3');
+    assert.match(await submit(browser, 'hashing'), /^Hashed in /);
+    const encoded = await browser.evaluate(`document.getElementById('encoded').value`);
+    assert.match(encoded, /^\$argon2id\$v=19\$m=4096,t=2,p=3\$/);
+    assert.equal(await argon2.verify(encoded, 'pässwörd'), true);
+    assert.equal(await browser.evaluate(`${of('hashing', 'progress')}.value`), 1);
+    assert.equal(await browser.evaluate(`document.getElementById('made').value`), encoded);
+    assert.match(await submit(browser, 'verifying'), /^The password is right /);
+    await set(browser, 'guess', 'password');
+    assert.match(await submit(browser, 'verifying'), /^The password is wrong /);
+    await set(browser, 'encoded', encoded.slice(1));
+    assert.match(await submit(browser, 'verifying'), /^This is no encoded hash of Argon2/);
+    await set(browser, 'encoded', encoded.replace('m=4096', 'm=4294967295'));
+    assert.match(await submit(browser, 'verifying'), /^This encoded hash is above a limit of the page: /);
+    await set(browser, 'passes', argon2.defaultLimits.timeCost + 1);
+    assert.match(await submit(browser, 'hashing'), /^Hashed in .* It is above the limits for verifying\.$/);
+    assert.match(await submit(browser, 'verifying'), /: 2 GiB, 10 passes, 16 lanes, 4 GiB filled in all passes/);
+    await set(browser, 'encoded', ' ');
+    assert.equal(await submit(browser, 'verifying'), 'Enter an encoded hash first.');
+}
+
+async function isHeard(browser) {
+    await set(browser, 'memory', '14');
+    await set(browser, 'passes', '1');
+    const shown = await browser.evaluate(`[...document.querySelectorAll('[type=range]')].map((element) =>
+        element.getAttribute('aria-valuetext')).join()`);
+    assert.equal(shown, '16 MiB,1 pass,3 lanes');
+    const named = await browser.evaluate(`[...document.querySelectorAll('input, textarea, select, progress')].map(
+        (element) => element.labels?.[0]?.firstChild.textContent.trim() || element.getAttribute('aria-label'))
+        .join('; ')`);
+    assert.equal(named.split('; ').filter(Boolean).length, 10, named);
+    assert.equal(new Set(named.split('; ')).size, 10, named);
+    await browser.evaluate(`document.getElementById('copy').click()`);
+    await browser.until(`document.getElementById('copied').textContent !== ''`);
+    assert.match(await browser.evaluate(`document.getElementById('copied').textContent`), /^(Copied|Selected)\./);
+}
+
+async function visitorCancels(browser) {
+    await set(browser, 'memory', '17');
+    await set(browser, 'passes', '20');
+    await press(browser, 'hashing', '[type=submit]');
+    await browser.until(`${of('hashing', 'progress')}.value > 0`);
+    await set(browser, 'passes', '1');
+    assert.equal(await browser.evaluate(`document.getElementById('passes-shown').value`), '1 pass');
+    await browser.evaluate(`${of('hashing', '.cancel')}.focus()`);
+    await press(browser, 'hashing', '.cancel');
+    assert.match(await textOf(browser, 'hashing'), /^(Stopping|Cancelled)/);
+    assert.equal(await statusOf(browser, 'hashing'), 'Cancelled. The memory is overwritten.');
+    assert.equal(await browser.evaluate(`document.activeElement === ${of('hashing', '[type=submit]')}`), true);
+    assert.equal(await browser.evaluate(`${of('hashing', '[role=status]')}.className`), 'quiet');
+    await set(browser, 'memory', '10');
+    assert.match(await submit(browser, 'hashing'), /^Hashed in /);
+}
+
+async function fits(browser) {
+    await set(browser, 'memory', '14');
+    await submit(browser, 'hashing');
+    await set(browser, 'encoded', '$argon2id$');
+    await submit(browser, 'verifying');
+    for (const width of WIDTHS) {
+        await browser.evaluate(`frame.width = ${width}`);
+        assert.deepEqual(await browser.evaluate(TOO_WIDE), [], `${width} pixels`);
+    }
+}
+
+/** Each test of a page: what is expected, and the function that tries it. */
+const TESTS = [
+    ['300 calls of several kinds take one memory a worker at most, and an idle browser none', takesLittleMemory],
+    ['the outside hashes', outsideHashes],
+    ['800 random hashes of libargon2, by 1 to 8 workers', randomHashes],
+    ['errors have their names', namedErrors],
+    ['a visitor hashes and verifies', visitorHashes],
+    ['what is shown is told to whoever hears the page', isHeard],
+    ['a visitor cancels, and the page is alive meanwhile', visitorCancels],
+    ['the page fits on a screen and on a phone', fits],
+];
 
 test('a browser that ends fails what waits for it', async () => {
     const browser = await new Browser().open(PAGE);
@@ -236,5 +250,12 @@ test('a browser that ends fails what waits for it', async () => {
 });
 
 for (const isIsolated of [true, false]) {
-    describe(BROWSER, () => tests(isIsolated));
+    describe(BROWSER, () => {
+        const page = new Page(isIsolated);
+        before(() => page.open());
+        after(() => page.browser.close());
+        for (const [what, call] of TESTS) {
+            test(`${isIsolated ? 'isolated' : 'not isolated'}: ${what}`, (context) => page.run(call, context));
+        }
+    });
 }
