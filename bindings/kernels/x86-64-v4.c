@@ -3,9 +3,9 @@
  * build/add_kernel puts the machine code of this file in the place of the proved `fill_words` for x86-64-v3. This code
  * is not proved. Instead, its machine code is checked for all inputs (docs/CLAIMS.md).
  *
- * The layout: a block is a square of 8 rows by 8 columns. Each square holds two words, so a row is 16 consecutive
- * words. G first permutes each row and then each column with P, which treats its 16 words as a 4 by 4 matrix: a has
- * words 0 to 3, b words 4 to 7, c words 8 to 11, and d words 12 to 15.
+ * The layout: a block is a square of 8 rows by 8 columns. Each place holds two words, so a row is 16 consecutive words.
+ * G first permutes each row and then each column with P, which treats its 16 words as a 4 by 4 matrix: a has words 0 to
+ * 3, b words 4 to 7, c words 8 to 11, and d words 12 to 15.
  *
  * A vector holds 8 words: words 4k to 4k + 3 of row 2i, and behind them the same words of row 2i + 1.
  *
@@ -20,7 +20,7 @@
  * the matrices are turned into columns and back.
  *
  * Each step handles all four groups of vectors before the next step begins. The steps of a single group depend on each
- * other, so handling one group after another takes half as long again. */
+ * other, so handling one group after another takes 1.5 times as long. */
 #include <immintrin.h>
 #include <stdint.h>
 
@@ -121,7 +121,7 @@ INLINED void read_rows(const uint64_t *prev, const uint64_t *reference, vector *
     group[3] = LAST_HALVES(sums[1], sums[3]);
 }
 
-/* Adds two rows of the sum of the blocks to a group, and with_old those of next, and writes the result to next. */
+/* Adds two rows of the blocks' sum to a group, and those of next if with_old, and writes the result to next. */
 INLINED void write_rows(
     const vector *group, const uint64_t *prev, const uint64_t *reference, uint64_t *next, uint32_t with_old)
 {

@@ -1,6 +1,6 @@
 /*
- * libargon2's interface, over the proved Argon2 of proved_argon2.h: the same constants, types and calls, so that a
- * program that was built for libargon2 20171227 or 20190702 runs over this library as it is.
+ * libargon2's interface, over the proved Argon2 of proved_argon2.h: the same constants, types and calls. A program
+ * built for libargon2 20171227 or 20190702 runs over this library unchanged.
  *
  * docs/LIBARGON2.md says what differs on purpose. New programs use proved_argon2.h.
  */
@@ -51,7 +51,7 @@ extern "C" {
 #define ARGON2_FLAG_CLEAR_PASSWORD (UINT32_C(1) << 0)
 #define ARGON2_FLAG_CLEAR_SECRET (UINT32_C(1) << 1)
 
-/* Of the static library alone, and without an effect: the memory is always cleared. */
+/* Only in the static library, and without effect: memory is always cleared. */
 extern int FLAG_clear_internal_memory;
 
 typedef enum Argon2_ErrorCodes {
@@ -59,7 +59,7 @@ typedef enum Argon2_ErrorCodes {
     ARGON2_OUTPUT_PTR_NULL = -1,
     ARGON2_OUTPUT_TOO_SHORT = -2,
     ARGON2_OUTPUT_TOO_LONG = -3,
-    ARGON2_PWD_TOO_SHORT = -4, /* never returned, as all below that say so */
+    ARGON2_PWD_TOO_SHORT = -4, /* never returned, like others below */
     ARGON2_PWD_TOO_LONG = -5,
     ARGON2_SALT_TOO_SHORT = -6,
     ARGON2_SALT_TOO_LONG = -7,
@@ -73,7 +73,7 @@ typedef enum Argon2_ErrorCodes {
     ARGON2_MEMORY_TOO_MUCH = -15, /* never returned */
     ARGON2_LANES_TOO_FEW = -16,
     ARGON2_LANES_TOO_MANY = -17,
-    ARGON2_PWD_PTR_MISMATCH = -18, /* a null pointer, and its length is not 0: so the next three */
+    ARGON2_PWD_PTR_MISMATCH = -18, /* null pointer with a length above 0; likewise the next three */
     ARGON2_SALT_PTR_MISMATCH = -19,
     ARGON2_SECRET_PTR_MISMATCH = -20,
     ARGON2_AD_PTR_MISMATCH = -21,
@@ -85,7 +85,7 @@ typedef enum Argon2_ErrorCodes {
     ARGON2_OUT_PTR_MISMATCH = -27, /* never returned */
     ARGON2_THREADS_TOO_FEW = -28,
     ARGON2_THREADS_TOO_MANY = -29,
-    ARGON2_MISSING_ARGS = -30, /* of the command alone */
+    ARGON2_MISSING_ARGS = -30, /* only by the command */
     ARGON2_ENCODING_FAIL = -31,
     ARGON2_DECODING_FAIL = -32,
     ARGON2_THREAD_FAIL = -33,          /* never returned: other threads do the work of a denied one */
@@ -93,7 +93,7 @@ typedef enum Argon2_ErrorCodes {
     ARGON2_VERIFY_MISMATCH = -35
 } argon2_error_codes;
 
-/* Writes where so many bytes begin, at a multiple of 8, or leaves null. What it returns is ignored. */
+/* Sets *memory to so many bytes, at a multiple of 8, or leaves null. Its result is ignored. */
 typedef int (*allocate_fptr)(uint8_t **memory, size_t bytes_to_allocate);
 typedef void (*deallocate_fptr)(uint8_t *memory, size_t bytes_to_allocate);
 
@@ -114,7 +114,7 @@ typedef struct Argon2_Context {
     uint32_t threads;           /* at most so many at once */
     uint32_t version;           /* an argon2_version */
     allocate_fptr allocate_cbk; /* where the memory comes from, or null */
-    deallocate_fptr free_cbk;   /* where it goes, with zeros in it, or null */
+    deallocate_fptr free_cbk;   /* frees it, filled with zeros, or null */
     uint32_t flags;
 } argon2_context;
 
@@ -126,25 +126,25 @@ typedef enum Argon2_version {
     ARGON2_VERSION_NUMBER = ARGON2_VERSION_13
 } argon2_version;
 
-/* The name of a type, as `argon2id` or `Argon2id`; null where there is no such type. */
+/* The name of a type, `argon2id` or `Argon2id`; null for an unknown type. */
 ARGON2_PUBLIC const char *argon2_type2string(argon2_type type, int uppercase);
 
 /* The message of an error code, which is never freed. */
 ARGON2_PUBLIC const char *argon2_error_message(int error_code);
 
-/* The bytes of an encoded hash, with the zero behind it. */
+/* The size of an encoded hash, with its final zero. */
 ARGON2_PUBLIC size_t argon2_encodedlen(
     uint32_t t_cost, uint32_t m_cost, uint32_t parallelism, uint32_t saltlen, uint32_t hashlen, argon2_type type);
 
-/* Writes the tag of a context to its out. Returns ARGON2_OK or the error; out is as it was then. */
+/* Writes the tag of a context to its out. Returns ARGON2_OK, or an error and leaves out unchanged. */
 ARGON2_PUBLIC int argon2_ctx(argon2_context *context, argon2_type type);
 ARGON2_PUBLIC int argon2d_ctx(argon2_context *context);
 ARGON2_PUBLIC int argon2i_ctx(argon2_context *context);
 ARGON2_PUBLIC int argon2id_ctx(argon2_context *context);
 
 /*
- * Whether hash, of the context's outlen bytes, is its tag: ARGON2_OK only where it is, and ARGON2_VERIFY_MISMATCH only
- * where it is not. Then out has the tag, or else zeros.
+ * Whether hash, of outlen bytes, is the context's tag: ARGON2_OK only if it is (out gets the tag), and
+ * ARGON2_VERIFY_MISMATCH only if it is not (out gets zeros).
  */
 ARGON2_PUBLIC int argon2_verify_ctx(argon2_context *context, const char *hash, argon2_type type);
 ARGON2_PUBLIC int argon2d_verify_ctx(argon2_context *context, const char *hash);
@@ -152,8 +152,8 @@ ARGON2_PUBLIC int argon2i_verify_ctx(argon2_context *context, const char *hash);
 ARGON2_PUBLIC int argon2id_verify_ctx(argon2_context *context, const char *hash);
 
 /*
- * Writes the tag to hash, where that is not null, and the encoded hash to encoded, where that has room for bytes. Where
- * it has room for fewer than argon2_encodedlen says, that is ARGON2_ENCODING_FAIL, and it has zeros.
+ * Writes the tag to hash unless that is null, and the encoded hash to encoded unless encodedlen is 0. If encodedlen is
+ * less than argon2_encodedlen says, it returns ARGON2_ENCODING_FAIL and fills encoded with zeros.
  */
 ARGON2_PUBLIC int argon2_hash(const uint32_t t_cost, const uint32_t m_cost, const uint32_t parallelism, const void *pwd,
     const size_t pwdlen, const void *salt, const size_t saltlen, void *hash, const size_t hashlen, char *encoded,

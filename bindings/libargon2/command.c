@@ -1,4 +1,4 @@
-/* The command `argon2` with the options and the output of upstream's, which docs/LIBARGON2.md compares. */
+/* The command `argon2`, with the options and output of libargon2's command (docs/LIBARGON2.md). */
 #define _GNU_SOURCE
 #include "argon2.h"
 #include <stdio.h>
@@ -46,7 +46,7 @@ static void print_usage(const char *command)
     printf("\t-h\t\tPrint %s usage\n", command);
 }
 
-/* The number behind an option, from 1 to most, where the greatest of all stands for an overflow. */
+/* The number after an option, from 1 to most; ULONG_MAX means an overflow. */
 static unsigned long number_of(char option, const char *digits, unsigned long most)
 {
     char error[] = "bad numeric input for -?";
@@ -72,7 +72,7 @@ static int has_argument(const char *word)
     return word[0] == '-' && word[1] != 0 && word[2] == 0 && strchr("mktplv", word[1]) != NULL;
 }
 
-/* Reads an option and its argument, which is null where none follows. */
+/* Reads an option and its argument, which is null if missing. */
 static void read_option(settings *to, char option, const char *argument)
 {
     char missing[] = "missing -? argument";
@@ -119,7 +119,7 @@ static void read_word(settings *to, const char *word)
     }
 }
 
-/* Reads the arguments behind the salt, up to one that asks for help. */
+/* Reads the arguments after the salt, up to one that asks for help. */
 static void read_words(settings *to, char **word)
 {
     while (*word != NULL && !to->is_help) {

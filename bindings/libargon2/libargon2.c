@@ -1,5 +1,5 @@
 /* libargon2's interface (argon2.h) over the calls of proved_argon2.h: it makes libargon2's checks in their order, and
- * translates errors. Each tag and each verdict is a proved call's. What differs on purpose: docs/LIBARGON2.md */
+ * translates errors. Proved calls compute tags and verdicts. Differences on purpose are in docs/LIBARGON2.md. */
 #define _GNU_SOURCE
 #include "argon2.h"
 #include "platform.h"
@@ -44,7 +44,7 @@ const char *argon2_error_message(int error_code)
                                                                 : messages[-error_code];
 }
 
-/* libargon2's code for one of the proved calls; a version that does not exist is a wrong parameter. */
+/* libargon2's code for a proved call's code; an unknown version is a wrong parameter. */
 static int code_of(uint32_t code)
 {
     switch (code) {
@@ -59,7 +59,7 @@ static int code_of(uint32_t code)
     }
 }
 
-/* The first of libargon2's errors for what a context says, in its order. */
+/* The first error that libargon2 would report for a context. */
 static int judge(const argon2_context *c)
 {
     if (c == NULL) return ARGON2_INCORRECT_PARAMETER;
@@ -71,7 +71,7 @@ static int judge(const argon2_context *c)
     if (c->secret == NULL && c->secretlen != 0) return ARGON2_SECRET_PTR_MISMATCH;
     if (c->ad == NULL && c->adlen != 0) return ARGON2_AD_PTR_MISMATCH;
     if (c->m_cost < ARGON2_MIN_MEMORY) return ARGON2_MEMORY_TOO_LITTLE;
-    if (c->m_cost < 8 * c->lanes) return ARGON2_MEMORY_TOO_LITTLE; /* modulo 2^32, as libargon2: see the lanes below */
+    if (c->m_cost < 8 * c->lanes) return ARGON2_MEMORY_TOO_LITTLE; /* modulo 2^32, as in libargon2: see lanes below */
     if (c->t_cost < ARGON2_MIN_TIME) return ARGON2_TIME_TOO_SMALL;
     if (c->lanes < ARGON2_MIN_LANES) return ARGON2_LANES_TOO_FEW;
     if (c->lanes > ARGON2_MAX_LANES) return ARGON2_LANES_TOO_MANY;
@@ -97,8 +97,8 @@ static void give_memory_back(const argon2_context *c, const proved_argon2_option
         c->free_cbk(with->memory, with->memory_len);
 }
 
-/* Without a callback the driver allocates the memory, unless flags say that inputs are cleared: without memory those
- * have to be unchanged, for a caller who tries again with less. */
+/* Without a callback the driver allocates the memory, unless flags ask to clear inputs: if memory runs out, these must
+ * be unchanged, so that the caller can retry. */
 static int take_memory(const argon2_context *c, const proved_argon2_settings *settings, proved_argon2_options *with)
 {
     uint8_t *memory = NULL;
@@ -123,7 +123,7 @@ static void clear_if(uint32_t is_asked, uint8_t *bytes, uint32_t *len)
     }
 }
 
-/* Writes the tag to out where there is no hash. */
+/* Writes the tag to out if hash is null. */
 static int compute(argon2_context *c, argon2_type type, const uint8_t *hash)
 {
     proved_argon2_options with = PROVED_ARGON2_OPTIONS;
@@ -152,7 +152,7 @@ int argon2_ctx(argon2_context *context, argon2_type type)
     return compute(context, type, NULL);
 }
 
-/* Where the verdict is that hash is the tag, out gets it from there; another tag the driver has cleared. */
+/* If hash is the tag, copies it to out; the driver has cleared any other tag. */
 int argon2_verify_ctx(argon2_context *context, const char *hash, argon2_type type)
 {
     const int code = hash == NULL ? ARGON2_INCORRECT_PARAMETER : compute(context, type, (const uint8_t *)hash);
@@ -170,7 +170,7 @@ size_t argon2_encodedlen(
     return proved_argon2_encoded_len(&settings, saltlen) + 1;
 }
 
-/* Writes the encoded hash and its zero, and nothing behind it, or zeros alone where it does not fit. */
+/* Writes the encoded hash and its zero, and nothing after it. If it does not fit, writes zeros. */
 static int encode(const argon2_context *c, argon2_type type, char *encoded, size_t capacity)
 {
     const proved_argon2_settings settings = settings_of(c, type);
@@ -231,7 +231,7 @@ int argon2_verify(const char *encoded, const void *pwd, const size_t pwdlen, arg
     int code = code_of(proved_argon2_read(encoded, len, &stored));
     if (code == -PROVED_ARGON2_OLD_PROCESSOR) return code;
     if (code != ARGON2_OK || !is_spelled(encoded, its, type)) return ARGON2_DECODING_FAIL;
-    uint8_t any; /* the salt and the hash are checked by their lengths */
+    uint8_t any; /* only the lengths of salt and hash are checked */
     const argon2_context c = {.out = &any,
         .outlen = its->hash_length,
         .pwd = (uint8_t *)(uintptr_t)pwd,

@@ -1,5 +1,5 @@
-# The manual of the calls with what the headers declare: awk -f headers.awk HEADER.. PAGE. Of the page it replaces
-#     @CALLS PATTERN@     by the declarations of the calls whose names have it
+# Completes the manual of the calls from the headers: awk -f headers.awk HEADER.. PAGE. In the page it replaces
+#     @CALLS PATTERN@     by the declarations of the calls whose names match
 #     @PRESETS@           by each call of recommended settings, with its comment
 #     @FIELDS TYPE@       by the fields of a type, with the comment before each
 #     @TYPE NAME@         by a type's definition, without comments
@@ -21,7 +21,7 @@ function marked(line,  out)
     return out line "\""
 }
 
-# Prints a declaration in lines of 80 characters, each length beside what it is of.
+# Prints a declaration in lines of 80 characters, each length beside its pointer.
 function print_call(text,  parts, count, i, line)
 {
     gsub(/, size_t [a-z]*_len/, "@&", text)

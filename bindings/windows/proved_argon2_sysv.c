@@ -1,5 +1,5 @@
-/* What is proved calls these to copy and set bytes, in Linux's convention for calls (build/write_coff). It is tested
- * and not proved. */
+/* The proved code calls these to copy and set bytes, by Linux's calling convention (build/write_coff). It is tested and
+ * not proved. */
 #include <string.h>
 
 #define SYSV __attribute__((sysv_abi))

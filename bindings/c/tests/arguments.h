@@ -1,4 +1,4 @@
-/* What the checks of bad input share: all that a call of the header is given, so that one thing at a time is spoilt. */
+/* Shared by the tests of bad input: all arguments of a call, so that one at a time can be spoilt. */
 #ifndef ARGUMENTS_H
 #define ARGUMENTS_H
 

@@ -1,7 +1,6 @@
 /*
- * Which build the library takes: the newest that the processor has, as the compiler's own look at it says, or the one
- * that the environment names; or none, and then each call returns an error. Each choice is made in a process of its
- * own.
+ * Whether the library chooses the newest build that the processor can run, as the compiler's builtins see it, or the
+ * one that the environment names; if none can run, each call must return an error. Each choice has its own process.
  *
  *     builds             the checks
  *     builds --name      says the number of the build that is taken
@@ -18,7 +17,7 @@ enum { THREADS = 8 };
 
 static const char variable[] = "PROVED_ARGON2_CPU";
 
-/* Whether a hash is an outside tag, or an error where there is no build. */
+/* Whether hashing returns the known tag, or an error without a build. */
 static bool hashes(int build)
 {
     const proved_argon2_settings settings = {PROVED_ARGON2_D, PROVED_ARGON2_VERSION_13, 256, 2, 2, 32};
@@ -49,7 +48,7 @@ static void name_build(const char *name)
     }
 }
 
-/* Whether a process takes a build where the environment has a name, and keeps it where that has another one. */
+/* Whether a process chooses a build if the environment has this name, and keeps it when the name changes. */
 static bool is_taken(const char *name, int build)
 {
     name_build(name);

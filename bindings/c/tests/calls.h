@@ -1,4 +1,4 @@
-/* The calls with options, for the checks of them: their inputs, the tag of libargon2, and simple pools. */
+/* For tests of the calls with options: their inputs, libargon2's tag, and simple pools. */
 #ifndef CALLS_H
 #define CALLS_H
 

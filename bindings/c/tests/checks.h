@@ -1,5 +1,5 @@
-/* What the checks in C share: each says its name and whether it passed, and a program says at its end how many there
- * have to be. */
+/* Shared by the tests in C: a check prints its name and whether it passed; at its end a program says how many are
+ * required. */
 #ifndef CHECKS_H
 #define CHECKS_H
 
@@ -31,7 +31,7 @@ static inline int finish(int count)
     return checks_made != count || checks_failed != 0;
 }
 
-/* No program ends well that does not say so. */
+/* A program that does not call finish fails. */
 __attribute__((destructor)) static void end_unfinished(void)
 {
     if (!is_finished) {
@@ -39,7 +39,7 @@ __attribute__((destructor)) static void end_unfinished(void)
     }
 }
 
-/* Whether an answer is the given number, which is said where it is another one. */
+/* Whether a code is the expected number; otherwise prints it. */
 static inline void check_code(uint32_t code, uint32_t expected, const char *name)
 {
     if (code != expected) {
@@ -53,7 +53,7 @@ static inline const uint8_t *bytes_of(const char *text)
     return (const uint8_t *)text;
 }
 
-/* Bytes that are alike in no two places near each other: seed + i + i / 256 at the index i. */
+/* Bytes that differ in any two nearby places: seed + i + i / 256 at index i. */
 static inline void fill_bytes(uint8_t *bytes, size_t len, uint8_t seed)
 {
     for (size_t i = 0; i < len; i++) {

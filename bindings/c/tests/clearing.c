@@ -1,7 +1,7 @@
 /*
- * What the calls that hash or verify leave of secrets: nothing but what SECURITY.md names, whatever they return. What
- * is passed to free is searched, and after a call the vector registers and all memory of the process that can be
- * written. proved_clearing.c has the calls that are proved. It is linked with --wrap for what it looks at and denies.
+ * Whether calls that hash or verify leave no secrets except those that SECURITY.md names, whatever they return. It
+ * searches what is passed to free and, after a call, the vector registers and all writable memory of the process.
+ * proved_clearing.c tests the proved calls. It is linked with --wrap to look at requests and deny them.
  *
  *     clearing            all checks
  *     clearing unwiped    what is left where nothing is cleared: each check of that has to find some
@@ -97,7 +97,7 @@ static uint32_t answer_asked(const void *arg)
     return answer(asked->name, asked->trial);
 }
 
-/* Whether a call answers what it is to, and leaves nothing but what it writes, and holds nothing. */
+/* Whether a call returns what it should, leaves only what it writes, and holds no memory. */
 static bool is_cleared(size_t name, const struct trial *trial)
 {
     seek(trial->call);
@@ -115,7 +115,7 @@ static bool is_cleared(size_t name, const struct trial *trial)
     return is_nothing_found(names[name]) && is_expected && held == 0;
 }
 
-/* Over a mapping, a little of malloc's, or the caller's memory. */
+/* In mapped memory, the heap, or the caller's memory. */
 static struct trial over(size_t memory, uint32_t threads)
 {
     struct trial trial = {.with = by(threads), .call = memory == 1 ? SMALL : MAPPED};
@@ -126,7 +126,7 @@ static struct trial over(size_t memory, uint32_t threads)
     return trial;
 }
 
-/* As many of these as a call can be made over: a call without options has none of the caller's. */
+/* How many of these a call can use: without options it cannot use the caller's. */
 static size_t memories_of(size_t name)
 {
     return name < WITH ? MEMORIES : name < PLAIN ? 2 : 1;
@@ -175,7 +175,7 @@ static void check_starts(size_t name)
     check_cleared(name, good, "a start is refused");
 }
 
-/* Each request in turn, until one is not made any more. */
+/* Denies each request in turn, until none is left. */
 static bool is_cleared_at_requests(size_t name, size_t memory)
 {
     bool good = true;
@@ -244,7 +244,7 @@ static uint32_t error_of(size_t name)
                                          : PROVED_ARGON2_MISMATCH;
 }
 
-/* A buffer that does not fit, a text above its limits, and memories that do not. */
+/* A buffer of the wrong size, an encoded hash above limits, and unusable memory. */
 static void check_arguments(size_t name)
 {
     static const proved_argon2_limits below = {2047, 2, 4, UINT64_MAX};
@@ -267,7 +267,7 @@ static void check_arguments(size_t name)
     check_cleared(name, good, "its arguments are refused");
 }
 
-/* What stands in a memory that is given back is cleared: here, what is sought, byte by byte. */
+/* Memory that is freed is cleared: here it contains what is sought, byte by byte. */
 static void check_memory_free(size_t which)
 {
     void *memory = NULL;
@@ -321,8 +321,8 @@ static int signals_behind(void *pool, uint32_t tasks, void (*task)(void *, uint3
     return 0;
 }
 
-/* A pool with a thread of its own, which is handed all tasks and counts them down: where others take all parts of the
- * caller's thread, that holds in its registers what it held before. */
+/* A pool whose one thread runs all tasks: the caller's thread then takes none, and its registers keep what they held
+ * before. */
 static void (*volatile task_of_pool)(void *, uint32_t);
 static void *volatile arg_of_pool;
 static atomic_uint tasks_of_pool;
@@ -374,7 +374,7 @@ static void calls_late(void)
     (void)!getpgrp();
 }
 
-/* Whether the loader saves what a register holds where a name is bound late: else nothing of this is tried. */
+/* Whether the loader saves registers when it binds a name late: otherwise nothing here is tested. */
 static int is_bound_late(const void *unused)
 {
     static uint8_t piece[PART];
@@ -391,7 +391,7 @@ static int is_bound_late(const void *unused)
     return found[OF_H0] + found[OF_SEED] + found[OF_FIRST] != 0 ? 0 : 1;
 }
 
-/* A call with what it may be refused, and how it may end; each in a process of its own, since a name is bound once. */
+/* A call, what may be denied to it, and how it may end. Each has its own process, since a name is bound once. */
 static int ends_before_a_late_call(const void *arg)
 {
     const struct asked *const asked = arg;
@@ -484,8 +484,8 @@ static void *verifies(void *unused)
     return answer(4, &trial) == PROVED_ARGON2_MISMATCH ? &stack_of_call : unused;
 }
 
-/* Below the call's own frames all is cleared that was written, except for a few bytes: the addresses in the frames of
- * the recursion that clears. */
+/* Below the call's own frames everything written is cleared, except for a few bytes: the addresses in the frames of the
+ * recursion that clears. */
 static void check_stack(void)
 {
     pthread_t thread;

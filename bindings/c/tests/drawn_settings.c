@@ -1,9 +1,8 @@
 /*
- * Calls of all sizes, drawn from a seed: up to a gibibyte, or a quarter of what the system has left, hundreds of lanes
- * and threads, and a tag of a mebibyte. Each has libargon2's tag, and starts as many threads, asks as often for memory
- * and writes as many blocks as its settings say, so that none is refused, cut or done twice from some size on. It is
- * linked with --wrap for what it counts, and over a library in which each block that is written adds one to a number
- * (plant_leak.py).
+ * Random calls of all sizes: up to a gibibyte or a quarter of the free memory, hundreds of lanes and threads, and a tag
+ * of a mebibyte. Each must return libargon2's tag, and start the threads, request the memory and write the blocks that
+ * its settings require, so that none is rejected, truncated or repeated from some size on. It is linked with --wrap for
+ * what it counts, and over a library in which each block that is written adds one to a number (plant_leak.py).
  *
  *     drawn_settings [SEED]           the seed is printed
  *     drawn_settings large [SEED]     over a library that only counts the blocks: from 2 GiB on
@@ -72,8 +71,8 @@ static size_t length_of(const proved_argon2_settings *of)
     return of->mem_cost / (4 * of->lanes);
 }
 
-/* How many blocks are compressed: those of the matrix, in each pass, but for the first two of each lane; and two for
- * each 128 numbers that are drawn from no block, for each segment (RFC 9106, 3.4.1.2) that has more than those two. */
+/* How many blocks are compressed: those of the matrix in each pass, except the first two of each lane; and two per 128
+ * pseudorandom numbers that depend on no block, in each segment (RFC 9106, 3.4.1.2) with more than those two blocks. */
 static size_t blocks_of(const proved_argon2_settings *of)
 {
     const size_t all = 4 * of->lanes * length_of(of),
@@ -84,11 +83,10 @@ static size_t blocks_of(const proved_argon2_settings *of)
     return all * of->time_cost - 2 * of->lanes + drawing * slices * of->lanes;
 }
 
-/* How a call is made: as each of the four, by threads; again by the first without options; and over a memory of
- * memory_new, twice. */
+/* How a call is made: each of the four with threads; the first without options; and twice in a buffer of memory_new. */
 enum way { RAW, ENCODED, VERIFY, VERIFY_ENCODED, PLAIN, REUSED };
 
-/* How many threads it takes, of at most so many: the caller's alone where others do not pay. */
+/* How many threads it uses, at most so many: only the caller's if more are slower. */
 static size_t threads_of(const proved_argon2_settings *of, uint32_t most)
 {
     const size_t bytes = 4 * length_of(of) * of->lanes * BLOCK;
@@ -144,7 +142,7 @@ static uint32_t answer(const struct call *call, enum way way, uint32_t threads)
     }
 }
 
-/* Whether a call answers what it is to, and takes for it what it is to. */
+/* Whether a call returns and uses exactly what it should. */
 static bool is_as_counted(const struct call *call, enum way way, uint32_t threads)
 {
     const counted to_be = counts_of(call, way, threads);
@@ -165,7 +163,7 @@ static bool is_as_counted(const struct call *call, enum way way, uint32_t thread
     return good;
 }
 
-/* The bytes that the longest tag's room still has where it is freed. */
+/* How many bytes of the longest tag its memory still has when freed. */
 static size_t left;
 
 static void look_at_room(const void *block)
@@ -177,7 +175,7 @@ static void look_at_room(const void *block)
     }
 }
 
-/* Whether nothing of a tag was left, and a hash is judged to its last byte. */
+/* Whether nothing of a tag was left, and verifying compares the last byte too. */
 static bool is_judged_whole(const struct call *call, uint32_t threads)
 {
     const proved_argon2_options with = by(threads);

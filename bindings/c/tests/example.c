@@ -1,6 +1,6 @@
 /*
- * Hashes a password, encodes and verifies its hash, meets a wrong password and an error. It exits with 1 if a
- * result differs from that of another implementation: the tag is what libargon2 returns (Debian's libargon2-dev
+ * Hashes a password, encodes and verifies its hash, tries a wrong password and an error. It exits with 1 if a result
+ * differs from that of another implementation: the tag is what libargon2 returns (Debian's libargon2-dev
  * 0~20171227-0.3+deb12u1). CTest builds and runs it.
  */
 #include "proved_argon2.h"

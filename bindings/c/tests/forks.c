@@ -1,7 +1,7 @@
 /*
- * The forked children of a process with threads: while two threads hash by threads and another lists the program's
- * objects, as what unwinds does, the parent forks one child after another. Each hashes by threads in its own copy of
- * the parent's reusable buffer, as the parent does. Then a progress callback forks. It is linked with --wrap=getpid.
+ * The forked children of a process with threads: while two threads hash with threads and another lists the program's
+ * objects, like an unwinder, the parent forks one child after another. Each hashes with threads in its copy of the
+ * parent's reusable buffer, as the parent does. Then a progress callback forks. It is linked with --wrap=getpid.
  */
 #include "checks.h"
 
@@ -21,7 +21,7 @@ static atomic_uint hashed, listed;
 
 pid_t __wrap_getpid(void);
 
-/* The number that each first process of a namespace has. */
+/* The ID of the first process of every namespace. */
 pid_t __wrap_getpid(void)
 {
     return 1;
@@ -81,7 +81,7 @@ static bool ends_well(pid_t child)
     return child > 0 && waitpid(child, &status, 0) == child && WIFEXITED(status) && WEXITSTATUS(status) == 0;
 }
 
-/* Whether a child hashes twice over the memory, gives it back, and hashes once more. */
+/* Whether a child hashes twice in the buffer, frees it, and hashes once more. */
 static bool child_is_right(const proved_argon2_options *with)
 {
     static const proved_argon2_options without = PROVED_ARGON2_OPTIONS;
@@ -104,8 +104,8 @@ static int fork_in_the_middle(void *child, uint64_t done, uint64_t all)
     return 0;
 }
 
-/* Whether a child that the callback forks goes on alone, though its process has the parent's number, and the parent by
- * two threads, of which neither takes the other's parts: they are long. */
+/* Whether a child forked by the callback goes on alone, although it has the parent's process ID, and the parent with
+ * two threads; parts are long, so neither takes the other's. */
 static bool both_go_on(void)
 {
     pid_t child = -1;

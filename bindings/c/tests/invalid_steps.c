@@ -1,12 +1,12 @@
 /*
- * What does not fit a job: each number, length and address that a step of a hash is given, with others that are wrong
- * too. It is refused by name, in the order of the header, and nothing is written.
+ * Wrong arguments of a job's steps: each number, length and address, also with others that are wrong. Each returns its
+ * error, in the order of the header, and nothing is written.
  *
  *     invalid_steps few    one in 17 of the combinations that a segment is filled with, where all take too long
  */
 #include "arguments.h"
 
-/* Whether a step answers a number, and writes nothing, but its own where it is done. */
+/* Whether a step returns this number, and writes nothing, or its own blocks if it succeeds. */
 static bool answers(uint32_t (*step)(void), uint32_t expected, size_t from, size_t len)
 {
     const uint32_t code = step();
@@ -23,7 +23,7 @@ static bool answers(uint32_t (*step)(void), uint32_t expected, size_t from, size
 
 #define ITS(field, len) offsetof(struct written, field), len
 
-/* The next of some values that a number stands for, and what is left of the number. */
+/* The next value that a number encodes; reduces the number. */
 static size_t next_of(const size_t *values, size_t count, size_t *number)
 {
     const size_t at = *number % count;
@@ -37,7 +37,7 @@ static const size_t of_slice[] = {SLICE, 0, 1, SLICE - 1, SLICE + 1}, of_segment
                     of_memory[] = {4 * SLICE, 0, 1, 4 * SLICE - 1, 4 * SLICE + 1},
                     of_tag[] = {TAG, 0, 1, TAG - 1, TAG + 1}, lanes[] = {0, LANES - 1, LANES, LANES + 1, UINT32_MAX};
 
-/* The order of the header. A job that is none comes before these. */
+/* The order of the header. An invalid job comes first. */
 static uint32_t expected_of(bool has_place, bool has_blocks, bool has_length)
 {
     return !has_place ? PROVED_ARGON2_NO_PLACE
@@ -100,7 +100,7 @@ static void check_ends(void)
     check(good, "job_finish and job_verify with lengths");
 }
 
-/* What a whole hash is given: it writes its blocks too where it is done, and else nothing. */
+/* The same for a whole hash: it also writes its blocks if it succeeds, otherwise nothing. */
 static bool answers_over(uint32_t (*call)(void), bool has_blocks, bool has_length, size_t from, size_t len)
 {
     memcpy(&written, &written_before, sizeof written);
@@ -163,7 +163,7 @@ static void give_place(uint32_t place)
     pass = slice = lane = place;
 }
 
-/* A job with a number that no accepted call has: no step takes it, whatever else is wrong. */
+/* A job with a number that no accepted call has: each step rejects it first. */
 static void check_no_job(const struct number *number)
 {
     uint32_t (*const steps[])(void) = {
@@ -186,7 +186,7 @@ static void check_no_job(const struct number *number)
     check(good, name);
 }
 
-/* What a job with another number is refused for: not the job. */
+/* A valid job with another number: its blocks or lengths are wrong. */
 static void check_a_job(const struct number *number)
 {
     char name[96];
@@ -211,7 +211,7 @@ static void check_jobs(void)
     }
 }
 
-/* Blocks of a step at an address between two words: refused before what else does not fit, but for a null pointer. */
+/* Blocks at an address between two words: rejected before all other errors, except a null pointer. */
 static void check_alignment(uint32_t (*step)(void), enum place place, const char *name)
 {
     bool good = true;

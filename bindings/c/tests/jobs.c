@@ -1,6 +1,6 @@
 /*
  * The steps of a hash over caller-provided blocks: tags by lanes in two orders, and the job of an encoded hash.
- * invalid_steps.c has the numbers, lengths and addresses that do not fit a job.
+ * invalid_steps.c tests numbers, lengths and addresses that do not fit.
  *
  * The tags are those of RFC 9106, section 5, and of the tests of the C reference implementation.
  */
@@ -31,7 +31,7 @@ static uint32_t take_step(const proved_argon2_job *job, uint32_t n, uint32_t lan
         blocks + slice * whole + lane * length, length);
 }
 
-/* All steps over blocks that hold other things, the lanes in rising or in falling order. */
+/* All steps in blocks with arbitrary contents, with lanes in rising or falling order. */
 static bool take_steps(const proved_argon2_job *job, bool falls)
 {
     bool good = 4 * (size_t)job->lanes * job->segment_length <= MOST;
@@ -55,7 +55,7 @@ static uint32_t make(const proved_argon2_settings *settings, proved_argon2_job *
         pwd, sizeof pwd, salt, sizeof salt, secret, sizeof secret, ad, sizeof ad, settings, job);
 }
 
-/* All steps in one call, over blocks that hold other things. */
+/* All steps in one call, in blocks with arbitrary contents. */
 static void check_over(const proved_argon2_job *job)
 {
     uint8_t pwd[32], salt[16], secret[8], ad[12], tag[32], again[32];
@@ -82,7 +82,7 @@ static void check_over(const proved_argon2_job *job)
     check(is_hex(tag, 32, tag_of_rfc), "is the same as well");
 }
 
-/* The run of a job, whose inputs are gone. */
+/* Runs a job after its inputs were cleared. */
 static void check_runs(const proved_argon2_job *job)
 {
     const proved_argon2_job same = *job;

@@ -1,6 +1,6 @@
 /*
- * Memory: what each call allocates, that each allocation may fail, that no more is held than the blocks and a little,
- * and that all is freed. It is linked with --wrap for what it counts and denies.
+ * Memory: what each call allocates, that each allocation may fail, that a call holds little more than the blocks, and
+ * that it frees everything. It is linked with --wrap for what it counts and denies.
  */
 #include "calls.h"
 #include "system.h"
@@ -40,7 +40,7 @@ CALL(job_run_verify, &with, &job, tag, TAG)
 #define ROW(name, bytes, is_by_threads) {#name, does_##name, bytes, is_by_threads}
 /* clang-format on */
 
-/* Each call, how many requests it makes for bytes beside its blocks, and whether it may have several threads. */
+/* Each call, how many requests it makes besides those for its blocks, and whether it may use several threads. */
 static const struct row {
     const char *name;
     uint32_t (*does)(void);
@@ -62,7 +62,7 @@ static void make(uint32_t mem_cost)
     check(good, "what is asked");
 }
 
-/* Whether a call comes to its value: what it wrote is the tag or the text. */
+/* Whether a call succeeds: it wrote the tag or the encoded hash. */
 static bool is_value(uint32_t code)
 {
     const bool is_untouched = memcmp(buffer, before, sizeof buffer) == 0;
@@ -70,8 +70,8 @@ static bool is_value(uint32_t code)
         && (is_untouched || memcmp(buffer, tag, TAG) == 0 || memcmp(buffer, text, sizeof buffer) == 0);
 }
 
-/* A call with one request refused: a shortage that writes nothing, or the value behind those that it needs, where it
- * asked for no more, or for a team of threads. Nothing is held then, and errno is as it was. */
+/* A call with one request denied. It returns the memory error and writes nothing or, if it did not need that request (a
+ * team of threads), succeeds. It holds no memory, and errno is unchanged. */
 static bool ends_well(const struct row *row, size_t number, size_t needed)
 {
     fill_bytes(buffer, sizeof buffer, 7);
@@ -85,7 +85,7 @@ static bool ends_well(const struct row *row, size_t number, size_t needed)
     return is_errno && held == 0 && (number > needed ? is_value(code) : is_short);
 }
 
-/* Refuses the first request, the second and so on, until a run asks for no more. */
+/* Denies the first request, the second and so on, until no more are made. */
 static void check_call(const struct row *row, uint32_t threads)
 {
     const size_t blocks = (size_t)call.settings.mem_cost * 1024;
@@ -106,8 +106,8 @@ static void check_call(const struct row *row, uint32_t threads)
     check(good && requests == expected && most_held >= blocks && most_held <= most, name);
 }
 
-/* A call with pages refused at one of the populatings of its mapping. Where the system has none, that is a shortage,
- * which writes nothing; where it cannot do so, pages come one by one. */
+/* A call whose mapping is denied pages at one populating. If the system has no pages, the call returns the memory error
+ * and writes nothing; if it cannot populate, pages are allocated when touched. */
 static bool ends_well_unpopulated(const struct row *row, size_t number, int how)
 {
     fill_bytes(buffer, sizeof buffer, 7);
@@ -151,7 +151,7 @@ static void check_populatings(void)
 
 /* ---- what the system has to have of memory for it */
 
-/* The bytes that are there of this process, as the system counts them when it looks at each page. */
+/* This process's resident bytes, as the system counts them page by page. */
 static size_t resident(void)
 {
     FILE *const sums = fopen("/proc/self/smaps_rollup", "r");
@@ -225,7 +225,7 @@ static void check_calls(uint32_t mem_cost)
     }
 }
 
-/* A memory of the caller's own is the only request. */
+/* Allocating the caller's buffer is the only request. */
 static void check_memory_new(uint32_t mem_cost)
 {
     void *memory = &memory;
@@ -246,7 +246,7 @@ static void check_memory_new(uint32_t mem_cost)
 
 #define REFUSED_TEXT(text) text, strlen(text), NULL, 0, NULL, 0, NULL, 0
 
-/* Calls that take no memory, and refusals that come before any is taken, even where it would be refused. */
+/* Calls that allocate nothing, and errors that are returned before anything is allocated, even if that would fail. */
 static void check_without_memory(void)
 {
     static const char no_passes[] = "$argon2d$m=256,t=0,p=1$c29tZXNhbHQ$AAAAAA",
@@ -289,7 +289,7 @@ static void check_without_memory(void)
         "nor do the calls that hash and verify nothing");
 }
 
-/* With the word `few` what is resident is not looked at: an emulator's own pages are. */
+/* With the word `few`, resident memory is not checked: an emulator's pages would count. */
 int main(int argc, char **argv)
 {
     check_calls(SMALL);

@@ -1,9 +1,8 @@
 /*
- * Null pointers, call by call: each pointer of the header and of the calls with options is null in turn. It is refused
- * by name, before what else is wrong with the call, and nothing is written; with the length 0 it passes nothing.
- * test_library.py compares these names with the pointers that the headers declare. Then, where the library has no build
- * for the processor, each call is refused by that name, and writes nothing. It is linked with --wrap=getrandom, so that
- * a salt is the same each time.
+ * Null pointers, call by call: each pointer of the header and of the calls with options is null in turn. The call
+ * returns that error before all others, and writes nothing; with length 0 it passes no bytes. test_library.py compares
+ * these names with the pointers that the headers declare. Then, without a build for the processor, each call returns
+ * that error, and writes nothing. It is linked with --wrap=getrandom, so that a salt is the same each time.
  */
 #include "../src/builds.h"
 #include "arguments.h"
@@ -47,7 +46,7 @@ CALL(verify_encoded_with, arguments[OPTIONS].at, STORED_TEXT)
 CALL(job_run, arguments[OPTIONS].at, arguments[JOB].at, BYTES(TAG_OUT))
 CALL(job_run_verify, arguments[OPTIONS].at, arguments[JOB].at, BYTES(HASH))
 
-/* Three that have no number for it: no settings have no length, and nothing is freed where there is no memory. */
+/* Three that return no error: null settings have length 0, and freeing null does nothing. */
 static uint32_t encoded_len(void)
 {
     const uint64_t len = proved_argon2_encoded_len(arguments[SETTINGS].at, 8);
@@ -66,7 +65,7 @@ static uint32_t memory_len(void)
                                                  : PROVED_ARGON2_INCORRECT_TYPE;
 }
 
-/* What is given back here is a memory that is made before. */
+/* Frees a buffer that was allocated before. */
 static uint32_t memory_free(void)
 {
     void *memory = NULL;
@@ -77,7 +76,7 @@ static uint32_t memory_free(void)
     return code;
 }
 
-/* What is written to is not looked at but where the memory is refused: it is given back. */
+/* Outputs are checked only if allocation is denied; the buffer is freed. */
 static uint32_t memory_new(void)
 {
     const uint32_t code = proved_argon2_memory_new(
@@ -119,7 +118,7 @@ static const struct row {
 
 /* ---- null pointers */
 
-/* Whether a call is done where all fits, and refused for something else where all is spoilt but the pointers. */
+/* Whether a call succeeds if all fits, and fails for another reason if all but the pointers is spoilt. */
 static bool tells_what_fits(const struct row *row)
 {
     give_what_fits();
@@ -146,7 +145,7 @@ static bool refuses_null(const struct row *row, enum place place, bool is_spoilt
     return is_refused && memcmp(&written, &written_before, sizeof written) == 0;
 }
 
-/* Whether a null pointer with the length 0 is answered as an address with that length. */
+/* Whether a null pointer with length 0 acts like an address with length 0. */
 static bool takes_none(const struct row *row, enum place place)
 {
     struct written by_address;

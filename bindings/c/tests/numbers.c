@@ -1,6 +1,6 @@
 /*
- * Every number of the header, asked of the library: each error's with its text, the variants and the versions, the
- * limits, lengths of 2^32 bytes and more, and the recommended settings.
+ * Every number of the header, compared with the library: each error with its message, variants, versions, limits,
+ * lengths of 2^32 bytes and more, and the recommended settings.
  *
  * The tags are those of RFC 9106, section 5, and of the tests of the C reference implementation.
  */
@@ -103,7 +103,7 @@ static void check_version(uint32_t version, const char *expected, const char *na
 
 /* ---- limits */
 
-/* What the first error of settings and lengths is; few of the inputs can be read. */
+/* The first error of settings and lengths; few inputs can be read. */
 struct request {
     proved_argon2_settings settings;
     size_t pwd, salt, secret, ad;
@@ -145,7 +145,7 @@ static void check_limits_of_settings(void)
     check_code(error_of(request), PROVED_ARGON2_WRONG_LENGTH, "the longest hash");
 }
 
-/* Each greatest length is refused for what the table has behind it. */
+/* Each greatest length returns the next error of the table. */
 static void check_limits_of_inputs(void)
 {
     struct request request = {small, (size_t)PROVED_ARGON2_MAX_PWD_LENGTH + 1, 8, 0, 0};

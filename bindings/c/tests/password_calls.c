@@ -73,14 +73,14 @@ static const proved_argon2_settings small = {PROVED_ARGON2_ID, PROVED_ARGON2_VER
 static char password[LONG + 1];
 static uint8_t pepper[LONG + 1];
 
-/* What a text verifies to; without a pepper, by the call that takes none. */
+/* The result of verifying; without a pepper, by the call that accepts none. */
 static uint32_t verdict_of(const char *text, size_t length, size_t pepper_len)
 {
     return pepper_len == 0 ? proved_argon2_password_verify(text, password, length)
                            : proved_argon2_password_verify_with(&with, text, password, length, pepper, pepper_len);
 }
 
-/* Whether a text that hash_encoded makes of these bytes is a call's. */
+/* Whether hash_encoded makes a call's encoded hash from these bytes. */
 static bool is_text_of(const char *text, const proved_argon2_settings *settings, size_t length, size_t pepper_len)
 {
     char other[PROVED_ARGON2_TEXT_SIZE];
@@ -92,7 +92,7 @@ static bool is_text_of(const char *text, const proved_argon2_settings *settings,
         && strcmp(text, other) == 0;
 }
 
-/* Whether a text verifies, and not where a byte of the password or of the pepper is another, more, or left out. */
+/* Whether an encoded hash verifies, but not if a byte of password or pepper is changed, added or left out. */
 static bool is_whole(const char *text, size_t length, size_t pepper_len)
 {
     bool good = verdict_of(text, length, pepper_len) == PROVED_ARGON2_OK
@@ -186,7 +186,7 @@ static void check_rehash(void)
 
 /* ---- a user who does not exist */
 
-/* The least processor time of a few calls, which return a mismatch, in seconds. */
+/* The least processor time, in seconds, of calls that return a mismatch. */
 static double time_of(const char *text, const proved_argon2_settings *settings)
 {
     double least = 1e9;
@@ -201,7 +201,7 @@ static double time_of(const char *text, const proved_argon2_settings *settings)
     return least;
 }
 
-/* The most tasks that a pool was given at a time; it runs them one after another. */
+/* The most tasks that a pool got at once; it runs them one after another. */
 static uint32_t most_tasks;
 
 static int count_tasks(void *pool, uint32_t tasks, void (*task)(void *arg, uint32_t i), void *arg)

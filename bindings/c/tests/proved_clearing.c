@@ -1,6 +1,6 @@
 /*
- * What the proved calls leave of secrets in caller-provided memory, who clears it, and what they overwrite: SECURITY.md
- * says so. Each call is made in a child, which has none of it before. clearing.c has the driver's calls, and
+ * Which secrets the proved calls leave in caller-provided memory, which the caller clears, and what they overwrite: see
+ * SECURITY.md. Each call runs in a child, which has none of it before. clearing.c tests the driver's calls, and
  * test_library.py compares the calls that are named in both with those of the headers. It is linked with --wrap for
  * what it looks at.
  *
@@ -102,7 +102,7 @@ static uint32_t does_job_verify_over(void)
     return code ? code : proved_argon2_job_verify_over(&job, blocks, 2048, zeros, TAG, out, TAG);
 }
 
-/* What is overwritten after its last use. First blocks stay in a memory that is begun, and are written over later. */
+/* What is overwritten after its last use. First blocks stay in memory that is begun, and are overwritten later. */
 enum { SEEDS = 1 << OF_SEED | 1 << OF_LAST, BUFFERS = SEEDS | 1 << OF_FIRST };
 
 /* clang-format off */
@@ -110,7 +110,7 @@ enum { SEEDS = 1 << OF_SEED | 1 << OF_LAST, BUFFERS = SEEDS | 1 << OF_FIRST };
 #define OTHER(name, leaves) {#name, does_##name, 0, leaves, 0, false}
 /* clang-format on */
 
-/* What each leaves, or KINDS for none: of what it computes, or reads of a text. */
+/* What each call leaves of what it computes or reads, or KINDS for nothing. */
 static const struct row {
     const char *name;
     uint32_t (*does)(void);
@@ -151,7 +151,7 @@ static bool have_inputs(void)
         || memmem(blocks, sizeof blocks, MANY_CALL.secret, 8) != NULL;
 }
 
-/* Whether a register that a call may change, but its result's, has half of what is looked for. */
+/* Whether a register that a call may change, except that of its result, has half of a piece. */
 static bool is_in_general_registers(void)
 {
     const size_t halves = 2 * sought->count;
@@ -172,8 +172,8 @@ static void clear_caller_memory(void)
     __real_explicit_bzero(hash, sizeof hash);
 }
 
-/* What is found after a call: of what it leaves, of what it overwrites, and elsewhere than in the caller's memory. What
- * a call frees may have none of it. */
+/* What is found after a call: what it leaves, what it should overwrite, and secrets outside the caller's memory. Freed
+ * memory may contain none of it. */
 enum { LEAVES = 1, OVERWRITES = 2, ELSEWHERE = 4, NO_ANSWER = 8 };
 
 static int what_is_left(const void *arg)

@@ -1,6 +1,6 @@
-/* The code of docs/C.md, and what it has to do: hash and verify a password, in a call each; with a salt, settings and
- * limits of the caller's; for a user who may not exist, in a reusable buffer. Then a password that is cleared before
- * the memory is filled. */
+/* Runs the code of docs/C.md: hashes and verifies a password, in a call each; with the caller's salt, settings and
+ * limits; for a user who may not exist, in a reusable buffer. Then a password is cleared before the memory is
+ * filled. */
 #include <proved_argon2.h>
 #include <stdbool.h>
 #include <string.h>

@@ -1,6 +1,6 @@
 /*
  * What the calls return for the inputs of RFC 9106, section 5, and for encoded hashes of rust-argon2's tests; errors by
- * their numbers, with the outputs unchanged; what is read of texts; and null pointers with the length 0.
+ * their numbers, with unchanged outputs; what is read from encoded hashes; and null pointers with length 0.
  */
 #include "checks.h"
 
@@ -65,7 +65,7 @@ static proved_argon2_settings settings_of_rfc(uint32_t variant)
     return settings;
 }
 
-/* Whether a buffer holds a text and nothing but zeros behind it. */
+/* Whether a buffer contains a string and only zeros after it. */
 static bool holds_text(const char *buffer, size_t len, const char *text)
 {
     static const uint8_t zeros[SEVENS];
@@ -236,7 +236,7 @@ static void check_reading(void)
         "a text without a version, a salt and a hash");
 }
 
-/* What is no text is refused by a number, and what would have been written is as it was. */
+/* A string that is no encoded hash returns an error, and outputs are unchanged. */
 static void check_unread(const char *text, uint32_t error, const char *name)
 {
     const proved_argon2_limits none = {0, 0, 0, 0};
@@ -378,7 +378,7 @@ static const char *text_of_length(size_t length)
     return made;
 }
 
-/* What each call with limits answers to a text, where that is one number, or else 0. */
+/* What the calls with limits return if they agree, or else 0. */
 static uint32_t answer_within(const char *text, const proved_argon2_limits *limits)
 {
     proved_argon2_options with = PROVED_ARGON2_OPTIONS;
@@ -444,7 +444,7 @@ static void check_null_buffers(void)
     check_code(code, PROVED_ARGON2_WRONG_LENGTH, "no buffer for a text");
 }
 
-/* A buffer of another length is refused, and so is a shorter one for a text; it is as it was. */
+/* A buffer of the wrong length, or too short for an encoded hash, is rejected and unchanged. */
 static void check_buffers(void)
 {
     uint8_t buffer[128], before[128];
@@ -484,7 +484,7 @@ static uint32_t verify_with_size(const char *text, size_t size, uint8_t last)
     return proved_argon2_verify_encoded_with(&with.options, text, strlen(text), NULL, 0, NULL, 0, NULL, 0);
 }
 
-/* Options are of this version's size, or longer and zero in what is unknown. */
+/* Options have this version's size, or are longer with zeros in unknown fields. */
 static void check_sizes_of_options(void)
 {
     static const size_t own = SIZE_MAX > UINT32_MAX ? 80 : 40;

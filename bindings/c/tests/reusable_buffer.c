@@ -10,7 +10,7 @@ enum { TAG = 24 };
 static const proved_argon2_settings of_malloc = {PROVED_ARGON2_ID, PROVED_ARGON2_VERSION_13, 64, 2, 3, TAG};
 static const proved_argon2_settings of_mapping = {PROVED_ARGON2_D, PROVED_ARGON2_VERSION_10, 3000, 1, 2, TAG};
 
-/* Whether the system has noted something of the mapping at an address: `flag`, of its VmFlags. */
+/* Whether the mapping at an address has `flag` among its VmFlags. */
 static bool has_flag(const void *address, const char *flag)
 {
     FILE *const maps = fopen("/proc/self/smaps", "r");
@@ -29,7 +29,7 @@ static bool has_flag(const void *address, const char *flag)
     return has;
 }
 
-/* The bytes that the settings want, at a place where blocks are written fast. */
+/* As many bytes as the settings need, at an aligned address. */
 static void check_place(const proved_argon2_settings *settings, size_t bytes, size_t multiple, const char *name)
 {
     void *memory = NULL;
@@ -59,8 +59,7 @@ static bool make(const proved_argon2_settings *settings)
     return peer(&call, expected) && hash_encoded(&alone, &call, text, sizeof text) == PROVED_ARGON2_OK;
 }
 
-/* The tag, the text and the verdicts over the memory, which ask for bytes of a tag alone, and leave the memory
- * clear. */
+/* The tag, the encoded hash and verdicts in the buffer: calls allocate only bytes for a tag, and clear the buffer. */
 static bool computes(uint32_t threads)
 {
     static const uint8_t zeros[4096];

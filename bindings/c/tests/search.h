@@ -18,9 +18,8 @@ enum kind { OF_H0, OF_SEED, OF_FIRST, OF_CHAIN, OF_BLOCKS, OF_LAST, OF_TAG, OF_I
 static const char *const of_kinds[KINDS] = {"H0", "what a first block is hashed from", "first blocks of the first pass",
     "the last hashes of a first block's chain", "blocks", "the combined last blocks", "the tag", "the inputs"};
 
-/* The calls: over a mapping, over less than that takes, what password_hash and password_verify_unknown compute, and of
- * many lanes. Their inputs
- * are where nobody can write, and so are not found there. */
+/* The calls: in mapped memory, in less, as password_hash and password_verify_unknown compute, and with many lanes.
+ * Their inputs are in read-only memory, so the search does not find them. */
 enum { MAPPED, SMALL, ALONE, UNKNOWN, MANY, CALLS };
 
 static const struct call calls[CALLS] = {
@@ -157,7 +156,7 @@ static inline bool know(const struct call *call, known *to)
     return good;
 }
 
-/* A child computes, so that this process has none of it, but for a page that nobody can write any more. */
+/* A child computes, so that this process has none of it except in a read-only page. */
 static inline bool know_all(void)
 {
     const size_t size = CALLS * sizeof(known);
@@ -231,8 +230,7 @@ static inline void look_everywhere(void)
     }
 }
 
-/* What a program calls behind a call of the library, where it does: bound late, it has the loader save the
- * registers. */
+/* What a program calls after a call, if anything: bound late, it makes the loader save the registers. */
 static void (*calls_behind)(void);
 
 /* What other registers held behind a call that it may change. */
@@ -251,8 +249,7 @@ static uint64_t general[9];
 #endif
 /* clang-format on */
 
-/* Makes a call with so much room above it that what looks afterwards has its frames there, and not where the call's
- * frames were. */
+/* Makes a call far down the stack, so that the frames of the later search do not overwrite the call's frames. */
 __attribute__((noinline)) static uint32_t far_below(uint32_t (*does)(const void *), const void *arg)
 {
     volatile uint8_t space[1 << 16];

@@ -1,6 +1,6 @@
 /*
- * The stack that each call takes, on a thread whose stack was painted before. It is to be less than
- * half of PROVED_ARGON2_STACK_SIZE, whatever the settings are; or at most as many bytes as a word says.
+ * How much stack each call uses, measured on a painted stack. It must be less than half of PROVED_ARGON2_STACK_SIZE,
+ * whatever the settings; or at most the bytes that the argument names.
  */
 #include "checks.h"
 
@@ -93,7 +93,7 @@ static void *small_calls(void *unused)
     return unused;
 }
 
-/* How far a call came down on a painted stack, in bytes, its thread's own among them. */
+/* How many bytes of a painted stack a call used, including its thread's own. */
 static size_t depth_of(void *(*call)(void *))
 {
     pthread_t thread;

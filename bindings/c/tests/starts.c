@@ -1,8 +1,8 @@
 /*
- * The threads of a call: each has the program's signals blocked and a small stack, and is joined; the lanes of those
- * that are refused are filled; none starts where it would not pay; very many take little more of the processor than
- * one; and a call goes on to its end where its thread is cancelled within it. drawn_settings.c has how many there are.
- * Tags are compared with libargon2's. It is linked with --wrap for what it counts and refuses.
+ * The threads of a call: each blocks the program's signals, has a small stack, and is joined; others fill the lanes of
+ * denied threads; none starts if that would be slower; very many use little more processor time than one; and a call
+ * ends normally if its thread is cancelled meanwhile. drawn_settings.c counts them. Tags are compared with libargon2's.
+ * It is linked with --wrap for what it counts and refuses.
  *
  *     starts              all checks
  *     starts few          all but those of cancelling, which musl does in other places
@@ -37,7 +37,7 @@ static bool has_its_signals(void)
     return good;
 }
 
-/* The call's own threads beside the caller's. Where starts are refused from one on, it asks for no more. */
+/* How many threads a call starts. If one start is denied, it tries no more. */
 static bool starts_as_many(size_t beside, size_t refused)
 {
     const proved_argon2_options with = by(LANES);
@@ -67,7 +67,7 @@ static void check_errors(void)
     check(good, "a hash goes on where starts are refused from one on");
 }
 
-/* Less memory or work than pays for threads: the caller's thread is alone. */
+/* Too little memory or work for threads: only the caller's thread works. */
 static void check_small(void)
 {
     static const uint32_t sizes[][2] = {{32, 9}, {1024, 3}, {2032, 40}, {2048, 1}, {4080, 1}};
@@ -79,7 +79,7 @@ static void check_small(void)
     check(good, "a hash starts threads only where they pay");
 }
 
-/* The processor's time in microseconds that a hash takes by so many threads, without the system's. */
+/* A hash's processor time in microseconds with so many threads, without the system's time. */
 static int64_t time_of(uint32_t lanes, uint32_t threads)
 {
     const proved_argon2_options with = by(threads);
@@ -96,7 +96,7 @@ static int64_t time_of(uint32_t lanes, uint32_t threads)
                 : INT64_MAX;
 }
 
-/* What a thread does beside its lanes does not grow with how many there are. */
+/* A thread's work besides its lanes does not grow with the number of threads. */
 static void check_many(void)
 {
     const int64_t alone = time_of(MANY, 1), by_threads = time_of(MANY, MANY);
@@ -137,7 +137,7 @@ static void *computes(void *arg)
     return NULL;
 }
 
-/* Its answer is there too, unless the thread can be cancelled anywhere: then it is before the call returns. */
+/* It also returns its result, unless the thread can be cancelled anywhere: then that happens before the return. */
 static bool goes_on_to_its_end(int type, uint32_t threads)
 {
     static cancelled one;

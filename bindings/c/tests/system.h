@@ -1,5 +1,5 @@
-/* What a program that is linked with --wrap gets in place of the system's own: starts of threads, requests for memory
- * and mappings are counted and refused, what is held is counted, and what is given back is looked at first. */
+/* Replaces system functions in programs linked with --wrap: it counts and denies starts of threads and requests for
+ * memory and mappings, counts what is held, and looks at memory before it is freed. */
 #ifndef SYSTEM_H
 #define SYSTEM_H
 

@@ -1,6 +1,6 @@
 /*
- * The calls with options (bindings/c): tags by 1 to 33 threads beside libargon2's, a memory and a pool of the caller's,
- * options and limits. starts.c has the threads, memory.c the memory, clearing.c what is left in the process.
+ * The calls with options (bindings/c): tags with 1 to 33 threads compared with libargon2's, the caller's buffer and
+ * pool, options and limits. starts.c tests threads, memory.c memory, and clearing.c what is left in the process.
  *
  *     threads          all checks
  *     threads few      those that a tool looks at: a few tags, and eight hashes at once over threads that stay
@@ -16,8 +16,8 @@ static int goes_on(void *arg, uint64_t done, uint64_t all)
     return done > all;
 }
 
-/* One call beside libargon2, by some threads, or by a pool, over a memory of its own or of the caller's, half of the
- * numbers of threads with a callback. */
+/* One call compared with libargon2, with threads or a pool, in its own or the caller's memory, with a callback for half
+ * of the thread counts. */
 static bool agrees(const struct call *call, uint32_t threads, uint32_t kind)
 {
     uint8_t tag[LONGEST], expected[LONGEST];
@@ -43,7 +43,7 @@ static bool agrees(const struct call *call, uint32_t threads, uint32_t kind)
     return same;
 }
 
-/* A call for which threads pay. */
+/* A call large enough for threads. */
 static struct call any_large_call(uint32_t most_lanes)
 {
     struct call call = any_call(most_lanes);
@@ -109,9 +109,8 @@ static void check_at_once(void)
     check(log_in_at_once(logins), "eight hashes at once");
 }
 
-/* A pool whose threads stay. Where several callers start and join threads at the same time, a tool takes a thread for
- * an earlier one whose number it has, and so reports what is none: there each caller has threads that were there
- * before. */
+/* A pool whose threads stay. If several callers start and join threads at once, a tool confuses a thread with an
+ * earlier one of the same ID, and reports false errors: so callers use threads that already exist. */
 typedef struct staying {
     pthread_mutex_t mutex;
     pthread_cond_t begun, ended;
@@ -122,7 +121,7 @@ typedef struct staying {
     bool is_over;
 } staying;
 
-/* Takes one task after another, until there are to be none any more. */
+/* Runs one task after another until told to stop. */
 static void *stay(void *arg)
 {
     staying *const self = arg;
@@ -216,8 +215,8 @@ static size_t peak_address_space(void)
     return peak;
 }
 
-/* The stacks of a call's threads are small, also where the system does not say how small they may be (under valgrind
- * mmap returns EINVAL for what is too much memory). */
+/* A call's threads have small stacks, also if the system does not say how small they may be (under valgrind mmap
+ * returns EINVAL for too much memory). */
 static void check_address_space(void)
 {
     enum { MOST_KIB = 256 * 1024 };
@@ -235,7 +234,7 @@ static void check_address_space(void)
 static const struct call sample = {
     {PROVED_ARGON2_ID, PROVED_ARGON2_VERSION_13, 256, 2, 4, 32}, "password", "somesalt", "", "", 8, 8, 0, 0};
 
-/* A call that is refused: its number, and nothing written. */
+/* A call that fails: its error, and unchanged outputs. */
 static void check_refused(const proved_argon2_options *with, uint32_t expected, const char *name)
 {
     uint8_t tag[LONGEST], before[LONGEST];
@@ -278,7 +277,7 @@ static void check_options(void)
     check_refused(&with, PROVED_ARGON2_OUT_OF_MEMORY, "a memory that is a byte short");
 }
 
-/* A text of zeros under limits: above one of them nothing is started. */
+/* An encoded hash of zeros within limits: above one, nothing starts. */
 static void check_limits(void)
 {
     static const char text[] = "$argon2id$v=19$m=256,t=2,p=4$c29tZXNhbHQ$AAAAAAAAAAAAAAAAAAAAAAAAAAAAAAAAAAAAAAAAAAA";

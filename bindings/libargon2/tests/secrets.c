@@ -1,6 +1,6 @@
-/* What calls of libargon2.so.1 leave: nothing of H0, of blocks or of the tag in memory that can be written or in
- * registers, though a name is bound late behind them. With H0 a password is tried at the cost of one hash. What is to
- * be sought, the proved calls say (libproved_argon2.a). It is linked with --wrap for what system.h has. */
+/* Whether calls of libargon2.so.1 leave anything of H0, blocks or the tag in writable memory or registers, even if a
+ * name is bound late after them. With H0 a password guess costs one BLAKE2b. The proved calls (libproved_argon2.a) say
+ * what to search for. It is linked with --wrap for what system.h replaces. */
 #define _GNU_SOURCE
 #include "search.h"
 

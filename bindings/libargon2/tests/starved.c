@@ -1,11 +1,10 @@
-/* Calls of libargon2.so.1 in a process to which something is denied, which one by a number from 0 on:
+/* Calls of libargon2.so.1 in a process that is denied something, selected by a number from 0 on:
  *
  *     starved threads NUMBER     all threads but the first NUMBER of each call: the tag is the same
  *     starved memory NUMBER      address space: each call returns the error for it, and leaves what it was given
  *     starved texts NUMBER       nothing, but for an encoded hash of 64 lanes at most 16 threads may run
  *
- * Each makes the calls again and again, and the process may not grow. Prints what it met; the status is 0 where all is
- * right. */
+ * Each repeats the calls, and the process must not grow. Prints what happened; the status is 0 if all is right. */
 #define _GNU_SOURCE
 #include "../argon2.h"
 #include <dlfcn.h>
@@ -29,7 +28,7 @@
 static const char password[] = "password", salt[] = "somesaltsomesalt";
 static unsigned denied, granted, most = ~0u; /* threads of a call */
 
-/* Stands in for the C library's, and denies all threads behind the first few. */
+/* Replaces the C library's, and denies all threads after the first few. */
 int pthread_create(pthread_t *thread, const pthread_attr_t *how, void *(*start)(void *), void *arg)
 {
     static int (*next)(pthread_t *, const pthread_attr_t *, void *(*)(void *), void *);
@@ -93,7 +92,7 @@ static int is_right_without_threads(void)
     return argon2id_ctx(&c) == ARGON2_OK && hash(same) == ARGON2_OK && memcmp(tag, same, LENGTH) == 0;
 }
 
-/* Whether the right password is told from a wrong one, by 15 threads beside the caller's. */
+/* Whether right and wrong passwords are told apart, by 15 threads besides the caller's. */
 static int is_right_for_a_text(void)
 {
     char encoded[128];
@@ -103,7 +102,7 @@ static int is_right_for_a_text(void)
         && argon2id_verify(encoded, password, 7) == ARGON2_VERIFY_MISMATCH;
 }
 
-/* Whether a context's calls return the error of memory, and leave the password, its length and out as they were. */
+/* Whether a context's calls return the memory error, and leave the password, its length and out unchanged. */
 static int is_denied(void)
 {
     static const uint8_t zeros[LENGTH];

@@ -1,4 +1,4 @@
-/* For tests that find the calls by their names (bindings/c/tests/arguments.h): those of the DLL. */
+/* For tests that find calls by name (bindings/c/tests/arguments.h), here the DLL's. */
 #ifndef DLFCN_H
 #define DLFCN_H
 

@@ -1,5 +1,5 @@
-/* A program for Windows: the calls of the driver in new threads, whose stacks have PROVED_ARGON2_STACK_SIZE bytes, of
- * which a page is there at first; how much of it they take; and salts, which no other test can foresee. */
+/* For Windows. Makes the driver's calls in new threads with stacks of PROVED_ARGON2_STACK_SIZE bytes, of which one page
+ * is committed at first; measures the stack that they use; and checks that salts differ. */
 #define WIN32_LEAN_AND_MEAN
 #include "checks.h"
 
@@ -63,7 +63,7 @@ static DWORD WINAPI run(void *unused)
     return 0;
 }
 
-/* The same over paint, of which it finds out what is left. */
+/* The same on a painted stack; measures how much was overwritten. */
 static DWORD WINAPI run_over_paint(void *unused)
 {
     volatile uint8_t *const here = __builtin_frame_address(0), *const end = end_of_stack(), *at = here - MARGIN;
@@ -79,7 +79,7 @@ static DWORD WINAPI run_over_paint(void *unused)
     return 0;
 }
 
-/* Runs something in a new thread, and returns whether it was well. */
+/* Runs something in a new thread, and returns whether it succeeded. */
 static bool is_well(uint32_t (*some)(void), LPTHREAD_START_ROUTINE how)
 {
     running = some;

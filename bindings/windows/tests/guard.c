@@ -1,6 +1,6 @@
-/* Whether the proved calls come down a stack page by page, as Windows wants it, where one page below those that were
- * touched is a guard and the next ones are not there. It is run on Linux, with such a stack: the machine code is the
- * same. A program of GNU C. */
+/* Whether the proved calls extend a stack page by page. Windows requires this: below the touched pages it has one guard
+ * page, and no more pages. The test runs on Linux with such a stack, since the machine code is the same. Needs GNU
+ * C. */
 #include "checks.h"
 
 #include <pthread.h>
@@ -54,7 +54,7 @@ static void *run(void *unused)
     return unused;
 }
 
-/* Runs something with a stack of its own, and returns whether it came down page by page. */
+/* Runs something with a stack of its own, and returns whether that grew page by page. */
 static bool comes_down(void (*some)(void))
 {
     pthread_t thread;
@@ -117,7 +117,7 @@ static void ask_for_rehash(void)
     code = proved_argon2_needs_rehash(text, text_len, &settings);
 }
 
-/* What does not: it touches what is three pages below first. */
+/* Does not: it first touches a byte three pages below. */
 static void jump(void)
 {
     char far[3 * PAGE];

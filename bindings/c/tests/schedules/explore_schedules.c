@@ -1,16 +1,15 @@
-/* A call of the driver in every way in which it can go, each in a run of its own. The driver is as it is compiled. In
- * place of the system (platform.h), of the heap, of the proved calls, of a caller's pool and of his progress callback
- * stands what is here: it chooses what happens, and watches what the driver does. Each choice is made in all its ways,
- * depth first.
+/* A call of the driver in every way in which it can go, each in a run of its own. The driver is the compiled one. This
+ * file replaces the system (platform.h), the heap, the proved calls, and the caller's pool and progress callback: it
+ * chooses what happens, and watches what the driver does. It tries each choice in all ways, depth first.
  *
  *     explore_schedules LANES THREADS PASSES SWITCHES    prints how many runs there were, or the first fault with its
  *     choices
  *
- * Each move of a thread has to be one that the model has (crates/argon2_c/specs/Team.antt), else it is a fault of its
- * name. The last lines say how often each was made.
+ * The model (crates/argon2_c/specs/Team.antt) must allow each move of a thread; otherwise the move is reported as a
+ * fault. The last lines say how often each was made.
  *
- * Threads are run one at a time. Before each part, wait and progress, and behind each wake, another may go on: SWITCHES
- * is how often at most. Where one cannot go on the caller's does, or else the first that can. */
+ * Threads are run one at a time. Before each part, wait and progress, and after each wake, another may run, at most
+ * SWITCHES times. If a thread cannot go on, the caller's does, or else the first that can. */
 #define _GNU_SOURCE
 #define PROVED_ARGON2_NULL_H /* (the driver's calls are those here) */
 #define PROVED_ARGON2_PASSWORD_H

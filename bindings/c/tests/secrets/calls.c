@@ -1,10 +1,10 @@
-/* Makes calls of the library for C over secrets that are marked as undefined. Memcheck carries the mark through all
-   that is computed from them, and reports each branch and each address that depends on it. Lengths, the salt, the
+/* Makes calls of the library for C over secrets that are marked as undefined. Memcheck marks everything
+   computed from them, and reports each branch and each address that depends on it. Lengths, the salt, the
    associated data, the settings and what is before the hash in a text are public, and stay defined.
 
    usage: valgrind --tool=memcheck calls <QUESTIONS >ANSWERS
 
-   Both are structs as they stand in memory, so that to read and write them takes the same instructions for all secrets
+   Both are raw structs, so that reading and writing them takes the same instructions for all secrets
    (test_instructions.py). Without valgrind nothing is marked (test_wiping.py). */
 #include "proved_argon2.h"
 
@@ -114,8 +114,8 @@ static void hide_secrets(void)
     hide(&question.fields[VERIFIED].at[question.open], question.fields[VERIFIED].length - question.open);
 }
 
-/* The driver asks whether a stack is large enough, with a guard for which there is no memory. Valgrind takes that for a
-   wrong number, so that each thread would get 1 GiB, which memcheck takes seconds to mark: nothing is asked. */
+/* The driver asks whether a stack is large enough, with a guard for which there is no memory. Valgrind rejects the
+   number, so each thread would get 1 GiB, which memcheck takes seconds to mark: so we ask nothing. */
 int pthread_attr_setguardsize(pthread_attr_t *attributes, size_t size)
 {
     (void)attributes;
